@@ -1,0 +1,13 @@
+//! Moments, clocks of players, and dates.
+#![tactic(auto)]
+
+pub mod clock;
+pub mod dates;
+pub mod moment;
+
+pub use clock::{Clock, OutOfTime};
+pub use dates::{CivilTime, civil};
+pub use moment::Moment;
+
+#[cfg(test)]
+mod tests;

@@ -1,0 +1,71 @@
+-- What the program's values stand for: its answers, its members and events, and its requests.
+use Rattle.std.specs.Prelude.{◌≡◌, ℕ, List, map, string_bytes, Option, Some, None}
+use Rattle.club_core.specs.declared.answers.Moved.{Moved}
+use Rattle.club_core.specs.declared.answers.Answer.{Answer}
+use Rattle.club_core.specs.declared.answers.Answer.TheVariants as answer
+use Rattle.club_core.specs.declared.answers.Outcome as given_outcome
+use Rattle.club_core.specs.declared.answers.Outcome.TheVariants as given
+use Rattle.club_core.specs.declared.members.Member as given_member
+use Rattle.club_core.specs.declared.events.Event as given_event
+use Rattle.club_core.specs.declared.requests.AddEvent as given_command
+use Rattle.club_core.specs.declared.requests.Who as given_who
+use Rattle.club_core.specs.declared.requests.Who.TheVariants as given_who_is
+use Rattle.club_core.specs.declared.seats.Pairing as given_pairing
+use Rattle.club_core.specs.declared.seats.KeyedGame as given_keyed
+use Rattle.club_core.specs.declared.seats.Seating as given_seating
+use Rattle.club_core.specs.declared.seats.Seating.TheVariants as seating
+use Rattle.club_core.specs.Outcome.{Reply, MoveReply, member_added, event_added, game_seated, moved, Outcome, accepted, repeated, refused, map_outcome}
+use Rattle.club_core.specs.Members.{Member}
+use Rattle.club_core.specs.Events.{Event}
+use Rattle.club_core.specs.Seats.{Pairing, KeyedGame}
+use Rattle.club_core.specs.State.{Who, officer, key_holder}
+
+abbrev pub move_reply_of : Moved → MoveReply
+move_reply_of m = record { ply = m.ply; text = string_bytes m.text; left = m.left; position = string_bytes m.position; end = m.end }
+
+abbrev pub reply_of : Answer → Reply
+reply_of (answer.Member id) = member_added id
+reply_of (answer.Event id) = event_added id
+reply_of (answer.Game id) = game_seated id
+reply_of (answer.Moved m) = moved (move_reply_of m)
+
+-- what is answered, without what stands after it
+abbrev pub outcome_of : given_outcome.Outcome → Outcome (Unit {0})
+outcome_of (given.Accepted a) = accepted tt (reply_of a)
+outcome_of (given.Repeated a) = repeated (reply_of a)
+outcome_of (given.Refused refusal) = refused refusal
+
+abbrev pub answered : {S : Type 0} → Outcome S → Outcome (Unit {0})
+answered o = map_outcome (λ _. tt) o
+
+abbrev pub member_of : given_member.Member → Member
+member_of m = record { name = string_bytes m.name; key = string_bytes m.key }
+
+abbrev pub members_of : List given_member.Member → List Member
+members_of ms = map member_of ms
+
+abbrev pub event_of : given_event.Event → Event
+event_of e = record { name = string_bytes e.name; game = e.game; terms = record { budget = e.budget; increment = e.increment } }
+
+-- the event that a command adds
+abbrev pub added_event : given_command.AddEvent → Event
+added_event e = record { name = string_bytes e.name; game = e.game; terms = record { budget = e.budget; increment = e.increment } }
+
+abbrev pub events_of : List given_event.Event → List Event
+events_of es = map event_of es
+
+abbrev pub who_of : given_who.Who → Who
+who_of given_who_is.Officer = officer
+who_of (given_who_is.Key key) = key_holder (string_bytes key)
+
+abbrev pub pairing_of : given_pairing.Pairing → Pairing
+pairing_of p = record { event = p.event; first = p.first; second = p.second }
+
+abbrev pub keyed_of : given_keyed.KeyedGame → KeyedGame
+keyed_of k = record { id = k.game; pairing = pairing_of k.pairing }
+
+-- the outcome that a seating stands for
+abbrev pub seating_of : given_seating.Seating → Outcome Pairing
+seating_of (seating.Starts k) = accepted (pairing_of k.pairing) (game_seated k.game)
+seating_of (seating.Repeated id) = repeated (game_seated id)
+seating_of (seating.Refused refusal) = refused refusal

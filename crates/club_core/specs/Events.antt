@@ -1,0 +1,62 @@
+-- The events of the club, and what adding one does.
+use Rattle.std.specs.Prelude.{ℕ, ◌+◌, List, [], ◌∷◌, ◌++◌, length, Option, Some, None, Bool, true, false, not, ◌&&◌, ◌||◌, nat_le, ◌==◌}
+use Rattle.std.specs.Str.{bytes_eq}
+use Rattle.std.specs.Option.{option_map}
+use Rattle.std.specs.List.{list_any}
+use Rattle.club_rules.specs.declared.names.GameKind.{GameKind}
+use Rattle.club_rules.specs.declared.names.GameKind.TheVariants.{Draughts, Shogi}
+use Rattle.club_core.specs.declared.refusals.Refusal.{Refusal}
+use Rattle.club_core.specs.declared.refusals.Refusal.TheVariants.{NameTaken, BadValue, Full}
+use Rattle.club_core.specs.Limits.{most_events, is_name, is_budget, is_increment}
+use Rattle.club_core.specs.Outcome.{Reply, event_added, Outcome, accepted, first_refusal, unless, unless_repeat}
+use Rattle.club_core.specs.Members.{find_id}
+
+-- what an event gives each player, and each move in time
+pub record Terms : Type 0 where
+  pub budget : ℕ
+  pub increment : ℕ
+
+pub record Event : Type 0 where
+  pub name : List ℕ
+  pub game : GameKind
+  pub terms : Terms
+
+abbrev pub same_game : GameKind → GameKind → Bool
+same_game Draughts Draughts = true
+same_game Shogi Shogi = true
+same_game Draughts Shogi = false
+same_game Shogi Draughts = false
+
+-- the club holds events in draughts alone so far
+abbrev pub is_offered : GameKind → Bool
+is_offered Draughts = true
+is_offered Shogi = false
+
+abbrev pub has_event_name : List ℕ → Event → Bool
+has_event_name name e = bytes_eq e.name name
+
+abbrev pub is_event : Event → Event → Bool
+is_event given e =
+    bytes_eq e.name given.name && same_game e.game given.game && e.terms.budget == given.terms.budget && e.terms.increment == given.terms.increment
+
+abbrev pub has_good_values : Event → Bool
+has_good_values e = is_name e.name && is_offered e.game && is_budget e.terms.budget && is_increment e.terms.increment
+
+module _ (events : List Event) (given : Event) where
+  -- such an event is there already
+  abbrev pub same_event : Option Reply
+  same_event = option_map event_added (find_id (is_event given) events)
+
+  abbrev pub event_refusal : Option Refusal
+  event_refusal =
+      first_refusal
+      ((list_any (has_event_name given.name) events, NameTaken)
+      ∷ (not (has_good_values given), BadValue)
+      ∷ (nat_le most_events (length events), Full)
+      ∷ [])
+
+  abbrev pub event_step : Outcome (List Event)
+  event_step =
+      unless_repeat same_event
+      (unless event_refusal
+      (accepted (events ++ given ∷ []) (event_added (length events + 1))))

@@ -1,0 +1,120 @@
+-- A game: its players, its entries, and what follows from them by the rules and the clocks.
+use Rattle.std.specs.Prelude.{ℕ, zero, suc, ◌+◌, ◌-◌, List, [], ◌∷◌, map, take, Option, Some, None}
+use Rattle.squares.specs.declared.sides.Side.{Side}
+use Rattle.squares.specs.declared.sides.Side.TheVariants.{First, Second}
+use Rattle.squares.specs.declared.sides.Score.{Score}
+use Rattle.squares.specs.declared.sides.Score.TheVariants.{FirstWins, Draw, SecondWins}
+use Rattle.squares.specs.Sides.{other, loses}
+use Rattle.clocks.specs.Clock.{after_move}
+use Rattle.club_rules.specs.GameRules.{GameRules}
+use Rattle.club_rules.specs.Line.{position_after}
+use Rattle.club_core.specs.declared.rows.OutsideEnd.{OutsideEnd}
+use Rattle.club_core.specs.declared.rows.OutsideEnd.TheVariants.{Resigned, Agreed, Time, Recorded}
+use Rattle.club_core.specs.declared.rows.GameEnd.{GameEnd}
+use Rattle.club_core.specs.declared.rows.GameEnd.TheVariants.{Rule, Outside}
+use Rattle.club_core.specs.declared.rows.Offer.{Offer}
+use Rattle.club_core.specs.Events.{Terms}
+
+-- a move, and its moment
+pub record Entry (M : Type 0) : Type 0 where
+  pub made : M
+  pub moment : ℕ
+
+-- the event and the players are ids; the newest entry stands last
+pub record Game (M : Type 0) : Type 0 where
+  pub key : Option (List ℕ)
+  pub event : ℕ
+  pub first : ℕ
+  pub second : ℕ
+  pub start : ℕ
+  pub entries : List (Entry M)
+  pub offer : Option Offer
+  pub outside : Option OutsideEnd
+
+-- the seconds that each side has left, and the moment from which the next move's are counted
+pub record Clocks : Type 0 where
+  pub left_first : ℕ
+  pub left_second : ℕ
+  pub since : ℕ
+
+abbrev pub left_of : Side → Clocks → ℕ
+left_of First c = c.left_first
+left_of Second c = c.left_second
+
+-- what a player has left after a move in time
+abbrev pub left_after : ℕ → ℕ → ℕ → ℕ
+left_after left increment elapsed = (after_move (record { left = left; increment = increment }) elapsed).left
+
+-- the clocks after a move of that side at that moment
+abbrev pub spend : ℕ → Side → ℕ → Clocks → Clocks
+spend increment First m c = record { left_first = left_after c.left_first increment (m - c.since); left_second = c.left_second; since = m }
+spend increment Second m c = record { left_first = c.left_first; left_second = left_after c.left_second increment (m - c.since); since = m }
+
+-- the clocks after moves at those moments, that side moving first
+abbrev pub spend_all : ℕ → Side → List ℕ → Clocks → Clocks
+spend_all increment side [] c = c
+spend_all increment side (m ∷ ms) c = spend_all increment (other side) ms (spend increment side m c)
+
+-- the score of an outside end, by the side to move
+abbrev pub outside_score : OutsideEnd → Side → Score
+outside_score Resigned turn = loses turn
+outside_score Time turn = loses turn
+outside_score Agreed turn = Draw
+outside_score (Recorded score) turn = score
+
+-- the side that moves after that many plies, this side being the first
+abbrev pub turns : ℕ → Side → Side
+turns zero side = side
+turns (suc n) side = turns n (other side)
+
+abbrev pub side_after : ℕ → Side
+side_after n = turns n First
+
+module _ {M : Type 0} (game : Game M) where
+  abbrev pub moves_of : List M
+  moves_of = map (λ e. e.made) game.entries
+
+  abbrev pub moments_of : List ℕ
+  moments_of = map (λ e. e.moment) game.entries
+
+  abbrev pub opening_clocks : Terms → Clocks
+  opening_clocks terms = record { left_first = terms.budget; left_second = terms.budget; since = game.start }
+
+  abbrev pub clocks_of : Terms → Clocks
+  clocks_of terms =
+      spend_all terms.increment First (map (λ e. e.moment) game.entries) (record { left_first = terms.budget; left_second = terms.budget; since = game.start })
+
+-- the end of a game: the rules' if there is one, else the outside's
+abbrev pub end_with : {E : Type 0} → Option E → Option OutsideEnd → Option (GameEnd E)
+end_with (Some e) outside = Some (Rule e)
+end_with None (Some o) = Some (Outside o)
+end_with None None = None
+
+module _ {P M E : Type 0} (rules : GameRules P M E) where
+  abbrev pub end_score : Side → GameEnd E → Score
+  end_score turn (Rule e) = rules.outcome e turn
+  end_score turn (Outside o) = outside_score o turn
+
+  abbrev pub score_with : Option (GameEnd E) → Side → Option Score
+  score_with None turn = None
+  score_with (Some e) turn = Some (end_score turn e)
+
+module _ {P M E : Type 0} (rules : GameRules P M E) (game : Game M) where
+  abbrev pub last_position : P
+  last_position = position_after rules rules.start (moves_of game)
+
+  abbrev pub rule_end : Option E
+  rule_end = rules.judge rules.start (moves_of game)
+
+  abbrev pub end_of : Option (GameEnd E)
+  end_of = end_with (rules.judge rules.start (moves_of game)) game.outside
+
+  abbrev pub turn_of : Side
+  turn_of = rules.turn (position_after rules rules.start (moves_of game))
+
+  abbrev pub result_of : Option Score
+  result_of = score_with rules end_of turn_of
+
+-- the game as it stood after that many plies
+abbrev pub game_at : {M : Type 0} → Game M → ℕ → Game M
+game_at game plies = record game { entries = take plies game.entries }

@@ -1,0 +1,45 @@
+-- A legal game: one that the rules, the clocks and the club allow.
+use Rattle.std.specs.Prelude.{◌≡◌, ◌≢◌, ◌+◌, ◌-◌, ◌<◌, ◌≤◌, ℕ, List, [], ◌∷◌, length, map, take, Option, Some, None, Bool, true, IsSome, IfSome}
+use Rattle.squares.specs.declared.sides.Side.{Side}
+use Rattle.squares.specs.declared.sides.Side.TheVariants.{First, Second}
+use Rattle.squares.specs.declared.sides.Score.{Score}
+use Rattle.squares.specs.Sides.{other}
+use Rattle.club_rules.specs.GameRules.{GameRules}
+use Rattle.club_rules.specs.Line.{IsLegalLine}
+use Rattle.club_core.specs.declared.rows.OutsideEnd.TheVariants.{Resigned, Agreed, Time, Recorded}
+use Rattle.club_core.specs.declared.rows.Offer.{Offer}
+use Rattle.club_core.specs.Limits.{most_plies, is_name}
+use Rattle.club_core.specs.Events.{Terms}
+use Rattle.club_core.specs.Game.{Entry, Game, Clocks, left_of, spend, moves_of, rule_end}
+
+-- the moves at those moments, that side moving first, were made in time, and no moment is below the one before it
+abbrev pub IsTimely : ℕ → Side → List ℕ → Clocks → Type 0
+IsTimely increment side [] c = Unit {0}
+IsTimely increment side (m ∷ ms) c =
+    (c.since ≤ m) × (m - c.since ≤ left_of side c) × IsTimely increment (other side) ms (spend increment side m c)
+
+-- an offer of a draw that may stand: at the next ply of a running game whose players may agree on a draw
+pub record IsOffer {P M E : Type 0} (rules : GameRules P M E) (game : Game M) (offer : Offer) : Type 0 where
+  pub allowed : rules.has_draw_offers ≡ true
+  pub next_ply : offer.ply ≡ length game.entries + 1
+  pub no_rule_end : rule_end rules game ≡ None
+
+-- a game from a record: it has a key and no offer, and all its entries have the moment of its start
+pub record IsRecorded {M : Type 0} (game : Game M) : Type 0 where
+  pub keyed : IsSome game.key
+  pub no_offer : game.offer ≡ None
+  pub at_once : (n : ℕ) → map (λ e. e.moment) (take n game.entries) ≡ map (λ e. game.start) (take n game.entries)
+
+pub record IsLegalGame {P M E : Type 0} (rules : GameRules P M E) (terms : Terms) (game : Game M) : Type 0 where
+  -- each move is legal in its position
+  pub line : IsLegalLine rules rules.start (map (λ e. e.made) game.entries)
+  -- no proper beginning of the line has an end by the rules
+  pub running_before : (n : ℕ) → n < length game.entries → rules.judge rules.start (map (λ e. e.made) (take n game.entries)) ≡ None
+  pub plies : length game.entries ≤ most_plies
+  pub timely : IsTimely terms.increment First (map (λ e. e.moment) game.entries) (record { left_first = terms.budget; left_second = terms.budget; since = game.start })
+  -- an end from outside stands only where the rules gave none
+  pub outside_alone : IsSome game.outside → rule_end rules game ≡ None
+  pub offer : IfSome game.offer (λ o. IsOffer rules game o)
+  pub agreed : game.outside ≡ Some Agreed → IsSome game.offer
+  pub recorded : (score : Score) → game.outside ≡ Some (Recorded score) → IsRecorded game
+  pub players : game.first ≢ game.second

@@ -1,0 +1,12 @@
+pub mod Limits
+pub mod Refusal
+pub mod Outcome
+pub mod Members
+pub mod Events
+pub mod Seats
+pub mod Game
+pub mod Legal
+pub mod Step
+pub mod State
+pub mod Answer
+pub mod View

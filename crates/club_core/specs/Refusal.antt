@@ -1,0 +1,58 @@
+-- The refusals of commands: their numbers, their names and how they are written.
+use Rattle.std.specs.Prelude.{List, [], ℕ, ◌++◌, codes, decimal}
+use Rattle.club_rules.specs.MoveRefusal.{move_refusal_number, move_refusal_name, move_refusal_tail}
+use Rattle.club_core.specs.declared.refusals.Refusal.{Refusal}
+use Rattle.club_core.specs.declared.refusals.Refusal.TheVariants.{UnknownKey, NotAllowed, UnknownEvent, UnknownGame, NotAPlayer, GameOver, WrongPly, Conflict, NotYourTurn, OutOfTime, NameTaken, BadValue, Full, Play}
+
+abbrev pub refusal_number : Refusal → ℕ
+refusal_number UnknownKey = 50
+refusal_number NotAllowed = 51
+refusal_number UnknownEvent = 52
+refusal_number UnknownGame = 53
+refusal_number NotAPlayer = 55
+refusal_number GameOver = 56
+refusal_number WrongPly = 57
+refusal_number Conflict = 58
+refusal_number NotYourTurn = 59
+refusal_number OutOfTime = 60
+refusal_number NameTaken = 64
+refusal_number BadValue = 65
+refusal_number Full = 66
+refusal_number (Play refusal) = move_refusal_number refusal
+
+abbrev pub refusal_name : Refusal → List ℕ
+refusal_name UnknownKey = codes "UnknownKey"
+refusal_name NotAllowed = codes "NotAllowed"
+refusal_name UnknownEvent = codes "UnknownEvent"
+refusal_name UnknownGame = codes "UnknownGame"
+refusal_name NotAPlayer = codes "NotAPlayer"
+refusal_name GameOver = codes "GameOver"
+refusal_name WrongPly = codes "WrongPly"
+refusal_name Conflict = codes "Conflict"
+refusal_name NotYourTurn = codes "NotYourTurn"
+refusal_name OutOfTime = codes "OutOfTime"
+refusal_name NameTaken = codes "NameTaken"
+refusal_name BadValue = codes "BadValue"
+refusal_name Full = codes "Full"
+refusal_name (Play refusal) = move_refusal_name refusal
+
+-- the numbers that follow the name, each after a blank
+abbrev pub refusal_tail : Refusal → List ℕ
+refusal_tail (Play refusal) = move_refusal_tail refusal
+refusal_tail UnknownKey = []
+refusal_tail NotAllowed = []
+refusal_tail UnknownEvent = []
+refusal_tail UnknownGame = []
+refusal_tail NotAPlayer = []
+refusal_tail GameOver = []
+refusal_tail WrongPly = []
+refusal_tail Conflict = []
+refusal_tail NotYourTurn = []
+refusal_tail OutOfTime = []
+refusal_tail NameTaken = []
+refusal_tail BadValue = []
+refusal_tail Full = []
+
+-- the number, the name and then the refusal's numbers, parted by blanks
+abbrev pub refusal_text : Refusal → List ℕ
+refusal_text r = decimal (refusal_number r) ++ codes " " ++ refusal_name r ++ refusal_tail r

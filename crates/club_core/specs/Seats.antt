@@ -1,0 +1,72 @@
+-- What seating two members for a game of an event does.
+use Rattle.std.specs.Prelude.{ℕ, ◌+◌, List, [], ◌∷◌, length, Option, Some, None, Bool, true, false, not, is_some, ◌&&◌, ◌||◌, nat_le, ◌==◌, if◌then◌else◌}
+use Rattle.std.specs.Str.{bytes_eq}
+use Rattle.club_core.specs.declared.refusals.Refusal.{Refusal}
+use Rattle.club_core.specs.declared.refusals.Refusal.TheVariants.{UnknownEvent, Conflict, BadValue, Full}
+use Rattle.club_core.specs.Limits.{most_games, is_name}
+use Rattle.club_core.specs.Outcome.{Reply, game_seated, Outcome, accepted, repeated, refused, first_refusal, unless, unless_repeat}
+use Rattle.club_core.specs.Members.{Member, find_id}
+use Rattle.club_core.specs.Events.{Event, has_event_name}
+
+-- an event and the two players, by their ids
+pub record Pairing : Type 0 where
+  pub event : ℕ
+  pub first : ℕ
+  pub second : ℕ
+
+-- a game that stands under a key
+pub record KeyedGame : Type 0 where
+  pub id : ℕ
+  pub pairing : Pairing
+
+abbrev pub has_member_name : List ℕ → Member → Bool
+has_member_name name m = bytes_eq m.name name
+
+-- the id is that one
+abbrev pub is_id : Option ℕ → ℕ → Bool
+is_id None id = false
+is_id (Some found) id = found == id
+
+module _ (event : ℕ) (first second : Option ℕ) where
+  -- the game under the key is of the same event and the same two members on the same sides
+  abbrev pub same_seats : Option KeyedGame → Option Reply
+  same_seats None = None
+  same_seats (Some old) =
+      if event == old.pairing.event && is_id first old.pairing.first && is_id second old.pairing.second
+      then Some (game_seated old.id)
+      else None
+
+-- both are members, and not one
+abbrev pub are_two : Option ℕ → Option ℕ → Bool
+are_two None second = false
+are_two (Some first) None = false
+are_two (Some first) (Some second) = not (first == second)
+
+abbrev pub seat_refusal : Option KeyedGame → ℕ → List ℕ → Option ℕ → Option ℕ → Option Refusal
+seat_refusal under_key games key first second =
+    first_refusal
+    ((is_some under_key, Conflict)
+    ∷ (not (is_name key && are_two first second), BadValue)
+    ∷ (nat_le most_games games, Full)
+    ∷ [])
+
+-- the pairing of two members that were found
+abbrev pub pair : ℕ → Option ℕ → Option ℕ → ℕ → Outcome Pairing
+pair event (Some first) (Some second) games = accepted (record { event = event; first = first; second = second }) (game_seated (games + 1))
+pair event _ _ games = refused BadValue
+
+-- by the event and the members that the names stand for, the game under the key and the number of games
+abbrev pub seat_found : Option ℕ → Option ℕ → Option ℕ → Option KeyedGame → ℕ → List ℕ → Outcome Pairing
+seat_found None first second under_key games key = refused UnknownEvent
+seat_found (Some event) first second under_key games key =
+    unless_repeat (same_seats event first second under_key)
+    (unless (seat_refusal under_key games key first second)
+    (pair event first second games))
+
+abbrev pub seat_step : List Member → List Event → Option KeyedGame → ℕ → List ℕ → List ℕ → List ℕ → List ℕ → Outcome Pairing
+seat_step members events under_key games key event first second =
+    seat_found
+    (find_id (has_event_name event) events)
+    (find_id (has_member_name first) members)
+    (find_id (has_member_name second) members)
+    under_key games key

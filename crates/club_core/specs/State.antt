@@ -1,0 +1,194 @@
+-- The club: its members, its events and its games of two kinds, and what a request does to them.
+use Rattle.std.specs.Prelude.{◌≡◌, ℕ, zero, suc, ◌+◌, ◌-◌, List, [], ◌∷◌, ◌++◌, length, map, Option, Some, None, Bool, true, false, max, if◌then◌else◌, slice_get, slice_set}
+use Rattle.std.specs.Str.{bytes_eq}
+use Rattle.std.specs.Option.{option_map}
+use Rattle.club_rules.specs.declared.names.GameKind.{GameKind}
+use Rattle.club_rules.specs.declared.names.GameKind.TheVariants.{Draughts, Shogi}
+use Rattle.club_rules.specs.GameRules.{GameRules}
+use Rattle.club_core.specs.declared.requests.Caller.{Caller}
+use Rattle.club_core.specs.declared.requests.Caller.TheVariants.{Officer, Member}
+use Rattle.club_core.specs.declared.refusals.Refusal.{Refusal}
+use Rattle.club_core.specs.declared.refusals.Refusal.TheVariants.{UnknownKey, UnknownGame}
+use Rattle.club_core.specs.Outcome.{Reply, Outcome, accepted, repeated, refused, map_outcome, by_officer}
+use Rattle.club_core.specs.Members as members
+use Rattle.club_core.specs.Members.{find_id, member_step}
+use Rattle.club_core.specs.Events.{Terms, Event, event_step}
+use Rattle.club_core.specs.Seats.{Pairing, KeyedGame, seat_step}
+use Rattle.club_core.specs.Game.{Game}
+use Rattle.club_core.specs.Step.{GameCommand, game_step}
+
+-- a game of one of the two kinds
+pub data AnyGame (DM SM : Type 0) : Type 0 where
+  draughts : Game DM → AnyGame DM SM
+  shogi : Game SM → AnyGame DM SM
+
+-- the ids of members, events and games are their places, from 1
+pub record State (DM SM : Type 0) : Type 0 where
+  -- the moment of the last accepted request
+  pub last : ℕ
+  pub members : List members.Member
+  pub events : List Event
+  pub games : List (AnyGame DM SM)
+
+abbrev pub opening_state : {DM SM : Type 0} → State DM SM
+opening_state = record { last = 0; members = []; events = []; games = [] }
+
+pub data Command : Type 0 where
+  add_member : (name key : List ℕ) → Command
+  add_event : Event → Command
+  seat : (key event first second : List ℕ) → Command
+  on_game : (id : ℕ) → GameCommand → Command
+
+-- who gives a command: the officer, or one who shows a member's key
+pub data Who : Type 0 where
+  officer : Who
+  key_holder : List ℕ → Who
+
+pub record Request : Type 0 where
+  pub who : Who
+  pub command : Command
+  pub moment : ℕ
+
+abbrev pub place : {A : Type 0} → List A → ℕ → Option A
+place xs zero = None
+place xs (suc n) = slice_get xs n
+
+abbrev pub terms_at : Option Event → Terms
+terms_at None = record { budget = 0; increment = 0 }
+terms_at (Some e) = e.terms
+
+abbrev pub kind_at : Option Event → GameKind
+kind_at None = Draughts
+kind_at (Some e) = e.game
+
+abbrev pub is_key : List ℕ → Option (List ℕ) → Bool
+is_key key None = false
+is_key key (Some k) = bytes_eq k key
+
+module _ {DM SM : Type 0} where
+  abbrev pub key_of : AnyGame DM SM → Option (List ℕ)
+  key_of (draughts g) = g.key
+  key_of (shogi g) = g.key
+
+  abbrev pub pairing_of : AnyGame DM SM → Pairing
+  pairing_of (draughts g) = record { event = g.event; first = g.first; second = g.second }
+  pairing_of (shogi g) = record { event = g.event; first = g.first; second = g.second }
+
+  abbrev pub has_key : List ℕ → AnyGame DM SM → Bool
+  has_key key g = is_key key (key_of g)
+
+  abbrev pub keyed_game : Option (AnyGame DM SM) → ℕ → Option KeyedGame
+  keyed_game None id = None
+  keyed_game (Some g) id = Some (record { id = id; pairing = pairing_of g })
+
+  abbrev pub keyed_at : List (AnyGame DM SM) → Option ℕ → Option KeyedGame
+  keyed_at games None = None
+  keyed_at games (Some id) = keyed_game (place games id) id
+
+  -- the game that stands under a key
+  abbrev pub game_under : List (AnyGame DM SM) → List ℕ → Option KeyedGame
+  game_under games key = keyed_at games (find_id (has_key key) games)
+
+-- a game that was just seated
+abbrev pub seated : {M : Type 0} → Option (List ℕ) → Pairing → ℕ → Game M
+seated key pairing start =
+    record {
+      key = key;
+      event = pairing.event;
+      first = pairing.first;
+      second = pairing.second;
+      start = start;
+      entries = [];
+      offer = None;
+      outside = None;
+    }
+
+abbrev pub seated_as : {DM SM : Type 0} → GameKind → Option (List ℕ) → Pairing → ℕ → AnyGame DM SM
+seated_as Draughts key pairing start = draughts (seated key pairing start)
+seated_as Shogi key pairing start = shogi (seated key pairing start)
+
+-- the officer, or the member whose key it is
+abbrev pub caller_found : Option ℕ → Option Caller
+caller_found None = None
+caller_found (Some id) = Some (Member id)
+
+abbrev pub has_member_key : List ℕ → members.Member → Bool
+has_member_key key m = bytes_eq m.key key
+
+abbrev pub caller_of : List members.Member → Who → Option Caller
+caller_of all officer = Some Officer
+caller_of all (key_holder key) = caller_found (find_id (has_member_key key) all)
+
+-- the state after an outcome: that which stands where it was accepted, and else the one before
+abbrev pub state_after : {S : Type 0} → S → Outcome S → S
+state_after s (accepted new reply) = new
+state_after s (repeated reply) = s
+state_after s (refused refusal) = s
+
+abbrev pub is_accepted : {S : Type 0} → Outcome S → Bool
+is_accepted (accepted new reply) = true
+is_accepted (repeated reply) = false
+is_accepted (refused refusal) = false
+
+module _ {DM SM : Type 0} (s : State DM SM) (moment : ℕ) where
+  abbrev pub with_members : List members.Member → State DM SM
+  with_members all = record s { last = moment; members = all }
+
+  abbrev pub with_events : List Event → State DM SM
+  with_events all = record s { last = moment; events = all }
+
+  abbrev pub with_new_game : List ℕ → Pairing → State DM SM
+  with_new_game key pairing =
+      record s {
+        last = moment;
+        games = s.games ++ seated_as (kind_at (place s.events pairing.event)) (Some key) pairing moment ∷ [];
+      }
+
+  abbrev pub with_game : ℕ → AnyGame DM SM → State DM SM
+  with_game id game = record s { last = moment; games = slice_set s.games (id - 1) game }
+
+module _ {DP DM DE SP SM SE : Type 0} (draughts_rules : GameRules DP DM DE) (shogi_rules : GameRules SP SM SE) where
+  abbrev pub step_game : State DM SM → ℕ → ℕ → Caller → GameCommand → Option (AnyGame DM SM) → Outcome (State DM SM)
+  step_game s moment id who command None = refused UnknownGame
+  step_game s moment id who command (Some (draughts g)) =
+      map_outcome (λ new. with_game s moment id (draughts new))
+      (game_step draughts_rules (terms_at (place s.events g.event)) g moment who command)
+  step_game s moment id who command (Some (shogi g)) =
+      map_outcome (λ new. with_game s moment id (shogi new))
+      (game_step shogi_rules (terms_at (place s.events g.event)) g moment who command)
+
+  -- a command of a caller, at the effective moment
+  abbrev pub step_command : State DM SM → ℕ → Caller → Command → Outcome (State DM SM)
+  step_command s moment who (add_member name key) = by_officer who (map_outcome (with_members s moment) (member_step s.members name key))
+  step_command s moment who (add_event event) = by_officer who (map_outcome (with_events s moment) (event_step s.events event))
+  step_command s moment who (seat key event first second) =
+      by_officer who
+      (map_outcome (with_new_game s moment key)
+      (seat_step s.members s.events (game_under s.games key) (length s.games) key event first second))
+  step_command s moment who (on_game id command) = step_game s moment id who command (place s.games id)
+
+  abbrev pub step_by : State DM SM → ℕ → Option Caller → Command → Outcome (State DM SM)
+  step_by s moment None command = refused UnknownKey
+  step_by s moment (Some who) command = step_command s moment who command
+
+  -- the effective moment is the later of the request's and the last accepted one's
+  abbrev pub step : State DM SM → Request → Outcome (State DM SM)
+  step s r = step_by s (max r.moment s.last) (caller_of s.members r.who) r.command
+
+  -- the state after a request
+  abbrev pub next : State DM SM → Request → State DM SM
+  next s r = state_after s (step s r)
+
+  -- the state after requests, one after another
+  abbrev pub fold : State DM SM → List Request → State DM SM
+  fold s [] = s
+  fold s (r ∷ rs) = fold (next s r) rs
+
+  abbrev pub outcomes : State DM SM → List Request → List (Outcome (State DM SM))
+  outcomes s [] = []
+  outcomes s (r ∷ rs) = step s r ∷ outcomes (next s r) rs
+
+  -- the requests whose outcome is accepted
+  abbrev pub accepted_of : State DM SM → List Request → List Request
+  accepted_of s [] = []
+  accepted_of s (r ∷ rs) = if is_accepted (step s r) then r ∷ accepted_of (next s r) rs else accepted_of (next s r) rs

@@ -1,0 +1,110 @@
+//! Events: adding one.
+
+ghost use Rattle.std.specs.Prelude.{◌≡◌, ◌≤◌, ◌<◌, length, Option, Some, None, IfNone, string_bytes};
+ghost use Rattle.std.specs.List.{list_any};
+ghost use Rattle.club_core.specs.Limits.{most_events};
+ghost use Rattle.club_core.specs.Members.{find_id};
+ghost use Rattle.club_core.specs.Events.{has_event_name, is_event, is_offered, same_game, has_good_values, event_refusal, event_step};
+ghost use Rattle.club_core.specs.Outcome.{by_officer};
+ghost use Rattle.club_core.specs.Answer.{event_of, events_of, added_event, outcome_of, answered};
+
+use crate::answers::{Answer, Outcome};
+use crate::ids::id_at;
+use crate::refusals::Refusal;
+use crate::requests::{AddEvent, Caller};
+use crate::values::{MOST_EVENTS, is_budget, is_increment, is_name};
+use club_rules::GameKind;
+
+/// An event: games of one kind, with the seconds that each player starts with and those that each move adds.
+#[derive(Debug, Drop)]
+pub struct Event {
+    pub name: String,
+    pub game: GameKind,
+    pub budget: u64,
+    pub increment: u64,
+}
+
+fn is_same_game(a: GameKind, b: GameKind) -> bool
+    ensures { result ≡ same_game a b }
+{
+    a == b
+}
+
+/// The club holds events in draughts alone so far.
+fn is_offered(game: GameKind) -> bool
+    ensures { result ≡ is_offered game }
+{
+    game == GameKind::Draughts
+}
+
+impl Event {
+    fn is(&self, command: &AddEvent) -> bool
+        ensures { result ≡ is_event (added_event command.now) (event_of self.now) }
+    {
+        self.name.as_str() == command.name.as_str()
+            && is_same_game(self.game, command.game)
+            && self.budget == command.budget
+            && self.increment == command.increment
+    }
+}
+
+/// The id of the event that is the same in all.
+fn find_event(events: &[Event], command: &AddEvent) -> Option<u32>
+    requires { length events.now ≤ most_events }
+    ensures { result ≡ find_id (is_event (added_event command.now)) (events_of events.now) }
+{
+    id_at(events.iter().position(|e| e.is(command)))
+}
+
+/// Whether each of the event's values may be taken.
+fn has_good_values(command: &AddEvent) -> bool
+    ensures { result ≡ has_good_values (added_event command.now) }
+{
+    is_name(command.name.as_str())
+        && is_offered(command.game)
+        && is_budget(command.budget)
+        && is_increment(command.increment)
+}
+
+/// Whether an event has the name.
+fn is_taken(events: &[Event], name: &str) -> bool
+    ensures { result ≡ list_any (has_event_name name.now) (events_of events.now) }
+{
+    events.iter().any(|e| e.name.as_str() == name)
+}
+
+/// Why no such event is added.
+fn refusal_of_event(events: &[Event], command: &AddEvent) -> Option<Refusal>
+    ensures value { result ≡ event_refusal (events_of events.now) (added_event command.now) }
+    ensures room { IfNone result (length events.now < most_events) }
+{
+    if is_taken(events, command.name.as_str()) {
+        return Some(Refusal::NameTaken);
+    }
+    if !has_good_values(command) {
+        return Some(Refusal::BadValue);
+    }
+    if events.len() >= MOST_EVENTS {
+        return Some(Refusal::Full);
+    }
+    None
+}
+
+/// What adding an event does, by the events that there are, in the order of their ids. The officer alone adds events.
+/// The new event's id is the next one. An event that is the same in all its values is a repeat.
+pub fn add_event(events: &[Event], caller: Caller, command: &AddEvent) -> Outcome
+    requires { length events.now ≤ most_events }
+    ensures { outcome_of result ≡ answered (by_officer caller (event_step (events_of events.now) (added_event command.now))) }
+{
+    if caller != Caller::Officer {
+        return Outcome::Refused(Refusal::NotAllowed);
+    }
+    match find_event(events, command) {
+        Some(id) => return Outcome::Repeated(Answer::Event(id)),
+        None => {}
+    }
+    match refusal_of_event(events, command) {
+        Some(refusal) => Outcome::Refused(refusal),
+        None => Outcome::Accepted(Answer::Event(events.len() as u32 + 1)),
+    }
+}

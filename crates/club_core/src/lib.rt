@@ -1,0 +1,24 @@
+//! The club as a machine: what each command does to it, or why it is refused.
+#![tactic(auto)]
+
+pub mod answers;
+pub mod ends;
+pub mod events;
+pub mod ids;
+pub mod members;
+pub mod moves;
+pub mod refusals;
+pub mod requests;
+pub mod rows;
+pub mod seats;
+pub mod values;
+
+pub use answers::{Answer, Decision, Moved, Outcome};
+pub use events::{Event, add_event};
+pub use members::{Member, add_member, identify};
+pub use moves::decide;
+pub use refusals::Refusal;
+pub use requests::{AddEvent, AddMember, Caller, Command, Move, Request, Seat, Who};
+pub use rows::{Asked, GameEnd, GameRow, GameView, Made, Offer, OutsideEnd};
+pub use seats::{KeyedGame, Pairing, Seating, seat, seated_row};
+pub use values::{is_member_key, is_name};

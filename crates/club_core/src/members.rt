@@ -1,0 +1,121 @@
+//! Members: adding one, and finding the one who shows a key.
+
+ghost use Rattle.std.specs.Prelude.{◌≡◌, ◌≤◌, ◌<◌, ◌&&◌, ◌||◌, length, Option, Some, None, IfNone, IfSome, string_bytes};
+ghost use Rattle.std.specs.Str.{bytes_eq};
+ghost use Rattle.std.specs.Option.{option_map};
+ghost use Rattle.std.specs.List.{list_any};
+ghost use Rattle.club_core.specs.Limits.{most_members, is_name, is_member_key};
+ghost use Rattle.club_core.specs.Members.{find_id, is_member, has_name_or_key, member_refusal, member_step};
+ghost use Rattle.club_core.specs.State.{caller_of, has_member_key};
+ghost use Rattle.club_core.specs.Outcome.{by_officer};
+ghost use Rattle.club_core.specs.Answer.{member_of, members_of, outcome_of, answered, who_of};
+
+use crate::answers::{Answer, Outcome};
+use crate::ids::id_at;
+use crate::refusals::Refusal;
+use crate::requests::{AddMember, Caller, Who};
+use crate::values::{MOST_MEMBERS, is_member_key, is_name};
+
+/// A member of the club.
+#[derive(Debug, Drop)]
+pub struct Member {
+    pub name: String,
+    pub key: String,
+}
+
+impl Member {
+    fn is(&self, name: &str, key: &str) -> bool
+        ensures { result ≡ is_member name.now key.now (member_of self.now) }
+    {
+        self.name.as_str() == name && self.key.as_str() == key
+    }
+
+    fn has(&self, name: &str, key: &str) -> bool
+        ensures { result ≡ has_name_or_key name.now key.now (member_of self.now) }
+    {
+        self.name.as_str() == name || self.key.as_str() == key
+    }
+}
+
+/// The id of the member of that name and key.
+fn find_member(members: &[Member], name: &str, key: &str) -> Option<u32>
+    requires { length members.now ≤ most_members }
+    ensures { result ≡ find_id (is_member name.now key.now) (members_of members.now) }
+{
+    id_at(members.iter().position(|m| m.is(name, key)))
+}
+
+/// Whether a member has the name or the key.
+fn is_taken(members: &[Member], name: &str, key: &str) -> bool
+    ensures { result ≡ list_any (has_name_or_key name.now key.now) (members_of members.now) }
+{
+    members.iter().any(|m| m.has(name, key))
+}
+
+/// Whether both may be taken.
+fn has_good_values(name: &str, key: &str) -> bool
+    ensures { result ≡ (is_name name.now && is_member_key key.now) }
+{
+    is_name(name) && is_member_key(key)
+}
+
+/// Why no such member is added.
+fn refusal_of_member(members: &[Member], name: &str, key: &str) -> Option<Refusal>
+    ensures value { result ≡ member_refusal (members_of members.now) name.now key.now }
+    ensures room { IfNone result (length members.now < most_members) }
+{
+    if is_taken(members, name, key) {
+        return Some(Refusal::NameTaken);
+    }
+    if !has_good_values(name, key) {
+        return Some(Refusal::BadValue);
+    }
+    if members.len() >= MOST_MEMBERS {
+        return Some(Refusal::Full);
+    }
+    None
+}
+
+/// What adding a member does, by the members that there are, in the order of their ids. The officer alone adds members.
+/// The new member's id is the next one. A member of the same name and key is a repeat.
+pub fn add_member(members: &[Member], caller: Caller, command: &AddMember) -> Outcome
+    requires { length members.now ≤ most_members }
+    ensures { outcome_of result ≡ answered (by_officer caller
+        (member_step (members_of members.now) (string_bytes command.now.name) (string_bytes command.now.key))) }
+{
+    if caller != Caller::Officer {
+        return Outcome::Refused(Refusal::NotAllowed);
+    }
+    let name = command.name.as_str();
+    let key = command.key.as_str();
+    match find_member(members, name, key) {
+        Some(id) => return Outcome::Repeated(Answer::Member(id)),
+        None => {}
+    }
+    match refusal_of_member(members, name, key) {
+        Some(refusal) => Outcome::Refused(refusal),
+        None => Outcome::Accepted(Answer::Member(members.len() as u32 + 1)),
+    }
+}
+
+/// Who gives a command: the officer, or the member who has the key, if there is one.
+pub fn identify(members: &[Member], who: &Who) -> Option<Caller>
+    requires { length members.now ≤ most_members }
+    ensures { result ≡ caller_of (members_of members.now) (who_of who.now) }
+{
+    match who {
+        Who::Officer => Some(Caller::Officer),
+        Who::Key(key) => match find_key(members, key.as_str()) {
+            Some(id) => Some(Caller::Member(id)),
+            None => None,
+        },
+    }
+}
+
+/// The id of the member who has the key.
+fn find_key(members: &[Member], key: &str) -> Option<u32>
+    requires { length members.now ≤ most_members }
+    ensures { result ≡ find_id (has_member_key key.now) (members_of members.now) }
+{
+    id_at(members.iter().position(|m| m.key.as_str() == key))
+}

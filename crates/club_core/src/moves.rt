@@ -1,0 +1,370 @@
+//! A move in one game: played, refused, or a repeat of one that was played.
+
+ghost use Rattle.std.specs.Prelude.{◌≡◌, ℕ, Ok, ◌+◌, ◌-◌, ◌^◌, ◌<◌, ◌≤◌, ◌++◌, ◌∷◌, [], Option, Some, None, IfOk, IfErr, IfNone, IfSome, string_bytes, length};
+ghost use Rattle.std.specs.Option.{option_map};
+ghost use Rattle.squares.specs.Sides.{same_side};
+ghost use Rattle.club_core.specs.declared.rows.GameEnd.TheVariants.{Rule};
+ghost use Rattle.club_core.specs.Limits.{most_text_bytes};
+ghost use Rattle.club_core.specs.Answer.{reply_of};
+ghost use Rattle.club_core.specs.Game.{Game, spend, side_after, left_of, left_after};
+ghost use Rattle.club_core.specs.Legal.{IsLegalGame};
+ghost use Rattle.club_core.specs.Step.{move, move_refusal, checked, step_move, repeat_of, move_at, plays, reads_as, side_of_member, game_step};
+ghost use Rattle.club_core.specs.View.{Shows, ShowsPly, IsSound, CanPlay, IsDecision, terms_of, clocks_in};
+
+use crate::answers::{Answer, Decision, Moved};
+use crate::ends::{game_end, rule_in, score_of_end};
+use crate::refusals::Refusal;
+use crate::requests::{Caller, Move};
+use crate::rows::{GameRow, GameView, Made};
+use crate::values::MOST_TEXT_BYTES;
+use clocks::{Clock, Moment};
+use club_rules::{EndName, Memory, MoveRefusal, Rules};
+use squares::{Score, Side};
+use std::alloc::Global;
+
+/// The side whose move the ply is.
+fn side_of_ply(ply: u64) -> Side
+    ensures { result ≡ side_after (ply - 1) }
+{
+    if ply == 0 {
+        return Side::First;
+    }
+    if ply % 2 == 1 {
+        Side::First
+    } else {
+        Side::Second
+    }
+}
+
+/// The side that a member plays.
+fn side_of_member<E>(row: &GameRow<E>, id: u32) -> Option<Side>
+    ensures { result ≡ side_of_member row.now.first row.now.second id }
+{
+    if id == row.first {
+        return Some(Side::First);
+    }
+    if id == row.second {
+        return Some(Side::Second);
+    }
+    None
+}
+
+fn is_side(a: Side, b: Side) -> bool
+    ensures { result ≡ same_side a b }
+{
+    a == b
+}
+
+/// Whether what the text reads as is that move.
+fn reads_as<R: Rules>(
+    alloc: Global,
+    before: &R::Position,
+    text: &str,
+    made: &R::Move,
+) -> Result<bool, Memory>
+    ensures { IfOk result (λ b. b ≡ reads_as R.rules (R.rules.read_move before.now text.now) made.now) }
+{
+    match R::read_move(alloc, before, text)? {
+        Ok(read) => Ok(R::same(&read, made)),
+        Err(_) => Ok(false),
+    }
+}
+
+/// The moves, and one more.
+fn with_move<M: Copy + Drop>(alloc: Global, moves: &[M], last: M) -> Result<Vec<M>, Memory>
+    ensures { IfOk result (λ all. all.items ≡ moves.now ++ last ∷ []) }
+{
+    let mut all = Vec::new(alloc);
+    all.extend_from_slice(moves)?;
+    all.push(last)?;
+    Ok(all)
+}
+
+/// The name of an end, if there is one.
+fn name_of_end<R: Rules>(end: Option<R::End>) -> Option<EndName>
+    ensures { result ≡ option_map R.rules.end_name end }
+{
+    match &end {
+        Some(e) => Some(R::end_name(e)),
+        None => None,
+    }
+}
+
+/// The legal move that a text reads as.
+fn read_legal<R: Rules>(
+    alloc: Global,
+    position: &R::Position,
+    text: &str,
+) -> Result<Result<R::Move, MoveRefusal>, Memory>
+    ensures value { IfOk result (λ read. read ≡ checked R.rules position.now (R.rules.read_move position.now text.now)) }
+    ensures legal { IfOk result (λ read. IfOk read (λ made. R.rules.check position.now made ≡ Ok tt)) }
+{
+    let made = match R::read_move(alloc, position, text)? {
+        Ok(made) => made,
+        Err(refusal) => return Ok(Err(refusal)),
+    };
+    match R::check(position, &made) {
+        Ok(()) => Ok(Ok(made)),
+        Err(refusal) => Ok(Err(refusal)),
+    }
+}
+
+/// The clock of a side, as the row has it.
+fn clock_in<E>(row: &GameRow<E>, side: Side, increment: u64) -> Clock
+    ensures { result ≡ record { left = left_of side (clocks_in row.now); increment = increment } }
+{
+    match side {
+        Side::First => Clock {
+            left: row.left_first,
+            increment,
+        },
+        Side::Second => Clock {
+            left: row.left_second,
+            increment,
+        },
+    }
+}
+
+/// The answer to a repeat of the move of the ply that was asked of, if it is one.
+fn repeat_of<R: Rules>(
+    alloc: Global,
+    view: &GameView<R>,
+    side: Side,
+    ply: u64,
+    text: &str,
+) -> Result<Option<Answer>, Memory>
+    requires { IsSound R.rules view.now }
+    ensures { IfOk result (λ answer. (game : Game R.Move) → Shows R.rules game view.now → ShowsPly R.rules game ply view.now →
+        IsLegalGame R.rules (terms_of view.now) game →
+        option_map reply_of answer ≡ repeat_of R.rules (terms_of view.now) game ply (move_at game ply) side text.now) }
+{
+    let asked = match &view.asked {
+        Some(asked) => asked,
+        None => return Ok(None),
+    };
+    if !is_side(side, side_of_ply(ply)) {
+        return Ok(None);
+    }
+    let repeats = reads_as::<R>(alloc, &asked.before, text, &asked.made)?;
+    if !repeats {
+        return Ok(None);
+    }
+    let written = R::write_move(alloc, &asked.before, &asked.made)?;
+    let after = R::play(&asked.before, &asked.made);
+    let position = R::write_position(alloc, &after)?;
+    let end = if asked.ply == view.row.plies {
+        rule_in(&view.row.end)
+    } else {
+        None
+    };
+    Ok(Some(Answer::Moved(Moved {
+        ply: asked.ply,
+        text: written,
+        left: asked.left,
+        position,
+        end: name_of_end::<R>(end),
+    })))
+}
+
+/// The mover's clock after a new move, or why the move is refused before its text is read.
+fn clock_after<R: Rules>(
+    view: &GameView<R>,
+    side: Side,
+    ply: u64,
+    text: &str,
+    moment: Moment,
+) -> Result<Clock, Refusal>
+    requires sound { IsSound R.rules view.now }
+    requires later { view.now.row.since ≤ moment }
+    ensures refused { IfErr result (λ refusal. (game : Game R.Move) → Shows R.rules game view.now →
+        move_refusal R.rules (terms_of view.now) game moment side ply text.now ≡ Some refusal) }
+    ensures allowed { IfOk result (λ clock. (game : Game R.Move) → Shows R.rules game view.now →
+        move_refusal R.rules (terms_of view.now) game moment side ply text.now ≡ None) }
+    ensures running { IfOk result (λ clock. view.now.row.result ≡ None) }
+    ensures to_move { IfOk result (λ clock. side ≡ R.rules.turn view.now.position) }
+    ensures left { IfOk result (λ clock. clock.left ≡
+        left_after (left_of side (clocks_in view.now.row)) view.now.increment (moment - view.now.row.since)) }
+{
+    if view.row.result.is_some() {
+        return Err(Refusal::GameOver);
+    }
+    let plies = u64::from(view.row.plies);
+    if ply == 0 || ply > plies + 1 {
+        return Err(Refusal::WrongPly);
+    }
+    if ply <= plies {
+        return Err(Refusal::Conflict);
+    }
+    let turn = R::turn(&view.position);
+    if !is_side(side, turn) {
+        return Err(Refusal::NotYourTurn);
+    }
+    let elapsed = moment.seconds() - view.row.since.seconds();
+    let clock = match clock_in(&view.row, turn, view.increment).spend(elapsed) {
+        Ok(clock) => clock,
+        Err(_) => return Err(Refusal::OutOfTime),
+    };
+    if text.len() > MOST_TEXT_BYTES {
+        return Err(Refusal::BadValue);
+    }
+    Ok(clock)
+}
+
+/// The key of a row once more.
+fn copy_key(key: &Option<String>) -> Result<Option<String>, Memory>
+    ensures { IfOk result (λ copy. option_map (λ k. string_bytes k) copy ≡ option_map (λ k. string_bytes k) key.now) }
+{
+    match key {
+        Some(key) => Ok(Some(key.clone()?)),
+        None => Ok(None),
+    }
+}
+
+/// The row after a move that leaves so many seconds to the mover.
+fn moved_row<E: Copy + Drop>(
+    row: &GameRow<E>,
+    turn: Side,
+    left: u64,
+    moment: Moment,
+    position: String,
+    end: Option<E>,
+    score: Option<Score>,
+) -> Result<GameRow<E>, Memory>
+    requires plies { row.now.plies < 2 ^ 32 - 1 }
+    ensures clocks { IfOk result (λ new. (increment : ℕ) → left ≡ left_after (left_of turn (clocks_in row.now)) increment (moment - row.now.since) →
+        clocks_in new ≡ spend increment turn moment (clocks_in row.now)) }
+    ensures left { IfOk result (λ new. left_of turn (clocks_in new) ≡ left) }
+    ensures key { IfOk result (λ new. option_map (λ k. string_bytes k) new.key ≡ option_map (λ k. string_bytes k) row.now.key) }
+    ensures others { IfOk result (λ new. new ≡ record row.now {
+      key = new.key;
+      since = moment;
+      plies = row.now.plies + 1;
+      left_first = new.left_first;
+      left_second = new.left_second;
+      offer = None;
+      end = option_map Rule end;
+      result = score;
+      position = position;
+    }) }
+{
+    let (left_first, left_second) = match turn {
+        Side::First => (left, row.left_second),
+        Side::Second => (row.left_first, left),
+    };
+    Ok(GameRow {
+        key: copy_key(&row.key)?,
+        event: row.event,
+        first: row.first,
+        second: row.second,
+        start: row.start,
+        since: moment,
+        plies: row.plies + 1,
+        left_first,
+        left_second,
+        offer: None,
+        end: game_end(end),
+        result: score,
+        position,
+    })
+}
+
+/// Plays a legal move in a running game.
+fn accept_move<R: Rules>(
+    alloc: Global,
+    view: &GameView<R>,
+    turn: Side,
+    made: R::Move,
+    left: u64,
+    moment: Moment,
+) -> Result<Decision<R>, Memory>
+    requires sound { IsSound R.rules view.now }
+    requires can { CanPlay R.rules view.now turn made left moment }
+    ensures { IfOk result (λ d. (game : Game R.Move) → Shows R.rules game view.now → IsLegalGame R.rules (terms_of view.now) game →
+        IsDecision R.rules (terms_of view.now) game (plays R.rules (terms_of view.now) game moment (Ok made)) d) }
+{
+    let text = R::write_move(alloc, &view.position, &made)?;
+    let position = R::play(&view.position, &made);
+    let line = with_move(alloc, &view.line, made)?;
+    let end = R::judge(alloc, &R::start(), &line)?;
+    let score = score_of_end::<R>(end, R::turn(&position));
+    let written = R::write_position(alloc, &position)?;
+    let shown = written.clone()?;
+    let row = moved_row(&view.row, turn, left, moment, written, end, score)?;
+    let answer = Answer::Moved(Moved {
+        ply: row.plies,
+        text,
+        left,
+        position: shown,
+        end: name_of_end::<R>(end),
+    });
+    Ok(Decision::Accepted {
+        row,
+        made: Some(Made { made, position }),
+        answer,
+    })
+}
+
+/// A move by the player of a side.
+fn play_move<R: Rules>(
+    alloc: Global,
+    view: &GameView<R>,
+    side: Side,
+    ply: u64,
+    text: &str,
+    moment: Moment,
+) -> Result<Decision<R>, Memory>
+    requires sound { IsSound R.rules view.now }
+    requires later { view.now.row.since ≤ moment }
+    ensures { IfOk result (λ d. (game : Game R.Move) → Shows R.rules game view.now → ShowsPly R.rules game ply view.now →
+        IsLegalGame R.rules (terms_of view.now) game →
+        IsDecision R.rules (terms_of view.now) game (step_move R.rules (terms_of view.now) game moment side ply text.now) d) }
+{
+    match repeat_of(alloc, view, side, ply, text)? {
+        Some(answer) => return Ok(Decision::Repeated(answer)),
+        None => {}
+    }
+    let clock = match clock_after(view, side, ply, text, moment) {
+        Ok(clock) => clock,
+        Err(refusal) => return Ok(Decision::Refused(refusal)),
+    };
+    let made = match read_legal::<R>(alloc, &view.position, text)? {
+        Ok(made) => made,
+        Err(refusal) => return Ok(Decision::Refused(Refusal::Play(refusal))),
+    };
+    let decision = accept_move(alloc, view, side, made, clock.left, moment)?;
+    Ok(decision)
+}
+
+/// What a move does to the game that the view shows, at the effective moment: the later of the request's own and that of
+/// the last accepted request. The officer's move is that of the side of its ply.
+pub fn decide<R: Rules>(
+    alloc: Global,
+    view: &GameView<R>,
+    caller: Caller,
+    command: &Move,
+    moment: Moment,
+) -> Result<Decision<R>, Memory>
+    requires sound { IsSound R.rules view.now }
+    requires later { view.now.row.since ≤ moment }
+    ensures { IfOk result (λ d. (game : Game R.Move) → Shows R.rules game view.now → ShowsPly R.rules game command.now.ply view.now →
+        IsLegalGame R.rules (terms_of view.now) game →
+        IsDecision R.rules (terms_of view.now) game
+        (game_step R.rules (terms_of view.now) game moment caller (move command.now.ply (string_bytes command.now.text))) d) }
+{
+    let side = match caller {
+        Caller::Officer => side_of_ply(command.ply),
+        Caller::Member(id) => match side_of_member(&view.row, id) {
+            Some(side) => side,
+            None => return Ok(Decision::Refused(Refusal::NotAPlayer)),
+        },
+    };
+    let decision = play_move(
+        alloc,
+        view,
+        side,
+        command.ply,
+        command.text.as_str(),
+        moment,
+    )?;
+    Ok(decision)
+}

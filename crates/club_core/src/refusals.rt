@@ -1,0 +1,104 @@
+//! Why a command is refused.
+
+ghost use Rattle.std.specs.Prelude.{◌≡◌};
+ghost use Rattle.club_core.specs.Refusal.{refusal_number, refusal_name, refusal_text};
+
+use club_rules::MoveRefusal;
+use std::fmt;
+
+/// Why a command is refused. Of several reasons the first in this order is given, a repeat of an accepted command coming
+/// after `NotAPlayer` and before `GameOver`; those of a text or a move come last.
+#[derive(Clone, Copy, Debug, PartialEq, Eq)]
+pub enum Refusal {
+    /// No member has the key.
+    UnknownKey,
+    /// The command is the officer's.
+    NotAllowed,
+    /// No event has the name.
+    UnknownEvent,
+    /// No game has the number.
+    UnknownGame,
+    /// The member plays neither side of the game.
+    NotAPlayer,
+    /// The game has ended.
+    GameOver,
+    /// The ply is 0, or not yet due.
+    WrongPly,
+    /// Another move was played at the ply, or another game stands under the key.
+    Conflict,
+    /// The other side is to move.
+    NotYourTurn,
+    /// The side to move has used all its seconds.
+    OutOfTime,
+    /// The name or the key is in use.
+    NameTaken,
+    /// A value is outside its limits, or a player is unknown or twice the same.
+    BadValue,
+    /// The club holds no more of these.
+    Full,
+    /// The text or the move is refused by the rules of the game.
+    Play(MoveRefusal),
+}
+
+impl Refusal {
+    /// The number of the refusal: 50 to 66, or that of the move's refusal.
+    pub fn number(self) -> u8
+        ensures { result ≡ refusal_number self }
+    {
+        match self {
+            Refusal::UnknownKey => 50,
+            Refusal::NotAllowed => 51,
+            Refusal::UnknownEvent => 52,
+            Refusal::UnknownGame => 53,
+            Refusal::NotAPlayer => 55,
+            Refusal::GameOver => 56,
+            Refusal::WrongPly => 57,
+            Refusal::Conflict => 58,
+            Refusal::NotYourTurn => 59,
+            Refusal::OutOfTime => 60,
+            Refusal::NameTaken => 64,
+            Refusal::BadValue => 65,
+            Refusal::Full => 66,
+            Refusal::Play(refusal) => refusal.number(),
+        }
+    }
+
+    /// The name of the refusal, without its numbers.
+    pub fn name(self) -> &'static str
+        ensures { result.now ≡ refusal_name self }
+    {
+        match self {
+            Refusal::UnknownKey => "UnknownKey",
+            Refusal::NotAllowed => "NotAllowed",
+            Refusal::UnknownEvent => "UnknownEvent",
+            Refusal::UnknownGame => "UnknownGame",
+            Refusal::NotAPlayer => "NotAPlayer",
+            Refusal::GameOver => "GameOver",
+            Refusal::WrongPly => "WrongPly",
+            Refusal::Conflict => "Conflict",
+            Refusal::NotYourTurn => "NotYourTurn",
+            Refusal::OutOfTime => "OutOfTime",
+            Refusal::NameTaken => "NameTaken",
+            Refusal::BadValue => "BadValue",
+            Refusal::Full => "Full",
+            Refusal::Play(refusal) => refusal.name(),
+        }
+    }
+}
+
+/// Writes the number, the name and then the refusal's numbers, parted by blanks: `58 Conflict`, `20 BadText 2`.
+impl fmt::Display for Refusal {
+    ghost use Rattle.std.specs.Prelude.{Some};
+
+    ghost output = { λ refusal. Some (refusal_text refusal) };
+
+    fn fmt<W: fmt::Write>(&self, f: &mut fmt::Formatter<W>) -> fmt::Result {
+        let number = self.number();
+        let name = self.name();
+        write!(f, "{number} {name}")?;
+        match self {
+            Refusal::Play(MoveRefusal::BadText(offset)) => write!(f, " {offset}"),
+            _ => Ok(()),
+        }
+    }
+}

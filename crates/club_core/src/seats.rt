@@ -1,0 +1,226 @@
+//! Seating two members for a game.
+
+ghost use Rattle.std.specs.Prelude.{◌≡◌, ◌≤◌, ◌<◌, ◌+◌, length, ℕ, Option, Some, None, IfOk, IfNone, IfSome, string_bytes};
+ghost use Rattle.std.specs.Option.{option_map};
+ghost use Rattle.club_core.specs.Limits.{most_members, most_events, most_games};
+ghost use Rattle.club_core.specs.Members.{find_id};
+ghost use Rattle.club_core.specs.Events.{has_event_name};
+ghost use Rattle.club_core.specs.Seats.{has_member_name, same_seats, seat_refusal, seat_step, seat_found, is_id, are_two};
+ghost use Rattle.club_core.specs.Outcome.{by_officer, game_seated};
+ghost use Rattle.club_core.specs.State.{seated};
+ghost use Rattle.club_core.specs.Answer.{members_of, events_of, keyed_of, pairing_of, seating_of};
+ghost use Rattle.club_core.specs.View.{IsRowOf};
+
+use crate::ends::{game_end, score_of_end};
+use crate::events::Event;
+use crate::ids::id_at;
+use crate::members::Member;
+use crate::refusals::Refusal;
+use crate::requests::{Caller, Seat};
+use crate::rows::GameRow;
+use crate::values::{MOST_GAMES, is_name};
+use clocks::Moment;
+use club_rules::{Memory, Rules};
+use std::alloc::Global;
+
+/// An event and the two players of a game, by their ids.
+#[derive(Clone, Copy, Debug, PartialEq, Eq)]
+pub struct Pairing {
+    pub event: u32,
+    pub first: u32,
+    pub second: u32,
+}
+
+/// The game that stands under a key, with its id.
+#[derive(Clone, Copy, Debug, PartialEq, Eq)]
+pub struct KeyedGame {
+    pub game: u32,
+    pub pairing: Pairing,
+}
+
+/// What a seating does: it starts the game of that id, it repeats the one that started that game, or it is refused.
+#[derive(Clone, Copy, Debug, PartialEq, Eq)]
+pub enum Seating {
+    Starts(KeyedGame),
+    Repeated(u32),
+    Refused(Refusal),
+}
+
+/// The id of the event of that name.
+fn find_event(events: &[Event], name: &str) -> Option<u32>
+    requires { length events.now ≤ most_events }
+    ensures { result ≡ find_id (has_event_name name.now) (events_of events.now) }
+{
+    id_at(events.iter().position(|e| e.name.as_str() == name))
+}
+
+/// The id of the member of that name.
+fn find_member(members: &[Member], name: &str) -> Option<u32>
+    requires { length members.now ≤ most_members }
+    ensures { result ≡ find_id (has_member_name name.now) (members_of members.now) }
+{
+    id_at(members.iter().position(|m| m.name.as_str() == name))
+}
+
+/// Whether the id was found and is that one.
+fn is_id(found: Option<u32>, id: u32) -> bool
+    ensures { result ≡ is_id found id }
+{
+    match found {
+        Some(other) => other == id,
+        None => false,
+    }
+}
+
+/// Whether both were found and differ.
+fn are_two(first: Option<u32>, second: Option<u32>) -> bool
+    ensures { result ≡ are_two first second }
+{
+    match first {
+        Some(one) => match second {
+            Some(other) => one != other,
+            None => false,
+        },
+        None => false,
+    }
+}
+
+/// The game under the key, if it is of the same event and has the same members on the same sides.
+fn repeated_seat(
+    event: u32,
+    first: Option<u32>,
+    second: Option<u32>,
+    under_key: Option<KeyedGame>,
+) -> Option<u32>
+    ensures { option_map game_seated result ≡ same_seats event first second (option_map keyed_of under_key) }
+{
+    let old = match under_key {
+        Some(old) => old,
+        None => return None,
+    };
+    let same = event == old.pairing.event
+        && is_id(first, old.pairing.first)
+        && is_id(second, old.pairing.second);
+    if same { Some(old.game) } else { None }
+}
+
+/// Why no new game is started.
+fn refusal_of_seat(
+    under_key: Option<KeyedGame>,
+    games: u32,
+    key: &str,
+    first: Option<u32>,
+    second: Option<u32>,
+) -> Option<Refusal>
+    ensures value { result ≡ seat_refusal (option_map keyed_of under_key) games key.now first second }
+    ensures room { IfNone result (games < most_games) }
+{
+    if under_key.is_some() {
+        return Some(Refusal::Conflict);
+    }
+    if !is_name(key) || !are_two(first, second) {
+        return Some(Refusal::BadValue);
+    }
+    if games >= MOST_GAMES {
+        return Some(Refusal::Full);
+    }
+    None
+}
+
+/// What a seating does, once the names were looked up.
+fn seat_found(
+    event: u32,
+    first: Option<u32>,
+    second: Option<u32>,
+    under_key: Option<KeyedGame>,
+    games: u32,
+    key: &str,
+) -> Seating
+    ensures { seating_of result ≡ seat_found (Some event) first second (option_map keyed_of under_key) games key.now }
+{
+    match repeated_seat(event, first, second, under_key) {
+        Some(game) => return Seating::Repeated(game),
+        None => {}
+    }
+    match refusal_of_seat(under_key, games, key, first, second) {
+        Some(refusal) => return Seating::Refused(refusal),
+        None => {}
+    }
+    let first = match first {
+        Some(first) => first,
+        None => return Seating::Refused(Refusal::BadValue),
+    };
+    let second = match second {
+        Some(second) => second,
+        None => return Seating::Refused(Refusal::BadValue),
+    };
+    Seating::Starts(KeyedGame {
+        game: games + 1,
+        pairing: Pairing {
+            event,
+            first,
+            second,
+        },
+    })
+}
+
+/// What a seating does, by the members and the events in the order of their ids, the game under its key if there is one,
+/// and the number of games. The officer alone seats. The new game's id is the next one.
+pub fn seat(
+    members: &[Member],
+    events: &[Event],
+    under_key: Option<KeyedGame>,
+    games: u32,
+    caller: Caller,
+    command: &Seat,
+) -> Seating
+    requires members { length members.now ≤ most_members }
+    requires events { length events.now ≤ most_events }
+    ensures { seating_of result ≡ by_officer caller (seat_step (members_of members.now) (events_of events.now)
+        (option_map keyed_of under_key) games (string_bytes command.now.key)
+        (string_bytes command.now.event) (string_bytes command.now.first) (string_bytes command.now.second)) }
+{
+    if caller != Caller::Officer {
+        return Seating::Refused(Refusal::NotAllowed);
+    }
+    let event = match find_event(events, command.event.as_str()) {
+        Some(event) => event,
+        None => return Seating::Refused(Refusal::UnknownEvent),
+    };
+    let first = find_member(members, command.first.as_str());
+    let second = find_member(members, command.second.as_str());
+    seat_found(event, first, second, under_key, games, command.key.as_str())
+}
+
+/// The row of a game that is seated at that moment, each player having the budget.
+pub fn seated_row<R: Rules>(
+    alloc: Global,
+    key: &str,
+    pairing: Pairing,
+    budget: u64,
+    start: Moment,
+) -> Result<GameRow<R::End>, Memory>
+    ensures { IfOk result (λ row. (increment : ℕ) → IsRowOf R.rules (record { budget = budget; increment = increment })
+        (seated (Some key.now) (pairing_of pairing) start) row) }
+{
+    let position = R::start();
+    let end = R::judge(alloc, &position, &[])?;
+    let score = score_of_end::<R>(end, R::turn(&position));
+    let key = String::from_str(alloc, key)?;
+    let text = R::write_position(alloc, &position)?;
+    Ok(GameRow {
+        key: Some(key),
+        event: pairing.event,
+        first: pairing.first,
+        second: pairing.second,
+        start,
+        since: start,
+        plies: 0,
+        left_first: budget,
+        left_second: budget,
+        offer: None,
+        end: game_end(end),
+        result: score,
+        position: text,
+    })
+}

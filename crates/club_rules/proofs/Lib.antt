@@ -1,0 +1,2 @@
+pub mod FenLemmas
+pub mod Lines

@@ -1,0 +1,13 @@
+pub mod CheckLemmas
+pub mod GrowthLemmas
+pub mod JumpLemmas
+pub mod LegalLemmas
+pub mod ListLemmas
+pub mod MaxLemmas
+pub mod MostLemmas
+pub mod MoveLemmas
+pub mod OrderLemmas
+pub mod Prey
+pub mod RouteLemmas
+pub mod RoutingLemmas
+pub mod StepLemmas

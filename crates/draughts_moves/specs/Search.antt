@@ -1,0 +1,96 @@
+-- The moves of a position, computed.
+use Rattle.std.specs.Prelude.{ℕ, ◌+◌, Bool, false, not, cond, length, ◌&&◌, Option, Some, None, is_none, List, [], ◌∷◌, ◌++◌, max, count_by, fold, map, take, nat_lt, ◌||◌, ◌==◌, option_and_then, if◌then◌else◌}
+use Rattle.std.specs.Option.{option_map_or}
+use Rattle.std.specs.FinMap as finite_map
+use Rattle.squares.specs.DraughtsBoard.{Position}
+use Rattle.std.proofs.Common.{zero, suc}
+use Rattle.std.specs.List.{flat_map, range_with_len, list_any}
+use Rattle.std.specs.FinSet as set
+use Rattle.squares.specs.declared.draughts.direction.Direction.{Direction}
+use Rattle.squares.specs.declared.draughts.direction.Direction.TheVariants.{UpLeft, UpRight, DownLeft, DownRight}
+use Rattle.squares.specs.declared.draughts.piece.DPiece.{DPiece}
+use Rattle.squares.specs.DraughtsSets.{Squares}
+use Rattle.squares.specs.DraughtsGeometry.{ray}
+use Rattle.draughts_moves.specs.Legal.{is_forward}
+use Rattle.draughts_moves.specs.Capture.{Cells, is_enemy, without}
+use Rattle.squares.specs.Sides.{same_side}
+
+-- the squares up to the first piece
+abbrev pub clear_front : Cells → List ℕ → List ℕ
+clear_front b [] = []
+clear_front b (n ∷ ns) = cond (is_none (b n)) (n ∷ clear_front b ns) []
+
+abbrev pub is_prey : Cells → DPiece → Squares → ℕ → Bool
+is_prey b p taken n = is_enemy p (b n) && not (set.contains taken n)
+
+-- the jumps of a king along a line: the square jumped over, and the landing
+abbrev pub king_jumps : Cells → DPiece → Squares → List ℕ → List (ℕ × ℕ)
+king_jumps b p taken [] = []
+king_jumps b p taken (n ∷ ns) = cond (is_none (b n)) (king_jumps b p taken ns) (cond (is_prey b p taken n) (map (λ l. (n, l)) (clear_front b ns)) [])
+
+abbrev pub man_jumps : Cells → DPiece → Squares → List ℕ → List (ℕ × ℕ)
+man_jumps b p taken [] = []
+man_jumps b p taken (n ∷ []) = []
+man_jumps b p taken (n ∷ l ∷ ns) = cond (is_prey b p taken n && is_none (b l)) ((n, l) ∷ []) []
+
+abbrev pub line_jumps : Cells → DPiece → Squares → List ℕ → List (ℕ × ℕ)
+line_jumps b p taken ns = cond p.king (king_jumps b p taken ns) (man_jumps b p taken ns)
+
+unfoldable pub jumps : Cells → DPiece → Squares → ℕ → List (ℕ × ℕ)
+jumps b p taken s =
+    line_jumps b p taken (ray UpLeft s) ++ (line_jumps b p taken (ray UpRight s) ++ (line_jumps b p taken (ray DownLeft s) ++ line_jumps b p taken (ray DownRight s)))
+
+-- how many squares a piece goes at most: a king along the whole line, a man one, and only forward
+abbrev pub reach : DPiece → Direction → ℕ
+reach q d = if q.king then 9 else if is_forward q.side d then 1 else 0
+
+-- where a piece goes in a direction without taking
+unfoldable pub steps_along : Cells → DPiece → Direction → ℕ → List ℕ
+steps_along b q d x = clear_front b (take (reach q d) (ray d x))
+
+-- where a piece goes without taking
+unfoldable pub steps : Cells → DPiece → ℕ → List ℕ
+steps b q x = steps_along b q UpLeft x ++ (steps_along b q UpRight x ++ (steps_along b q DownLeft x ++ steps_along b q DownRight x))
+
+-- what is taken and where the piece ends, for each route of n jumps
+unfoldable pub routes_of : Cells → DPiece → ℕ → Squares → ℕ → List (Squares × ℕ)
+routes_of b p zero taken s = (taken, s) ∷ []
+routes_of b p (suc n) taken s = flat_map (λ j. routes_of b p n (set.insert taken j.0) j.1) (jumps b p taken s)
+
+-- the most jumps in a row, up to k
+unfoldable pub longest : Cells → DPiece → ℕ → Squares → ℕ → ℕ
+longest b p zero taken s = 0
+longest b p (suc k) taken s = fold (λ m j. max m (longest b p k (set.insert taken j.0) j.1 + 1)) 0 (jumps b p taken s)
+
+-- how many enemies are not taken
+unfoldable pub prey_left : Cells → DPiece → Squares → ℕ
+prey_left b p taken = count_by (is_prey b p taken) (range_with_len 1 50)
+
+-- the most jumps in a row
+unfoldable pub greatest : Cells → DPiece → Squares → ℕ → ℕ
+greatest b p taken s = longest b p (prey_left b p taken) taken s
+
+-- the piece on x, if it is of the side to move
+abbrev pub own_at : Position → ℕ → Option DPiece
+own_at p x = option_and_then (λ q. if same_side q.side p.turn then Some q else None) (finite_map.get p.board x)
+
+-- the most jumps in a row of the piece on x
+unfoldable pub greatest_at : Position → ℕ → ℕ
+greatest_at p x = option_map_or (λ q. greatest (without p.board x) q set.empty x) (own_at p x) 0
+
+-- the most jumps in a row of any piece of the side to move
+unfoldable pub most : Position → ℕ
+most p = fold (λ m x. max m (greatest_at p x)) 0 (range_with_len 1 50)
+
+-- whether the piece on x, of the side to move, can go to y without taking
+unfoldable pub is_step : Position → ℕ → ℕ → Bool
+is_step p x y = option_map_or (λ q. list_any (λ z. z == y) (steps (finite_map.get p.board) q x)) (own_at p x) false
+
+-- whether the piece on x, of the side to move, can go or jump anywhere
+unfoldable pub can_move : Position → ℕ → Bool
+can_move p x =
+    option_map_or (λ q. nat_lt 0 (length (steps (finite_map.get p.board) q x)) || nat_lt 0 (length (jumps (without p.board x) q set.empty x))) (own_at p x) false
+
+-- whether the side to move has a move
+unfoldable pub has_move : Position → Bool
+has_move p = list_any (can_move p) (range_with_len 1 50)

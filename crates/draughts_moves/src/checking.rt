@@ -1,0 +1,164 @@
+//! Which moves are legal.
+ghost use Rattle.std.specs.Prelude.{◌≡◌, ◌↔◌, ◌≢◌, ◌<◌, ℕ, IsTrue, IsOk, Err};
+ghost use Rattle.std.specs.FinSet as set;
+ghost use Rattle.squares.specs.declared.draughts.moves.DMove.{DMove};
+ghost use Rattle.squares.specs.DraughtsBoard.{Position};
+ghost use Rattle.draughts_moves.specs.Capture.{HasCapture};
+ghost use Rattle.draughts_moves.specs.Legal.{IsQuiet, IsCapture, IsShortCapture, Legal, HasMove};
+ghost use Rattle.draughts_moves.specs.Search.{is_step, can_move, has_move};
+ghost use Rattle.draughts_moves.specs.Check.{IsCheck, check_of};
+
+use crate::jumps::jumps_from;
+use crate::most::{most, own_at};
+use crate::reaches::reaches;
+use crate::steps::steps_from;
+use squares::{DMove, DPos, DSet, Dsq};
+use std::fmt;
+
+/// Why a move is refused.
+#[derive(Clone, Copy, Debug, PartialEq, Eq)]
+pub enum Illegal {
+    /// No piece of the side to move can move so.
+    NoSuchMove,
+    /// The move takes nothing, and something can be taken.
+    MustCapture,
+    /// The capture takes fewer pieces than another would.
+    NotLongest,
+}
+
+impl fmt::Display for Illegal {
+    ghost use Rattle.std.specs.Prelude.{Some};
+    ghost use Rattle.draughts_moves.specs.Refusal.{rule_text};
+
+    ghost output = { λ illegal. Some (rule_text illegal) };
+
+    fn fmt<W: fmt::Write>(&self, f: &mut fmt::Formatter<W>) -> fmt::Result {
+        f.write_str(self.rule())
+    }
+}
+
+impl Illegal {
+    ghost use Rattle.draughts_moves.specs.Refusal.{rule_text};
+
+    // The rule that the move breaks.
+    fn rule(self) -> &'static str
+        ensures { result.now ≡ rule_text self }
+    {
+        match self {
+            Illegal::NoSuchMove => "no piece of the side to move can move so",
+            Illegal::MustCapture => "a piece must be taken",
+            Illegal::NotLongest => "as many pieces as can be must be taken",
+        }
+    }
+}
+
+/// Whether a move is legal, and if it is not, why. It takes no memory.
+pub fn check(position: &DPos, played: &DMove) -> Result<(), Illegal>
+    ensures legal { IsOk result ↔ Legal position.now played.now }
+
+    // A quiet move where something can be taken.
+    ensures must_capture { (result ≡ Err Illegal.MustCapture)
+        ↔ (IsQuiet position.now played.now × HasCapture position.now) }
+
+    // A capture that takes fewer than another. A capture that stops on its way is one too.
+    ensures not_longest { (result ≡ Err Illegal.NotLongest) ↔ IsShortCapture position.now played.now }
+
+    // The answer as a function of the position and the move.
+    ensures value { result ≡ check_of position.now played.now }
+{
+    if played.taken.is_empty() {
+        return check_quiet(position, played);
+    }
+    check_capture(position, played)
+}
+
+// The check of a move that takes nothing.
+fn check_quiet(position: &DPos, played: &DMove) -> Result<(), Illegal>
+    requires { played.now.taken ≡ set.empty }
+    ensures { IsCheck position.now played.now result }
+{
+    if !is_step(position, played.from, played.to) {
+        return Err(Illegal::NoSuchMove);
+    }
+    if most(position) > 0 {
+        return Err(Illegal::MustCapture);
+    }
+    Ok(())
+}
+
+// The check of a move that takes something.
+fn check_capture(position: &DPos, played: &DMove) -> Result<(), Illegal>
+    requires { played.now.taken ≢ set.empty }
+    ensures { IsCheck position.now played.now result }
+{
+    if !is_capture(position, played) {
+        return Err(Illegal::NoSuchMove);
+    }
+    if played.taken.len() < most(position) {
+        return Err(Illegal::NotLongest);
+    }
+    Ok(())
+}
+
+// Whether the piece on `from` can go to `to` without taking.
+#[tactic(auto, unfolding(crate::specs::Search::is_step))]
+fn is_step(position: &DPos, from: Dsq, to: Dsq) -> bool
+    ensures { result ≡ is_step position.now from to }
+{
+    match own_at(position, from) {
+        Some(piece) => steps_from(position, piece, from).has(to),
+        None => false,
+    }
+}
+
+// Whether some route takes what the move takes and ends where it ends.
+fn is_capture(position: &DPos, played: &DMove) -> bool
+    requires { played.now.taken ≢ set.empty }
+    ensures { IsTrue result ↔ IsCapture position.now played.now }
+{
+    let size = played.taken.len();
+    match own_at(position, played.from) {
+        Some(piece) => reaches(
+            position,
+            played.from,
+            piece,
+            DSet::new(),
+            played.from,
+            size,
+            played.taken,
+            played.to,
+        ),
+        None => false,
+    }
+}
+
+/// Whether the side to move has a legal move. It takes no memory.
+pub fn has_move(position: &DPos) -> bool
+    ensures moves { IsTrue result ↔ HasMove position.now }
+
+    // The answer as a function of the position.
+    ensures value { result ≡ has_move position.now }
+{
+    for square in &Dsq::all() {
+        if can_move(position, *square) {
+            return true;
+        }
+    }
+    false
+}
+
+// Whether the piece on a square is of the side to move, and can go or jump anywhere.
+#[tactic(auto, unfolding(crate::specs::Search::can_move))]
+fn can_move(position: &DPos, square: Dsq) -> bool
+    ensures { result ≡ can_move position.now square }
+{
+    match own_at(position, square) {
+        Some(piece) => {
+            if steps_from(position, piece, square).len() > 0 {
+                return true;
+            }
+            jumps_from(position, square, piece, DSet::new(), square).len() > 0
+        }
+        None => false,
+    }
+}

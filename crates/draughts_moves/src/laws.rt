@@ -1,0 +1,14 @@
+//! What is proved of the rules as a whole.
+ghost use Rattle.draughts_moves.specs.Laws.{CheckIs, RoutesGrow};
+
+/// The check of a move, as a function of position and move, passes the legal moves alone, and
+/// refuses each other one for the reason that the rules give.
+pub fn check_is()
+    ensures { CheckIs }
+{}
+
+/// A route may be read from its end: it is a shorter route and one more jump from where that one
+/// has come to, over a piece that it has not taken.
+pub fn routes_grow()
+    ensures { RoutesGrow }
+{}

@@ -1,0 +1,24 @@
+//! The moves of international draughts: which are legal, and what they leave.
+#![tactic(auto)]
+
+pub mod checking;
+mod jumps;
+pub mod laws;
+pub mod listing;
+mod longest;
+pub mod memory;
+mod most;
+mod ordering;
+pub mod playing;
+mod reaches;
+pub mod routing;
+mod steps;
+
+pub use checking::{Illegal, check, has_move};
+pub use listing::legal;
+pub use memory::Memory;
+pub use playing::play;
+pub use routing::routes;
+
+#[cfg(test)]
+mod tests;

@@ -1,0 +1,46 @@
+//! The greatest number of pieces that can be taken.
+ghost use Rattle.std.specs.Prelude.{◌≡◌, ◌≤◌};
+ghost use Rattle.draughts_moves.specs.Capture.{IsMost};
+ghost use Rattle.draughts_moves.specs.Search.{own_at, greatest_at};
+
+use crate::longest::longest;
+use squares::{DPiece, DPos, DSet, Dsq};
+
+// The piece on a square, if it is of the side to move.
+pub fn own_at(position: &DPos, square: Dsq) -> Option<DPiece>
+    ensures { result ≡ own_at position.now square }
+{
+    match position.at(square) {
+        Some(piece) => {
+            if piece.side == position.turn() {
+                return Some(piece);
+            }
+            None
+        }
+        None => None,
+    }
+}
+
+// The most jumps in a row of the piece on a square.
+#[tactic(auto, unfolding(crate::specs::Search::greatest_at))]
+fn greatest_at(position: &DPos, square: Dsq) -> usize
+    ensures value { result ≡ greatest_at position.now square }
+    ensures few { result ≤ 50 }
+{
+    match own_at(position, square) {
+        Some(piece) => longest(position, square, piece, DSet::new(), square),
+        None => 0,
+    }
+}
+
+/// The greatest number of pieces that a capture takes, or 0 where there is no capture.
+pub fn most(position: &DPos) -> usize
+    ensures most { IsMost position.now result }
+    ensures few { result ≤ 50 }
+{
+    let mut most = 0;
+    for square in &Dsq::all() {
+        most = most.max(greatest_at(position, *square));
+    }
+    most
+}

@@ -1,0 +1,141 @@
+//! The routes of a capture.
+ghost use Rattle.std.specs.Prelude.{◌≡◌, ◌↔◌, ◌≤◌, ◌++◌, [], ◌∷◌, ◌&&◌, ◌==◌, if◌then◌else◌, ℕ, List, length, map, OnOk, IfOk, MatchOption, Contains, take, drop};
+ghost use Rattle.std.specs.List.Sorted.{IsStrictlySortedBy};
+ghost use Rattle.squares.specs.DraughtsSets.{same_squares};
+ghost use Rattle.squares.specs.OrderedLists.{put, put_all};
+ghost use Rattle.draughts_moves.specs.Capture.{without, Capture};
+ghost use Rattle.draughts_moves.specs.Routes.{route_cmp, lists_in, landings_of};
+
+use crate::jumps::jumps_from;
+use crate::memory::Memory;
+use crate::most::own_at;
+use squares::{DMove, DPiece, DPos, DSet, Dsq};
+use std::alloc::{AllocError, Global};
+use std::cmp::Ordering;
+
+// The place of a route among routes in order, or None where it is there.
+fn place_of(routes: &[Vec<Dsq>], route: &[Dsq]) -> Option<usize>
+    ensures { MatchOption result
+        (put route_cmp route.now (lists_in routes.now) ≡ lists_in routes.now)
+        (λ i. (i ≤ length routes.now)
+        × (put route_cmp route.now (lists_in routes.now)
+        ≡ take i (lists_in routes.now) ++ route.now ∷ drop i (lists_in routes.now))) }
+{
+    for (i, there) in routes.iter().enumerate() {
+        match there.as_slice().cmp(route) {
+            Ordering::Less => {}
+            Ordering::Equal => return None,
+            Ordering::Greater => return Some(i),
+        }
+    }
+    Some(routes.len())
+}
+
+// Puts a route at its place, if it is not there.
+fn put_route(alloc: Global, route: &[Dsq], routes: &mut Vec<Vec<Dsq>>) -> Result<(), AllocError>
+    ensures { OnOk result (lists_in routes.new.items ≡ put route_cmp route.now (lists_in routes.old.items)) }
+{
+    match place_of(routes.as_slice(), route) {
+        Some(i) => {
+            let copy = Vec::from_slice(alloc, route)?;
+            routes.insert(i, copy)?;
+            Ok(())
+        }
+        None => Ok(()),
+    }
+}
+
+// Puts a route that has come to `at` with `taken`, if that is where and what the move takes.
+fn put_end(
+    alloc: Global,
+    played: &DMove,
+    taken: DSet,
+    at: Dsq,
+    path: &[Dsq],
+    routes: &mut Vec<Vec<Dsq>>,
+) -> Result<(), AllocError>
+    ensures { OnOk result (lists_in routes.new.items ≡ put_all route_cmp
+        (if at == played.now.to && same_squares taken played.now.taken then path.now ∷ [] else [])
+        (lists_in routes.old.items)) }
+{
+    if at != played.to {
+        return Ok(());
+    }
+    if taken != played.taken {
+        return Ok(());
+    }
+    put_route(alloc, path, routes)
+}
+
+// Puts the routes that go on from `path`, which has come to `at`, by `left` more jumps.
+fn collect_routes(
+    alloc: Global,
+    position: &DPos,
+    piece: DPiece,
+    played: &DMove,
+    taken: DSet,
+    at: Dsq,
+    left: usize,
+    path: &mut Vec<Dsq>,
+    routes: &mut Vec<Vec<Dsq>>,
+) -> Result<(), AllocError>
+    ensures found { OnOk result (lists_in routes.new.items ≡ put_all route_cmp
+        (map (λ ls. path.old.items ++ ls)
+        (landings_of (without position.now.board played.now.from) piece played.now.taken played.now.to left taken at))
+        (lists_in routes.old.items)) }
+    ensures path { OnOk result (path.new.items ≡ path.old.items) }
+{
+    if left == 0 {
+        put_end(alloc, played, taken, at, path.as_slice(), routes)?;
+        return Ok(());
+    }
+    let jumps = jumps_from(position, played.from, piece, taken, at);
+    for (over, next) in jumps.items() {
+        path.push(*next)?;
+        collect_routes(
+            alloc,
+            position,
+            piece,
+            played,
+            taken.with(*over),
+            *next,
+            left - 1,
+            path,
+            routes,
+        )?;
+        path.pop();
+    }
+    Ok(())
+}
+
+/// The routes by which a piece makes a capture, each once and in the order of a dictionary. A
+/// route is the list of the squares on which the piece lands.
+///
+/// It fails where memory is refused, and then alone.
+pub fn routes(alloc: Global, position: &DPos, played: &DMove) -> Result<Vec<Vec<Dsq>>, Memory>
+    ensures in_order { IfOk result (λ routes. IsStrictlySortedBy route_cmp (lists_in routes.items)) }
+    ensures members { IfOk result (λ routes. (landings : List ℕ)
+        → Contains (lists_in routes.items) landings
+        ↔ Capture position.now played.now.from landings played.now.taken played.now.to) }
+{
+    let mut routes = Vec::new(alloc);
+    let mut path = Vec::new(alloc);
+    match own_at(position, played.from) {
+        Some(piece) => {
+            let size = played.taken.len();
+            collect_routes(
+                alloc,
+                position,
+                piece,
+                played,
+                DSet::new(),
+                played.from,
+                size,
+                &mut path,
+                &mut routes,
+            )?;
+            Ok(routes)
+        }
+        None => Ok(routes),
+    }
+}

@@ -1,0 +1,11 @@
+use Rattle.std.proofs.Common.{ap, sym, ◌∙◌}
+use Rattle.squares.specs.ShogiBoard.{ShogiBoard}
+use Rattle.squares.specs.ShogiSets.{count_on, holds_king}
+use Rattle.squares.proofs.ShogiCounts.{count_on-cells}
+use Rattle.squares.proofs.shogi.board.SBoard.count_kings.Goals as goal
+
+pub returns-clause-value : goal.returns-clause-value
+returns-clause-value c =
+    c.count_king_cells.ensures.value
+    ∙ sym (count_on-cells (holds_king c.args.side) c.self.inside.cells c.self.invariant)
+    ∙ ap (λ (b : ShogiBoard). count_on (holds_king c.args.side) b) c.self.view_is

@@ -1,0 +1,24 @@
+-- A board is a finite map from squares to pieces, and a position a board and a turn.
+use Rattle.std.specs.Prelude.{ℕ, Option, Some, None, List, [], ◌∷◌}
+use Rattle.std.specs.Ordering.{nat_cmp}
+use Rattle.std.specs.FinMap as map
+use Rattle.std.proofs.Common.{suc}
+use Rattle.squares.specs.declared.draughts.piece.DPiece.{DPiece}
+use Rattle.squares.specs.declared.sides.Side.{Side}
+use Rattle.squares.specs.declared.sides.Side.TheVariants.{First, Second}
+
+abbrev pub Board : Type 0
+Board = map.FinMap nat_cmp DPiece
+
+pub record Position : Type 0 where
+  pub board : Board
+  pub turn : Side
+
+abbrev pub occupied : ℕ → List (Option DPiece) → List (ℕ × DPiece)
+occupied n [] = []
+occupied n (None ∷ cells) = occupied (suc n) cells
+occupied n (Some p ∷ cells) = (n, p) ∷ occupied (suc n) cells
+
+-- the board of fifty cells, in the order of the squares
+unfoldable pub board_of : List (Option DPiece) → Board
+board_of cells = map.from_entries (occupied 1 cells)

@@ -1,0 +1,17 @@
+-- The opening of draughts: twenty men a side, Second's on squares 1 to 20 and First's on 31 to 50, with First to move.
+use Rattle.std.specs.Prelude.{ℕ, true, false, nat_le, if◌then◌else◌, Option, Some, None, map}
+use Rattle.std.specs.List.{range_with_len}
+use Rattle.squares.specs.declared.draughts.piece.DPiece.{DPiece}
+use Rattle.squares.specs.declared.sides.Side.{Side}
+use Rattle.squares.specs.declared.sides.Side.TheVariants.{First, Second}
+use Rattle.squares.specs.DraughtsBoard.{Position, board_of}
+
+abbrev pub man : Side → DPiece
+man side = record { side = side; king = false }
+
+-- what stands on square n in the opening
+abbrev pub opening_piece : ℕ → Option DPiece
+opening_piece n = if nat_le n 20 then Some (man Second) else if nat_le n 30 then None else Some (man First)
+
+unfoldable pub opening : Position
+opening = record { board = board_of (map opening_piece (range_with_len 1 50)); turn = First }

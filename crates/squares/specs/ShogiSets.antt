@@ -1,0 +1,80 @@
+-- A shogi position: a board, two hands and a turn, with one king for each side and no more pieces than the set of a game has.
+use Rattle.std.specs.Prelude.{ℕ, ◌+◌, ◌≤◌, ◌≡◌, Option, Some, None, Bool, true, false, ◌&&◌, count_by}
+use Rattle.std.specs.List.{range_with_len}
+use Rattle.std.specs.FinMap as map
+use Rattle.squares.specs.declared.sides.Side.{Side}
+use Rattle.squares.specs.declared.shogi.piece.HandKind.{HandKind}
+use Rattle.squares.specs.declared.shogi.piece.HandKind.TheVariants as in_hand
+use Rattle.squares.specs.declared.shogi.piece.Role.{Role}
+use Rattle.squares.specs.declared.shogi.piece.Role.TheVariants as role
+use Rattle.squares.specs.declared.shogi.piece.SPiece.{SPiece}
+use Rattle.squares.specs.declared.shogi.hand.Hands.{Hands}
+use Rattle.squares.specs.Sides.{same_side}
+use Rattle.squares.specs.ShogiHands.{count_of}
+use Rattle.squares.specs.ShogiBoard.{ShogiBoard}
+
+pub record ShogiPosition : Type 0 where
+  pub board : ShogiBoard
+  pub hands : Hands
+  pub turn : Side
+
+-- a piece of that kind, promoted or not
+abbrev pub is_of : HandKind → Role → Bool
+is_of in_hand.Rook role.Rook = true
+is_of in_hand.Rook role.PromotedRook = true
+is_of in_hand.Bishop role.Bishop = true
+is_of in_hand.Bishop role.PromotedBishop = true
+is_of in_hand.Gold role.Gold = true
+is_of in_hand.Silver role.Silver = true
+is_of in_hand.Silver role.PromotedSilver = true
+is_of in_hand.Knight role.Knight = true
+is_of in_hand.Knight role.PromotedKnight = true
+is_of in_hand.Lance role.Lance = true
+is_of in_hand.Lance role.PromotedLance = true
+is_of in_hand.Pawn role.Pawn = true
+is_of in_hand.Pawn role.PromotedPawn = true
+is_of _ _ = false
+
+abbrev pub is_king : Role → Bool
+is_king role.King = true
+is_king _ = false
+
+-- the square holds a piece of that kind
+abbrev pub holds_kind : HandKind → Option SPiece → Bool
+holds_kind kind None = false
+holds_kind kind (Some piece) = is_of kind piece.role
+
+-- the square holds the king of that side
+abbrev pub holds_king : Side → Option SPiece → Bool
+holds_king side None = false
+holds_king side (Some piece) = is_king piece.role && same_side piece.side side
+
+-- how many squares pass
+unfoldable pub count_on : (Option SPiece → Bool) → ShogiBoard → ℕ
+count_on test board = count_by (λ square. test (map.get board square)) (range_with_len 0 81)
+
+-- how many pieces of a kind the set of a game has
+abbrev pub set_size : HandKind → ℕ
+set_size in_hand.Rook = 2
+set_size in_hand.Bishop = 2
+set_size in_hand.Gold = 4
+set_size in_hand.Silver = 4
+set_size in_hand.Knight = 4
+set_size in_hand.Lance = 4
+set_size in_hand.Pawn = 18
+
+-- how many pieces of a kind the board and the hands have together
+abbrev pub in_play : HandKind → ShogiBoard → Hands → ℕ
+in_play kind board hands = count_on (holds_kind kind) board + count_of kind hands.first + count_of kind hands.second
+
+-- each side has one king
+abbrev pub HasKings : ShogiBoard → Type 0
+HasKings board = (side : Side) → count_on (holds_king side) board ≡ 1
+
+-- of no kind is there more than the set of a game has
+abbrev pub KeepsSets : ShogiBoard → Hands → Type 0
+KeepsSets board hands = (kind : HandKind) → in_play kind board hands ≤ set_size kind
+
+pub record IsShogiPosition (board : ShogiBoard) (hands : Hands) : Type 0 where
+  pub kings : HasKings board
+  pub sets : KeepsSets board hands

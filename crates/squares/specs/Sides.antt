@@ -1,0 +1,28 @@
+-- The two sides, and the score where one of them loses.
+use Rattle.std.specs.Prelude.{Bool, true, false, ℕ, List, codes}
+use Rattle.squares.specs.declared.sides.Side.{Side}
+use Rattle.squares.specs.declared.sides.Side.TheVariants.{First, Second}
+use Rattle.squares.specs.declared.sides.Score.{Score}
+use Rattle.squares.specs.declared.sides.Score.TheVariants.{FirstWins, Draw, SecondWins}
+
+abbrev pub other : Side → Side
+other First = Second
+other Second = First
+
+-- whether two sides are one
+abbrev pub same_side : Side → Side → Bool
+same_side First First = true
+same_side Second Second = true
+same_side First Second = false
+same_side Second First = false
+
+-- the score where that side loses
+abbrev pub loses : Side → Score
+loses First = SecondWins
+loses Second = FirstWins
+
+-- a score as it is written, First's part first
+abbrev pub score_text : Score → List ℕ
+score_text FirstWins = codes "2-0"
+score_text Draw = codes "1-1"
+score_text SecondWins = codes "0-2"

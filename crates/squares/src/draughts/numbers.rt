@@ -1,0 +1,47 @@
+//! The squares of a set by their numbers.
+ghost use Rattle.std.specs.Prelude.{◌≡◌};
+ghost use Rattle.squares.specs.DraughtsSets.{ascending};
+
+use crate::draughts::set::DSet;
+use std::marker::Model;
+
+/// Up to fifty numbers.
+#[derive(Drop)]
+pub struct Numbers {
+    numbers: [u8; 50],
+    len: usize,
+}
+
+impl Model for Numbers {
+    ghost use Rattle.std.specs.Prelude.{◌≡◌, ℕ, ◌≤◌, List, length, take};
+
+    ghost Value = { List ℕ };
+
+    ghost view = { λ r. take r.len r.numbers };
+
+    ghost invariant = { λ r. (r.len ≤ 50) × (length r.numbers ≡ 50) };
+}
+
+impl Numbers {
+    /// The squares of a set in ascending order.
+    pub fn of(set: DSet) -> Numbers
+        ensures { result ≡ ascending set }
+    {
+        let marks = set.marks();
+        let mut numbers = [0; 50];
+        let mut len = 0;
+        for i in 0..50 {
+            if marks[i] {
+                numbers[len] = i as u8 + 1;
+                len += 1;
+            }
+        }
+        Numbers { numbers, len }
+    }
+
+    pub fn as_slice(&self) -> &[u8]
+        ensures { result.now ≡ self.now }
+    {
+        &self.numbers[..self.len]
+    }
+}

@@ -1,0 +1,146 @@
+//! A position: a board and a turn.
+ghost use Rattle.std.specs.Prelude.{◌≡◌, ◌+◌, ◌<◌, ◌≤◌, ℕ, List, Option, length, not};
+ghost use Rattle.std.specs.FinMap as map;
+ghost use Rattle.std.specs.FinSet as set;
+ghost use Rattle.squares.specs.DraughtsGeometry.{OnBoard};
+ghost use Rattle.squares.specs.DraughtsOpening.{opening, opening_piece, man};
+ghost use Rattle.squares.specs.Sides.{other};
+
+use crate::draughts::piece::DPiece;
+use crate::draughts::set::DSet;
+use crate::draughts::square::Dsq;
+use crate::sides::Side;
+use std::marker::Model;
+
+/// A board, with at most one piece on each square, and the side to move. Two positions with the
+/// same pieces on the same squares and the same turn are one position.
+#[derive(Clone, Copy, Debug)]
+pub struct DPos {
+    cells: [Option<DPiece>; 50],
+    turn: Side,
+}
+
+impl Model for DPos {
+    ghost use Rattle.std.specs.Prelude.{◌≡◌, length};
+    ghost use Rattle.squares.specs.DraughtsBoard.{Position, board_of};
+    ghost use Rattle.std.specs.Coded.{code_by, coded×, coded_ℕ};
+    ghost use Rattle.std.specs.FinMap as finite_map;
+    ghost use Rattle.std.specs.Prelude.{refl};
+    ghost use Rattle.squares.specs.contracts.draughts.piece.DPiece as piece_type;
+    ghost use Rattle.squares.specs.contracts.sides.Side as side_type;
+    ghost use Rattle.squares.specs.DraughtsBoard.{Board};
+    ghost use Rattle.squares.specs.declared.sides.Side.{Side};
+
+    ghost Value = { Position };
+
+    ghost coded = { code_by (Board × Side) (coded× (finite_map.code coded_ℕ piece_type.the_row.coded) side_type.the_row.coded)
+        (λ p. (p.board, p.turn)) (λ q. record { board = q.0; turn = q.1 }) (λ _. refl) };
+
+    ghost view = { λ p. record { board = board_of p.cells; turn = p.turn } };
+
+    ghost invariant = { λ p. length p.cells ≡ 50 };
+
+    ghost use Rattle.std.specs.Prelude.{map};
+    ghost use Rattle.std.specs.List.{range_with_len};
+    ghost use Rattle.squares.specs.DraughtsCells.{cells_back};
+
+    ghost inverse = { λ p. record {
+      cells = map (λ n. finite_map.get p.board n) (range_with_len 1 50);
+      turn = p.turn;
+    } };
+
+    ghost inverse_ok = { λ a h i. record { cells = cells_back a.cells h i; turn = a.turn } };
+}
+
+impl DPos {
+    /// The empty board.
+    pub fn new(turn: Side) -> DPos
+        ensures { result ≡ record { board = map.empty; turn = turn } }
+    {
+        DPos {
+            cells: [None; 50],
+            turn,
+        }
+    }
+
+    /// The opening: Second's men on squares 1 to 20, First's men on squares 31 to 50, First to move.
+    pub fn opening() -> DPos
+        ensures value { result ≡ opening }
+        ensures pieces { (n : ℕ) → OnBoard n → map.get result.board n ≡ opening_piece n }
+    {
+        let mut cells = [None; 50];
+        for i in 0..50 {
+            cells[i] = opening_piece(i as u8 + 1);
+        }
+        DPos {
+            cells,
+            turn: Side::First,
+        }
+    }
+
+    /// The side to move.
+    pub fn turn(&self) -> Side
+        ensures { result ≡ self.now.turn }
+    {
+        self.turn
+    }
+
+    /// The piece on a square, if one stands there.
+    pub fn at(&self, square: Dsq) -> Option<DPiece>
+        ensures { result ≡ map.get self.now.board square }
+    {
+        self.cells[usize::from(square.number()) - 1]
+    }
+
+    /// Puts a piece on a square, in place of what stands there.
+    pub fn put(&mut self, square: Dsq, piece: DPiece)
+        ensures { self.new ≡ record self.old { board = map.insert self.old.board square piece } }
+    {
+        self.cells[usize::from(square.number()) - 1] = Some(piece);
+    }
+
+    /// Takes what stands on a square off the board.
+    pub fn clear(&mut self, square: Dsq)
+        ensures { self.new ≡ record self.old { board = map.remove self.old.board square } }
+    {
+        self.cells[usize::from(square.number()) - 1] = None;
+    }
+
+    /// Takes what stands on any square of a set off the board.
+    pub fn clear_all(&mut self, squares: DSet)
+        ensures { self.new ≡ record self.old {
+          board = map.retain_keys self.old.board (λ n. not (set.contains squares n));
+        } }
+    {
+        let marks = squares.marks();
+        for i in 0..50 {
+            if marks[i] {
+                self.cells[i] = None;
+            }
+        }
+    }
+
+    /// Passes the turn to the other side.
+    pub fn pass(&mut self)
+        ensures { self.new ≡ record self.old { turn = other self.old.turn } }
+    {
+        self.turn = self.turn.other();
+    }
+}
+
+// What stands on a square in the opening.
+fn opening_piece(number: u8) -> Option<DPiece>
+    ensures { result ≡ opening_piece number }
+{
+    match number {
+        0..=20 => Some(man(Side::Second)),
+        21..=30 => None,
+        _ => Some(man(Side::First)),
+    }
+}
+
+fn man(side: Side) -> DPiece
+    ensures { result ≡ man side }
+{
+    DPiece { side, king: false }
+}

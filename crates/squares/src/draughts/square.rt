@@ -1,0 +1,142 @@
+//! A square by its number.
+ghost use Rattle.std.specs.Prelude.{◌≡◌, ◌↔◌, ◌+◌, ◌%◌, ◌<◌, ◌≤◌, IsSome, IfSome, ℕ};
+ghost use Rattle.std.specs.List.{range_with_len};
+ghost use Rattle.squares.specs.DraughtsGeometry.{row_of, column_of, number_at, IsDark, neighbor, step};
+
+use crate::draughts::direction::Direction;
+use std::marker::Model;
+
+/// A dark square of the board of ten rows and ten columns, by its number from 1 to 50.
+///
+/// Rows and columns count from 0; row 0 is the top. Square `n` has row `(n - 1) / 5`, and column
+/// `2 * ((n - 1) % 5)`, plus 1 where the row is even. First, who plays White, sits at the bottom.
+#[derive(Clone, Copy, Debug, PartialEq, Eq, PartialOrd, Ord, Hash)]
+pub struct Dsq {
+    number: u8,
+}
+
+impl Model for Dsq {
+    ghost Value = { ℕ };
+
+    ghost view = { λ s. s.number };
+
+    ghost invariant = { λ s. (1 ≤ s.number) × (s.number ≤ 50) };
+
+    ghost inverse = { λ n. record { number = n } };
+}
+
+impl Dsq {
+    /// The square of a number, or None where the number is not 1 to 50.
+    pub fn new(number: u8) -> Option<Dsq>
+        ensures some { IsSome result ↔ ((1 ≤ number) × (number ≤ 50)) }
+        ensures value { IfSome result (λ s. s ≡ number) }
+    {
+        if number >= 1 && number <= 50 {
+            Some(Dsq { number })
+        } else {
+            None
+        }
+    }
+
+    /// All fifty squares in the order of their numbers.
+    pub fn all() -> [Dsq; 50]
+        ensures { result ≡ range_with_len 1 50 }
+    {
+        let mut squares = [Dsq { number: 1 }; 50];
+        for i in 0..50 {
+            squares[i] = Dsq {
+                number: i as u8 + 1,
+            };
+        }
+        squares
+    }
+
+    /// The square's number, 1 to 50.
+    pub fn number(self) -> u8
+        ensures value { result ≡ self }
+        ensures range { (1 ≤ self) × (self ≤ 50) }
+    {
+        self.number
+    }
+
+    /// The square's row, 0 at the top to 9.
+    pub fn row(self) -> u8
+        ensures value { result ≡ row_of self }
+        ensures range { result < 10 }
+    {
+        (self.number - 1) / 5
+    }
+
+    /// The square's column, 0 at the left to 9.
+    pub fn column(self) -> u8
+        ensures value { result ≡ column_of self }
+        ensures range { result < 10 }
+    {
+        2 * ((self.number - 1) % 5) + (1 - self.row() % 2)
+    }
+
+    /// The square at a row and a column, or None where one of them is above 9 or the square there
+    /// is light, which is where their sum is even.
+    pub fn at(row: u8, column: u8) -> Option<Dsq>
+        ensures dark { IsSome result ↔ IsDark row column }
+        ensures value { IfSome result (λ s. s ≡ number_at row column) }
+    {
+        if row > 9 || column > 9 || row % 2 == column % 2 {
+            return None;
+        }
+        Some(Dsq::on(row, column))
+    }
+
+    // The square at a row and a column of the board.
+    fn on(row: u8, column: u8) -> Dsq
+        requires row_in { row < 10 }
+        requires column_in { column < 10 }
+        ensures { result ≡ number_at row column }
+    {
+        Dsq {
+            number: 5 * row + column / 2 + 1,
+        }
+    }
+
+    /// The next square in a direction, or None at the edge of the board.
+    pub fn step(self, toward: Direction) -> Option<Dsq>
+        ensures { result ≡ step toward self }
+    {
+        self.neighbor(toward)
+    }
+
+    #[tactic(auto, unfolding(crate::specs::DraughtsGeometry::neighbor))]
+    fn neighbor(self, toward: Direction) -> Option<Dsq>
+        ensures value { result ≡ neighbor toward self }
+        ensures range { (1 ≤ self) × (self ≤ 50) }
+    {
+        let row = self.row();
+        let column = self.column();
+        match toward {
+            Direction::UpLeft => {
+                if row == 0 || column == 0 {
+                    return None;
+                }
+                Some(Dsq::on(row - 1, column - 1))
+            }
+            Direction::UpRight => {
+                if row == 0 || column == 9 {
+                    return None;
+                }
+                Some(Dsq::on(row - 1, column + 1))
+            }
+            Direction::DownLeft => {
+                if row == 9 || column == 0 {
+                    return None;
+                }
+                Some(Dsq::on(row + 1, column - 1))
+            }
+            Direction::DownRight => {
+                if row == 9 || column == 9 {
+                    return None;
+                }
+                Some(Dsq::on(row + 1, column + 1))
+            }
+        }
+    }
+}

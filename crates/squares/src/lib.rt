@@ -1,0 +1,22 @@
+//! The words of both games: sides and scores, squares, pieces, hands, moves and positions. No rule of a game stands here.
+#![tactic(auto)]
+
+pub mod draughts;
+pub mod shogi;
+pub mod sides;
+
+pub use draughts::direction::Direction;
+pub use draughts::moves::DMove;
+pub use draughts::numbers::Numbers;
+pub use draughts::piece::DPiece;
+pub use draughts::position::DPos;
+pub use draughts::ray::Ray;
+pub use draughts::set::DSet;
+pub use draughts::square::Dsq;
+pub use shogi::board::SBoard;
+pub use shogi::hand::{Hand, Hands};
+pub use shogi::moves::SMove;
+pub use shogi::piece::{HandKind, Kind, Role, SPiece};
+pub use shogi::position::SPos;
+pub use shogi::square::Ssq;
+pub use sides::{Score, Side};

@@ -1,0 +1,11 @@
+//! The words of shogi: squares, pieces, hands, moves and positions.
+
+pub mod board;
+pub mod hand;
+pub mod laws;
+pub mod moves;
+pub mod piece;
+pub mod position;
+pub mod square;
+#[cfg(test)]
+mod tests;

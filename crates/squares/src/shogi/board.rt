@@ -1,0 +1,121 @@
+//! The pieces on the squares.
+
+ghost use Rattle.std.specs.Prelude.{◌≡◌, ◌≤◌, count_by, length};
+ghost use Rattle.std.specs.FinMap as map;
+ghost use Rattle.squares.specs.ShogiSets.{count_on, holds_kind, holds_king, is_of};
+
+use crate::shogi::piece::{HandKind, Role, SPiece};
+use crate::shogi::square::Ssq;
+use crate::sides::Side;
+use std::marker::Model;
+
+/// A shogi board. Contracts see it as a finite map from squares to pieces.
+#[derive(Drop)]
+pub struct SBoard {
+    cells: [Option<SPiece>; 81],
+}
+
+impl Model for SBoard {
+    ghost use Rattle.std.specs.Prelude.{◌≡◌, length};
+    ghost use Rattle.std.specs.Coded.{coded_ℕ};
+    ghost use Rattle.std.specs.FinMap as finite_map;
+    ghost use Rattle.squares.specs.contracts.shogi.piece.SPiece as piece_type;
+    ghost use Rattle.squares.specs.ShogiBoard.{ShogiBoard, shogi_board_of};
+
+    ghost Value = { ShogiBoard };
+
+    ghost coded = { finite_map.code coded_ℕ piece_type.the_row.coded };
+
+    ghost view = { λ b. shogi_board_of b.cells };
+
+    ghost invariant = { λ b. length b.cells ≡ 81 };
+}
+
+impl SBoard {
+    /// The board with no piece on it.
+    pub fn empty() -> SBoard
+        ensures { result ≡ map.empty }
+    {
+        SBoard { cells: [None; 81] }
+    }
+
+    /// The piece on a square.
+    pub fn at(&self, square: Ssq) -> Option<SPiece>
+        ensures { result ≡ map.get self.now square }
+    {
+        self.cells[square.index()]
+    }
+
+    /// Puts a piece on a square, in place of what stood there.
+    pub fn put(&mut self, square: Ssq, piece: SPiece)
+        ensures { self.new ≡ map.insert self.old square piece }
+    {
+        self.cells[square.index()] = Some(piece);
+    }
+
+    /// Leaves the square empty.
+    pub fn clear(&mut self, square: Ssq)
+        ensures { self.new ≡ map.remove self.old square }
+    {
+        self.cells[square.index()] = None;
+    }
+
+    /// How many squares hold a piece of that kind, promoted or not.
+    pub fn count_kind(&self, kind: HandKind) -> usize
+        ensures value { result ≡ count_on (holds_kind kind) self.now }
+        ensures range { result ≤ 81 }
+    {
+        count_cells_of(&self.cells, kind)
+    }
+
+    /// How many squares hold a king of that side.
+    pub fn count_kings(&self, side: Side) -> usize
+        ensures value { result ≡ count_on (holds_king side) self.now }
+        ensures range { result ≤ 81 }
+    {
+        count_king_cells(&self.cells, side)
+    }
+}
+
+// Whether a cell holds a piece of that kind, promoted or not.
+fn is_cell_of(cell: Option<SPiece>, kind: HandKind) -> bool
+    ensures { result ≡ holds_kind kind cell }
+{
+    match cell {
+        None => false,
+        Some(piece) => match piece.role.kind().in_hand() {
+            None => false,
+            Some(own) => own == kind,
+        },
+    }
+}
+
+// Whether a cell holds the king of that side.
+fn is_king_cell(cell: Option<SPiece>, side: Side) -> bool
+    ensures { result ≡ holds_king side cell }
+{
+    match cell {
+        None => false,
+        Some(piece) => match piece.role {
+            Role::King => piece.side == side,
+            _ => false,
+        },
+    }
+}
+
+fn count_cells_of(cells: &[Option<SPiece>], kind: HandKind) -> usize
+    ensures value { result ≡ count_by (holds_kind kind) cells.now }
+    ensures range { result ≤ length cells.now }
+{
+    cells.iter().filter(|cell| is_cell_of(**cell, kind)).count()
+}
+
+fn count_king_cells(cells: &[Option<SPiece>], side: Side) -> usize
+    ensures value { result ≡ count_by (holds_king side) cells.now }
+    ensures range { result ≤ length cells.now }
+{
+    cells
+        .iter()
+        .filter(|cell| is_king_cell(**cell, side))
+        .count()
+}

@@ -1,0 +1,117 @@
+//! A position of shogi.
+
+ghost use Rattle.std.specs.Prelude.{◌≡◌, ◌↔◌, ◌≤◌, ◌+◌, IsTrue, IsSome, IfSome};
+ghost use Rattle.squares.specs.ShogiSets.{IsShogiPosition, KeepsSets, HasKings, holds_king, holds_kind, in_play, set_size};
+
+use crate::shogi::board::SBoard;
+use crate::shogi::hand::Hands;
+use crate::shogi::piece::HandKind;
+use crate::sides::Side;
+use std::marker::Model;
+
+/// A board, the hands and the side to move. Each side has one king, and the board and the hands together hold at most 18
+/// pawns, 4 each of lances, knights, silvers and golds, 2 bishops and 2 rooks.
+#[derive(Drop)]
+pub struct SPos {
+    board: SBoard,
+    hands: Hands,
+    turn: Side,
+}
+
+impl Model for SPos {
+    ghost use Rattle.std.specs.Coded.{code_by, coded×, coded_ℕ};
+    ghost use Rattle.std.specs.FinMap as finite_map;
+    ghost use Rattle.std.specs.Prelude.{refl};
+    ghost use Rattle.squares.specs.contracts.shogi.piece.SPiece as piece_type;
+    ghost use Rattle.squares.specs.contracts.shogi.hand.Hands as hands_type;
+    ghost use Rattle.squares.specs.contracts.sides.Side as side_type;
+    ghost use Rattle.squares.specs.declared.sides.Side.{Side};
+    ghost use Rattle.squares.specs.declared.shogi.hand.Hands.{Hands};
+    ghost use Rattle.squares.specs.ShogiBoard.{ShogiBoard};
+    ghost use Rattle.squares.specs.ShogiSets.{ShogiPosition, IsShogiPosition};
+
+    ghost Value = { ShogiPosition };
+
+    ghost coded = { code_by (ShogiBoard × (Hands × Side)) (coded× (finite_map.code coded_ℕ piece_type.the_row.coded) (coded× hands_type.the_row.coded side_type.the_row.coded))
+        (λ p. (p.board, (p.hands, p.turn))) (λ q. record { board = q.0; hands = q.1.0; turn = q.1.1 }) (λ _. refl) };
+
+    ghost view = { λ p. record { board = p.board; hands = p.hands; turn = p.turn } };
+
+    ghost invariant = { λ p. IsShogiPosition p.board p.hands };
+}
+
+impl SPos {
+    /// The position, or none where a side has not one king or a kind has more pieces than its set.
+    pub fn new(board: SBoard, hands: Hands, turn: Side) -> Option<SPos>
+        ensures some { IsSome result ↔ IsShogiPosition board hands }
+        ensures value { IfSome result (λ p. p ≡ record { board = board; hands = hands; turn = turn }) }
+    {
+        if !has_kings(&board) {
+            return None;
+        }
+        if !keeps_sets(&board, hands) {
+            return None;
+        }
+        Some(SPos { board, hands, turn })
+    }
+
+    /// The side to move.
+    pub fn turn(&self) -> Side
+        ensures { result ≡ self.now.turn }
+    {
+        self.turn
+    }
+
+    /// The hands of both sides.
+    pub fn hands(&self) -> Hands
+        ensures { result ≡ self.now.hands }
+    {
+        self.hands
+    }
+
+    /// The pieces on the squares.
+    pub fn board(&self) -> &SBoard
+        ensures value { result.now ≡ self.now.board }
+        ensures sound { IsShogiPosition self.now.board self.now.hands }
+    {
+        &self.board
+    }
+}
+
+// Whether each side has one king.
+fn has_kings(board: &SBoard) -> bool
+    ensures { IsTrue result ↔ HasKings board.now }
+{
+    if board.count_kings(Side::First) != 1 {
+        return false;
+    }
+    if board.count_kings(Side::Second) != 1 {
+        return false;
+    }
+    true
+}
+
+// Whether there are no more pieces of a kind than its set has.
+fn keeps_set(board: &SBoard, hands: Hands, kind: HandKind) -> bool
+    ensures { IsTrue result ↔ (in_play kind board.now hands ≤ set_size kind) }
+{
+    let size = match kind {
+        HandKind::Rook | HandKind::Bishop => 2,
+        HandKind::Gold | HandKind::Silver | HandKind::Knight | HandKind::Lance => 4,
+        HandKind::Pawn => 18,
+    };
+    let held = usize::from(hands.first.count(kind)) + usize::from(hands.second.count(kind));
+    board.count_kind(kind) + held <= size
+}
+
+// Whether there are no more pieces of any kind than its set has.
+fn keeps_sets(board: &SBoard, hands: Hands) -> bool
+    ensures { IsTrue result ↔ KeepsSets board.now hands }
+{
+    for kind in HandKind::ALL {
+        if !keeps_set(board, hands, kind) {
+            return false;
+        }
+    }
+    true
+}

@@ -1,0 +1,81 @@
+use super::board::SBoard;
+use super::hand::{Hand, Hands};
+use super::piece::{HandKind, Kind, Role, SPiece};
+use super::position::SPos;
+use super::square::Ssq;
+use crate::sides::Side;
+use std::test::Fail;
+
+fn square(file: u8, rank: u8) -> Result<Ssq, Fail> {
+    Ok(Ssq::new(file, rank).ok_or("on the board")?)
+}
+
+fn piece(side: Side, role: Role) -> SPiece {
+    SPiece { side, role }
+}
+
+// Two kings in the corners, and that many pawns in First's hand.
+fn kings_and_pawns(pawns: u8) -> Result<Option<SPos>, Fail> {
+    let mut board = SBoard::empty();
+    board.put(square(9, 1)?, piece(Side::Second, Role::King));
+    board.put(square(9, 9)?, piece(Side::First, Role::King));
+    let hands = Hands {
+        first: Hand::default().with_count(HandKind::Pawn, pawns),
+        second: Hand::default(),
+    };
+    Ok(SPos::new(board, hands, Side::First))
+}
+
+#[test]
+fn squares_have_files_and_ranks(rt: HostRuntime) -> Result<(), Fail> {
+    let last = square(9, 9)?;
+    assert_eq!(rt; (last.file(), last.rank(), last.index()), (9, 9, 80));
+    let pawn = square(7, 6)?;
+    assert_eq!(rt; (pawn.file(), pawn.rank(), pawn.index()), (7, 6, 59));
+    assert_eq!(rt; Ssq::new(0, 5), None);
+    assert_eq!(rt; Ssq::new(5, 10), None);
+    let all = Ssq::all();
+    let squares = &all[..];
+    assert_eq!(rt; squares.get(59).copied(), Some(pawn));
+    Ok(())
+}
+
+#[test]
+fn kings_and_golds_do_not_promote(rt: HostRuntime) {
+    assert_eq!(rt; SPiece::new(Side::First, Kind::Gold, true), None);
+    assert_eq!(rt; SPiece::new(Side::Second, Kind::King, true), None);
+    let dragon = SPiece::new(Side::First, Kind::Rook, true);
+    assert_eq!(rt; dragon, Some(piece(Side::First, Role::PromotedRook)));
+    assert_eq!(rt; Role::PromotedPawn.kind().in_hand(), Some(HandKind::Pawn));
+    assert!(rt; Role::PromotedPawn.is_promoted());
+    assert_eq!(rt; HandKind::Lance.kind().role(), Role::Lance);
+}
+
+#[test]
+fn a_board_keeps_what_is_put(rt: HostRuntime) -> Result<(), Fail> {
+    let mut board = SBoard::empty();
+    let rook = piece(Side::First, Role::Rook);
+    board.put(square(2, 8)?, rook);
+    assert_eq!(rt; board.at(square(2, 8)?), Some(rook));
+    assert_eq!(rt; board.at(square(8, 2)?), None);
+    assert_eq!(rt; board.count_kind(HandKind::Rook), 1);
+    assert_eq!(rt; board.count_kings(Side::First), 0);
+    board.clear(square(2, 8)?);
+    assert_eq!(rt; board.at(square(2, 8)?), None);
+    Ok(())
+}
+
+// The set of a game has eighteen pawns, and each side one king.
+#[test]
+fn a_position_has_two_kings_and_one_set(rt: HostRuntime) -> Result<(), Fail> {
+    let position = kings_and_pawns(18)?.ok_or("eighteen pawns")?;
+    assert_eq!(rt; position.turn(), Side::First);
+    assert_eq!(rt; position.hands().of(Side::First).count(HandKind::Pawn), 18);
+    assert_eq!(rt; position.hands().of(Side::Second).count(HandKind::Pawn), 0);
+    assert_eq!(rt; position.board().count_kings(Side::Second), 1);
+    assert!(rt; kings_and_pawns(19)?.is_none());
+    let mut board = SBoard::empty();
+    board.put(square(9, 9)?, piece(Side::First, Role::King));
+    assert!(rt; SPos::new(board, Hands::default(), Side::First).is_none());
+    Ok(())
+}
