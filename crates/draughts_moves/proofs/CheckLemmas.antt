@@ -1,6 +1,6 @@
 -- What the check of a move has to answer.
-use Rattle.std.proofs.Common.{◌≡◌, ℕ, ◌<◌, ◌≤◌, ◌≢◌, Bool, true, false, cond, ◌&&◌, nat_eq, ◌⊎◌, inl, inr, Option, Some, None, List, length, refl, sym, ap, ◌∙◌, subst, arith}
-use Rattle.std.specs.Prelude.{nat_lt, Result, Ok, Err, IsOk}
+use Rattle.std.proofs.Common.{◌≡◌, ℕ, ◌<◌, ◌≤◌, ◌≢◌, Bool, true, false, cond, ◌&&◌, nat_eq, inl, inr, Some, None, refl, sym, ap, ◌∙◌, subst, arith}
+use Rattle.std.specs.Prelude.{nat_lt, Ok, Err, IsOk}
 use Rattle.std.specs.List.{list_any}
 use Rattle.std.specs.Option.{option_map_or}
 use Rattle.std.specs.Ordering.{nat_cmp}
@@ -13,10 +13,9 @@ use Rattle.squares.specs.DraughtsBoard.{Position}
 use Rattle.squares.specs.DraughtsSets.{Squares, same_squares}
 use Rattle.squares.specs.DraughtsMarks.{nat_eq_same, nat_eq_other}
 use Rattle.squares.specs.DraughtsSameSquares.{same_squares-same, same_squares-itself}
-use Rattle.draughts_moves.specs.declared.checking.Illegal.{Illegal}
 use Rattle.draughts_moves.specs.declared.checking.Illegal.TheVariants.{NoSuchMove, MustCapture, NotLongest}
 use Rattle.draughts_moves.specs.Capture.{without, Reaches, Route, LegalCapture, HasCapture, IsMost}
-use Rattle.draughts_moves.specs.Legal.{IsQuiet, IsCapture, IsShortCapture, Legal}
+use Rattle.draughts_moves.specs.Legal.{IsQuiet, IsCapture}
 use Rattle.draughts_moves.specs.Search.{own_at, routes_of, most, is_step}
 use Rattle.draughts_moves.specs.Check.{Answer, IsCheck, is_capture, check_quiet, check_capture, check_of}
 use Rattle.squares.specs.In.{In, list_any-found, list_any-finds}

@@ -28,12 +28,12 @@ module _ (p : Position) (n : ℕ) (most : IsMost p n) where
   pub LegalCapture-size : (from to : ℕ) (all : Squares) → LegalCapture p from to all → set.len all ≡ n
   LegalCapture-size from to all legal =
       let least = most.bounds from to legal.landings all legal.capture in
-      let some : 0 < n = omega (arith, legal.takes, least) in
-      let w = most.reached some in
+      let positive : 0 < n = omega (arith, legal.takes, least) in
+      let w = most.reached positive in
       omega (arith, least, w.5, legal.most w.0 w.1 w.2 w.3 w.4)
 
   pub Reaches-LegalCapture : (from to : ℕ) (all : Squares) (q : DPiece) → own_at p from ≡ Some q → set.len all ≡ n → 0 < n → Reaches (without p.board from) q n set.empty from all to → LegalCapture p from to all
-  Reaches-LegalCapture from to all q own size some r =
+  Reaches-LegalCapture from to all q own size positive r =
       let is = own_at-is p from q own in
       record {
         landings = r.0;

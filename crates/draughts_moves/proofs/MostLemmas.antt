@@ -77,7 +77,7 @@ bounds p x y (l ∷ ls) t c =
 
 reached : (p : Position) → 0 < most p → (x : ℕ) × (y : ℕ) × (ls : List ℕ) × (t : Squares) × Capture p x ls t y × (set.len t ≡ most p)
 unfolding most
-reached p some =
+reached p positive =
     elim (most-reached (greatest_at p) 0 (range_with_len 1 50)) [
       | inl e ↦ absurd (omega (arith, e))
       | inr w ↦ elim (own_at p w.0) as (λ o. own_at p w.0 ≡ o → (x : ℕ) × (y : ℕ) × (ls : List ℕ) × (t : Squares) × Capture p x ls t y × (set.len t ≡ most p)) [

@@ -1,8 +1,8 @@
 -- Whether there is a legal move.
-use Rattle.std.proofs.Common.{◌≡◌, ℕ, ◌<◌, ◌+◌, Bool, true, false, ◌||◌, ◌⊎◌, inl, inr, Some, None, List, [], ◌∷◌, length, refl, sym, ap, ◌∙◌, subst, arith}
+use Rattle.std.proofs.Common.{◌≡◌, ℕ, ◌<◌, Bool, true, false, ◌||◌, ◌⊎◌, inl, inr, Some, None, List, [], ◌∷◌, length, refl, ap, ◌∙◌, arith}
 use Rattle.std.specs.Prelude.{nat_lt}
 use Rattle.std.specs.Option.{option_map_or}
-use Rattle.std.specs.List.{range_with_len, list_any}
+use Rattle.std.specs.List.{range_with_len}
 use Rattle.std.specs.FinMap as map
 use Rattle.std.specs.FinSet as set
 use Rattle.std.proofs.lemmas.Bool.{cases_lt}
@@ -11,15 +11,15 @@ use Rattle.squares.specs.declared.draughts.piece.DPiece.{DPiece}
 use Rattle.squares.specs.declared.draughts.moves.DMove.{DMove}
 use Rattle.squares.specs.DraughtsBoard.{Position}
 use Rattle.squares.specs.DraughtsGeometry.{OnBoard}
-use Rattle.squares.specs.DraughtsSets.{Squares}
-use Rattle.draughts_moves.specs.Capture.{without, Capture, LegalCapture, FirstJump, HasCapture}
-use Rattle.draughts_moves.specs.Legal.{QuietMove, Legal, HasMove}
+use Rattle.draughts_moves.specs.Capture.{without, LegalCapture, FirstJump, HasCapture}
+use Rattle.squares.specs.Sides.{other}
+use Rattle.draughts_moves.specs.Legal.{QuietMove, IsCapture, Legal, HasMove, moved, play}
 use Rattle.draughts_moves.specs.Search.{own_at, most, steps, jumps, can_move, has_move}
 use Rattle.squares.specs.In.{In, list_any-found, list_any-finds}
 use Rattle.draughts_moves.proofs.Prey.{In-range}
 use Rattle.draughts_moves.proofs.JumpLemmas.{jumps-sound, jumps-complete}
-use Rattle.draughts_moves.proofs.MostLemmas.{own_at-own, own_at-is, Jump-from_on, Capture-len, IsMost-most}
-use Rattle.draughts_moves.proofs.LegalLemmas.{HasCapture-most, most-HasCapture, Capture-HasCapture}
+use Rattle.draughts_moves.proofs.MostLemmas.{own_at-own, own_at-is, Jump-from_on, IsMost-most}
+use Rattle.draughts_moves.proofs.LegalLemmas.{most-HasCapture, Capture-HasCapture}
 use Rattle.draughts_moves.proofs.StepLemmas.{quiet-from_steps, quiet-own, quiet-in_steps, quiet-from_on}
 
 above : (n : ℕ) → nat_lt 0 n ≡ true → 0 < n
@@ -123,3 +123,18 @@ module _ (p : Position) where
             found_at h.0 (Jump-from_on (without p.board h.0) h.3.piece set.empty h.0 h.1 h.2 h.3.jump) (jump-can_move h.0 h.1 h.2 h.3)
         | inr q ↦ found_at m.from (quiet-from_on p m.from m.to q.1.0) (quiet-can_move m.from m.to q.1.0)
       ]
+
+  pub IsCapture-HasCapture : (m : DMove) → IsCapture p m → HasCapture p
+  IsCapture-HasCapture m c = Capture-HasCapture p (most p) (IsMost-most p) m.from m.to c.landings m.taken c.capture c.takes
+
+  pub HasCapture-IsCapture : HasCapture p → (m : DMove) × IsCapture p m
+  HasCapture-IsCapture h =
+      let positive = most-HasCapture p (most p) (IsMost-most p) h in
+      let w = (IsMost-most p).reached positive in
+      let m : DMove = record { from = w.0; to = w.1; taken = w.3 } in
+      (m, record { landings = w.2; capture = w.4; takes = omega (arith, w.5) })
+
+-- the piece that moves stands there, and so the turn passes
+pub play-turn : (p : Position) (m : DMove) → Legal p m → (play p m).turn ≡ other p.turn
+play-turn p m (inl c) = ap (λ o. (moved p m o).turn) c.capture.stands
+play-turn p m (inr q) = ap (λ o. (moved p m o).turn) q.1.0.stands

@@ -106,11 +106,11 @@ module _ (b : Cells) (p : DPiece) where
   greatest-fits t s = omega (arith, longest-least (prey_left b p t) t s, prey_left-fits b p t)
 
   pub Reaches-by : (n : ℕ) (t : Squares) (s : ℕ) (j : ℕ × ℕ) (all : Squares) (to : ℕ) → 0 < n → In j (jumps b p t s) → Reaches b p (n - 1) (set.insert t j.0) j.1 all to → Reaches b p n t s all to
-  Reaches-by n t s j all to some h r = (j.1 ∷ r.0, omega (arith, r.1), (j.0, jumps-sound b p t s j.0 j.1 h, r.2))
+  Reaches-by n t s j all to positive h r = (j.1 ∷ r.0, omega (arith, r.1), (j.0, jumps-sound b p t s j.0 j.1 h, r.2))
 
   pub Reaches-first : (n : ℕ) (t : Squares) (s : ℕ) (all : Squares) (to : ℕ) → 0 < n → Reaches b p n t s all to → (j : ℕ × ℕ) × In j (jumps b p t s) × Reaches b p (n - 1) (set.insert t j.0) j.1 all to
-  Reaches-first n t s all to some r = first_of_route n t s r.0 all to some r.1 r.2
+  Reaches-first n t s all to positive r = first_of_route n t s r.0 all to positive r.1 r.2
     where
       first_of_route : (n : ℕ) (t : Squares) (s : ℕ) (ls : List ℕ) (all : Squares) (to : ℕ) → 0 < n → length ls ≡ n → Route b p t s ls all to → (j : ℕ × ℕ) × In j (jumps b p t s) × Reaches b p (n - 1) (set.insert t j.0) j.1 all to
-      first_of_route n t s [] all to some e r = absurd (omega arith)
-      first_of_route n t s (l ∷ ls) all to some e r = ((r.0, l), jumps-complete b p t s r.0 l r.1, (ls, omega (arith, e), r.2))
+      first_of_route n t s [] all to positive e r = absurd (omega arith)
+      first_of_route n t s (l ∷ ls) all to positive e r = ((r.0, l), jumps-complete b p t s r.0 l r.1, (ls, omega (arith, e), r.2))

@@ -1,16 +1,31 @@
 -- What is proved of the rules as a whole.
-use Rattle.std.specs.Prelude.{◌≡◌, ◌↔◌, ℕ, List, [], ◌∷◌, ◌++◌}
+use Rattle.std.specs.Prelude.{◌≡◌, ◌↔◌, ℕ, List, [], ◌∷◌, ◌++◌, IsTrue}
 use Rattle.std.specs.FinSet as set
 use Rattle.squares.specs.declared.draughts.piece.DPiece.{DPiece}
 use Rattle.squares.specs.declared.draughts.moves.DMove.{DMove}
 use Rattle.squares.specs.DraughtsBoard.{Position}
 use Rattle.squares.specs.DraughtsSets.{Squares}
-use Rattle.draughts_moves.specs.Capture.{Cells, Jump, Route}
+use Rattle.squares.specs.Sides.{other}
+use Rattle.draughts_moves.specs.Capture.{Cells, Jump, Route, HasCapture}
+use Rattle.draughts_moves.specs.Legal.{IsCapture, Legal, HasMove, play}
+use Rattle.draughts_moves.specs.Search.{has_move}
 use Rattle.draughts_moves.specs.Check.{IsCheck, check_of}
 
 -- The computed answer of a check is the one by the rules.
 abbrev pub CheckIs : Type 0
 CheckIs = (p : Position) (m : DMove) → IsCheck p m (check_of p m)
+
+-- The computed answer whether there is a move is the one by the rules.
+abbrev pub HasMoveIs : Type 0
+HasMoveIs = (p : Position) → IsTrue (has_move p) ↔ HasMove p
+
+-- Something can be taken exactly where some piece can make a first jump.
+abbrev pub CapturesBeginWithJumps : Type 0
+CapturesBeginWithJumps = (p : Position) → ((m : DMove) × IsCapture p m) ↔ HasCapture p
+
+-- After a legal move the other side is to move.
+abbrev pub TurnPasses : Type 0
+TurnPasses = (p : Position) (m : DMove) → Legal p m → (play p m).turn ≡ other p.turn
 
 -- A route that has come to a square, with what it has taken by then, goes on by one more jump from there.
 pub record GrownRoute (b : Cells) (p : DPiece) (start : Squares) (from : ℕ) (landings : List ℕ) (last : ℕ) (all : Squares) (to : ℕ) : Type 0 where

@@ -1,4 +1,4 @@
--- The legal moves of international draughts, and the position that a move leaves.
+-- The legal moves of international draughts, as the World Draughts Federation (FMJD) plays it, and the position that a move leaves.
 use Rattle.std.specs.Prelude.{◌≡◌, ◌⊎◌, ◌<◌, ℕ, Bool, true, false, not, ◌||◌, ◌==◌, Option, Some, None, List, [], ◌∷◌, ◌++◌}
 use Rattle.std.specs.FinSet as set
 use Rattle.std.specs.FinMap as map

@@ -10,9 +10,10 @@ ghost use Rattle.draughts_moves.specs.Check.{IsCheck, check_of};
 
 use crate::jumps::jumps_from;
 use crate::most::{most, own_at};
+use crate::mover::Mover;
 use crate::reaches::reaches;
 use crate::steps::steps_from;
-use squares::{DMove, DPos, DSet, Dsq};
+use squares::{DMove, DPos, Dsq};
 use std::fmt;
 
 /// Why a move is refused.
@@ -61,7 +62,8 @@ pub fn check(position: &DPos, played: &DMove) -> Result<(), Illegal>
         ↔ (IsQuiet position.now played.now × HasCapture position.now) }
 
     // A capture that takes fewer than another. A capture that stops on its way is one too.
-    ensures not_longest { (result ≡ Err Illegal.NotLongest) ↔ IsShortCapture position.now played.now }
+    ensures not_longest { (result ≡ Err Illegal.NotLongest)
+        ↔ IsShortCapture position.now played.now }
 
     // The answer as a function of the position and the move.
     ensures value { result ≡ check_of position.now played.now }
@@ -118,23 +120,14 @@ fn is_capture(position: &DPos, played: &DMove) -> bool
 {
     let size = played.taken.len();
     match own_at(position, played.from) {
-        Some(piece) => reaches(
-            position,
-            played.from,
-            piece,
-            DSet::new(),
-            played.from,
-            size,
-            played.taken,
-            played.to,
-        ),
+        Some(piece) => reaches(position, &Mover::new(piece, played.from), size, played),
         None => false,
     }
 }
 
 /// Whether the side to move has a legal move. It takes no memory.
 pub fn has_move(position: &DPos) -> bool
-    ensures moves { IsTrue result ↔ HasMove position.now }
+    ensures legal { IsTrue result ↔ HasMove position.now }
 
     // The answer as a function of the position.
     ensures value { result ≡ has_move position.now }
@@ -157,7 +150,7 @@ fn can_move(position: &DPos, square: Dsq) -> bool
             if steps_from(position, piece, square).len() > 0 {
                 return true;
             }
-            jumps_from(position, square, piece, DSet::new(), square).len() > 0
+            jumps_from(position, &Mover::new(piece, square)).len() > 0
         }
         None => false,
     }

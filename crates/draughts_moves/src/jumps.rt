@@ -1,9 +1,11 @@
 //! The jumps of a piece from a square.
 ghost use Rattle.std.specs.Prelude.{◌≡◌, ◌+◌, ◌<◌, ◌≤◌, [], ◌∷◌, ◌++◌, length, map, not};
 ghost use Rattle.draughts_moves.specs.Capture.{without};
+ghost use Rattle.squares.specs.DraughtsGeometry.{ray};
 ghost use Rattle.draughts_moves.specs.Search.{clear_front, is_prey, king_jumps, man_jumps, line_jumps, jumps};
 
-use squares::{DPiece, DPos, DSet, Direction, Dsq, Ray};
+use crate::mover::Mover;
+use squares::{DPiece, DPos, Direction, Dsq, Ray};
 use std::marker::Model;
 
 /// Jumps, each by the square jumped over and the landing.
@@ -67,11 +69,12 @@ fn stands(position: &DPos, origin: Dsq, square: Dsq) -> Option<DPiece>
 }
 
 // Whether an enemy stands there that is not taken.
-fn is_prey(position: &DPos, origin: Dsq, piece: DPiece, taken: DSet, square: Dsq) -> bool
-    ensures { result ≡ is_prey (without position.now.board origin) piece taken square }
+fn is_prey(position: &DPos, mover: &Mover, square: Dsq) -> bool
+    ensures { result
+        ≡ is_prey (without position.now.board mover.now.origin) mover.now.piece mover.now.taken square }
 {
-    match stands(position, origin, square) {
-        Some(other) => piece.side != other.side && !taken.contains(square),
+    match stands(position, mover.origin, square) {
+        Some(other) => mover.piece.side != other.side && !mover.taken.contains(square),
         None => false,
     }
 }
@@ -92,25 +95,19 @@ fn landings(position: &DPos, origin: Dsq, over: Dsq, line: &[Dsq], jumps: &mut J
 }
 
 // Adds a king's jumps along a line.
-fn king_jumps(
-    position: &DPos,
-    origin: Dsq,
-    piece: DPiece,
-    taken: DSet,
-    line: &[Dsq],
-    jumps: &mut Jumps,
-)
+fn king_jumps(position: &DPos, mover: &Mover, line: &[Dsq], jumps: &mut Jumps)
     requires room { length jumps.old + length line.now ≤ 36 }
     ensures added { jumps.new ≡ jumps.old
-        ++ king_jumps (without position.now.board origin) piece taken line.now }
+        ++ king_jumps (without position.now.board mover.now.origin)
+        mover.now.piece mover.now.taken line.now }
     ensures room { length jumps.new ≤ length jumps.old + length line.now }
 {
     for (i, square) in line.iter().enumerate() {
-        match stands(position, origin, *square) {
+        match stands(position, mover.origin, *square) {
             None => {}
             Some(_) => {
-                if is_prey(position, origin, piece, taken, *square) {
-                    landings(position, origin, *square, &line[i + 1..], jumps);
+                if is_prey(position, mover, *square) {
+                    landings(position, mover.origin, *square, &line[i + 1..], jumps);
                 }
                 return;
             }
@@ -119,23 +116,17 @@ fn king_jumps(
 }
 
 // Adds a man's jump along a line, if it has one.
-fn man_jumps(
-    position: &DPos,
-    origin: Dsq,
-    piece: DPiece,
-    taken: DSet,
-    line: &[Dsq],
-    jumps: &mut Jumps,
-)
+fn man_jumps(position: &DPos, mover: &Mover, line: &[Dsq], jumps: &mut Jumps)
     requires room { length jumps.old + length line.now ≤ 36 }
     ensures added { jumps.new ≡ jumps.old
-        ++ man_jumps (without position.now.board origin) piece taken line.now }
+        ++ man_jumps (without position.now.board mover.now.origin)
+        mover.now.piece mover.now.taken line.now }
     ensures room { length jumps.new ≤ length jumps.old + length line.now }
 {
     match line {
         [over, to, ..] => {
-            if is_prey(position, origin, piece, taken, *over) {
-                match stands(position, origin, *to) {
+            if is_prey(position, mover, *over) {
+                match stands(position, mover.origin, *to) {
                     None => jumps.push(*over, *to),
                     Some(_) => {}
                 }
@@ -145,66 +136,32 @@ fn man_jumps(
     }
 }
 
-fn line_jumps(
-    position: &DPos,
-    origin: Dsq,
-    piece: DPiece,
-    taken: DSet,
-    line: &[Dsq],
-    jumps: &mut Jumps,
-)
-    requires room { length jumps.old + length line.now ≤ 36 }
+// Adds the jumps in a direction.
+fn jumps_along(position: &DPos, mover: &Mover, toward: Direction, jumps: &mut Jumps)
+    requires room { length jumps.old + 9 ≤ 36 }
     ensures added { jumps.new ≡ jumps.old
-        ++ line_jumps (without position.now.board origin) piece taken line.now }
-    ensures room { length jumps.new ≤ length jumps.old + length line.now }
+        ++ line_jumps (without position.now.board mover.now.origin)
+        mover.now.piece mover.now.taken (ray toward mover.now.at) }
+    ensures room { length jumps.new ≤ length jumps.old + 9 }
 {
-    if piece.king {
-        king_jumps(position, origin, piece, taken, line, jumps);
+    let ray = Ray::new(mover.at, toward);
+    if mover.piece.king {
+        king_jumps(position, mover, ray.squares(), jumps);
     } else {
-        man_jumps(position, origin, piece, taken, line, jumps);
+        man_jumps(position, mover, ray.squares(), jumps);
     }
 }
 
-/// The jumps from `at` of the piece that came from `origin`, with what it has taken.
-pub fn jumps_from(position: &DPos, origin: Dsq, piece: DPiece, taken: DSet, at: Dsq) -> Jumps
-    ensures { result ≡ jumps (without position.now.board origin) piece taken at }
+/// The jumps that a piece can make next.
+#[tactic(auto, unfolding(crate::specs::Search::jumps))]
+pub fn jumps_from(position: &DPos, mover: &Mover) -> Jumps
+    ensures { result ≡ jumps (without position.now.board mover.now.origin)
+        mover.now.piece mover.now.taken mover.now.at }
 {
-    let mut jumps = Jumps::new(at);
-    let up_left = Ray::new(at, Direction::UpLeft);
-    line_jumps(
-        position,
-        origin,
-        piece,
-        taken,
-        up_left.squares(),
-        &mut jumps,
-    );
-    let up_right = Ray::new(at, Direction::UpRight);
-    line_jumps(
-        position,
-        origin,
-        piece,
-        taken,
-        up_right.squares(),
-        &mut jumps,
-    );
-    let down_left = Ray::new(at, Direction::DownLeft);
-    line_jumps(
-        position,
-        origin,
-        piece,
-        taken,
-        down_left.squares(),
-        &mut jumps,
-    );
-    let down_right = Ray::new(at, Direction::DownRight);
-    line_jumps(
-        position,
-        origin,
-        piece,
-        taken,
-        down_right.squares(),
-        &mut jumps,
-    );
+    let mut jumps = Jumps::new(mover.at);
+    jumps_along(position, mover, Direction::UpLeft, &mut jumps);
+    jumps_along(position, mover, Direction::UpRight, &mut jumps);
+    jumps_along(position, mover, Direction::DownLeft, &mut jumps);
+    jumps_along(position, mover, Direction::DownRight, &mut jumps);
     jumps
 }

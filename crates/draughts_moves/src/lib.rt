@@ -8,6 +8,7 @@ pub mod listing;
 mod longest;
 pub mod memory;
 mod most;
+mod mover;
 mod ordering;
 pub mod playing;
 mod reaches;

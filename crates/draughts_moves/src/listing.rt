@@ -11,46 +11,40 @@ ghost use Rattle.squares.specs.OrderedLists.{put_all};
 use crate::jumps::jumps_from;
 use crate::memory::Memory;
 use crate::most::{most, own_at};
+use crate::mover::Mover;
 use crate::ordering::put_move;
 use crate::steps::steps_from;
-use squares::{DMove, DPiece, DPos, DSet, Dsq};
+use squares::{DMove, DPos, DSet, Dsq};
 use std::alloc::{AllocError, Global};
 
-// Puts the captures of `left` more jumps from `at`, by the piece that came from `origin`.
+// Puts the captures that a piece makes by `left` more jumps.
 fn collect(
     position: &DPos,
-    origin: Dsq,
-    piece: DPiece,
-    taken: DSet,
-    at: Dsq,
+    mover: &Mover,
     left: usize,
     moves: &mut Vec<DMove>,
 ) -> Result<(), AllocError>
-    ensures { OnOk result (moves.new.items
-        ≡ put_all move_cmp (map (move_to origin) (routes_of (without position.now.board origin) piece left taken at)) moves.old.items) }
+    ensures { OnOk result (moves.new.items ≡ put_all move_cmp
+        (map (move_to mover.now.origin)
+        (routes_of (without position.now.board mover.now.origin)
+        mover.now.piece left mover.now.taken mover.now.at))
+        moves.old.items) }
 {
     if left == 0 {
         put_move(
             moves,
             DMove {
-                from: origin,
-                to: at,
-                taken,
+                from: mover.origin,
+                to: mover.at,
+                taken: mover.taken,
             },
         )?;
         return Ok(());
     }
-    let jumps = jumps_from(position, origin, piece, taken, at);
-    for (over, next) in jumps.items() {
-        collect(
-            position,
-            origin,
-            piece,
-            taken.with(*over),
-            *next,
-            left - 1,
-            moves,
-        )?;
+    let jumps = jumps_from(position, mover);
+    for (over, to) in jumps.items() {
+        let next = mover.jumped(*over, *to);
+        collect(position, &next, left - 1, moves)?;
     }
     Ok(())
 }
@@ -63,11 +57,13 @@ fn captures_from(
     size: usize,
     moves: &mut Vec<DMove>,
 ) -> Result<(), AllocError>
-    ensures { OnOk result (moves.new.items ≡ put_all move_cmp (captures_at position.now size square) moves.old.items) }
+    ensures { OnOk result (moves.new.items
+        ≡ put_all move_cmp (captures_at position.now size square) moves.old.items) }
 {
     match own_at(position, square) {
         Some(piece) => {
-            collect(position, square, piece, DSet::new(), square, size, moves)?;
+            let mover = Mover::new(piece, square);
+            collect(position, &mover, size, moves)?;
             Ok(())
         }
         None => Ok(()),
@@ -76,7 +72,8 @@ fn captures_from(
 
 // Puts the quiet moves from a square to each of the squares of a line.
 fn put_steps(from: Dsq, line: &[Dsq], moves: &mut Vec<DMove>) -> Result<(), AllocError>
-    ensures { OnOk result (moves.new.items ≡ put_all move_cmp (map (step_to from) line.now) moves.old.items) }
+    ensures { OnOk result (moves.new.items
+        ≡ put_all move_cmp (map (step_to from) line.now) moves.old.items) }
 {
     for to in line {
         put_move(

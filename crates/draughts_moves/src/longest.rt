@@ -4,17 +4,20 @@ ghost use Rattle.draughts_moves.specs.Capture.{without};
 ghost use Rattle.draughts_moves.specs.Search.{greatest};
 
 use crate::jumps::jumps_from;
-use squares::{DPiece, DPos, DSet, Dsq};
+use crate::mover::Mover;
+use squares::DPos;
 
-/// The most jumps in a row from `at`, by the piece that came from `origin`.
-pub fn longest(position: &DPos, origin: Dsq, piece: DPiece, taken: DSet, at: Dsq) -> usize
-    ensures value { result ≡ greatest (without position.now.board origin) piece taken at }
+/// The most jumps in a row that a piece can make from where it has come to.
+pub fn longest(position: &DPos, mover: &Mover) -> usize
+    ensures value { result ≡ greatest (without position.now.board mover.now.origin)
+        mover.now.piece mover.now.taken mover.now.at }
     ensures few { result ≤ 50 }
 {
     let mut best = 0;
-    let jumps = jumps_from(position, origin, piece, taken, at);
+    let jumps = jumps_from(position, mover);
     for (over, to) in jumps.items() {
-        let more = longest(position, origin, piece, taken.with(*over), *to) + 1;
+        let next = mover.jumped(*over, *to);
+        let more = longest(position, &next) + 1;
         best = best.max(more);
     }
     best

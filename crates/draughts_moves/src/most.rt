@@ -4,7 +4,8 @@ ghost use Rattle.draughts_moves.specs.Capture.{IsMost};
 ghost use Rattle.draughts_moves.specs.Search.{own_at, greatest_at};
 
 use crate::longest::longest;
-use squares::{DPiece, DPos, DSet, Dsq};
+use crate::mover::Mover;
+use squares::{DPiece, DPos, Dsq};
 
 // The piece on a square, if it is of the side to move.
 pub fn own_at(position: &DPos, square: Dsq) -> Option<DPiece>
@@ -28,7 +29,7 @@ fn greatest_at(position: &DPos, square: Dsq) -> usize
     ensures few { result ≤ 50 }
 {
     match own_at(position, square) {
-        Some(piece) => longest(position, square, piece, DSet::new(), square),
+        Some(piece) => longest(position, &Mover::new(piece, square)),
         None => 0,
     }
 }

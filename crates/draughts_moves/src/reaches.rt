@@ -3,36 +3,22 @@ ghost use Rattle.std.specs.Prelude.{◌≡◌, ◌↔◌, IsTrue};
 ghost use Rattle.draughts_moves.specs.Capture.{without, Reaches};
 
 use crate::jumps::jumps_from;
-use squares::{DPiece, DPos, DSet, Dsq};
+use crate::mover::Mover;
+use squares::{DMove, DPos};
 
-/// Whether `left` more jumps from `at` lead to `to` with `all` taken, by the piece that came from `origin`.
-pub fn reaches(
-    position: &DPos,
-    origin: Dsq,
-    piece: DPiece,
-    taken: DSet,
-    at: Dsq,
-    left: usize,
-    all: DSet,
-    to: Dsq,
-) -> bool
-    ensures { IsTrue result ↔ Reaches (without position.now.board origin) piece left taken at all to }
+/// Whether `left` more jumps lead to where and to what a move takes.
+pub fn reaches(position: &DPos, mover: &Mover, left: usize, played: &DMove) -> bool
+    ensures { IsTrue result
+        ↔ Reaches (without position.now.board mover.now.origin) mover.now.piece left
+        mover.now.taken mover.now.at played.now.taken played.now.to }
 {
     if left == 0 {
-        return at == to && taken == all;
+        return mover.at == played.to && mover.taken == played.taken;
     }
-    let jumps = jumps_from(position, origin, piece, taken, at);
-    for (over, next) in jumps.items() {
-        if reaches(
-            position,
-            origin,
-            piece,
-            taken.with(*over),
-            *next,
-            left - 1,
-            all,
-            to,
-        ) {
+    let jumps = jumps_from(position, mover);
+    for (over, to) in jumps.items() {
+        let next = mover.jumped(*over, *to);
+        if reaches(position, &next, left - 1, played) {
             return true;
         }
     }

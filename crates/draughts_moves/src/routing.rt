@@ -9,7 +9,8 @@ ghost use Rattle.draughts_moves.specs.Routes.{route_cmp, lists_in, landings_of};
 use crate::jumps::jumps_from;
 use crate::memory::Memory;
 use crate::most::own_at;
-use squares::{DMove, DPiece, DPos, DSet, Dsq};
+use crate::mover::Mover;
+use squares::{DMove, DPos, Dsq};
 use std::alloc::{AllocError, Global};
 use std::cmp::Ordering;
 
@@ -33,7 +34,8 @@ fn place_of(routes: &[Vec<Dsq>], route: &[Dsq]) -> Option<usize>
 
 // Puts a route at its place, if it is not there.
 fn put_route(alloc: Global, route: &[Dsq], routes: &mut Vec<Vec<Dsq>>) -> Result<(), AllocError>
-    ensures { OnOk result (lists_in routes.new.items ≡ put route_cmp route.now (lists_in routes.old.items)) }
+    ensures { OnOk result (lists_in routes.new.items
+        ≡ put route_cmp route.now (lists_in routes.old.items)) }
 {
     match place_of(routes.as_slice(), route) {
         Some(i) => {
@@ -45,64 +47,55 @@ fn put_route(alloc: Global, route: &[Dsq], routes: &mut Vec<Vec<Dsq>>) -> Result
     }
 }
 
-// Puts a route that has come to `at` with `taken`, if that is where and what the move takes.
+// Puts a route, if the piece has come to where the move ends, with what the move takes.
 fn put_end(
     alloc: Global,
     played: &DMove,
-    taken: DSet,
-    at: Dsq,
+    mover: &Mover,
     path: &[Dsq],
     routes: &mut Vec<Vec<Dsq>>,
 ) -> Result<(), AllocError>
     ensures { OnOk result (lists_in routes.new.items ≡ put_all route_cmp
-        (if at == played.now.to && same_squares taken played.now.taken then path.now ∷ [] else [])
+        (if mover.now.at == played.now.to && same_squares mover.now.taken played.now.taken
+        then path.now ∷ [] else [])
         (lists_in routes.old.items)) }
 {
-    if at != played.to {
+    if mover.at != played.to {
         return Ok(());
     }
-    if taken != played.taken {
+    if mover.taken != played.taken {
         return Ok(());
     }
     put_route(alloc, path, routes)
 }
 
-// Puts the routes that go on from `path`, which has come to `at`, by `left` more jumps.
+// Puts the routes that go on from `path`, which has brought the piece to where it is, by `left`
+// more jumps.
 fn collect_routes(
     alloc: Global,
     position: &DPos,
-    piece: DPiece,
     played: &DMove,
-    taken: DSet,
-    at: Dsq,
+    mover: &Mover,
     left: usize,
     path: &mut Vec<Dsq>,
     routes: &mut Vec<Vec<Dsq>>,
 ) -> Result<(), AllocError>
     ensures found { OnOk result (lists_in routes.new.items ≡ put_all route_cmp
         (map (λ ls. path.old.items ++ ls)
-        (landings_of (without position.now.board played.now.from) piece played.now.taken played.now.to left taken at))
+        (landings_of (without position.now.board mover.now.origin) mover.now.piece
+        played.now.taken played.now.to left mover.now.taken mover.now.at))
         (lists_in routes.old.items)) }
     ensures path { OnOk result (path.new.items ≡ path.old.items) }
 {
     if left == 0 {
-        put_end(alloc, played, taken, at, path.as_slice(), routes)?;
+        put_end(alloc, played, mover, path.as_slice(), routes)?;
         return Ok(());
     }
-    let jumps = jumps_from(position, played.from, piece, taken, at);
-    for (over, next) in jumps.items() {
-        path.push(*next)?;
-        collect_routes(
-            alloc,
-            position,
-            piece,
-            played,
-            taken.with(*over),
-            *next,
-            left - 1,
-            path,
-            routes,
-        )?;
+    let jumps = jumps_from(position, mover);
+    for (over, to) in jumps.items() {
+        path.push(*to)?;
+        let next = mover.jumped(*over, *to);
+        collect_routes(alloc, position, played, &next, left - 1, path, routes)?;
         path.pop();
     }
     Ok(())
@@ -113,7 +106,8 @@ fn collect_routes(
 ///
 /// It fails where memory is refused, and then alone.
 pub fn routes(alloc: Global, position: &DPos, played: &DMove) -> Result<Vec<Vec<Dsq>>, Memory>
-    ensures in_order { IfOk result (λ routes. IsStrictlySortedBy route_cmp (lists_in routes.items)) }
+    ensures in_order { IfOk result
+        (λ routes. IsStrictlySortedBy route_cmp (lists_in routes.items)) }
     ensures members { IfOk result (λ routes. (landings : List ℕ)
         → Contains (lists_in routes.items) landings
         ↔ Capture position.now played.now.from landings played.now.taken played.now.to) }
@@ -123,13 +117,12 @@ pub fn routes(alloc: Global, position: &DPos, played: &DMove) -> Result<Vec<Vec<
     match own_at(position, played.from) {
         Some(piece) => {
             let size = played.taken.len();
+            let mover = Mover::new(piece, played.from);
             collect_routes(
                 alloc,
                 position,
-                piece,
                 played,
-                DSet::new(),
-                played.from,
+                &mover,
                 size,
                 &mut path,
                 &mut routes,

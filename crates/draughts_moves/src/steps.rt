@@ -105,7 +105,8 @@ fn clear_front(position: &DPos, line: &[Dsq], steps: &mut Steps)
 // Adds the squares that a piece goes to in a direction.
 fn steps_along(position: &DPos, piece: DPiece, from: Dsq, toward: Direction, steps: &mut Steps)
     requires room { length steps.old + 9 ≤ 36 }
-    ensures added { steps.new ≡ steps.old ++ steps_along (map.get position.now.board) piece toward from }
+    ensures added { steps.new ≡ steps.old
+        ++ steps_along (map.get position.now.board) piece toward from }
     ensures room { length steps.new ≤ length steps.old + 9 }
 {
     let ray = Ray::new(from, toward);

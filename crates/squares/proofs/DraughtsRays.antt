@@ -1,9 +1,9 @@
 -- Lines by steps are lines by coordinates.
-use Rattle.std.proofs.Common.{◌≡◌, ℕ, zero, suc, ◌+◌, ◌-◌, ◌%◌, ◌<◌, ◌≤◌, ◌≢◌, Bool, true, false, cond, ◌||◌, Option, Some, None, List, [], ◌∷◌, length, get_or, nat_eq, refl, sym, ap, ◌∙◌, subst, arith, inl, inr, ◌⊎◌}
+use Rattle.std.proofs.Common.{◌≡◌, ℕ, zero, suc, ◌+◌, ◌-◌, ◌%◌, ◌<◌, ◌≤◌, Bool, true, false, cond, ◌||◌, Some, None, List, [], ◌∷◌, length, get_or, nat_eq, refl, sym, ap, ◌∙◌, subst, arith}
 use Rattle.std.specs.Option.{option_map_or}
 use Rattle.squares.specs.declared.draughts.direction.Direction.{Direction}
 use Rattle.squares.specs.declared.draughts.direction.Direction.TheVariants.{UpLeft, UpRight, DownLeft, DownRight}
-use Rattle.squares.specs.DraughtsGeometry.{OnBoard, IsMoved, row_of, column_of, number_at, neighbor, step, line, ray, line-edge}
+use Rattle.squares.specs.DraughtsGeometry.{OnBoard, IsMoved, row_of, column_of, number_at, neighbor, step, line, ray}
 use Rattle.squares.specs.DraughtsMarks.{nat_eq_other}
 use Rattle.squares.specs.DraughtsOnBoard.{nat_eq-differs, step-neighbor, step-on_board, row_of-number_at}
 

@@ -1,5 +1,5 @@
 -- The opening of draughts: twenty men a side, Second's on squares 1 to 20 and First's on 31 to 50, with First to move.
-use Rattle.std.specs.Prelude.{ℕ, true, false, nat_le, if◌then◌else◌, Option, Some, None, map}
+use Rattle.std.specs.Prelude.{ℕ, false, nat_le, if◌then◌else◌, Option, Some, None, map}
 use Rattle.std.specs.List.{range_with_len}
 use Rattle.squares.specs.declared.draughts.piece.DPiece.{DPiece}
 use Rattle.squares.specs.declared.sides.Side.{Side}

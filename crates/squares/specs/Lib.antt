@@ -5,6 +5,7 @@ pub mod DraughtsLaws
 pub mod DraughtsMarks
 pub mod DraughtsOnBoard
 pub mod DraughtsOpening
+pub mod DraughtsSamePosition
 pub mod DraughtsSameSquares
 pub mod DraughtsSets
 pub mod In

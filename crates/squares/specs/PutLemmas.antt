@@ -37,7 +37,7 @@ module _ {A : Type 0} (order : A → A → Ordering) (total : IsTotalOrder order
         | Greater ↦ inr h
       ]
 
-  -- where only equal moves of the list tie with it
+  -- where only equal elements of the list tie with it
   pub put-has : (m : A) (xs : List A) → ((x : A) → In x xs → order x m ≡ Equal → x ≡ m) → In m (put order m xs)
   put-has m [] same = inl refl
   put-has m (x ∷ xs) same =
@@ -85,7 +85,7 @@ module _ {A : Type 0} (order : A → A → Ordering) (total : IsTotalOrder order
   put_all-keeps [] xs y h = h
   put_all-keeps (m ∷ ms) xs y h = put_all-keeps ms (put order m xs) y (put-keeps m y xs h)
 
-  -- where only equal moves of the two lists tie
+  -- where only equal elements of the two lists tie
   pub put_all-has : (ms xs : List A) (y : A) → ((a b : A) → In a xs ⊎ In a ms → In b ms → order a b ≡ Equal → a ≡ b) → In y ms → In y (put_all order ms xs)
   put_all-has [] xs y same h = absurd h
   put_all-has (m ∷ ms) xs y same (inl e) =

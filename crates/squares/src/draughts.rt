@@ -9,3 +9,5 @@ pub mod position;
 pub mod ray;
 pub mod set;
 pub mod square;
+#[cfg(test)]
+mod tests;

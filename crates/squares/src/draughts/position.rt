@@ -1,8 +1,9 @@
 //! A position: a board and a turn.
-ghost use Rattle.std.specs.Prelude.{◌≡◌, ◌+◌, ◌<◌, ◌≤◌, ℕ, List, Option, length, not};
+ghost use Rattle.std.specs.Prelude.{◌≡◌, ◌+◌, ◌<◌, ◌≤◌, ℕ, List, Option, length, not, IsTrue, ◌↔◌};
 ghost use Rattle.std.specs.FinMap as map;
 ghost use Rattle.std.specs.FinSet as set;
 ghost use Rattle.squares.specs.DraughtsGeometry.{OnBoard};
+ghost use Rattle.squares.specs.DraughtsSamePosition.{same_cell};
 ghost use Rattle.squares.specs.DraughtsOpening.{opening, opening_piece, man};
 ghost use Rattle.squares.specs.Sides.{other};
 
@@ -33,7 +34,8 @@ impl Model for DPos {
 
     ghost Value = { Position };
 
-    ghost coded = { code_by (Board × Side) (coded× (finite_map.code coded_ℕ piece_type.the_row.coded) side_type.the_row.coded)
+    ghost coded = { code_by (Board × Side)
+        (coded× (finite_map.code coded_ℕ piece_type.the_row.coded) side_type.the_row.coded)
         (λ p. (p.board, p.turn)) (λ q. record { board = q.0; turn = q.1 }) (λ _. refl) };
 
     ghost view = { λ p. record { board = board_of p.cells; turn = p.turn } };
@@ -63,7 +65,8 @@ impl DPos {
         }
     }
 
-    /// The opening: Second's men on squares 1 to 20, First's men on squares 31 to 50, First to move.
+    /// The opening: Second's men on squares 1 to 20, First's men on squares 31 to 50, and First to
+    /// move.
     pub fn opening() -> DPos
         ensures value { result ≡ opening }
         ensures pieces { (n : ℕ) → OnBoard n → map.get result.board n ≡ opening_piece n }
@@ -125,6 +128,51 @@ impl DPos {
         ensures { self.new ≡ record self.old { turn = other self.old.turn } }
     {
         self.turn = self.turn.other();
+    }
+}
+
+impl PartialEq for DPos {
+    ghost use Rattle.squares.specs.DraughtsSamePosition.{same_position, same_position-partial};
+
+    ghost eq = { same_position };
+
+    ghost laws = { same_position-partial };
+
+    fn eq(&self, other: &DPos) -> bool {
+        if self.turn != other.turn {
+            return false;
+        }
+        same_cells(&self.cells, &other.cells)
+    }
+}
+
+impl Eq for DPos {
+    ghost use Rattle.squares.specs.DraughtsSamePosition.{same_position-equivalence};
+
+    ghost laws = { same_position-equivalence };
+}
+
+// Whether the same stands on each of the fifty squares.
+fn same_cells(mine: &[Option<DPiece>], theirs: &[Option<DPiece>]) -> bool
+    requires mine { length mine.now ≡ 50 }
+    requires theirs { length theirs.now ≡ 50 }
+    ensures { IsTrue result ↔ (mine.now ≡ theirs.now) }
+{
+    for i in 0..50 {
+        if !same_cell(mine[i], theirs[i]) {
+            return false;
+        }
+    }
+    true
+}
+
+fn same_cell(mine: Option<DPiece>, theirs: Option<DPiece>) -> bool
+    ensures { result ≡ same_cell mine theirs }
+{
+    match (mine, theirs) {
+        (None, None) => true,
+        (Some(a), Some(b)) => a == b,
+        _ => false,
     }
 }
 

@@ -1,4 +1,4 @@
-use Rattle.std.proofs.Common.{arith, sym, subst, ◌∙◌, ◌<◌, ◌≤◌}
+use Rattle.std.proofs.Common.{arith}
 use Rattle.draughts_moves.proofs.CheckLemmas.{answer-no_such, answer-most, answer-short}
 use Rattle.draughts_moves.proofs.checking.check_capture.Goals as goal
 

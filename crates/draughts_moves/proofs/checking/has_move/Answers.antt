@@ -1,4 +1,4 @@
-use Rattle.std.proofs.Common.{◌≡◌, refl, true, length, sym, ap, ◌∙◌, arith}
+use Rattle.std.proofs.Common.{◌≡◌, refl, true, false, length, sym, ap, ◌∙◌, arith}
 use Rattle.std.specs.List.{range_with_len, list_any}
 use Rattle.squares.specs.DraughtsBoard.{Position}
 use Rattle.draughts_moves.specs.Search.{can_move, has_move}
@@ -10,14 +10,19 @@ has_move-is : (p : Position) → list_any (can_move p) (range_with_len 1 50) ≡
 unfolding has_move
 has_move-is p = refl
 
-pub returns-then-can_move : goal.returns-then-can_move
-returns-then-can_move c =
+found_here : (c : goal.Then-can_move) → has_move c.args.position.now ≡ true
+found_here c =
     let p = c.args.position.now in
     let w = c.loop-square in
     let test : can_move p c.square-item.result ≡ true = ap (can_move p) c.square-item.is ∙ sym c.can_move.ensures ∙ c.if-can_move.true in
     let found = list_any-here (can_move p) c.all.result w.square-index c.square-item.result (omega (arith, ap length c.all.ensures)) c.square-item.is w.invariant test in
-    let is : has_move p ≡ true = sym (has_move-is p) ∙ ap (list_any (can_move p)) (sym c.all.ensures) ∙ found in
-    record { moves = (λ _. has_move-sound p is, λ _. refl); value = sym is }
+    sym (has_move-is p) ∙ ap (list_any (can_move p)) (sym c.all.ensures) ∙ found
+
+pub returns-then-can_move-clause-legal : goal.returns-then-can_move-clause-legal
+returns-then-can_move-clause-legal c = (λ _. has_move-sound c.args.position.now (found_here c), λ _. refl)
+
+pub returns-then-can_move-clause-value : goal.returns-then-can_move-clause-value
+returns-then-can_move-clause-value c = sym (found_here c)
 
 pub loop-square-preserved : goal.loop-square-preserved
 loop-square-preserved c =
@@ -26,11 +31,16 @@ loop-square-preserved c =
     list_any-past (can_move p) c.all.result w.square-index c.square-item.result (omega (arith, ap length c.all.ensures)) c.square-item.is w.invariant
     (ap (can_move p) c.square-item.is ∙ sym c.can_move.ensures ∙ c.if-can_move.false)
 
-pub returns : goal.returns
-returns c =
+nothing_found : (c : goal.After-loop-square) → has_move c.args.position.now ≡ false
+nothing_found c =
     let p = c.args.position.now in
     let w = c.loop-square in
     let fifty : length c.all.result ≡ 50 = ap length c.all.ensures in
     let none = list_any-end (can_move p) c.all.result w.square-index (omega arith) w.invariant in
-    let is = sym (ap (list_any (can_move p)) c.all.ensures ∙ has_move-is p) ∙ none in
-    record { moves = (λ e. cc, λ h. let found = has_move-complete p h in cc); value = sym is }
+    sym (ap (list_any (can_move p)) c.all.ensures ∙ has_move-is p) ∙ none
+
+pub returns-clause-legal : goal.returns-clause-legal
+returns-clause-legal c = (λ e. cc, λ h. let is = nothing_found c in let found = has_move-complete c.args.position.now h in cc)
+
+pub returns-clause-value : goal.returns-clause-value
+returns-clause-value c = sym (nothing_found c)

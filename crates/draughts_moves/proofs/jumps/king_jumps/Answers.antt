@@ -23,7 +23,7 @@ landings-requires c =
 
 pub returns-then-is_prey-clause-added : goal.returns-then-is_prey-clause-added
 returns-then-is_prey-clause-added c =
-    let b = without c.args.position.now.board c.args.origin in
+    let b = without c.args.position.now.board c.args.mover.now.origin in
     let line = c.args.line.now in
     let n = c.index-line-i.result in
     let pairs : List ℕ → List (ℕ × ℕ) = λ ns. map (λ l. (n, l)) (clear_front b ns) in
@@ -32,5 +32,5 @@ returns-then-is_prey-clause-added c =
     c.landings.ensures.added
     ∙ (λ k. c.loop-i.invariant.none k ++ pairs (tail k))
     ∙ ap (λ r. c.args.jumps.now ++ r)
-    (sym (king_jumps-prey b c.args.piece c.args.taken n (drop (c.loop-i.i + 1) line) c.in-Some.field-0 (sym c.stands.ensures ∙ c.in-Some.is) (sym c.is_prey.ensures ∙ c.if-is_prey.true))
-    ∙ ap (king_jumps b c.args.piece c.args.taken) (sym here) ∙ c.loop-i.invariant.rest)
+    (sym (king_jumps-prey b c.args.mover.now.piece c.args.mover.now.taken n (drop (c.loop-i.i + 1) line) c.in-Some.field-0 (sym c.stands.ensures ∙ c.in-Some.is) (sym c.is_prey.ensures ∙ c.if-is_prey.true))
+    ∙ ap (king_jumps b c.args.mover.now.piece c.args.mover.now.taken) (sym here) ∙ c.loop-i.invariant.rest)

@@ -6,6 +6,7 @@ use Rattle.std.proofs.lemmas.List.{take_all}
 use Rattle.squares.specs.declared.draughts.piece.DPiece.{DPiece}
 use Rattle.squares.specs.DraughtsSets.{Squares}
 use Rattle.squares.specs.declared.draughts.moves.DMove.{DMove}
+use Rattle.draughts_moves.specs.declared.mover.Mover.{Mover}
 use Rattle.draughts_moves.specs.Capture.{Cells, without}
 use Rattle.draughts_moves.specs.Search.{jumps, routes_of}
 use Rattle.draughts_moves.specs.Listing.{move_cmp, move_to}
@@ -28,29 +29,29 @@ more_left b p (suc n) t s x h =
 
 pub returns-then-left-eq0 : goal.returns-then-left-eq0
 returns-then-left-eq0 t c =
-    let b = without c.args.position.now.board c.args.origin in
+    let b = without c.args.position.now.board c.args.mover.now.origin in
     c.in_ok-put_move.ensures
-    ∙ ap (λ ms. put_all move_cmp ms c.args.moves.now.items) (sym (none_left b c.args.piece c.args.left c.args.taken c.args.at c.args.origin c.if-left-eq0.true))
+    ∙ ap (λ ms. put_all move_cmp ms c.args.moves.now.items) (sym (none_left b c.args.mover.now.piece c.args.left c.args.mover.now.taken c.args.mover.now.at c.args.mover.now.origin c.if-left-eq0.true))
 
 pub loop-over-preserved : goal.loop-over-preserved
 loop-over-preserved t c =
-    let b = without c.args.position.now.board c.args.origin in
+    let b = without c.args.position.now.board c.args.mover.now.origin in
     let w = c.loop-over in
     let item = c.loop-over-item.result in
-    let one : ℕ × ℕ → List DMove = λ j. map (move_to c.args.origin) (routes_of b c.args.piece (c.args.left - 1) (set.insert c.args.taken j.0) j.1) in
+    let one : ℕ × ℕ → List DMove = λ j. map (move_to c.args.mover.now.origin) (routes_of b c.args.mover.now.piece (c.args.left - 1) (set.insert c.args.mover.now.taken j.0) j.1) in
     record {
       so_far =
           put_all-more move_cmp move_cmp-total one c.items-over-items.result.now w.over-index item c.args.moves.now.items w.moves.items c.collect.new.moves.items c.loop-over-test.true c.loop-over-item.is w.invariant.so_far
           (c.in_ok-collect.ensures
-          ∙ ap (λ s. put_all move_cmp (map (move_to c.args.origin) (routes_of b c.args.piece (c.args.left - 1) s item.1)) w.moves.items) c.with.ensures);
+          ∙ ap (λ (mover : Mover). put_all move_cmp (map (move_to mover.origin) (routes_of (without c.args.position.now.board mover.origin) mover.piece (c.args.left - 1) mover.taken mover.at)) w.moves.items) c.jumped-next.ensures);
       items_are = w.invariant.items_are;
     }
 
 pub returns : goal.returns
 returns t c =
-    let b = without c.args.position.now.board c.args.origin in
+    let b = without c.args.position.now.board c.args.mover.now.origin in
     let w = c.loop-over in
-    let one : ℕ × ℕ → List DMove = λ j. map (move_to c.args.origin) (routes_of b c.args.piece (c.args.left - 1) (set.insert c.args.taken j.0) j.1) in
+    let one : ℕ × ℕ → List DMove = λ j. map (move_to c.args.mover.now.origin) (routes_of b c.args.mover.now.piece (c.args.left - 1) (set.insert c.args.mover.now.taken j.0) j.1) in
     w.invariant.so_far
     ∙ ap (λ js. put_all move_cmp (flat_map one js) c.args.moves.now.items) (take_all w.over-index c.items-over-items.result.now c.loop-over-test.false ∙ w.invariant.items_are)
-    ∙ ap (λ ms. put_all move_cmp ms c.args.moves.now.items) (sym (more_left b c.args.piece c.args.left c.args.taken c.args.at c.args.origin (omega arith)))
+    ∙ ap (λ ms. put_all move_cmp ms c.args.moves.now.items) (sym (more_left b c.args.mover.now.piece c.args.left c.args.mover.now.taken c.args.mover.now.at c.args.mover.now.origin (omega arith)))

@@ -10,10 +10,10 @@ use Rattle.draughts_moves.proofs.listing.+collect.Given as goal
 
 abbrev pub invariant-loop-over : goal.invariant-loop-over
 invariant-loop-over l =
-    let b = without l.position.board l.origin in
+    let b = without l.position.board l.mover.origin in
     record {
-      so_far : l.moves.items ≡ put_all move_cmp (flat_map (λ j. map (move_to l.origin) (routes_of b l.piece (l.left - 1) (set.insert l.taken j.0) j.1)) (take l.over-index l.over-items)) l.fn.moves.items;
-      items_are : l.over-items ≡ jumps b l.piece l.taken l.fn.at;
+      so_far : l.moves.items ≡ put_all move_cmp (flat_map (λ j. map (move_to l.mover.origin) (routes_of b l.mover.piece (l.left - 1) (set.insert l.mover.taken j.0) j.1)) (take l.over-index l.over-items)) l.fn.moves.items;
+      items_are : l.over-items ≡ jumps b l.mover.piece l.mover.taken l.fn.mover.at;
     }
 
 abbrev pub decreases-collect : goal.decreases-collect

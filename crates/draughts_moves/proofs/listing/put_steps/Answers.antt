@@ -1,4 +1,4 @@
-use Rattle.std.proofs.Common.{sym, ◌∙◌}
+use Rattle.std.proofs.Common.{◌∙◌}
 use Rattle.squares.specs.OrderedLists.{put}
 use Rattle.squares.specs.PutLemmas.{put_all-map_more}
 use Rattle.draughts_moves.specs.Listing.{move_cmp, step_to}

@@ -5,7 +5,7 @@ use Rattle.std.specs.FinSet.{contains}
 use Rattle.squares.specs.declared.draughts.piece.DPiece.{DPiece}
 use Rattle.squares.specs.DraughtsBoard.{Position}
 use Rattle.squares.specs.Sides.{other}
-use Rattle.draughts_moves.specs.Legal.{moved, crowned}
+use Rattle.draughts_moves.specs.Legal.{moved}
 use Rattle.draughts_moves.proofs.playing.play.Goals as goal
 
 -- the steps of a play

@@ -1,4 +1,4 @@
-use Rattle.std.proofs.Common.{◌≡◌, sym, ap, ◌∙◌, arith}
+use Rattle.std.proofs.Common.{sym, ap, ◌∙◌, arith}
 use Rattle.squares.specs.PutLemmas.{put-at_equal, put-at_greater, put-at_less}
 use Rattle.draughts_moves.specs.Routes.{route_cmp, lists_in}
 use Rattle.draughts_moves.proofs.RoutingLemmas.{route_cmp-total, list_at, length-lists_in, put-last}

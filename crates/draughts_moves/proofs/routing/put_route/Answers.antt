@@ -1,4 +1,4 @@
-use Rattle.std.proofs.Common.{List, ◌∷◌, ◌++◌, take, drop, sym, ap, ◌∙◌}
+use Rattle.std.proofs.Common.{◌∷◌, ◌++◌, take, drop, sym, ap, ◌∙◌}
 use Rattle.squares.specs.OrderedLists.{put}
 use Rattle.draughts_moves.specs.Routes.{route_cmp, lists_in}
 use Rattle.draughts_moves.proofs.RoutingLemmas.{lists_in-insert}

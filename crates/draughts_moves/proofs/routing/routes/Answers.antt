@@ -2,7 +2,7 @@ use Rattle.std.proofs.Common.{◌≡◌, ℕ, List, [], ◌++◌, sym, ap, ◌�
 use Rattle.std.specs.Prelude.{map}
 use Rattle.std.specs.FinSet as set
 use Rattle.squares.specs.OrderedLists.{put_all}
-use Rattle.squares.specs.DraughtsSets.{Squares}
+use Rattle.draughts_moves.specs.declared.mover.Mover.{Mover}
 use Rattle.draughts_moves.specs.Capture.{without}
 use Rattle.draughts_moves.specs.Routes.{route_cmp, lists_in, landings_of}
 use Rattle.draughts_moves.proofs.RoutingLemmas.{sorted_routes, same_list, listed-Capture, Capture-listed}
@@ -10,12 +10,12 @@ use Rattle.draughts_moves.proofs.routing.routes.Goals as goal
 
 found_all : (c : goal.After-drop-path-in-Some) → lists_in c.collect_routes.new.routes.items ≡ put_all route_cmp (landings_of (without c.args.position.now.board c.args.played.now.from) c.in-Some.piece c.args.played.now.taken c.args.played.now.to (set.len c.args.played.now.taken) set.empty c.args.played.now.from) []
 found_all c =
-    let b = without c.args.position.now.board c.args.played.now.from in
     let m = c.args.played.now in
-    let listed : ℕ → Squares → List (List ℕ) = λ n t. landings_of b c.in-Some.piece m.taken m.to n t m.from in
+    let listed : ℕ → Mover → List (List ℕ) = λ n mover. landings_of (without c.args.position.now.board mover.origin) mover.piece m.taken m.to n mover.taken mover.at in
+    let start : Mover = record { piece = c.in-Some.piece; origin = m.from; at = m.from; taken = set.empty } in
     c.in_ok-collect_routes-in-Some.ensures.found
-    ∙ (λ i. put_all route_cmp (map (λ ls. c.new-path.ensures.items i ++ ls) (listed (c.len-size.ensures i) (c.new.ensures i))) (lists_in (c.new-routes.ensures.items i)))
-    ∙ ap (λ rs. put_all route_cmp rs []) (same_list (listed (set.len m.taken) set.empty))
+    ∙ (λ i. put_all route_cmp (map (λ ls. c.new-path.ensures.items i ++ ls) (listed (c.len-size.ensures i) (c.new-mover.ensures i))) (lists_in (c.new-routes.ensures.items i)))
+    ∙ ap (λ rs. put_all route_cmp rs []) (same_list (listed (set.len m.taken) start))
 
 pub returns-in-Some-clause-in_order : goal.returns-in-Some-clause-in_order
 returns-in-Some-clause-in_order c =

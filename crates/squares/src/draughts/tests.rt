@@ -1,0 +1,110 @@
+use crate::{DMove, DPiece, DPos, DSet, Direction, Dsq, Numbers, Ray, Side};
+use std::test::Fail;
+
+fn man(side: Side) -> DPiece {
+    DPiece { side, king: false }
+}
+
+// Squares by number, row and column, from a printed board.
+#[test]
+fn numbers_have_their_places(rt: HostRuntime) -> Result<(), Fail> {
+    let places = [
+        (1, 0, 1),
+        (5, 0, 9),
+        (6, 1, 0),
+        (10, 1, 8),
+        (23, 4, 5),
+        (28, 5, 4),
+        (45, 8, 9),
+        (46, 9, 0),
+        (50, 9, 8),
+    ];
+    for (number, row, column) in places {
+        let square = Dsq::new(number).ok_or("no square")?;
+        assert_eq!(rt; square.number(), number);
+        assert_eq!(rt; square.row(), row, "at {number}");
+        assert_eq!(rt; square.column(), column, "at {number}");
+        assert_eq!(rt; Dsq::at(row, column), Some(square), "at {number}");
+    }
+    assert_eq!(rt; Dsq::new(0), None);
+    assert_eq!(rt; Dsq::new(51), None);
+    assert_eq!(rt; Dsq::at(0, 0), None);
+    assert_eq!(rt; Dsq::at(10, 1), None);
+    assert_eq!(rt; Dsq::at(1, 10), None);
+    assert_eq!(rt; Dsq::all()[49].number(), 50);
+    Ok(())
+}
+
+#[test]
+fn lines_go_to_the_edge(rt: HostRuntime) -> Result<(), Fail> {
+    let from = Dsq::new(28).ok_or("no square")?;
+    let mut numbers = [0; 5];
+    let line = Ray::new(from, Direction::UpLeft);
+    for (i, square) in line.squares().iter().enumerate() {
+        if i < 5 {
+            numbers[i] = square.number();
+        }
+    }
+    assert_eq!(rt; numbers, [22, 17, 11, 6, 0]);
+    assert_eq!(rt; from.step(Direction::DownRight), Dsq::new(33));
+    assert_eq!(rt; Ray::new(from, Direction::DownLeft).squares().len(), 4);
+    Ok(())
+}
+
+#[test]
+fn opening_has_twenty_men_a_side(rt: HostRuntime) -> Result<(), Fail> {
+    let position = DPos::opening();
+    assert_eq!(rt; position.turn(), Side::First);
+    for square in &Dsq::all() {
+        let stands = match square.number() {
+            1..=20 => Some(man(Side::Second)),
+            31..=50 => Some(man(Side::First)),
+            _ => None,
+        };
+        assert_eq!(rt; position.at(*square), stands);
+    }
+    Ok(())
+}
+
+#[test]
+fn a_position_changes_square_by_square(rt: HostRuntime) -> Result<(), Fail> {
+    let near = Dsq::new(7).ok_or("no square")?;
+    let far = Dsq::new(44).ok_or("no square")?;
+    let mut position = DPos::new(Side::First);
+    position.put(near, man(Side::First));
+    position.put(far, man(Side::Second));
+    position.pass();
+    assert_eq!(rt; position.turn(), Side::Second);
+    let before = position;
+    assert!(rt; before == position);
+    position.clear(near);
+    assert!(rt; before != position);
+    assert_eq!(rt; position.at(near), None);
+    assert_eq!(rt; position.at(far), Some(man(Side::Second)));
+    position.clear_all(DSet::new().with(far));
+    assert_eq!(rt; position.at(far), None);
+    Ok(())
+}
+
+#[test]
+fn sets_are_their_squares(rt: HostRuntime) -> Result<(), Fail> {
+    let near = Dsq::new(7).ok_or("no square")?;
+    let far = Dsq::new(44).ok_or("no square")?;
+    let both = DSet::new().with(far).with(near).with(far);
+    assert!(rt; DSet::new().is_empty());
+    assert!(rt; both.contains(near));
+    assert_eq!(rt; both.len(), 2);
+    assert_eq!(rt; Numbers::of(both).as_slice(), [7, 44].as_slice());
+    assert!(rt; both == DSet::new().with(near).with(far));
+    assert_eq!(rt;
+        both.compare(DSet::new().with(far)),
+        std::cmp::Ordering::Less
+    );
+    let played = DMove {
+        from: far,
+        to: near,
+        taken: both,
+    };
+    assert!(rt; played == played);
+    Ok(())
+}
