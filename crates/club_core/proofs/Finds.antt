@@ -1,9 +1,9 @@
 -- Looking for an element of a list of rows finds it in the list of what the rows stand for.
-use Rattle.std.proofs.Common.{◌≡◌, ℕ, zero, suc, ◌+◌, ◌<◌, List, [], ◌∷◌, length, map, Option, Some, None, Bool, true, false, not, cond, refl, ap, sym, ◌∙◌, arith, rules, ltb, ◌||◌}
+use Rattle.std.proofs.Common.{◌≡◌, ℕ, suc, ◌+◌, List, [], ◌∷◌, length, map, Option, Some, None, Bool, true, false, not, cond, refl, ap, arith, ltb, ◌||◌}
 use Rattle.std.proofs.lemmas.Bool.Decides.{nat_tests}
 use Rattle.std.specs.Prelude.{if◌then◌else◌}
 use Rattle.std.specs.Option.{option_map}
-use Rattle.std.specs.List.{position, position_or_len, prefix_len, list_any}
+use Rattle.std.specs.List.{position, position_or_len, list_any}
 use Rattle.club_core.specs.Members.{find_id}
 
 module _ {A B : Type 0} (test : B → Bool) (f : A → B) where

@@ -1,3 +1,10 @@
 pub mod Finds
 pub mod Turns
 pub mod Played
+pub mod Folds
+pub mod Lists
+pub mod Legals
+pub mod LegalSteps
+pub mod Later
+pub mod Repeats
+pub mod Sound

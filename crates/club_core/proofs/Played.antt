@@ -1,25 +1,25 @@
 -- What follows from a game that one more move was played in, and from a move that was played before.
-use Rattle.std.proofs.Common.{◌≡◌, ◌≢◌, ℕ, zero, suc, ◌+◌, ◌-◌, ◌<◌, ◌≤◌, List, [], ◌∷◌, ◌++◌, length, map, take, Option, Some, None, Result, Ok, Bool, true, false, ◌&&◌, refl, ap, sym, ◌∙◌, arith, rules, add-one, sub-one, length-append}
+use Rattle.std.proofs.Common.{◌≡◌, ◌≢◌, ℕ, zero, suc, ◌+◌, ◌-◌, ◌<◌, ◌≤◌, List, [], ◌∷◌, ◌++◌, length, map, take, Option, Some, None, Ok, true, ◌&&◌, refl, ap, sym, ◌∙◌, arith, add-one, sub-one, length-append}
 use Rattle.std.specs.Prelude.{slice_get}
 use Rattle.std.specs.Option.{option_map}
 use Rattle.std.proofs.Math.Seq.{take-length}
 use Rattle.std.proofs.lemmas.List.{map-append, length-map, take-map, take-append-le}
 use Rattle.std.proofs.lemmas.Option.{slice_get_within}
 use Rattle.squares.specs.declared.sides.Side.{Side}
-use Rattle.squares.specs.declared.sides.Side.TheVariants.{First, Second}
+use Rattle.squares.specs.declared.sides.Side.TheVariants.{First}
 use Rattle.squares.specs.Sides.{other, same_side}
 use Rattle.club_rules.specs.GameRules.{GameRules}
 use Rattle.club_rules.specs.Line.{position_after, IsLegalLine}
 use Rattle.club_rules.proofs.Lines.{position_after-append, position_after-take, check-at}
 use Rattle.club_core.specs.declared.rows.GameEnd.{GameEnd}
-use Rattle.club_core.specs.declared.rows.GameEnd.TheVariants.{Rule, Outside}
+use Rattle.club_core.specs.declared.rows.GameEnd.TheVariants.{Rule}
 use Rattle.club_core.specs.declared.rows.OutsideEnd.{OutsideEnd}
 use Rattle.club_core.specs.declared.rows.Asked.{Asked}
 use Rattle.club_core.specs.Events.{Terms}
-use Rattle.club_core.specs.Outcome.{Reply, MoveReply, moved}
-use Rattle.club_core.specs.Game.{Game, Clocks, Entry, turns, spend, spend_all, moves_of, clocks_of, last_position, rule_end, end_of, turn_of, result_of, end_with, score_with, left_of, side_after, game_at}
+use Rattle.club_core.specs.Outcome.{MoveReply, moved}
+use Rattle.club_core.specs.Game.{Game, Clocks, turns, spend, spend_all, moves_of, clocks_of, last_position, rule_end, end_of, turn_of, result_of, end_with, score_with, left_of, side_after, game_at}
 use Rattle.club_core.specs.Legal.{IsLegalGame}
-use Rattle.club_core.specs.Step.{played, move_at, repeat_of, repeats, reply_of_move, reads_as}
+use Rattle.club_core.specs.Step.{played, move_at, repeat_of, reply_of_move, reads_as}
 use Rattle.club_core.specs.View.{IsAsked, rule_in}
 
 -- one more move spends from the side whose turn it is
@@ -40,13 +40,13 @@ module _ {M : Type 0} (game : Game M) (m : M) (moment : ℕ) where
   clocks_of-played terms = simp (map-append, spend_all-append, length-map)
 
 -- the list before its last element, and with it
-take-before : {A : Type 0} (xs : List A) (x : A) → take (length xs + 1 - 1) (xs ++ x ∷ []) ≡ xs
+pub take-before : {A : Type 0} (xs : List A) (x : A) → take (length xs + 1 - 1) (xs ++ x ∷ []) ≡ xs
 take-before xs x =
     let count : length xs + 1 - 1 ≡ length xs = omega arith in
     let within : length xs ≤ length xs = omega arith in
     rw (count, take-append-le (length xs) xs (x ∷ []) within) (take-length xs)
 
-take-whole : {A : Type 0} (xs : List A) (x : A) → take (length xs + 1) (xs ++ x ∷ []) ≡ xs ++ x ∷ []
+pub take-whole : {A : Type 0} (xs : List A) (x : A) → take (length xs + 1) (xs ++ x ∷ []) ≡ xs ++ x ∷ []
 take-whole xs x =
     let count : length (xs ++ x ∷ []) ≡ length xs + 1 = simp length-append in
     rw (← count) (take-length (xs ++ x ∷ []))
@@ -60,12 +60,12 @@ moved-same a b ply text left position end =
     ∙ ap (λ x. moved (record { ply = b.ply; text = b.text; left = b.left; position = x; end = a.end })) position
     ∙ ap (λ x. moved (record { ply = b.ply; text = b.text; left = b.left; position = b.position; end = x })) end
 
-outside-alone : {E : Type 0} (e : Option E) (o : Option OutsideEnd) → end_with e o ≡ None → o ≡ None
+pub outside-alone : {E : Type 0} (e : Option E) (o : Option OutsideEnd) → end_with e o ≡ None → o ≡ None
 outside-alone (Some e) o none = cc
 outside-alone None (Some o) none = cc
 outside-alone None None none = refl
 
-score-none : {P M E : Type 0} (game_rules : GameRules P M E) (e : Option (GameEnd E)) (turn : Side) → score_with game_rules e turn ≡ None → e ≡ None
+pub score-none : {P M E : Type 0} (game_rules : GameRules P M E) (e : Option (GameEnd E)) (turn : Side) → score_with game_rules e turn ≡ None → e ≡ None
 score-none game_rules None turn none = refl
 score-none game_rules (Some e) turn none = cc
 

@@ -1,5 +1,5 @@
 -- What the program's values stand for: its answers, its members and events, and its requests.
-use Rattle.std.specs.Prelude.{◌≡◌, ℕ, List, map, string_bytes, Option, Some, None}
+use Rattle.std.specs.Prelude.{List, map, string_bytes}
 use Rattle.club_core.specs.declared.answers.Moved.{Moved}
 use Rattle.club_core.specs.declared.answers.Answer.{Answer}
 use Rattle.club_core.specs.declared.answers.Answer.TheVariants as answer
@@ -8,6 +8,9 @@ use Rattle.club_core.specs.declared.answers.Outcome.TheVariants as given
 use Rattle.club_core.specs.declared.members.Member as given_member
 use Rattle.club_core.specs.declared.events.Event as given_event
 use Rattle.club_core.specs.declared.requests.AddEvent as given_command
+use Rattle.club_core.specs.declared.requests.Command as given_commands
+use Rattle.club_core.specs.declared.requests.Command.TheVariants as given_is
+use Rattle.club_core.specs.declared.requests.Request as given_request
 use Rattle.club_core.specs.declared.requests.Who as given_who
 use Rattle.club_core.specs.declared.requests.Who.TheVariants as given_who_is
 use Rattle.club_core.specs.declared.seats.Pairing as given_pairing
@@ -18,7 +21,8 @@ use Rattle.club_core.specs.Outcome.{Reply, MoveReply, member_added, event_added,
 use Rattle.club_core.specs.Members.{Member}
 use Rattle.club_core.specs.Events.{Event}
 use Rattle.club_core.specs.Seats.{Pairing, KeyedGame}
-use Rattle.club_core.specs.State.{Who, officer, key_holder}
+use Rattle.club_core.specs.Step.{move}
+use Rattle.club_core.specs.State.{Command, add_member, add_event, seat, on_game, Who, officer, key_holder, Request}
 
 abbrev pub move_reply_of : Moved → MoveReply
 move_reply_of m = record { ply = m.ply; text = string_bytes m.text; left = m.left; position = string_bytes m.position; end = m.end }
@@ -69,3 +73,13 @@ abbrev pub seating_of : given_seating.Seating → Outcome Pairing
 seating_of (seating.Starts k) = accepted (pairing_of k.pairing) (game_seated k.game)
 seating_of (seating.Repeated id) = repeated (game_seated id)
 seating_of (seating.Refused refusal) = refused refusal
+
+-- a command, its texts being the bytes that were given
+abbrev pub command_of : given_commands.Command → Command
+command_of (given_is.AddMember c) = add_member (string_bytes c.name) (string_bytes c.key)
+command_of (given_is.AddEvent c) = add_event (added_event c)
+command_of (given_is.Seat c) = seat (string_bytes c.key) (string_bytes c.event) (string_bytes c.first) (string_bytes c.second)
+command_of (given_is.Move c) = on_game c.game (move c.ply (string_bytes c.text))
+
+abbrev pub request_of : given_request.Request → Request
+request_of r = record { who = who_of r.who; command = command_of r.command; moment = r.moment }

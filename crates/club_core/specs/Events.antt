@@ -1,5 +1,5 @@
 -- The events of the club, and what adding one does.
-use Rattle.std.specs.Prelude.{ℕ, ◌+◌, List, [], ◌∷◌, ◌++◌, length, Option, Some, None, Bool, true, false, not, ◌&&◌, ◌||◌, nat_le, ◌==◌}
+use Rattle.std.specs.Prelude.{ℕ, ◌+◌, List, [], ◌∷◌, ◌++◌, length, Option, Bool, true, false, not, ◌&&◌, nat_le, ◌==◌}
 use Rattle.std.specs.Str.{bytes_eq}
 use Rattle.std.specs.Option.{option_map}
 use Rattle.std.specs.List.{list_any}
@@ -47,13 +47,15 @@ module _ (events : List Event) (given : Event) where
   abbrev pub same_event : Option Reply
   same_event = option_map event_added (find_id (is_event given) events)
 
-  abbrev pub event_refusal : Option Refusal
-  event_refusal =
-      first_refusal
-      ((list_any (has_event_name given.name) events, NameTaken)
+  abbrev pub event_tests : List (Bool × Refusal)
+  event_tests =
+      (list_any (has_event_name given.name) events, NameTaken)
       ∷ (not (has_good_values given), BadValue)
       ∷ (nat_le most_events (length events), Full)
-      ∷ [])
+      ∷ []
+
+  abbrev pub event_refusal : Option Refusal
+  event_refusal = first_refusal event_tests
 
   abbrev pub event_step : Outcome (List Event)
   event_step =

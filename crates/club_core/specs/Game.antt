@@ -1,9 +1,9 @@
 -- A game: its players, its entries, and what follows from them by the rules and the clocks.
-use Rattle.std.specs.Prelude.{ℕ, zero, suc, ◌+◌, ◌-◌, List, [], ◌∷◌, map, take, Option, Some, None}
+use Rattle.std.specs.Prelude.{ℕ, zero, suc, ◌-◌, List, [], ◌∷◌, map, take, Option, Some, None}
 use Rattle.squares.specs.declared.sides.Side.{Side}
 use Rattle.squares.specs.declared.sides.Side.TheVariants.{First, Second}
 use Rattle.squares.specs.declared.sides.Score.{Score}
-use Rattle.squares.specs.declared.sides.Score.TheVariants.{FirstWins, Draw, SecondWins}
+use Rattle.squares.specs.declared.sides.Score.TheVariants.{Draw}
 use Rattle.squares.specs.Sides.{other, loses}
 use Rattle.clocks.specs.Clock.{after_move}
 use Rattle.club_rules.specs.GameRules.{GameRules}
@@ -81,8 +81,7 @@ module _ {M : Type 0} (game : Game M) where
   opening_clocks terms = record { left_first = terms.budget; left_second = terms.budget; since = game.start }
 
   abbrev pub clocks_of : Terms → Clocks
-  clocks_of terms =
-      spend_all terms.increment First (map (λ e. e.moment) game.entries) (record { left_first = terms.budget; left_second = terms.budget; since = game.start })
+  clocks_of terms = spend_all terms.increment First moments_of (opening_clocks terms)
 
 -- the end of a game: the rules' if there is one, else the outside's
 abbrev pub end_with : {E : Type 0} → Option E → Option OutsideEnd → Option (GameEnd E)
@@ -107,10 +106,10 @@ module _ {P M E : Type 0} (rules : GameRules P M E) (game : Game M) where
   rule_end = rules.judge rules.start (moves_of game)
 
   abbrev pub end_of : Option (GameEnd E)
-  end_of = end_with (rules.judge rules.start (moves_of game)) game.outside
+  end_of = end_with rule_end game.outside
 
   abbrev pub turn_of : Side
-  turn_of = rules.turn (position_after rules rules.start (moves_of game))
+  turn_of = rules.turn last_position
 
   abbrev pub result_of : Option Score
   result_of = score_with rules end_of turn_of

@@ -1,16 +1,16 @@
 -- A legal game: one that the rules, the clocks and the club allow.
-use Rattle.std.specs.Prelude.{◌≡◌, ◌≢◌, ◌+◌, ◌-◌, ◌<◌, ◌≤◌, ℕ, List, [], ◌∷◌, length, map, take, Option, Some, None, Bool, true, IsSome, IfSome}
+use Rattle.std.specs.Prelude.{◌≡◌, ◌≢◌, ◌+◌, ◌-◌, ◌<◌, ◌≤◌, ℕ, List, [], ◌∷◌, length, Some, None, true, IsSome, IfSome, slice_get}
 use Rattle.squares.specs.declared.sides.Side.{Side}
-use Rattle.squares.specs.declared.sides.Side.TheVariants.{First, Second}
+use Rattle.squares.specs.declared.sides.Side.TheVariants.{First}
 use Rattle.squares.specs.declared.sides.Score.{Score}
 use Rattle.squares.specs.Sides.{other}
 use Rattle.club_rules.specs.GameRules.{GameRules}
 use Rattle.club_rules.specs.Line.{IsLegalLine}
-use Rattle.club_core.specs.declared.rows.OutsideEnd.TheVariants.{Resigned, Agreed, Time, Recorded}
+use Rattle.club_core.specs.declared.rows.OutsideEnd.TheVariants.{Agreed, Recorded}
 use Rattle.club_core.specs.declared.rows.Offer.{Offer}
-use Rattle.club_core.specs.Limits.{most_plies, is_name}
+use Rattle.club_core.specs.Limits.{most_plies}
 use Rattle.club_core.specs.Events.{Terms}
-use Rattle.club_core.specs.Game.{Entry, Game, Clocks, left_of, spend, moves_of, rule_end}
+use Rattle.club_core.specs.Game.{Entry, Game, Clocks, left_of, spend, moves_of, moments_of, opening_clocks, rule_end, game_at}
 
 -- the moves at those moments, that side moving first, were made in time, and no moment is below the one before it
 abbrev pub IsTimely : ℕ → Side → List ℕ → Clocks → Type 0
@@ -28,15 +28,15 @@ pub record IsOffer {P M E : Type 0} (rules : GameRules P M E) (game : Game M) (o
 pub record IsRecorded {M : Type 0} (game : Game M) : Type 0 where
   pub keyed : IsSome game.key
   pub no_offer : game.offer ≡ None
-  pub at_once : (n : ℕ) → map (λ e. e.moment) (take n game.entries) ≡ map (λ e. game.start) (take n game.entries)
+  pub at_once : (n : ℕ) (e : Entry M) → slice_get game.entries n ≡ Some e → e.moment ≡ game.start
 
 pub record IsLegalGame {P M E : Type 0} (rules : GameRules P M E) (terms : Terms) (game : Game M) : Type 0 where
   -- each move is legal in its position
-  pub line : IsLegalLine rules rules.start (map (λ e. e.made) game.entries)
+  pub line : IsLegalLine rules rules.start (moves_of game)
   -- no proper beginning of the line has an end by the rules
-  pub running_before : (n : ℕ) → n < length game.entries → rules.judge rules.start (map (λ e. e.made) (take n game.entries)) ≡ None
+  pub running_before : (plies : ℕ) → plies < length game.entries → rule_end rules (game_at game plies) ≡ None
   pub plies : length game.entries ≤ most_plies
-  pub timely : IsTimely terms.increment First (map (λ e. e.moment) game.entries) (record { left_first = terms.budget; left_second = terms.budget; since = game.start })
+  pub timely : IsTimely terms.increment First (moments_of game) (opening_clocks game terms)
   -- an end from outside stands only where the rules gave none
   pub outside_alone : IsSome game.outside → rule_end rules game ≡ None
   pub offer : IfSome game.offer (λ o. IsOffer rules game o)

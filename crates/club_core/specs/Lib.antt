@@ -10,3 +10,5 @@ pub mod Step
 pub mod State
 pub mod Answer
 pub mod View
+pub mod LegalState
+pub mod Laws

@@ -2,6 +2,7 @@
 use Rattle.std.specs.Prelude.{ℕ, List, length, Bool, ◌&&◌, ◌||◌, nat_le, ◌==◌}
 use Rattle.std.specs.Char.{is_ascii_alphanumeric}
 use Rattle.std.specs.List.{list_all}
+use Rattle.club_rules.specs.GameRules.{ply_limit}
 
 -- the most members, events and games of a club
 abbrev pub most_members : ℕ
@@ -15,7 +16,7 @@ most_games = 5000
 
 -- the most plies of a game, and bytes of a move's text
 abbrev pub most_plies : ℕ
-most_plies = 600
+most_plies = ply_limit
 
 abbrev pub most_text_bytes : ℕ
 most_text_bytes = 200

@@ -28,13 +28,15 @@ module _ (members : List Member) (name key : List ℕ) where
   abbrev pub same_member : Option Reply
   same_member = option_map member_added (find_id (is_member name key) members)
 
-  abbrev pub member_refusal : Option Refusal
-  member_refusal =
-      first_refusal
-      ((list_any (has_name_or_key name key) members, NameTaken)
+  abbrev pub member_tests : List (Bool × Refusal)
+  member_tests =
+      (list_any (has_name_or_key name key) members, NameTaken)
       ∷ (not (is_name name && is_member_key key), BadValue)
       ∷ (nat_le most_members (length members), Full)
-      ∷ [])
+      ∷ []
+
+  abbrev pub member_refusal : Option Refusal
+  member_refusal = first_refusal member_tests
 
   abbrev pub member_step : Outcome (List Member)
   member_step =

@@ -1,10 +1,10 @@
 -- What seating two members for a game of an event does.
-use Rattle.std.specs.Prelude.{ℕ, ◌+◌, List, [], ◌∷◌, length, Option, Some, None, Bool, true, false, not, is_some, ◌&&◌, ◌||◌, nat_le, ◌==◌, if◌then◌else◌}
+use Rattle.std.specs.Prelude.{ℕ, ◌+◌, List, [], ◌∷◌, Option, Some, None, Bool, false, not, is_some, ◌&&◌, nat_le, ◌==◌, if◌then◌else◌}
 use Rattle.std.specs.Str.{bytes_eq}
 use Rattle.club_core.specs.declared.refusals.Refusal.{Refusal}
 use Rattle.club_core.specs.declared.refusals.Refusal.TheVariants.{UnknownEvent, Conflict, BadValue, Full}
 use Rattle.club_core.specs.Limits.{most_games, is_name}
-use Rattle.club_core.specs.Outcome.{Reply, game_seated, Outcome, accepted, repeated, refused, first_refusal, unless, unless_repeat}
+use Rattle.club_core.specs.Outcome.{Reply, game_seated, Outcome, accepted, refused, first_refusal, unless, unless_repeat}
 use Rattle.club_core.specs.Members.{Member, find_id}
 use Rattle.club_core.specs.Events.{Event, has_event_name}
 
@@ -42,13 +42,15 @@ are_two None second = false
 are_two (Some first) None = false
 are_two (Some first) (Some second) = not (first == second)
 
-abbrev pub seat_refusal : Option KeyedGame → ℕ → List ℕ → Option ℕ → Option ℕ → Option Refusal
-seat_refusal under_key games key first second =
-    first_refusal
-    ((is_some under_key, Conflict)
+abbrev pub seat_tests : Option KeyedGame → ℕ → List ℕ → Option ℕ → Option ℕ → List (Bool × Refusal)
+seat_tests under_key games key first second =
+    (is_some under_key, Conflict)
     ∷ (not (is_name key && are_two first second), BadValue)
     ∷ (nat_le most_games games, Full)
-    ∷ [])
+    ∷ []
+
+abbrev pub seat_refusal : Option KeyedGame → ℕ → List ℕ → Option ℕ → Option ℕ → Option Refusal
+seat_refusal under_key games key first second = first_refusal (seat_tests under_key games key first second)
 
 -- the pairing of two members that were found
 abbrev pub pair : ℕ → Option ℕ → Option ℕ → ℕ → Outcome Pairing

@@ -1,5 +1,5 @@
 -- What a command does to one game, or why it is refused: the first refusal that holds.
-use Rattle.std.specs.Prelude.{ℕ, zero, suc, ◌+◌, ◌-◌, List, [], ◌∷◌, ◌++◌, length, Option, Some, None, Result, Ok, Err, Bool, true, false, not, ◌&&◌, ◌||◌, is_some, nat_lt, nat_le, ◌==◌, if◌then◌else◌, slice_get}
+use Rattle.std.specs.Prelude.{ℕ, zero, suc, ◌+◌, ◌-◌, List, [], ◌∷◌, ◌++◌, length, Option, Some, None, Result, Ok, Err, Bool, false, not, ◌&&◌, ◌||◌, is_some, nat_lt, nat_le, ◌==◌, if◌then◌else◌, slice_get}
 use Rattle.std.specs.Option.{option_map}
 use Rattle.squares.specs.declared.sides.Side.{Side}
 use Rattle.squares.specs.declared.sides.Side.TheVariants.{First, Second}
@@ -12,8 +12,8 @@ use Rattle.club_core.specs.declared.refusals.Refusal.{Refusal}
 use Rattle.club_core.specs.declared.refusals.Refusal.TheVariants.{NotAPlayer, GameOver, WrongPly, Conflict, NotYourTurn, OutOfTime, BadValue, Play}
 use Rattle.club_core.specs.Limits.{most_text_bytes}
 use Rattle.club_core.specs.Events.{Terms}
-use Rattle.club_core.specs.Outcome.{Reply, moved, Outcome, accepted, repeated, refused, first_refusal, unless, unless_repeat}
-use Rattle.club_core.specs.Game.{Entry, Game, left_of, side_after, moves_of, clocks_of, last_position, rule_end, turn_of, result_of, game_at}
+use Rattle.club_core.specs.Outcome.{Reply, moved, Outcome, accepted, refused, first_refusal, unless, unless_repeat}
+use Rattle.club_core.specs.Game.{Game, left_of, side_after, moves_of, clocks_of, last_position, rule_end, turn_of, result_of, game_at}
 
 -- a command on a game, its text being the bytes that were given
 pub data GameCommand : Type 0 where
@@ -82,16 +82,18 @@ module _ {P M E : Type 0} (rules : GameRules P M E) (terms : Terms) (game : Game
   is_overdue = nat_lt (left_of (turn_of rules game) (clocks_of game terms)) (moment - (clocks_of game terms).since)
 
   -- why a new move is refused before its text is read
-  abbrev pub move_refusal : Side → ℕ → List ℕ → Option Refusal
-  move_refusal side ply text =
-      first_refusal
-      ((is_over, GameOver)
+  abbrev pub move_tests : Side → ℕ → List ℕ → List (Bool × Refusal)
+  move_tests side ply text =
+      (is_over, GameOver)
       ∷ (ply == 0 || nat_lt (length game.entries + 1) ply, WrongPly)
       ∷ (nat_le ply (length game.entries), Conflict)
       ∷ (not (is_turn side), NotYourTurn)
       ∷ (is_overdue, OutOfTime)
       ∷ (nat_lt most_text_bytes (length text), BadValue)
-      ∷ [])
+      ∷ []
+
+  abbrev pub move_refusal : Side → ℕ → List ℕ → Option Refusal
+  move_refusal side ply text = first_refusal (move_tests side ply text)
 
   -- plays the move that was read and checked
   abbrev pub plays : Result M MoveRefusal → Outcome (Game M)

@@ -1,5 +1,5 @@
 -- When the rows and values that a command is decided over are those of a game, and when a decision is the step's outcome.
-use Rattle.std.specs.Prelude.{◌≡◌, ℕ, ◌+◌, ◌-◌, ◌<◌, ◌≤◌, ◌^◌, List, length, Option, Some, None, Ok, string_bytes, slice_get, map, IfSome}
+use Rattle.std.specs.Prelude.{◌≡◌, ℕ, ◌+◌, ◌-◌, ◌<◌, ◌≤◌, ◌^◌, length, Option, Some, None, Ok, string_bytes, slice_get, IfSome}
 use Rattle.std.specs.Option.{option_map}
 use Rattle.squares.specs.declared.sides.Side.{Side}
 use Rattle.club_rules.specs.GameRules.{GameRules}
@@ -14,7 +14,7 @@ use Rattle.club_core.specs.declared.answers.Decision.{Decision}
 use Rattle.club_core.specs.declared.answers.Decision.TheVariants as decision
 use Rattle.club_core.specs.Limits.{most_plies}
 use Rattle.club_core.specs.Events.{Terms}
-use Rattle.club_core.specs.Outcome.{Reply, Outcome, accepted, repeated, refused}
+use Rattle.club_core.specs.Outcome.{Outcome, accepted, repeated, refused}
 use Rattle.club_core.specs.Answer.{reply_of}
 use Rattle.club_core.specs.Game.{Game, Clocks, clocks_of, moves_of, last_position, end_of, result_of, left_of, left_after, side_after, game_at}
 use Rattle.club_core.specs.Step.{move_at}

@@ -2,9 +2,10 @@
 #![tactic(auto)]
 
 pub mod answers;
-pub mod ends;
+mod ends;
 pub mod events;
-pub mod ids;
+mod ids;
+pub mod laws;
 pub mod members;
 pub mod moves;
 pub mod refusals;
@@ -22,3 +23,6 @@ pub use requests::{AddEvent, AddMember, Caller, Command, Move, Request, Seat, Wh
 pub use rows::{Asked, GameEnd, GameRow, GameView, Made, Offer, OutsideEnd};
 pub use seats::{KeyedGame, Pairing, Seating, seat, seated_row};
 pub use values::{is_member_key, is_name};
+
+#[cfg(test)]
+mod tests;

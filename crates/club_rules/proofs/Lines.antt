@@ -1,8 +1,6 @@
 -- What holds of a line that grows at its end, and of the moves inside it.
-use Rattle.std.proofs.Common.{◌≡◌, ℕ, zero, suc, ◌+◌, ◌<◌, List, [], ◌∷◌, ◌++◌, length, take, Option, Some, None, Result, Ok, refl, ap, ◌∙◌, arith, rules, drop, get_or, sym, drop-cons, add-one}
+use Rattle.std.proofs.Common.{◌≡◌, ℕ, zero, suc, List, [], ◌∷◌, ◌++◌, take, Some, Ok, refl, ap, ◌∙◌, rules, drop, get_or, sym, drop-cons, add-one, ◌+◌, ◌<◌, length}
 use Rattle.std.specs.Prelude.{slice_get}
-use Rattle.squares.specs.declared.sides.Side.{Side}
-use Rattle.squares.specs.declared.sides.Side.TheVariants.{First, Second}
 use Rattle.squares.specs.Sides.{other}
 use Rattle.club_rules.specs.GameRules.{GameRules}
 use Rattle.club_rules.specs.Line.{position_after, IsLegalLine}

@@ -20,7 +20,7 @@ use Rattle.club_rules.specs.declared.refusals.MoveRefusal.{MoveRefusal}
 use Rattle.club_rules.specs.declared.refusals.MoveRefusal.TheVariants.{NoSuchMove, MustCapture, NotLongest, BadText}
 use Rattle.club_rules.specs.declared.draughts.DraughtsEnd.{DraughtsEnd}
 use Rattle.club_rules.specs.declared.draughts.DraughtsEnd.TheVariants as draughts_end
-use Rattle.club_rules.specs.GameRules.{GameRules}
+use Rattle.club_rules.specs.GameRules.{GameRules, ply_limit}
 use Rattle.club_rules.specs.QuietText.{QuietReading, read_quiet, quiet_text}
 use Rattle.club_rules.specs.Fen.{fen_text}
 
@@ -48,10 +48,6 @@ move_read (Err bytes) = Err (BadText bytes)
 abbrev pub after_moves : Position → List DMove → Position
 after_moves p [] = p
 after_moves p (m ∷ ms) = after_moves (play p m) ms
-
--- the most plies of a game
-abbrev pub ply_limit : ℕ
-ply_limit = 600
 
 -- the side to move has lost where it has no legal move; else the ply limit is a draw
 abbrev pub judge_line : Position → ℕ → Option DraughtsEnd

@@ -1,6 +1,7 @@
 -- The laws of the club's rules, for draughts.
 use Rattle.std.proofs.Common.{◌≡◌, ℕ, zero, suc, ◌+◌, ◌-◌, ◌*◌, ◌/◌, ◌%◌, ◌<◌, ◌≤◌, ◌↔◌, ◌⊎◌, inl, inr, List, [], ◌∷◌, ◌++◌, length, Bool, true, false, cond, ◌&&◌, nat_eq, nat_lt, nat_le, Option, Some, None, Result, Ok, Err, IsOk, refl, sym, ap, subst, ◌∙◌, arith}
 use Rattle.std.proofs.lemmas.List.{append-nil}
+use Rattle.std.specs.Prelude.{IsSome, if◌then◌else◌}
 use Rattle.std.proofs.lemmas.Grind.{common_steps}
 use Rattle.std.proofs.lemmas.Bool.{eqb-true, eq-eqb}
 use Rattle.std.proofs.lemmas.Bool.Decides.{nat_tests}
@@ -21,8 +22,13 @@ use Rattle.draughts_moves.specs.Legal.{IsQuiet, Legal, QuietMove, moved, play}
 use Rattle.draughts_moves.proofs.CheckLemmas.{check_of-is}
 use Rattle.club_rules.specs.declared.refusals.MoveRefusal.{MoveRefusal}
 use Rattle.club_rules.specs.declared.refusals.MoveRefusal.TheVariants.{NoSuchMove}
+use Rattle.draughts_moves.specs.Search.{has_move}
+use Rattle.club_rules.specs.declared.draughts.DraughtsEnd.{DraughtsEnd}
+use Rattle.club_rules.specs.declared.draughts.DraughtsEnd.TheVariants as draughts_end
+use Rattle.club_rules.specs.GameRules.{ply_limit}
+use Rattle.club_rules.specs.Line.{IsLegalLine}
 use Rattle.club_rules.specs.QuietText.{FrontReading, square_text, quiet_text, read_second, read_number, read_square, read_from, read_hyphen, read_to, read_quiet}
-use Rattle.club_rules.specs.Draughts.{draughts, check_move, refused_by, same_move, move_read}
+use Rattle.club_rules.specs.Draughts.{draughts, after_moves, check_move, refused_by, same_move, move_read}
 
 passed : (b : Bool) (a : Answer) → cond b (refused_by a) (Err NoSuchMove) ≡ Ok tt → (b ≡ true) × IsOk a
 passed true (Ok u) e = (refl, refl)
@@ -144,3 +150,13 @@ draughts-same_is a b = (
       let taken : same_squares a.taken b.taken ≡ true = ap (λ t. same_squares a.taken t) (sym (ap (λ m. m.taken) e)) ∙ same_squares-itself a.taken in
       λ i. from i && (to i && taken i),
 )
+
+ended : (b : Bool) → IsSome (if b then (if true then Some draughts_end.PlyLimit else None) else Some draughts_end.NoMove)
+ended true = refl
+ended false = refl
+
+-- no game goes on after 600 plies
+pub draughts-ends_at_limit : (ms : List DMove) → IsLegalLine draughts draughts.start ms → length ms ≡ ply_limit → IsSome (draughts.judge draughts.start ms)
+draughts-ends_at_limit ms line is =
+    let over : nat_le ply_limit (length ms) ≡ true = le_true ply_limit (length ms) (omega (arith, is)) in
+    rw over (ended (has_move (after_moves draughts.start ms)))

@@ -5,6 +5,10 @@ use Rattle.squares.specs.declared.sides.Score.{Score}
 use Rattle.club_rules.specs.declared.names.EndName.{EndName}
 use Rattle.club_rules.specs.declared.refusals.MoveRefusal.{MoveRefusal}
 
+-- the plies after which every game has ended
+abbrev pub ply_limit : ℕ
+ply_limit = 600
+
 pub record GameRules (P M E : Type 0) : Type 0 where
   pub start : P
   pub turn : P → Side

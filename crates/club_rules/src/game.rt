@@ -1,10 +1,10 @@
 //! The trait of a game's rules.
 
-ghost use Rattle.std.specs.Prelude.{◌≡◌, List, ℕ, Option, Result, Some, None, Ok, Err, IfOk, IfErr, Bool, true, IsTrue, ◌↔◌, string_bytes};
+ghost use Rattle.std.specs.Prelude.{◌≡◌, List, ℕ, Option, Result, Some, None, Ok, Err, IfOk, IfErr, Bool, true, IsTrue, IsSome, length, ◌↔◌, string_bytes};
 ghost use Rattle.squares.specs.declared.sides.Side.TheVariants.{First};
 ghost use Rattle.squares.specs.Sides.{other};
 ghost use Rattle.club_rules.specs.Line.{IsLegalLine};
-ghost use Rattle.club_rules.specs.GameRules.{GameRules};
+ghost use Rattle.club_rules.specs.GameRules.{GameRules, ply_limit};
 
 use crate::names::EndName;
 use crate::refusals::{Memory, MoveRefusal};
@@ -99,4 +99,8 @@ pub trait Rules {
 
     /// Two moves are the same exactly if they are equal.
     ghost same_is: { (a b : Self.Move) → (rules.same a b ≡ true) ↔ (a ≡ b) };
+
+    /// No game goes on after 600 plies.
+    ghost ends_at_limit: { (ms : List Self.Move) → IsLegalLine rules rules.start ms → length ms ≡ ply_limit →
+        IsSome (rules.judge rules.start ms) };
 }

@@ -50,7 +50,7 @@ impl Rules for Draughts {
 
     type End = DraughtsEnd;
 
-    ghost use Rattle.club_rules.specs.DraughtsLaws.{draughts-first_starts, draughts-turn_passes, draughts-reads_back, draughts-same_is};
+    ghost use Rattle.club_rules.specs.DraughtsLaws.{draughts-first_starts, draughts-turn_passes, draughts-reads_back, draughts-same_is, draughts-ends_at_limit};
 
     ghost rules = { draughts };
 
@@ -145,4 +145,6 @@ impl Rules for Draughts {
     ghost reads_back = { draughts-reads_back };
 
     ghost same_is = { draughts-same_is };
+
+    ghost ends_at_limit = { draughts-ends_at_limit };
 }

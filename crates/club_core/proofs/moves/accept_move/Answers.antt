@@ -1,10 +1,10 @@
-use Rattle.std.proofs.Common.{rules, ◌≡◌, ℕ, Ok, ◌+◌, ◌++◌, ◌∷◌, [], Option, Some, None, string_bytes, length, arith, sym, ap, ◌∙◌, refl, length-append}
+use Rattle.std.proofs.Common.{rules, ◌≡◌, ◌+◌, ◌++◌, ◌∷◌, [], None, string_bytes, length, sym, ap, ◌∙◌, refl, length-append}
 use Rattle.std.specs.Option.{option_map}
 use Rattle.club_rules.proofs.Lines.{IsLegalLine-append}
 use Rattle.club_core.specs.declared.rows.GameEnd.TheVariants.{Rule}
-use Rattle.club_core.specs.Game.{Game, moves_of, clocks_of, left_of, last_position, turn_of, end_of, rule_end, result_of, score_with, spend}
+use Rattle.club_core.specs.Game.{moves_of, clocks_of, left_of, last_position, turn_of, end_of, rule_end, result_of, score_with, spend}
 use Rattle.club_core.specs.Step.{played}
-use Rattle.club_core.specs.View.{IsSound, CanPlay, Shows, clocks_in, terms_of}
+use Rattle.club_core.specs.View.{IsSound, CanPlay, clocks_in, terms_of}
 use Rattle.club_core.proofs.Played.{last-played, rule_end-played, end-played, made-played, clocks-played, reply-played, moved-same}
 use Rattle.club_core.proofs.moves.accept_move.Goals as goal
 

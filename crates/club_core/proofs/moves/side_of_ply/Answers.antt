@@ -1,5 +1,5 @@
-use Rattle.std.proofs.Common.{◌≡◌, ℕ, ◌-◌, ◌%◌, sym, arith}
-use Rattle.squares.specs.declared.sides.Side.TheVariants.{First, Second}
+use Rattle.std.proofs.Common.{◌-◌, sym, arith}
+use Rattle.squares.specs.declared.sides.Side.TheVariants.{First}
 use Rattle.club_core.proofs.Turns.{turns-even, turns-odd}
 use Rattle.club_core.proofs.moves.side_of_ply.Goals as goal
 

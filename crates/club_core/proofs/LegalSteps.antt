@@ -1,0 +1,335 @@
+-- A request leaves a legal state legal.
+use Rattle.std.proofs.Common.{◌≡◌, ◌≢◌, ℕ, zero, suc, ◌+◌, ◌-◌, ◌<◌, ◌≤◌, List, [], ◌∷◌, ◌++◌, length, map, Option, Some, None, Result, Ok, Err, Bool, true, false, not, ◌&&◌, ◌||◌, refl, sym, ◌∙◌, arith, length-append, length-set}
+use Rattle.std.specs.Prelude.{is_some, IsSome, max, slice_get, nat_le}
+use Rattle.std.specs.Str.{bytes_eq}
+use Rattle.std.proofs.lemmas.Bool.{eq-eqb}
+use Rattle.std.proofs.lemmas.Bool.Decides.{nat_tests}
+use Rattle.squares.specs.declared.sides.Side.{Side}
+use Rattle.squares.specs.declared.sides.Side.TheVariants.{First, Second}
+use Rattle.squares.specs.Sides.{other}
+use Rattle.club_rules.specs.declared.refusals.MoveRefusal.{MoveRefusal}
+use Rattle.club_rules.specs.declared.names.GameKind.{GameKind}
+use Rattle.club_rules.specs.declared.names.GameKind.TheVariants.{Draughts, Shogi}
+use Rattle.club_rules.specs.GameRules.{GameRules}
+use Rattle.club_core.specs.declared.rows.OutsideEnd.TheVariants.{Time}
+use Rattle.club_core.specs.declared.requests.Caller.{Caller}
+use Rattle.club_core.specs.declared.requests.Caller.TheVariants.{Officer, Member}
+use Rattle.club_core.specs.declared.refusals.Refusal.{Refusal}
+use Rattle.club_core.specs.Limits.{last_moment, most_members, most_events, most_games, is_name, is_member_key, is_budget, is_increment}
+use Rattle.club_core.specs.Outcome.{Reply, Outcome, map_outcome, by_officer, unless, unless_repeat}
+use Rattle.club_core.specs.Members.{find_id, has_name_or_key, member_tests, member_refusal, same_member, member_step}
+use Rattle.club_core.specs.Events.{Event, has_event_name, has_good_values, event_tests, event_refusal, same_event, event_step, is_offered}
+use Rattle.club_core.specs.Seats.{Pairing, KeyedGame, has_member_name, are_two, same_seats, seat_tests, seat_refusal, pair, seat_found, seat_step}
+use Rattle.club_core.specs.Game.{Game, Entry, Clocks, spend, spend_all, clocks_of, left_of, turn_of, last_position, rule_end, end_of, result_of}
+use Rattle.club_core.specs.Step.{GameCommand, move, played, checked, plays, step_move, by_side, game_step, move_refusal, repeat_of, move_at, side_of_member, officer_side}
+use Rattle.club_core.specs.State.{AnyGame, draughts, shogi, State, Command, add_member, add_event, seat, on_game, Request, state_after, place, kind_at, key_of, has_key, keyed_at, pairing_of, game_under, seated, seated_as, caller_of, with_members, with_events, with_new_game, with_game, step_game, step_command, step_by, next}
+use Rattle.club_core.specs.LegalState.{Each, IsLegalMember, IsLegalEvent, IsGameOf, IsLegalIn, IsLegalState}
+use Rattle.club_core.proofs.Played.{outside-alone, score-none}
+use Rattle.club_core.proofs.Lists.{bytes_eq-same, place-append, is_some-append, each-append, each-set, find_id-found, find_id-none, list_any-false, are_apart-append, are_apart_if_any-append, are_apart_if_any-set}
+use Rattle.club_core.proofs.Legals.{AreRules, none-holds, not-some, allowed-running, allowed-in_time, checked-legal, legal-played}
+
+-- an outcome that is not accepted leaves a legal state, and an accepted one is legal where nothing is refused
+kept-unless : {S T : Type 0} (IsSo : S → Type 0) (s : S) (f : T → S) (reply : Option Reply) (refusal : Option Refusal) (x : Outcome T) → IsSo s → (refusal ≡ None → IsSo (state_after s (map_outcome f x))) → IsSo (state_after s (map_outcome f (unless_repeat reply (unless refusal x))))
+kept-unless IsSo s f (Some reply) refusal x so new = so
+kept-unless IsSo s f None (Some refusal) x so new = so
+kept-unless IsSo s f None None x so new = new refl
+
+kept-officer : {S T : Type 0} (IsSo : S → Type 0) (s : S) (f : T → S) (who : Caller) (x : Outcome T) → IsSo s → IsSo (state_after s (map_outcome f x)) → IsSo (state_after s (by_officer who (map_outcome f x)))
+kept-officer IsSo s f Officer x so new = new
+kept-officer IsSo s f (Member id) x so new = so
+
+pub not-false : (b : Bool) → not b ≡ false → b ≡ true
+not-false true is = refl
+not-false false is = cc
+
+not-true : (b : Bool) → not b ≡ true → b ≡ false
+not-true true is = cc
+not-true false is = refl
+
+both-true : (a b : Bool) → (a && b) ≡ true → (a ≡ true) × (b ≡ true)
+both-true true b is = (refl, is)
+both-true false b is = cc
+
+four-true : (a b c e : Bool) → (a && b && c && e) ≡ true → (a ≡ true) × (c ≡ true) × (e ≡ true)
+four-true true true true true is = (refl, refl, refl)
+four-true true true true false is = cc
+four-true true true false e is = cc
+four-true true false c e is = cc
+four-true false b c e is = cc
+
+or-true : (a b : Bool) → a ≡ true → (a || b) ≡ true
+or-true true b is = refl
+or-true false b is = cc
+
+or-true_right : (a b : Bool) → b ≡ true → (a || b) ≡ true
+or-true_right true b is = refl
+or-true_right false b is = is
+
+some-same : {A : Type 0} (x y : A) → Some x ≡ Some y → x ≡ y
+some-same x y is = cc
+
+false-true : (b : Bool) → b ≡ false → b ≡ true → ⊥
+false-true true is_false is_true = cc
+false-true false is_false is_true = cc
+
+nat_le-false : (a b : ℕ) → nat_le a b ≡ false → b < a
+nat_le-false a b is = grind (arith, nat_tests)
+
+-- a game of one state is a game of a later one that has kept its events and members
+module _ {DM SM P M E : Type 0} (laws : GameRules P M E) (kind : GameKind) (s t : State DM SM) (events : (id : ℕ) (e : Event) → place s.events id ≡ Some e → place t.events id ≡ Some e) (members : (id : ℕ) → IsSome (place s.members id) → IsSome (place t.members id)) (later : s.last ≤ t.last) where
+  later-game : (game : Game M) → IsGameOf laws kind s game → IsGameOf laws kind t game
+  later-game game of =
+      record {
+        event = of.event;
+        in_event = events game.event of.event of.in_event;
+        of_kind = of.of_kind;
+        legal = of.legal;
+        first = members game.first of.first;
+        second = members game.second of.second;
+        key = of.key;
+        start = omega (arith, of.start, later);
+        entries = λ n e at. let was : e.moment ≤ s.last = of.entries n e at in omega (arith, was, later);
+        lost_by_time = λ is. let was = of.lost_by_time is in omega (arith, was, later);
+      }
+
+module _ {DM SM : Type 0} where
+  no-keyed : (games : List (AnyGame DM SM)) (id : Option ℕ) → ((k : ℕ) → id ≡ Some k → (g : AnyGame DM SM) × (place games k ≡ Some g)) → keyed_at games id ≡ None → id ≡ None
+  no-keyed games None stands none = refl
+  no-keyed games (Some k) stands none =
+      let (g, at) = stands k refl in
+      let some : ◌≡◌ {A = Option KeyedGame} (Some (record { id = k; pairing = pairing_of g })) None = rw at at none in
+      absurd cc
+
+  -- where no game stands under a key, a search for the key finds none
+  pub no-game-under : (games : List (AnyGame DM SM)) (key : List ℕ) → is_some (game_under games key) ≡ false → find_id (has_key key) games ≡ None
+  no-game-under games key none =
+      no-keyed games (find_id (has_key key) games) (λ k is. let (g, at, _) = find_id-found (has_key key) games k is in (g, at)) (not-some (game_under games key) none)
+
+  fresh-key : (games : List (AnyGame DM SM)) (key : List ℕ) → is_some (game_under games key) ≡ false → (n : ℕ) (g : AnyGame DM SM) → slice_get games n ≡ Some g → has_key key g ≡ false
+  fresh-key games key none = find_id-none (has_key key) games (no-game-under games key none)
+
+-- a game that was just seated is legal
+module _ {DM SM P M E : Type 0} (laws : GameRules P M E) (kind : GameKind) (t : State DM SM) where
+  seated-game : (key : List ℕ) (pairing : Pairing) (moment : ℕ) (e : Event) → place t.events pairing.event ≡ Some e → e.game ≡ kind → IsSome (place t.members pairing.first) → IsSome (place t.members pairing.second) → pairing.first ≢ pairing.second → is_name key ≡ true → moment ≤ t.last → IsGameOf laws kind t (seated {M = M} (Some key) pairing moment)
+  seated-game key pairing moment e found of_kind is_first is_second apart named now =
+      record {
+        event = e;
+        in_event = found;
+        of_kind = of_kind;
+        legal = record {
+          line = tt;
+          running_before = λ n inside. absurd (omega (arith, inside));
+          plies = omega arith;
+          timely = tt;
+          outside_alone = λ some. cc;
+          offer = tt;
+          agreed = λ is. cc;
+          recorded = λ score is. cc;
+          players = apart;
+        };
+        first = is_first;
+        second = is_second;
+        key = named;
+        start = now;
+        entries = λ n x at. cc;
+        lost_by_time = λ is. cc;
+      }
+
+-- the clocks run from a moment that is at most the last
+spend-since : (increment : ℕ) (side : Side) (m : ℕ) (c : Clocks) → (spend increment side m c).since ≡ m
+spend-since increment First m c = refl
+spend-since increment Second m c = refl
+
+since-within : {M : Type 0} (increment : ℕ) (side : Side) (es : List (Entry M)) (c : Clocks) (last : ℕ) → c.since ≤ last → Each (λ e. e.moment ≤ last) es → (spend_all increment side (map (λ e. e.moment) es) c).since ≤ last
+since-within increment side [] c last within each = within
+since-within increment side (e ∷ es) c last within each =
+    since-within increment (other side) es (spend increment side e.moment c) last (rw (spend-since increment side e.moment c) (each 0 e refl)) (λ n x at. each (suc n) x at)
+
+module _ {DP DM DE SP SM SE : Type 0} (d : GameRules DP DM DE) (h : GameRules SP SM SE) where
+  later-any : (s t : State DM SM) → ((id : ℕ) (e : Event) → place s.events id ≡ Some e → place t.events id ≡ Some e) → ((id : ℕ) → IsSome (place s.members id) → IsSome (place t.members id)) → s.last ≤ t.last → (g : AnyGame DM SM) → IsLegalIn d h s g → IsLegalIn d h t g
+  later-any s t events members later (draughts game) of = later-game d Draughts s t events members later game of
+  later-any s t events members later (shogi game) of = later-game h Shogi s t events members later game of
+
+  abbrev IsLegal : State DM SM → Type 0
+  IsLegal s = IsLegalState d h s
+
+  -- a member is added
+  members-added : (s : State DM SM) (moment : ℕ) (name key : List ℕ) → s.last ≤ moment → moment ≤ last_moment → IsLegalState d h s → member_refusal s.members name key ≡ None → IsLegalState d h (with_members s moment (s.members ++ record { name = name; key = key } ∷ []))
+  members-added s moment name key later within legal allowed =
+      let tests = none-holds (member_tests s.members name key) allowed in
+      let good = both-true (is_name name) (is_member_key key) (not-false _ tests.1.0) in
+      let room : length s.members < most_members = nat_le-false _ _ tests.1.1.0 in
+      record {
+        last = within;
+        members = each-append IsLegalMember s.members _ legal.members (record { name = good.0; key = good.1 });
+        member_count = let count : length (s.members ++ record { name = name; key = key } ∷ []) ≡ length s.members + 1 = simp length-append in omega (arith, count, room);
+        member_names = are_apart-append (λ m. m.name) s.members _ legal.member_names (λ n x at same. false-true _ (list_any-false (has_name_or_key name key) s.members tests.0 n x at) (or-true (bytes_eq x.name name) (bytes_eq x.key key) (bytes_eq-same x.name name same)));
+        member_keys = are_apart-append (λ m. m.key) s.members _ legal.member_keys (λ n x at same. false-true _ (list_any-false (has_name_or_key name key) s.members tests.0 n x at) (or-true_right (bytes_eq x.name name) (bytes_eq x.key key) (bytes_eq-same x.key key same)));
+        events = legal.events;
+        event_count = legal.event_count;
+        event_names = legal.event_names;
+        games = λ n g at. later-any s _ (λ id e is. is) (λ id is. is_some-append s.members _ id is) later g (legal.games n g at);
+        game_count = legal.game_count;
+        game_keys = legal.game_keys;
+      }
+
+  -- an event is added
+  events-added : (s : State DM SM) (moment : ℕ) (event : Event) → s.last ≤ moment → moment ≤ last_moment → IsLegalState d h s → event_refusal s.events event ≡ None → IsLegalState d h (with_events s moment (s.events ++ event ∷ []))
+  events-added s moment event later within legal allowed =
+      let tests = none-holds (event_tests s.events event) allowed in
+      let good : has_good_values event ≡ true = not-false _ tests.1.0 in
+      let values = four-true (is_name event.name) (is_offered event.game) (is_budget event.terms.budget) (is_increment event.terms.increment) good in
+      let room : length s.events < most_events = nat_le-false _ _ tests.1.1.0 in
+      record {
+        last = within;
+        members = legal.members;
+        member_count = legal.member_count;
+        member_names = legal.member_names;
+        member_keys = legal.member_keys;
+        events = each-append IsLegalEvent s.events event legal.events (record { name = values.0; budget = values.1; increment = values.2 });
+        event_count = let count : length (s.events ++ event ∷ []) ≡ length s.events + 1 = simp length-append in omega (arith, count, room);
+        event_names = are_apart-append (λ e. e.name) s.events event legal.event_names (λ n x at same. false-true _ (list_any-false (has_event_name event.name) s.events tests.0 n x at) (bytes_eq-same x.name event.name same));
+        games = λ n g at. later-any s _ (λ id e is. place-append s.events _ id e is) (λ id is. is) later g (legal.games n g at);
+        game_count = legal.game_count;
+        game_keys = legal.game_keys;
+      }
+
+  key-seated : (kind : GameKind) (key : List ℕ) (pairing : Pairing) (moment : ℕ) → key_of {DM = DM} {SM = SM} (seated_as kind (Some key) pairing moment) ≡ Some key
+  key-seated Draughts key pairing moment = refl
+  key-seated Shogi key pairing moment = refl
+
+  any-seated : (kind : GameKind) (t : State DM SM) (key : List ℕ) (pairing : Pairing) (moment : ℕ) (e : Event) → place t.events pairing.event ≡ Some e → e.game ≡ kind → IsSome (place t.members pairing.first) → IsSome (place t.members pairing.second) → pairing.first ≢ pairing.second → is_name key ≡ true → moment ≤ t.last → IsLegalIn d h t (seated_as kind (Some key) pairing moment)
+  any-seated Draughts t = seated-game d Draughts t
+  any-seated Shogi t = seated-game h Shogi t
+
+  -- two members are seated for a game
+  game-seated : (s : State DM SM) (moment : ℕ) (key : List ℕ) (event first second : ℕ) (e : Event) → s.last ≤ moment → moment ≤ last_moment → IsLegalState d h s → place s.events event ≡ Some e → IsSome (place s.members first) → IsSome (place s.members second) → first ≢ second → is_name key ≡ true → length s.games < most_games → ((n : ℕ) (g : AnyGame DM SM) → slice_get s.games n ≡ Some g → has_key key g ≡ false) → IsLegalState d h (with_new_game s moment key (record { event = event; first = first; second = second }))
+  game-seated s moment key event first second e later within legal found is_first is_second apart named room fresh =
+      record {
+        last = within;
+        members = legal.members;
+        member_count = legal.member_count;
+        member_names = legal.member_names;
+        member_keys = legal.member_keys;
+        events = legal.events;
+        event_count = legal.event_count;
+        event_names = legal.event_names;
+        games = each-append (IsLegalIn d h (with_new_game s moment key (record { event = event; first = first; second = second }))) s.games _ (λ n g at. later-any s _ (λ id e is. is) (λ id is. is) later g (legal.games n g at)) (rw found (any-seated e.game _ key _ moment e found refl is_first is_second apart named (omega arith)));
+        game_count = let count : length (s.games ++ seated_as (kind_at (place s.events event)) (Some key) (record { event = event; first = first; second = second }) moment ∷ []) ≡ length s.games + 1 = simp length-append in omega (arith, count, room);
+        game_keys = are_apart_if_any-append (λ g. key_of g) s.games _ legal.game_keys (λ n g b at has new. false-true _ (rw has at (fresh n g at)) (bytes_eq-same b key (some-same b key (sym new ∙ key-seated (kind_at (place s.events event)) key _ moment))));
+      }
+
+  found-some : {A : Type 0} (test : A → Bool) (xs : List A) (id : ℕ) → find_id test xs ≡ Some id → IsSome (place xs id)
+  found-some test xs id is = let (x, at, _) = find_id-found test xs id is in rw at refl
+
+  pair-kept : (s : State DM SM) (moment : ℕ) (key : List ℕ) (event : ℕ) (e : Event) (first second : Option ℕ) → s.last ≤ moment → moment ≤ last_moment → IsLegalState d h s → place s.events event ≡ Some e → ((id : ℕ) → first ≡ Some id → IsSome (place s.members id)) → ((id : ℕ) → second ≡ Some id → IsSome (place s.members id)) → seat_refusal (game_under s.games key) (length s.games) key first second ≡ None → IsLegalState d h (state_after s (map_outcome (with_new_game s moment key) (pair event first second (length s.games))))
+  pair-kept s moment key event e None second later within legal found is_first is_second allowed = legal
+  pair-kept s moment key event e (Some a) None later within legal found is_first is_second allowed = legal
+  pair-kept s moment key event e (Some a) (Some b) later within legal found is_first is_second allowed =
+      let tests = none-holds (seat_tests (game_under s.games key) (length s.games) key (Some a) (Some b)) allowed in
+      let good = both-true (is_name key) (are_two (Some a) (Some b)) (not-false _ tests.1.0) in
+      game-seated s moment key event a b e later within legal found (is_first a refl) (is_second b refl)
+      (λ same. false-true _ (not-true _ good.1) (eq-eqb a b same))
+      good.0 (nat_le-false _ _ tests.1.1.0) (fresh-key s.games key tests.0)
+
+  seat-kept : (s : State DM SM) (moment : ℕ) (key : List ℕ) (event first second : Option ℕ) → s.last ≤ moment → moment ≤ last_moment → IsLegalState d h s → ((id : ℕ) → event ≡ Some id → (e : Event) × (place s.events id ≡ Some e)) → ((id : ℕ) → first ≡ Some id → IsSome (place s.members id)) → ((id : ℕ) → second ≡ Some id → IsSome (place s.members id)) → IsLegalState d h (state_after s (map_outcome (with_new_game s moment key) (seat_found event first second (game_under s.games key) (length s.games) key)))
+  seat-kept s moment key None first second later within legal found is_first is_second = legal
+  seat-kept s moment key (Some event) first second later within legal found is_first is_second =
+      let (e, at) = found event refl in
+      kept-unless (IsLegalState d h) s (with_new_game s moment key) (same_seats event first second (game_under s.games key)) (seat_refusal (game_under s.games key) (length s.games) key first second) (pair event first second (length s.games)) legal
+      (pair-kept s moment key event e first second later within legal at is_first is_second)
+
+  -- a game is changed
+  game-changed : (s : State DM SM) (moment id : ℕ) (old new : AnyGame DM SM) → s.last ≤ moment → moment ≤ last_moment → IsLegalState d h s → place s.games id ≡ Some old → key_of new ≡ key_of old → IsLegalIn d h (with_game s moment id new) new → IsLegalState d h (with_game s moment id new)
+  game-changed s moment zero old new later within legal at same legal_new = cc
+  game-changed s moment (suc k) old new later within legal at same legal_new =
+      let before : suc k - 1 ≡ k = omega arith in
+      record {
+        last = within;
+        members = legal.members;
+        member_count = legal.member_count;
+        member_names = legal.member_names;
+        member_keys = legal.member_keys;
+        events = legal.events;
+        event_count = legal.event_count;
+        event_names = legal.event_names;
+        games = each-set (IsLegalIn d h (with_game s moment (suc k) new)) s.games (suc k - 1) new (λ n g is. later-any s _ (λ id e is. is) (λ id is. is) later g (legal.games n g is)) legal_new;
+        game_count = rw length-set legal.game_count;
+        game_keys = are_apart_if_any-set (λ g. key_of g) s.games (suc k - 1) new old (rw before at) same legal.game_keys;
+      }
+
+-- a move in a game of one kind
+module _ {DP DM DE SP SM SE P M E : Type 0} (d : GameRules DP DM DE) (h : GameRules SP SM SE) (laws : GameRules P M E) (are_rules : AreRules laws) (kind : GameKind) (wrap : Game M → AnyGame DM SM) (wrap_key : (g : Game M) → key_of (wrap g) ≡ g.key) (wrap_legal : (t : State DM SM) (g : Game M) → IsGameOf laws kind t g → IsLegalIn d h t (wrap g)) (s : State DM SM) (moment id : ℕ) (game : Game M) (later : s.last ≤ moment) (within : moment ≤ last_moment) (legal : IsLegalState d h s) (at : place s.games id ≡ Some (wrap game)) (of : IsGameOf laws kind s game) where
+  played-of : (m : M) → result_of laws game ≡ None → moment - (clocks_of game of.event.terms).since ≤ left_of (turn_of laws game) (clocks_of game of.event.terms) → laws.check (last_position laws game) m ≡ Ok tt → IsGameOf laws kind (with_game s moment id (wrap (played game m moment))) (played game m moment)
+  played-of m running in_time ok =
+      let since : (clocks_of game of.event.terms).since ≤ s.last = since-within of.event.terms.increment First game.entries _ s.last of.start of.entries in
+      let no_outside : game.outside ≡ None = outside-alone (rule_end laws game) game.outside (score-none laws (end_of laws game) (turn_of laws game) running) in
+      record {
+        event = of.event;
+        in_event = of.in_event;
+        of_kind = of.of_kind;
+        legal = legal-played laws are_rules of.event.terms game of.legal m moment running (omega (arith, since, later)) in_time ok;
+        first = of.first;
+        second = of.second;
+        key = of.key;
+        start = omega (arith, of.start, later);
+        entries = each-append (λ e. e.moment ≤ moment) game.entries _ (λ n e is. let was : e.moment ≤ s.last = of.entries n e is in omega (arith, was, later)) (omega arith);
+        lost_by_time = λ is. let none : None ≡ Some Time = sym no_outside ∙ is in absurd cc;
+      }
+
+  plays-kept : (read : Result M MoveRefusal) (o : Result M MoveRefusal) → checked laws (last_position laws game) read ≡ o → result_of laws game ≡ None → moment - (clocks_of game of.event.terms).since ≤ left_of (turn_of laws game) (clocks_of game of.event.terms) → IsLegalState d h (state_after s (map_outcome (λ new. with_game s moment id (wrap new)) (plays laws of.event.terms game moment o)))
+  plays-kept read (Err refusal) is running in_time = legal
+  plays-kept read (Ok m) is running in_time =
+      game-changed d h s moment id (wrap game) (wrap (played game m moment)) later within legal at (wrap_key (played game m moment) ∙ sym (wrap_key game))
+      (wrap_legal _ (played game m moment) (played-of m running in_time (checked-legal laws of.event.terms game moment (last_position laws game) read m is)))
+
+  move-kept : (side : Side) (ply : ℕ) (text : List ℕ) → IsLegalState d h (state_after s (map_outcome (λ new. with_game s moment id (wrap new)) (step_move laws of.event.terms game moment side ply text)))
+  move-kept side ply text =
+      kept-unless (IsLegalState d h) s (λ new. with_game s moment id (wrap new)) (repeat_of laws of.event.terms game ply (move_at game ply) side text) (move_refusal laws of.event.terms game moment side ply text) _ legal
+      (λ allowed. plays-kept (laws.read_move (last_position laws game) text) _ refl (allowed-running laws of.event.terms game moment side ply text allowed) (allowed-in_time laws of.event.terms game moment side ply text allowed))
+
+  side-kept : (o : Option Side) (command : GameCommand) → IsLegalState d h (state_after s (map_outcome (λ new. with_game s moment id (wrap new)) (by_side laws of.event.terms game moment o command)))
+  side-kept None command = legal
+  side-kept (Some side) (move ply text) = move-kept side ply text
+
+  caller-kept : (who : Caller) (command : GameCommand) → IsLegalState d h (state_after s (map_outcome (λ new. with_game s moment id (wrap new)) (game_step laws of.event.terms game moment who command)))
+  caller-kept Officer command = side-kept (officer_side laws of.event.terms game moment command) command
+  caller-kept (Member member) command = side-kept (side_of_member game.first game.second member) command
+
+pub in-place : {A : Type 0} (P : A → Type 0) (xs : List A) (id : ℕ) (x : A) → Each P xs → place xs id ≡ Some x → P x
+in-place P xs zero x each at = cc
+in-place P xs (suc n) x each at = each n x at
+
+module _ {DP DM DE SP SM SE : Type 0} (d : GameRules DP DM DE) (h : GameRules SP SM SE) (are_draughts : AreRules d) (are_shogi : AreRules h) (s : State DM SM) (moment : ℕ) (later : s.last ≤ moment) (within : moment ≤ last_moment) (legal : IsLegalState d h s) where
+  game-kept : (id : ℕ) (who : Caller) (command : GameCommand) (g : Option (AnyGame DM SM)) → place s.games id ≡ g → IsLegalState d h (state_after s (step_game d h s moment id who command g))
+  game-kept id who command None at = legal
+  game-kept id who command (Some (draughts game)) at =
+      let of : IsGameOf d Draughts s game = in-place (IsLegalIn d h s) s.games id (draughts game) legal.games at in
+      rw of.in_event (caller-kept d h d are_draughts Draughts draughts (λ g. refl) (λ t g is. is) s moment id game later within legal at of who command)
+  game-kept id who command (Some (shogi game)) at =
+      let of : IsGameOf h Shogi s game = in-place (IsLegalIn d h s) s.games id (shogi game) legal.games at in
+      rw of.in_event (caller-kept d h h are_shogi Shogi shogi (λ g. refl) (λ t g is. is) s moment id game later within legal at of who command)
+
+  command-kept : (who : Caller) (command : Command) → IsLegalState d h (state_after s (step_command d h s moment who command))
+  command-kept who (add_member name key) =
+      kept-officer (IsLegalState d h) s (with_members s moment) who (member_step s.members name key) legal
+      (kept-unless (IsLegalState d h) s (with_members s moment) (same_member s.members name key) (member_refusal s.members name key) _ legal (members-added d h s moment name key later within legal))
+  command-kept who (add_event event) =
+      kept-officer (IsLegalState d h) s (with_events s moment) who (event_step s.events event) legal
+      (kept-unless (IsLegalState d h) s (with_events s moment) (same_event s.events event) (event_refusal s.events event) _ legal (events-added d h s moment event later within legal))
+  command-kept who (seat key event first second) =
+      kept-officer (IsLegalState d h) s (with_new_game s moment key) who (seat_step s.members s.events (game_under s.games key) (length s.games) key event first second) legal
+      (seat-kept d h s moment key (find_id (has_event_name event) s.events) (find_id (has_member_name first) s.members) (find_id (has_member_name second) s.members) later within legal
+      (λ id is. let (e, at, _) = find_id-found (has_event_name event) s.events id is in (e, at))
+      (λ id is. found-some d h (has_member_name first) s.members id is)
+      (λ id is. found-some d h (has_member_name second) s.members id is))
+  command-kept who (on_game id command) = game-kept id who command (place s.games id) refl
+
+  by-kept : (who : Option Caller) (command : Command) → IsLegalState d h (state_after s (step_by d h s moment who command))
+  by-kept None command = legal
+  by-kept (Some who) command = command-kept who command
+
+module _ {DP DM DE SP SM SE : Type 0} (d : GameRules DP DM DE) (h : GameRules SP SM SE) (are_draughts : AreRules d) (are_shogi : AreRules h) where
+  pub next-legal : (s : State DM SM) (r : Request) → r.moment ≤ last_moment → IsLegalState d h s → IsLegalState d h (next d h s r)
+  next-legal s r within legal =
+      by-kept d h are_draughts are_shogi s (max r.moment s.last) (omega arith) (let before = legal.last in omega (arith, within, before)) legal (caller_of s.members r.who) r.command

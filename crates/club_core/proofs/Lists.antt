@@ -1,0 +1,200 @@
+-- Elements of a list that grew at its end or was changed at a place, and those that a search finds.
+use Rattle.std.proofs.Common.{◌≡◌, ℕ, zero, suc, ◌+◌, List, [], ◌∷◌, ◌++◌, length, Option, Some, None, Bool, true, false, refl, ap, sym, ◌∙◌, arith, ◌⊎◌, inl, inr, ◌||◌}
+use Rattle.std.specs.Prelude.{slice_get, slice_set, IsSome, if◌then◌else◌}
+use Rattle.std.specs.Option.{option_map}
+use Rattle.std.specs.List.{list_any}
+use Rattle.std.specs.Str.{bytes_eq}
+use Rattle.std.proofs.lemmas.Slice.Eq.{bytes_eq-Decides}
+use Rattle.club_core.specs.Members.{find_id}
+use Rattle.club_core.specs.State.{place}
+use Rattle.club_core.specs.LegalState.{Each, AreApart, AreApartIfAny}
+
+pub bytes_eq-same : (a b : List ℕ) → a ≡ b → bytes_eq a b ≡ true
+bytes_eq-same a b same = (bytes_eq-Decides a b).1 same
+
+pub same-bytes_eq : (a b : List ℕ) → bytes_eq a b ≡ true → a ≡ b
+same-bytes_eq a b same = (bytes_eq-Decides a b).0 same
+
+none-rest : (o : Option ℕ) → option_map suc o ≡ None → o ≡ None
+none-rest None is = refl
+none-rest (Some k) is = cc
+
+more-later : (o p : Option ℕ) (id : ℕ) → ((k : ℕ) → o ≡ Some k → p ≡ Some k) → option_map suc o ≡ Some id → option_map suc p ≡ Some id
+more-later None p id rest is = cc
+more-later (Some k) p id rest is = rw (rest k refl) is
+
+more-here : (b : Bool) (o p : Option ℕ) (id : ℕ) → ((k : ℕ) → o ≡ Some k → p ≡ Some k) → (if b then Some 1 else option_map suc o) ≡ Some id → (if b then Some 1 else option_map suc p) ≡ Some id
+more-here true o p id rest is = is
+more-here false o p id rest is = more-later o p id rest is
+
+or-false : (a b : Bool) → (a || b) ≡ false → (a ≡ false) × (b ≡ false)
+or-false true b is = cc
+or-false false b is = (refl, is)
+
+module _ {A : Type 0} where
+  -- an element of a list with one more is of the list, or the one
+  pub got-append : (xs : List A) (y : A) (n : ℕ) (x : A) → slice_get (xs ++ y ∷ []) n ≡ Some x → (slice_get xs n ≡ Some x) ⊎ ((n ≡ length xs) × (y ≡ x))
+  got-append [] y zero x at = inr (refl, cc)
+  got-append [] y (suc n) x at = cc
+  got-append (z ∷ zs) y zero x at = inl at
+  got-append (z ∷ zs) y (suc n) x at =
+      elim (got-append zs y n x at) [ inl old ↦ inl old | inr new ↦ inr (ap suc new.0, new.1) ]
+
+  -- an element of a list changed at a place is of the list, or the one put there
+  pub got-set : (xs : List A) (i : ℕ) (y : A) (n : ℕ) (x : A) → slice_get (slice_set xs i y) n ≡ Some x → (slice_get xs n ≡ Some x) ⊎ ((n ≡ i) × (y ≡ x))
+  got-set [] i y n x at = inl at
+  got-set (z ∷ zs) zero y zero x at = inr (refl, cc)
+  got-set (z ∷ zs) zero y (suc n) x at = inl at
+  got-set (z ∷ zs) (suc i) y zero x at = inl at
+  got-set (z ∷ zs) (suc i) y (suc n) x at =
+      elim (got-set zs i y n x at) [ inl old ↦ inl old | inr new ↦ inr (ap suc new.0, new.1) ]
+
+  -- what stands in a list stands there when it has grown
+  pub get-append : (xs ys : List A) (n : ℕ) (x : A) → slice_get xs n ≡ Some x → slice_get (xs ++ ys) n ≡ Some x
+  get-append [] ys n x at = cc
+  get-append (z ∷ zs) ys zero x at = at
+  get-append (z ∷ zs) ys (suc n) x at = get-append zs ys n x at
+
+  pub place-append : (xs ys : List A) (id : ℕ) (x : A) → place xs id ≡ Some x → place (xs ++ ys) id ≡ Some x
+  place-append xs ys zero x at = cc
+  place-append xs ys (suc n) x at = get-append xs ys n x at
+
+  some-append : (xs ys : List A) (id : ℕ) (o : Option A) → place xs id ≡ o → IsSome o → IsSome (place (xs ++ ys) id)
+  some-append xs ys id None at some = cc
+  some-append xs ys id (Some x) at some = rw (place-append xs ys id x at) refl
+
+  pub is_some-append : (xs ys : List A) (id : ℕ) → IsSome (place xs id) → IsSome (place (xs ++ ys) id)
+  is_some-append xs ys id = some-append xs ys id (place xs id) refl
+
+  pub each-append : (P : A → Type 0) (xs : List A) (y : A) → Each P xs → P y → Each P (xs ++ y ∷ [])
+  each-append P xs y each new =
+      λ n x at. elim (got-append xs y n x at) [ inl old ↦ each n x old | inr is ↦ rw (← is.1) new ]
+
+  pub each-set : (P : A → Type 0) (xs : List A) (i : ℕ) (y : A) → Each P xs → P y → Each P (slice_set xs i y)
+  each-set P xs i y each new =
+      λ n x at. elim (got-set xs i y n x at) [ inl old ↦ each n x old | inr is ↦ rw (← is.1) new ]
+
+  found-later : (test : A → Bool) (x : A) (xs : List A) (id : ℕ) (o : Option ℕ) → ((k : ℕ) → o ≡ Some k → (y : A) × (place xs k ≡ Some y) × (test y ≡ true)) → option_map suc o ≡ Some id → (y : A) × (place (x ∷ xs) id ≡ Some y) × (test y ≡ true)
+  found-later test x xs id None rest is = cc
+  found-later test x xs id (Some zero) rest is = let (y, stands, passes) = rest zero refl in cc
+  found-later test x xs id (Some (suc n)) rest is =
+      let (y, stands, passes) = rest (suc n) refl in
+      let e : suc (suc n) ≡ id = cc in
+      (y, rw (← e) stands, passes)
+
+  found-here : (test : A → Bool) (x : A) (xs : List A) (id : ℕ) (b : Bool) → test x ≡ b → ((k : ℕ) → find_id test xs ≡ Some k → (y : A) × (place xs k ≡ Some y) × (test y ≡ true)) → (if b then Some 1 else option_map suc (find_id test xs)) ≡ Some id → (y : A) × (place (x ∷ xs) id ≡ Some y) × (test y ≡ true)
+  found-here test x xs id true passes rest is = let e : 1 ≡ id = cc in (x, rw (← e) refl, passes)
+  found-here test x xs id false passes rest is = found-later test x xs id (find_id test xs) rest is
+
+  -- what a search by an id finds stands there and passes
+  pub find_id-found : (test : A → Bool) (xs : List A) (id : ℕ) → find_id test xs ≡ Some id → (x : A) × (place xs id ≡ Some x) × (test x ≡ true)
+  find_id-found test [] id is = cc
+  find_id-found test (x ∷ xs) id is = found-here test x xs id (test x) refl (find_id-found test xs) is
+
+  -- where no element passes, each fails
+  pub list_any-false : (test : A → Bool) (xs : List A) → list_any test xs ≡ false → (n : ℕ) (x : A) → slice_get xs n ≡ Some x → test x ≡ false
+  list_any-false test [] is n x at = cc
+  list_any-false test (y ∷ ys) is zero x at = let e : y ≡ x = cc in rw (← e) (or-false (test y) (list_any test ys) is).0
+  list_any-false test (y ∷ ys) is (suc n) x at = list_any-false test ys (or-false (test y) (list_any test ys) is).1 n x at
+
+  none-here : (test : A → Bool) (y : A) (ys : List A) (b : Bool) → test y ≡ b → (if b then Some 1 else option_map suc (find_id test ys)) ≡ None → (test y ≡ false) × (find_id test ys ≡ None)
+  none-here test y ys true fails is = cc
+  none-here test y ys false fails is = (fails, none-rest (find_id test ys) is)
+
+  -- where a search finds nothing, each fails
+  pub find_id-none : (test : A → Bool) (xs : List A) → find_id test xs ≡ None → (n : ℕ) (x : A) → slice_get xs n ≡ Some x → test x ≡ false
+  find_id-none test [] is n x at = cc
+  find_id-none test (y ∷ ys) is zero x at = let e : y ≡ x = cc in rw (← e) (none-here test y ys (test y) refl is).0
+  find_id-none test (y ∷ ys) is (suc n) x at = find_id-none test ys (none-here test y ys (test y) refl is).1 n x at
+
+  -- a search in a list that has grown finds the same
+  pub find_id-append : (test : A → Bool) (xs ys : List A) (id : ℕ) → find_id test xs ≡ Some id → find_id test (xs ++ ys) ≡ Some id
+  find_id-append test [] ys id is = cc
+  find_id-append test (x ∷ xs) ys id is =
+      more-here (test x) (find_id test xs) (find_id test (xs ++ ys)) id (find_id-append test xs ys) is
+
+  new-here : (test : A → Bool) (b : Bool) (o p : Option ℕ) (n : ℕ) → (o ≡ None → p ≡ Some (n + 1)) → (if b then Some 1 else option_map suc o) ≡ None → (if b then Some 1 else option_map suc p) ≡ Some (suc n + 1)
+  new-here test true o p n rest none = cc
+  new-here test false o p n rest none = rw (rest (none-rest o none)) (ap Some (omega arith))
+
+  -- a search that finds nothing before finds the new element
+  pub find_id-new : (test : A → Bool) (xs : List A) (y : A) → find_id test xs ≡ None → test y ≡ true → find_id test (xs ++ y ∷ []) ≡ Some (length xs + 1)
+  find_id-new test [] y none passes = rw passes refl
+  find_id-new test (x ∷ xs) y none passes =
+      new-here test (test x) (find_id test xs) (find_id test (xs ++ y ∷ [])) (length xs) (λ e. find_id-new test xs y e passes) none
+
+  -- what stands in a list stands there after a change at a place, or is the one put there
+  pub set-got : (xs : List A) (i : ℕ) (y : A) (n : ℕ) (x : A) → slice_get xs n ≡ Some x → (slice_get (slice_set xs i y) n ≡ Some x) ⊎ ((n ≡ i) × (slice_get (slice_set xs i y) n ≡ Some y))
+  set-got [] i y n x at = cc
+  set-got (z ∷ zs) zero y zero x at = inr (refl, refl)
+  set-got (z ∷ zs) zero y (suc n) x at = inl at
+  set-got (z ∷ zs) (suc i) y zero x at = inl at
+  set-got (z ∷ zs) (suc i) y (suc n) x at =
+      elim (set-got zs i y n x at) [ inl old ↦ inl old | inr new ↦ inr (ap suc new.0, new.1) ]
+
+  -- what is put at a place stands there
+  pub put-at : (xs : List A) (i : ℕ) (x y : A) → slice_get xs i ≡ Some x → slice_get (slice_set xs i y) i ≡ Some y
+  put-at [] i x y at = cc
+  put-at (z ∷ zs) zero x y at = refl
+  put-at (z ∷ zs) (suc i) x y at = put-at zs i x y at
+
+  pub put-at_same : (xs : List A) (i j : ℕ) (x y : A) → i ≡ j → slice_get xs j ≡ Some x → slice_get (slice_set xs i y) j ≡ Some y
+  put-at_same xs i j x y same at = rw same (put-at xs j x y at)
+
+  pub at-last : (xs : List A) (y : A) → slice_get (xs ++ y ∷ []) (length xs) ≡ Some y
+  at-last [] y = refl
+  at-last (x ∷ xs) y = at-last xs y
+
+  -- a search finds the same in a list whose elements at the same places answer the same
+  pub find_id-pointwise : (test : A → Bool) (xs ys : List A) (id : ℕ) → ((n : ℕ) (x : A) → slice_get xs n ≡ Some x → (y : A) × (slice_get ys n ≡ Some y) × (test y ≡ test x)) → find_id test xs ≡ Some id → find_id test ys ≡ Some id
+  find_id-pointwise test [] ys id same is = cc
+  find_id-pointwise test (x ∷ xs) [] id same is = let (y, at, _) = same 0 x refl in cc
+  find_id-pointwise test (x ∷ xs) (y ∷ ys) id same is =
+      let (z, at, passes) = same 0 x refl in
+      let e : y ≡ z = cc in
+      let one : test y ≡ test x = ap test e ∙ passes in
+      rw one (more-here (test x) (find_id test xs) (find_id test ys) id (λ k. find_id-pointwise test xs ys k (λ n. same (suc n))) is)
+
+module _ {A B : Type 0} (part : A → B) where
+  pub are_apart-append : (xs : List A) (y : A) → AreApart part xs → ((n : ℕ) (x : A) → slice_get xs n ≡ Some x → part x ≡ part y → ⊥) → AreApart part (xs ++ y ∷ [])
+  are_apart-append xs y apart new =
+      λ i j a b at_i at_j same.
+      elim (got-append xs y i a at_i) [
+        | inl old_i ↦ elim (got-append xs y j b at_j) [
+          | inl old_j ↦ apart i j a b old_i old_j same
+          | inr is_j ↦ absurd (new i a old_i (same ∙ ap part (sym is_j.1)))
+        ]
+        | inr is_i ↦ elim (got-append xs y j b at_j) [
+          | inl old_j ↦ absurd (new j b old_j (sym same ∙ ap part (sym is_i.1)))
+          | inr is_j ↦ is_i.0 ∙ sym is_j.0
+        ]
+      ]
+
+module _ {A B : Type 0} (part : A → Option B) where
+  pub are_apart_if_any-append : (xs : List A) (y : A) → AreApartIfAny part xs → ((n : ℕ) (x : A) (b : B) → slice_get xs n ≡ Some x → part x ≡ Some b → part y ≡ Some b → ⊥) → AreApartIfAny part (xs ++ y ∷ [])
+  are_apart_if_any-append xs y apart new =
+      λ i j a b key at_i at_j key_i key_j.
+      elim (got-append xs y i a at_i) [
+        | inl old_i ↦ elim (got-append xs y j b at_j) [
+          | inl old_j ↦ apart i j a b key old_i old_j key_i key_j
+          | inr is_j ↦ absurd (new i a key old_i key_i (ap part is_j.1 ∙ key_j))
+        ]
+        | inr is_i ↦ elim (got-append xs y j b at_j) [
+          | inl old_j ↦ absurd (new j b key old_j key_j (ap part is_i.1 ∙ key_i))
+          | inr is_j ↦ is_i.0 ∙ sym is_j.0
+        ]
+      ]
+
+  pub are_apart_if_any-set : (xs : List A) (k : ℕ) (y old : A) → slice_get xs k ≡ Some old → part y ≡ part old → AreApartIfAny part xs → AreApartIfAny part (slice_set xs k y)
+  are_apart_if_any-set xs k y old at_k same apart =
+      λ i j a b key at_i at_j key_i key_j.
+      elim (got-set xs k y i a at_i) [
+        | inl old_i ↦ elim (got-set xs k y j b at_j) [
+          | inl old_j ↦ apart i j a b key old_i old_j key_i key_j
+          | inr is_j ↦ apart i k a old key old_i at_k key_i (sym same ∙ (ap part is_j.1 ∙ key_j)) ∙ sym is_j.0
+        ]
+        | inr is_i ↦ elim (got-set xs k y j b at_j) [
+          | inl old_j ↦ is_i.0 ∙ apart k j old b key at_k old_j (sym same ∙ (ap part is_i.1 ∙ key_i)) key_j
+          | inr is_j ↦ is_i.0 ∙ sym is_j.0
+        ]
+      ]

@@ -1,0 +1,319 @@
+-- An accepted command that comes again from the one who gave it is repeated with the same answer.
+use Rattle.std.proofs.Common.{◌≡◌, ℕ, zero, suc, ◌+◌, ◌-◌, ◌≤◌, List, [], ◌∷◌, ◌++◌, length, map, take, Option, Some, None, Result, Ok, Err, Bool, true, false, ◌&&◌, ◌||◌, refl, ap, sym, ◌∙◌, arith, length-append, add-one}
+use Rattle.std.specs.Prelude.{is_some, max, slice_get, slice_set, nat_lt, nat_le, ◌==◌}
+use Rattle.std.specs.Option.{option_map}
+use Rattle.std.specs.Str.{bytes_eq}
+use Rattle.std.proofs.Math.Seq.{take-length}
+use Rattle.std.proofs.lemmas.Bool.{eq-eqb}
+use Rattle.std.proofs.lemmas.Bool.Decides.{nat_tests}
+use Rattle.std.proofs.lemmas.List.{map-append, take-append-le}
+use Rattle.squares.specs.declared.sides.Side.{Side}
+use Rattle.squares.specs.Sides.{same_side}
+use Rattle.club_rules.specs.declared.refusals.MoveRefusal.{MoveRefusal}
+use Rattle.club_rules.specs.declared.names.GameKind.{GameKind}
+use Rattle.club_rules.specs.declared.names.GameKind.TheVariants.{Draughts, Shogi}
+use Rattle.club_rules.specs.GameRules.{GameRules}
+use Rattle.club_rules.specs.Line.{IsLegalLine}
+use Rattle.club_core.specs.declared.requests.Caller.{Caller}
+use Rattle.club_core.specs.declared.requests.Caller.TheVariants.{Officer, Member}
+use Rattle.club_core.specs.Outcome.{Reply, member_added, event_added, game_seated, Outcome, accepted, repeated, refused, map_outcome, by_officer}
+use Rattle.club_core.specs.Members as members
+use Rattle.club_core.specs.Members.{find_id, is_member, member_refusal, same_member, member_step}
+use Rattle.club_core.specs.Events.{Terms, Event, same_game, is_event, has_event_name, event_refusal, same_event, event_step}
+use Rattle.club_core.specs.Seats.{Pairing, KeyedGame, has_member_name, same_seats, seat_tests, seat_refusal, pair, seat_found, seat_step}
+use Rattle.club_core.specs.Game.{Game, Entry, moves_of, last_position, turn_of, side_after, game_at}
+use Rattle.club_core.specs.Step.{GameCommand, move, played, checked, checked_as, reads_as, repeats, plays, step_move, by_side, game_step, move_tests, move_refusal, repeat_of, reply_of_move, move_at, side_of_member}
+use Rattle.club_core.specs.State.{AnyGame, draughts, shogi, State, Command, add_member, add_event, seat, on_game, Who, officer, key_holder, Request, state_after, place, terms_at, has_key, is_key, pairing_of, game_under, seated_as, kind_at, caller_of, caller_found, has_member_key, with_members, with_events, with_new_game, with_game, step_game, step_command, step_by, step, next, fold}
+use Rattle.club_core.specs.LegalState.{IsGameOf, IsLegalIn, IsLegalState}
+use Rattle.club_core.proofs.Lists.{bytes_eq-same, find_id-append, find_id-new, find_id-pointwise, place-append, get-append, put-at_same, at-last}
+use Rattle.club_core.proofs.Legals.{AreRules, none-holds}
+use Rattle.club_core.proofs.Played.{turn-of-game, made-played, take-before, take-whole}
+use Rattle.club_core.proofs.LegalSteps.{no-game-under, not-false, in-place}
+use Rattle.club_core.proofs.Later.{Begins, IsLater, IsLaterAny, IsLaterGame, later-trans, next-later, fold-later, unless-accepted, accepted-same, caller-played}
+
+none-found : (f : ℕ → Reply) (o : Option ℕ) → option_map f o ≡ None → o ≡ None
+none-found f None is = refl
+none-found f (Some id) is = cc
+
+and-true : (a b : Bool) → a ≡ true → b ≡ true → (a && b) ≡ true
+and-true true b is_a is_b = is_b
+and-true false b is_a is_b = cc
+
+same_game-refl : (g : GameKind) → same_game g g ≡ true
+same_game-refl Draughts = refl
+same_game-refl Shogi = refl
+
+find-later : {A : Type 0} (test : A → Bool) (xs ys : List A) (id : ℕ) → Begins xs ys → find_id test xs ≡ Some id → find_id test ys ≡ Some id
+find-later test xs ys id begins is = rw begins.1 (find_id-append test xs begins.0 id is)
+
+-- the outcome of a repeat, whatever would stand after it
+map-repeated : {S T : Type 0} (f : T → S) (o : Outcome T) (reply : Reply) → o ≡ repeated reply → map_outcome f o ≡ repeated reply
+map-repeated f o reply is = rw is refl
+
+map-accepted : {S T : Type 0} (f : T → S) (o : Outcome T) (after : S) (reply : Reply) → map_outcome f o ≡ accepted after reply → (t : T) × (o ≡ accepted t reply) × (f t ≡ after)
+map-accepted f (accepted t r) after reply is =
+    let e : r ≡ reply = cc in
+    let same : f t ≡ after = cc in
+    (t, ap (accepted t) e, same)
+map-accepted f (repeated r) after reply is = cc
+map-accepted f (refused refusal) after reply is = cc
+
+officer-accepted : {S : Type 0} (who : Caller) (o : Outcome S) (after : S) (reply : Reply) → by_officer who o ≡ accepted after reply → (who ≡ Officer) × (o ≡ accepted after reply)
+officer-accepted Officer o after reply is = (refl, is)
+officer-accepted (Member id) o after reply is = cc
+
+module _ {DM SM : Type 0} (s t : State DM SM) (moment again : ℕ) where
+  member-again : (who : Caller) (name key : List ℕ) (after : State DM SM) (reply : Reply) → by_officer who (map_outcome (with_members s moment) (member_step s.members name key)) ≡ accepted after reply → IsLater after t → by_officer who (map_outcome (with_members t again) (member_step t.members name key)) ≡ repeated reply
+  member-again who name key after reply is later =
+      let by = officer-accepted who _ after reply is in
+      let (all, step_is, after_is) = map-accepted (with_members s moment) (member_step s.members name key) after reply by.1 in
+      let added = unless-accepted (same_member s.members name key) (member_refusal s.members name key) _ all reply step_is in
+      let new : members.Member = record { name = name; key = key } in
+      let stands = accepted-same (s.members ++ new ∷ []) all (member_added (length s.members + 1)) reply added.2 in
+      let begins : Begins (s.members ++ new ∷ []) t.members = rw (← ap (λ u. u.members) after_is, ← stands.0) at later.members in
+      let found : find_id (is_member name key) (s.members ++ new ∷ []) ≡ Some (length s.members + 1) =
+      find_id-new (is_member name key) s.members new (none-found member_added (find_id (is_member name key) s.members) added.0)
+      (and-true (bytes_eq name name) (bytes_eq key key) (bytes_eq-same name name refl) (bytes_eq-same key key refl)) in
+      let again_found : find_id (is_member name key) t.members ≡ Some (length s.members + 1) = find-later (is_member name key) _ t.members _ begins found in
+      rw (by.0, again_found, stands.1) refl
+
+  event-again : (who : Caller) (event : Event) (after : State DM SM) (reply : Reply) → by_officer who (map_outcome (with_events s moment) (event_step s.events event)) ≡ accepted after reply → IsLater after t → by_officer who (map_outcome (with_events t again) (event_step t.events event)) ≡ repeated reply
+  event-again who event after reply is later =
+      let by = officer-accepted who _ after reply is in
+      let (all, step_is, after_is) = map-accepted (with_events s moment) (event_step s.events event) after reply by.1 in
+      let added = unless-accepted (same_event s.events event) (event_refusal s.events event) _ all reply step_is in
+      let stands = accepted-same (s.events ++ event ∷ []) all (event_added (length s.events + 1)) reply added.2 in
+      let begins : Begins (s.events ++ event ∷ []) t.events = rw (← ap (λ u. u.events) after_is, ← stands.0) at later.events in
+      let itself : is_event event event ≡ true =
+      and-true _ _ (and-true _ _ (and-true _ _ (bytes_eq-same event.name event.name refl) (same_game-refl event.game)) (eq-eqb event.terms.budget event.terms.budget refl)) (eq-eqb event.terms.increment event.terms.increment refl) in
+      let found : find_id (is_event event) (s.events ++ event ∷ []) ≡ Some (length s.events + 1) =
+      find_id-new (is_event event) s.events event (none-found event_added (find_id (is_event event) s.events) added.0) itself in
+      let again_found : find_id (is_event event) t.events ≡ Some (length s.events + 1) = find-later (is_event event) _ t.events _ begins found in
+      rw (by.0, again_found, stands.1) refl
+
+-- a seating that was accepted found its event and its members, and no game under its key
+record WasSeated (event first second : Option ℕ) (under_key : Option KeyedGame) (games : ℕ) (pairing : Pairing) (reply : Reply) : Type 0 where
+  pub in_event : event ≡ Some pairing.event
+  pub has_first : first ≡ Some pairing.first
+  pub has_second : second ≡ Some pairing.second
+  pub fresh : is_some under_key ≡ false
+  pub answer : reply ≡ game_seated (games + 1)
+
+pair-seated : (event : ℕ) (first second : Option ℕ) (under_key : Option KeyedGame) (games : ℕ) (pairing : Pairing) (reply : Reply) → is_some under_key ≡ false → pair event first second games ≡ accepted pairing reply → WasSeated (Some event) first second under_key games pairing reply
+pair-seated event None second under_key games pairing reply fresh is = cc
+pair-seated event (Some a) None under_key games pairing reply fresh is = cc
+pair-seated event (Some a) (Some b) under_key games pairing reply fresh is =
+    let same = accepted-same (record { event = event; first = a; second = b }) pairing (game_seated (games + 1)) reply is in
+    rw (← same.0) (record { in_event = refl; has_first = refl; has_second = refl; fresh = fresh; answer = sym same.1 })
+
+was-seated : (event first second : Option ℕ) (under_key : Option KeyedGame) (games : ℕ) (key : List ℕ) (pairing : Pairing) (reply : Reply) → seat_found event first second under_key games key ≡ accepted pairing reply → WasSeated event first second under_key games pairing reply
+was-seated None first second under_key games key pairing reply is = cc
+was-seated (Some event) first second under_key games key pairing reply is =
+    let parts = unless-accepted (same_seats event first second under_key) (seat_refusal under_key games key first second) (pair event first second games) pairing reply is in
+    pair-seated event first second under_key games pairing reply (none-holds (seat_tests under_key games key first second) parts.1).0 parts.2
+
+pairing-game : {M : Type 0} (game new : Game M) → IsLaterGame game new → ◌≡◌ {A = Pairing} (record { event = new.event; first = new.first; second = new.second }) (record { event = game.event; first = game.first; second = game.second })
+pairing-game game new later = rw (later.event, later.first, later.second) refl
+
+module _ {DM SM : Type 0} where
+  has_key-later : (key : List ℕ) (g new : AnyGame DM SM) → IsLaterAny g new → has_key key new ≡ has_key key g
+  has_key-later key (draughts game) (draughts new) later = ap (is_key key) later.key
+  has_key-later key (shogi game) (shogi new) later = ap (is_key key) later.key
+  has_key-later key (draughts game) (shogi new) later = absurd later
+  has_key-later key (shogi game) (draughts new) later = absurd later
+
+  pairing-later : (g new : AnyGame DM SM) → IsLaterAny g new → pairing_of new ≡ pairing_of g
+  pairing-later (draughts game) (draughts new) later = pairing-game game new later
+  pairing-later (shogi game) (shogi new) later = pairing-game game new later
+  pairing-later (draughts game) (shogi new) later = absurd later
+  pairing-later (shogi game) (draughts new) later = absurd later
+
+seated-pairing : (DM SM : Type 0) (kind : GameKind) (key : List ℕ) (pairing : Pairing) (moment : ℕ) → pairing_of {DM = DM} {SM = SM} (seated_as kind (Some key) pairing moment) ≡ pairing
+seated-pairing DM SM Draughts key pairing moment = refl
+seated-pairing DM SM Shogi key pairing moment = refl
+
+seated-key : (DM SM : Type 0) (kind : GameKind) (key : List ℕ) (pairing : Pairing) (moment : ℕ) → has_key {DM = DM} {SM = SM} key (seated_as kind (Some key) pairing moment) ≡ true
+seated-key DM SM Draughts key pairing moment = bytes_eq-same key key refl
+seated-key DM SM Shogi key pairing moment = bytes_eq-same key key refl
+
+module _ {DM SM : Type 0} (s t : State DM SM) (moment again : ℕ) where
+  -- the game stands under its key from then on
+  keyed-later : (key : List ℕ) (pairing : Pairing) → is_some (game_under s.games key) ≡ false → IsLater (with_new_game s moment key pairing) t → game_under t.games key ≡ Some (record { id = length s.games + 1; pairing = pairing })
+  keyed-later key pairing fresh later =
+      let new = seated_as (kind_at (place s.events pairing.event)) (Some key) pairing moment in
+      let (game, at, is_later) = later.games (length s.games) new (at-last s.games new) in
+      let first_found : find_id (has_key key) (s.games ++ new ∷ []) ≡ Some (length s.games + 1) =
+      find_id-new (has_key key) s.games new (no-game-under s.games key fresh) (seated-key DM SM (kind_at (place s.events pairing.event)) key pairing moment) in
+      let found : find_id (has_key key) t.games ≡ Some (length s.games + 1) =
+      find_id-pointwise (has_key key) (s.games ++ new ∷ []) t.games (length s.games + 1)
+      (λ n g is. let (other, stands, so) = later.games n g is in (other, stands, has_key-later key g other so)) first_found in
+      let same : pairing_of game ≡ pairing = pairing-later new game is_later ∙ seated-pairing DM SM (kind_at (place s.events pairing.event)) key pairing moment in
+      let next_id : length s.games + 1 ≡ suc (length s.games) = add-one (length s.games) in
+      let stands : place t.games (length s.games + 1) ≡ Some game = rw next_id at in
+      rw (found, stands, same) refl
+
+  seat-again : (who : Caller) (key event first second : List ℕ) (after : State DM SM) (reply : Reply) → by_officer who (map_outcome (with_new_game s moment key) (seat_step s.members s.events (game_under s.games key) (length s.games) key event first second)) ≡ accepted after reply → IsLater after t → by_officer who (map_outcome (with_new_game t again key) (seat_step t.members t.events (game_under t.games key) (length t.games) key event first second)) ≡ repeated reply
+  seat-again who key event first second after reply is later =
+      let by = officer-accepted who _ after reply is in
+      let (pairing, step_is, after_is) = map-accepted (with_new_game s moment key) (seat_step s.members s.events (game_under s.games key) (length s.games) key event first second) after reply by.1 in
+      let was = was-seated (find_id (has_event_name event) s.events) (find_id (has_member_name first) s.members) (find_id (has_member_name second) s.members) (game_under s.games key) (length s.games) key pairing reply step_is in
+      let since : IsLater (with_new_game s moment key pairing) t = rw (← after_is) at later in
+      let in_event : find_id (has_event_name event) t.events ≡ Some pairing.event = find-later _ s.events t.events _ since.events was.in_event in
+      let has_first : find_id (has_member_name first) t.members ≡ Some pairing.first = find-later _ s.members t.members _ since.members was.has_first in
+      let has_second : find_id (has_member_name second) t.members ≡ Some pairing.second = find-later _ s.members t.members _ since.members was.has_second in
+      let under = keyed-later key pairing was.fresh since in
+      let same : (pairing.event == pairing.event && pairing.first == pairing.first && pairing.second == pairing.second) ≡ true =
+      and-true _ _ (and-true _ _ (eq-eqb pairing.event pairing.event refl) (eq-eqb pairing.first pairing.first refl)) (eq-eqb pairing.second pairing.second refl) in
+      rw (by.0, in_event, has_first, has_second, under, same, was.answer) refl
+
+-- the answer to a move shows nothing of later entries
+reply-same : {P M E : Type 0} (laws : GameRules P M E) (terms : Terms) (a b : Game M) (ply : ℕ) (m : M) → a.start ≡ b.start → take (ply - 1) a.entries ≡ take (ply - 1) b.entries → take ply a.entries ≡ take ply b.entries → reply_of_move laws terms a ply m ≡ reply_of_move laws terms b ply m
+reply-same laws terms a b ply m start before after = rw (start, before, after) refl
+
+take-then : {A : Type 0} (xs : List A) (x : A) (more : List A) → take (length xs) ((xs ++ x ∷ []) ++ more) ≡ xs
+take-then xs x more =
+    let count : length (xs ++ x ∷ []) ≡ length xs + 1 = simp length-append in
+    let within : length xs ≤ length (xs ++ x ∷ []) = omega (arith, count) in
+    let itself : length xs ≤ length xs = omega arith in
+    rw (take-append-le (length xs) (xs ++ x ∷ []) more within, take-append-le (length xs) xs (x ∷ []) itself) (take-length xs)
+
+take-then-whole : {A : Type 0} (xs : List A) (x : A) (more : List A) → take (length xs + 1) ((xs ++ x ∷ []) ++ more) ≡ xs ++ x ∷ []
+take-then-whole xs x more =
+    let count : length (xs ++ x ∷ []) ≡ length xs + 1 = simp length-append in
+    let itself : length (xs ++ x ∷ []) ≤ length (xs ++ x ∷ []) = omega arith in
+    rw (← count, take-append-le (length (xs ++ x ∷ [])) (xs ++ x ∷ []) more itself) (take-length (xs ++ x ∷ []))
+
+-- the new ply is the next
+next-ply : (ply n : ℕ) → (ply == 0 || nat_lt (n + 1) ply) ≡ false → nat_le ply n ≡ false → ply ≡ n + 1
+next-ply ply n within above = grind (arith, nat_tests)
+
+module _ {P M E : Type 0} (laws : GameRules P M E) (terms : Terms) (game : Game M) (moment : ℕ) where
+  plays-accepted : (o : Result M MoveRefusal) (new : Game M) (reply : Reply) → plays laws terms game moment o ≡ accepted new reply → (m : M) × (o ≡ Ok m) × (played game m moment ≡ new) × (reply_of_move laws terms (played game m moment) (length game.entries + 1) m ≡ reply)
+  plays-accepted (Err refusal) new reply is = cc
+  plays-accepted (Ok m) new reply is =
+      let both = accepted-same (played game m moment) new (reply_of_move laws terms (played game m moment) (length game.entries + 1) m) reply is in
+      (m, refl, both.0, both.1)
+
+  checked-read : (p : P) (read : Result M MoveRefusal) (m : M) → checked laws p read ≡ Ok m → read ≡ Ok m
+  checked-read p (Err refusal) m is = cc
+  checked-read p (Ok n) m is = ap Ok (read-as n m (laws.check p n) is)
+    where
+      read-as : (n m : M) (c : Result (Unit {0}) MoveRefusal) → checked_as laws n c ≡ Ok m → n ≡ m
+      read-as n m (Err refusal) is = cc
+      read-as n m (Ok u) is = cc
+
+module _ {P M E : Type 0} (laws : GameRules P M E) (are_rules : AreRules laws) (terms : Terms) (game : Game M) (line : IsLegalLine laws laws.start (map (λ e. e.made) game.entries)) (moment again : ℕ) where
+  repeat-later : (m : M) (side : Side) (text : List ℕ) (more : List (Entry M)) (later : Game M) → later.start ≡ game.start → later.entries ≡ (game.entries ++ record { made = m; moment = moment } ∷ []) ++ more → same_side side (turn_of laws game) ≡ true → laws.read_move (last_position laws game) text ≡ Ok m → repeat_of laws terms later (length game.entries + 1) (move_at later (length game.entries + 1)) side text ≡ Some (reply_of_move laws terms (played game m moment) (length game.entries + 1) m)
+  repeat-later m side text more later start entries turn read =
+      let e : Entry M = record { made = m; moment = moment } in
+      let count : length game.entries + 1 - 1 ≡ length game.entries = omega arith in
+      let before : take (length game.entries + 1 - 1) later.entries ≡ game.entries = rw (count, entries) (take-then game.entries e more) in
+      let after : take (length game.entries + 1) later.entries ≡ game.entries ++ e ∷ [] = rw entries (take-then-whole game.entries e more) in
+      let played_before : take (length game.entries + 1 - 1) (game.entries ++ e ∷ []) ≡ game.entries = take-before game.entries e in
+      let played_after : take (length game.entries + 1) (game.entries ++ e ∷ []) ≡ game.entries ++ e ∷ [] = take-whole game.entries e in
+      let next_ply : length game.entries + 1 ≡ suc (length game.entries) = add-one (length game.entries) in
+      let moves : moves_of later ≡ moves_of (played game m moment) ++ map (λ x. x.made) more = rw (entries) (map-append (λ x. x.made) (game.entries ++ e ∷ []) more) in
+      let at : move_at later (length game.entries + 1) ≡ Some m = rw (next_ply, moves) (get-append (moves_of (played game m moment)) (map (λ x. x.made) more) (length game.entries) m (made-played laws game m moment)) in
+      let reads : reads_as laws (laws.read_move (last_position laws (game_at later (length game.entries + 1 - 1))) text) m ≡ true = rw (before, read) ((are_rules.same_is m m).1 refl) in
+      let side_is : same_side side (side_after (length game.entries + 1 - 1)) ≡ true = rw (count, ← turn-of-game laws are_rules.turn_passes are_rules.first_starts game line) turn in
+      let passes : repeats laws terms later (length game.entries + 1) m side text ≡ true = and-true _ _ side_is reads in
+      rw (at, passes) (ap Some (reply-same laws terms later (played game m moment) (length game.entries + 1) m start (before ∙ sym played_before) (after ∙ sym played_after)))
+
+  move-again : (side : Side) (ply : ℕ) (text : List ℕ) (new : Game M) (reply : Reply) → step_move laws terms game moment side ply text ≡ accepted new reply → (later : Game M) → IsLaterGame new later → step_move laws terms later again side ply text ≡ repeated reply
+  move-again side ply text new reply is later since =
+      let parts = unless-accepted (repeat_of laws terms game ply (move_at game ply) side text) (move_refusal laws terms game moment side ply text) (plays laws terms game moment (checked laws (last_position laws game) (laws.read_move (last_position laws game) text))) new reply is in
+      let tests = none-holds (move_tests laws terms game moment side ply text) parts.1 in
+      let ply_is : ply ≡ length game.entries + 1 = next-ply ply (length game.entries) tests.1.0 tests.1.1.0 in
+      let turn : same_side side (turn_of laws game) ≡ true = not-false _ tests.1.1.1.0 in
+      let (m, checked_is, new_is, answer) = plays-accepted laws terms game moment (checked laws (last_position laws game) (laws.read_move (last_position laws game) text)) new reply parts.2 in
+      let read : laws.read_move (last_position laws game) text ≡ Ok m = checked-read laws terms game moment (last_position laws game) (laws.read_move (last_position laws game) text) m checked_is in
+      let from : IsLaterGame (played game m moment) later = rw new_is since in
+      let found : repeat_of laws terms later (length game.entries + 1) (move_at later (length game.entries + 1)) side text ≡ Some (reply_of_move laws terms (played game m moment) (length game.entries + 1) m) =
+      repeat-later m side text from.entries.0 later from.start from.entries.1 turn read in
+      rw (ply_is, found, answer) refl
+
+  side-again : (side : Option Side) (command : GameCommand) (new : Game M) (reply : Reply) → by_side laws terms game moment side command ≡ accepted new reply → (later : Game M) → IsLaterGame new later → by_side laws terms later again side command ≡ repeated reply
+  side-again None command new reply is later since = cc
+  side-again (Some side) (move ply text) new reply is later since = move-again side ply text new reply is later since
+
+  caller-again : (who : Caller) (command : GameCommand) (new : Game M) (reply : Reply) → game_step laws terms game moment who command ≡ accepted new reply → (later : Game M) → IsLaterGame new later → game_step laws terms later again who command ≡ repeated reply
+  caller-again Officer (move ply text) new reply is later since = side-again (Some (side_after (ply - 1))) (move ply text) new reply is later since
+  caller-again (Member id) command new reply is later since =
+      let was = caller-played laws terms game moment (Member id) command new reply is in
+      let first : later.first ≡ game.first = since.first ∙ ap (λ g. g.first) was.is in
+      let second : later.second ≡ game.second = since.second ∙ ap (λ g. g.second) was.is in
+      let side : side_of_member later.first later.second id ≡ side_of_member game.first game.second id =
+      ap (λ x. side_of_member x later.second id) first ∙ ap (λ x. side_of_member game.first x id) second in
+      ap (λ o. by_side laws terms later again o command) side ∙ side-again (side_of_member game.first game.second id) command new reply is later since
+
+-- a command on a game of one kind
+module _ {DP DM DE SP SM SE P M E : Type 0} (d : GameRules DP DM DE) (h : GameRules SP SM SE) (laws : GameRules P M E) (are_rules : AreRules laws) (kind : GameKind) (wrap : Game M → AnyGame DM SM) (unwrap : (g : Game M) (new : AnyGame DM SM) → IsLaterAny (wrap g) new → (later : Game M) × (new ≡ wrap later) × IsLaterGame g later) where
+  game-later : (s t : State DM SM) (moment again id : ℕ) (who : Caller) (command : GameCommand) (game new : Game M) (reply : Reply) → IsGameOf laws kind s game → game_step laws (terms_at (place s.events game.event)) game moment who command ≡ accepted new reply → Begins s.events t.events → (any : AnyGame DM SM) → place t.games id ≡ Some any → IsLaterAny (wrap new) any → (later : Game M) × (place t.games id ≡ Some (wrap later)) × (map_outcome (λ game. with_game t again id (wrap game)) (game_step laws (terms_at (place t.events later.event)) later again who command) ≡ repeated reply)
+  game-later s t moment again id who command game new reply of step_is events any stands any_later =
+      let (later, any_is, is_later) = unwrap new any any_later in
+      let was = caller-played laws (terms_at (place s.events game.event)) game moment who command new reply step_is in
+      let event : later.event ≡ game.event = is_later.event ∙ ap (λ g. g.event) was.is in
+      let found : place t.events game.event ≡ Some of.event = rw events.1 (place-append s.events events.0 game.event of.event of.in_event) in
+      let terms : terms_at (place t.events later.event) ≡ terms_at (place s.events game.event) = rw (event, found, of.in_event) refl in (
+        later,
+        rw (← any_is) stands,
+        rw (terms, caller-again laws are_rules (terms_at (place s.events game.event)) game of.legal.line moment again who command new reply step_is later is_later) refl,
+      )
+
+  game-again : (s t : State DM SM) (moment again id : ℕ) (who : Caller) (command : GameCommand) (game : Game M) (after : State DM SM) (reply : Reply) → place s.games id ≡ Some (wrap game) → IsGameOf laws kind s game → map_outcome (λ new. with_game s moment id (wrap new)) (game_step laws (terms_at (place s.events game.event)) game moment who command) ≡ accepted after reply → IsLater after t → (later : Game M) × (place t.games id ≡ Some (wrap later)) × (map_outcome (λ new. with_game t again id (wrap new)) (game_step laws (terms_at (place t.events later.event)) later again who command) ≡ repeated reply)
+  game-again s t moment again zero who command game after reply at of is since = cc
+  game-again s t moment again (suc k) who command game after reply at of is since =
+      let (new, step_is, after_is) = map-accepted (λ new. with_game s moment (suc k) (wrap new)) (game_step laws (terms_at (place s.events game.event)) game moment who command) after reply is in
+      let from : IsLater (with_game s moment (suc k) (wrap new)) t = rw after_is since in
+      let before : suc k - 1 ≡ k = omega arith in
+      let stood : slice_get (slice_set s.games (suc k - 1) (wrap new)) k ≡ Some (wrap new) = put-at_same s.games (suc k - 1) k (wrap game) (wrap new) before at in
+      let (any, stands, any_later) = from.games k (wrap new) stood in
+      game-later s t moment again (suc k) who command game new reply of step_is from.events any stands any_later
+
+unwrap-draughts : {DM SM : Type 0} (g : Game DM) (new : AnyGame DM SM) → IsLaterAny (draughts g) new → (later : Game DM) × (new ≡ draughts later) × IsLaterGame g later
+unwrap-draughts g (draughts later) is = (later, refl, is)
+unwrap-draughts g (shogi later) is = absurd is
+
+unwrap-shogi : {DM SM : Type 0} (g : Game SM) (new : AnyGame DM SM) → IsLaterAny (shogi g) new → (later : Game SM) × (new ≡ shogi later) × IsLaterGame g later
+unwrap-shogi g (shogi later) is = (later, refl, is)
+unwrap-shogi g (draughts later) is = absurd is
+
+module _ {DP DM DE SP SM SE : Type 0} (d : GameRules DP DM DE) (h : GameRules SP SM SE) (are_draughts : AreRules d) (are_shogi : AreRules h) where
+  on-game-again : (s t : State DM SM) (moment again id : ℕ) (who : Caller) (command : GameCommand) (g : Option (AnyGame DM SM)) (after : State DM SM) (reply : Reply) → IsLegalState d h s → place s.games id ≡ g → step_game d h s moment id who command g ≡ accepted after reply → IsLater after t → step_game d h t again id who command (place t.games id) ≡ repeated reply
+  on-game-again s t moment again id who command None after reply legal at is since = cc
+  on-game-again s t moment again id who command (Some (draughts game)) after reply legal at is since =
+      let of : IsGameOf d Draughts s game = in-place (IsLegalIn d h s) s.games id (draughts game) legal.games at in
+      let (later, stands, so) = game-again d h d are_draughts Draughts draughts unwrap-draughts s t moment again id who command game after reply at of is since in
+      rw stands so
+  on-game-again s t moment again id who command (Some (shogi game)) after reply legal at is since =
+      let of : IsGameOf h Shogi s game = in-place (IsLegalIn d h s) s.games id (shogi game) legal.games at in
+      let (later, stands, so) = game-again d h h are_shogi Shogi shogi unwrap-shogi s t moment again id who command game after reply at of is since in
+      rw stands so
+
+  command-again : (s t : State DM SM) (moment again : ℕ) (who : Caller) (command : Command) (after : State DM SM) (reply : Reply) → IsLegalState d h s → step_command d h s moment who command ≡ accepted after reply → IsLater after t → step_command d h t again who command ≡ repeated reply
+  command-again s t moment again who (add_member name key) after reply legal is since = member-again s t moment again who name key after reply is since
+  command-again s t moment again who (add_event event) after reply legal is since = event-again s t moment again who event after reply is since
+  command-again s t moment again who (seat key event first second) after reply legal is since = seat-again s t moment again who key event first second after reply is since
+  command-again s t moment again who (on_game id command) after reply legal is since = on-game-again s t moment again id who command (place s.games id) after reply legal refl is since
+
+  found-later : (o : Option ℕ) (who : Caller) → caller_found o ≡ Some who → (id : ℕ) × (o ≡ Some id) × (Member id ≡ who)
+  found-later None who is = cc
+  found-later (Some id) who is = (id, refl, cc)
+
+  caller-later : (all more : List members.Member) (w : Who) (who : Caller) → Begins all more → caller_of all w ≡ Some who → caller_of more w ≡ Some who
+  caller-later all more officer who begins is = is
+  caller-later all more (key_holder key) who begins is =
+      let (id, found, member) = found-later (find_id (has_member_key key) all) who is in
+      rw (find-later (has_member_key key) all more id begins found, member) refl
+
+  by-again : (s t : State DM SM) (moment again : ℕ) (who later_who : Option Caller) (command : Command) (after : State DM SM) (reply : Reply) → IsLegalState d h s → ((c : Caller) → who ≡ Some c → later_who ≡ Some c) → step_by d h s moment who command ≡ accepted after reply → IsLater after t → step_by d h t again later_who command ≡ repeated reply
+  by-again s t moment again None later_who command after reply legal same is since = cc
+  by-again s t moment again (Some who) later_who command after reply legal same is since = rw (same who refl) (command-again s t moment again who command after reply legal is since)
+
+  pub answers-again : (s after : State DM SM) (r : Request) (reply : Reply) (between : List Request) (moment : ℕ) → IsLegalState d h s → step d h s r ≡ accepted after reply → step d h (fold d h after between) (record r { moment = moment }) ≡ repeated reply
+  answers-again s after r reply between moment legal is =
+      let t = fold d h after between in
+      let stands : next d h s r ≡ after = ap (state_after s) is in
+      let to_after : IsLater s after = rw (← stands) (next-later d h s r) in
+      let to_t : IsLater s t = later-trans s after t to_after (fold-later d h after between) in
+      by-again s t (max r.moment s.last) (max moment t.last) (caller_of s.members r.who) (caller_of t.members r.who) r.command after reply legal (λ c. caller-later s.members t.members r.who c to_t.members) is (fold-later d h after between)

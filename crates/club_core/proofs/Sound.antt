@@ -1,0 +1,59 @@
+-- A view that shows a legal game is sound.
+use Rattle.std.proofs.Common.{◌≡◌, ℕ, ◌+◌, ◌*◌, ◌≤◌, List, [], ◌∷◌, length, map, Option, Some, None, Ok, true, ap, sym, ◌∙◌, arith}
+use Rattle.std.specs.Prelude.{IsTrue, IfSome, nat_le}
+use Rattle.std.proofs.lemmas.Bool.Decides.{nat_tests}
+use Rattle.std.proofs.lemmas.List.{length-map}
+use Rattle.squares.specs.declared.sides.Side.{Side}
+use Rattle.squares.specs.declared.sides.Side.TheVariants.{First, Second}
+use Rattle.squares.specs.Sides.{other}
+use Rattle.club_rules.specs.GameRules.{GameRules}
+use Rattle.club_rules.specs.Line.{position_after}
+use Rattle.club_core.specs.declared.rows.Asked.{Asked}
+use Rattle.club_core.specs.declared.rows.GameView.{GameView}
+use Rattle.club_core.specs.Limits.{is_budget, is_increment, most_plies}
+use Rattle.club_core.specs.Events.{Terms}
+use Rattle.club_core.specs.Game.{Game, Clocks, spend, spend_all, clocks_of}
+use Rattle.club_core.specs.Legal.{IsLegalGame}
+use Rattle.club_core.specs.Step.{move_at}
+use Rattle.club_core.specs.View.{IsAsked, Shows, ShowsPly, IsSound, terms_of}
+use Rattle.club_core.proofs.Played.{asked-legal}
+
+le-true : (a b : ℕ) → nat_le a b ≡ true → a ≤ b
+le-true a b is = grind (arith, nat_tests)
+
+budget-at-most : (b : ℕ) → is_budget b ≡ true → b ≤ 31536000
+budget-at-most b is = grind (arith, nat_tests)
+
+-- each move leaves at most the increment more
+spend-left : (increment : ℕ) (side : Side) (m : ℕ) (c : Clocks) → ((spend increment side m c).left_first ≤ c.left_first + increment) × ((spend increment side m c).left_second ≤ c.left_second + increment)
+spend-left increment First m c = (omega arith, omega arith)
+spend-left increment Second m c = (omega arith, omega arith)
+
+left-at-most : (increment : ℕ) (side : Side) (ms : List ℕ) (c : Clocks) → increment ≤ 2592000 → ((spend_all increment side ms c).left_first ≤ c.left_first + 2592000 * length ms) × ((spend_all increment side ms c).left_second ≤ c.left_second + 2592000 * length ms)
+left-at-most increment side [] c most = (omega arith, omega arith)
+left-at-most increment side (m ∷ ms) c most =
+    let rest = left-at-most increment (other side) ms (spend increment side m c) most in
+    let here = spend-left increment side m c in
+    (omega (arith, rest.0, here.0, most), omega (arith, rest.1, here.1, most))
+
+asked-sound : {R P M E : Type 0} (laws : GameRules P M E) (terms : Terms) (game : Game M) → IsLegalGame laws terms game → (ply : ℕ) (o : Option (Asked R P M E)) → IsAsked laws terms game ply (move_at game ply) o → IfSome o (λ a. laws.check a.before a.made ≡ Ok tt)
+asked-sound laws terms game legal ply None shown = tt
+asked-sound laws terms game legal ply (Some asked) shown = asked-legal laws terms game legal asked ply shown
+
+pub shown-sound : {R P M E : Type 0} (laws : GameRules P M E) (game : Game M) (view : GameView R P M E) (ply : ℕ) → IsTrue (is_budget view.budget) → IsTrue (is_increment view.increment) → IsLegalGame laws (terms_of view) game → Shows laws game view → ShowsPly laws game ply view → IsSound laws view
+shown-sound laws game view ply budget increment legal shows shows_ply =
+    let most : view.increment ≤ 2592000 = le-true view.increment 2592000 increment in
+    let starts : view.budget ≤ 31536000 = budget-at-most view.budget budget in
+    let count : length (map (λ e. e.moment) game.entries) ≡ length game.entries = simp length-map in
+    let left = left-at-most view.increment First (map (λ e. e.moment) game.entries) (record { left_first = view.budget; left_second = view.budget; since = game.start }) most in
+    let first : view.row.left_first ≡ (clocks_of game (terms_of view)).left_first = ap (λ c. c.left_first) shows.row.clocks in
+    let second : view.row.left_second ≡ (clocks_of game (terms_of view)).left_second = ap (λ c. c.left_second) shows.row.clocks in
+    let plies : length game.entries ≤ most_plies = legal.plies in
+    record {
+      line = rw shows.line legal.line;
+      position = shows.position ∙ ap (position_after laws laws.start) (sym shows.line);
+      asked = asked-sound laws (terms_of view) game legal ply view.asked shows_ply;
+      plies = rw shows.row.plies legal.plies;
+      room_first = omega (arith, first, left.0, count, plies, most, starts);
+      room_second = omega (arith, second, left.1, count, plies, most, starts);
+    }

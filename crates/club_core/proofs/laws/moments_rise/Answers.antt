@@ -1,0 +1,5 @@
+use Rattle.club_core.proofs.Folds.{next-raises}
+use Rattle.club_core.proofs.laws.moments_rise.Goals as goal
+
+pub returns : goal.returns
+returns g c = next-raises g.D.Rules.rules g.S.Rules.rules

@@ -1,0 +1,6 @@
+use Rattle.club_core.specs.State.{step}
+use Rattle.club_core.proofs.Folds.{unmoved}
+use Rattle.club_core.proofs.laws.others_leave.Goals as goal
+
+pub returns : goal.returns
+returns g c = λ s r kept. unmoved s (step g.D.Rules.rules g.S.Rules.rules s r) kept

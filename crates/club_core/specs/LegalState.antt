@@ -1,0 +1,67 @@
+-- A legal state of the club: its games are legal, its values and counts keep their limits, and what is named exists.
+use Rattle.std.specs.Prelude.{◌≡◌, ◌+◌, ◌<◌, ◌≤◌, ℕ, List, length, Option, Some, IsTrue, IsSome, IfSome, slice_get}
+use Rattle.club_rules.specs.declared.names.GameKind.{GameKind}
+use Rattle.club_rules.specs.declared.names.GameKind.TheVariants.{Draughts, Shogi}
+use Rattle.club_rules.specs.GameRules.{GameRules}
+use Rattle.club_core.specs.declared.rows.OutsideEnd.TheVariants.{Time}
+use Rattle.club_core.specs.Limits.{last_moment, most_members, most_events, most_games, is_name, is_member_key, is_budget, is_increment}
+use Rattle.club_core.specs.Members.{Member}
+use Rattle.club_core.specs.Events.{Event}
+use Rattle.club_core.specs.Game.{Game, clocks_of, left_of, turn_of}
+use Rattle.club_core.specs.Legal.{IsLegalGame}
+use Rattle.club_core.specs.State.{AnyGame, draughts, shogi, State, place, key_of}
+
+-- each element is so
+abbrev pub Each : {A : Type 0} → (A → Type 0) → List A → Type 0
+Each {A} IsSo xs = (n : ℕ) (x : A) → slice_get xs n ≡ Some x → IsSo x
+
+-- no two elements have the same there
+abbrev pub AreApart : {A B : Type 0} → (A → B) → List A → Type 0
+AreApart {A} part xs = (i j : ℕ) (x y : A) → slice_get xs i ≡ Some x → slice_get xs j ≡ Some y → part x ≡ part y → i ≡ j
+
+-- no two elements have the same there, where they have it at all
+abbrev pub AreApartIfAny : {A B : Type 0} → (A → Option B) → List A → Type 0
+AreApartIfAny {A} {B} part xs =
+    (i j : ℕ) (x y : A) (b : B) → slice_get xs i ≡ Some x → slice_get xs j ≡ Some y → part x ≡ Some b → part y ≡ Some b → i ≡ j
+
+pub record IsLegalMember (m : Member) : Type 0 where
+  pub name : IsTrue (is_name m.name)
+  pub key : IsTrue (is_member_key m.key)
+
+pub record IsLegalEvent (e : Event) : Type 0 where
+  pub name : IsTrue (is_name e.name)
+  pub budget : IsTrue (is_budget e.terms.budget)
+  pub increment : IsTrue (is_increment e.terms.increment)
+
+-- a game of the club, of an event in its kind and between two members
+pub record IsGameOf {DM SM P M E : Type 0} (rules : GameRules P M E) (kind : GameKind) (s : State DM SM) (game : Game M) : Type 0 where
+  pub event : Event
+  pub in_event : place s.events game.event ≡ Some event
+  pub of_kind : event.game ≡ kind
+  pub legal : IsLegalGame rules event.terms game
+  pub first : IsSome (place s.members game.first)
+  pub second : IsSome (place s.members game.second)
+  pub key : IfSome game.key (λ k. IsTrue (is_name k))
+  -- no moment is above that of the last accepted request
+  pub start : game.start ≤ s.last
+  pub entries : Each (λ e. e.moment ≤ s.last) game.entries
+  -- the last second of a side that lost by time is gone
+  pub lost_by_time : game.outside ≡ Some Time → (clocks_of game event.terms).since + left_of (turn_of rules game) (clocks_of game event.terms) < s.last
+
+module _ {DP DM DE SP SM SE : Type 0} (draughts_rules : GameRules DP DM DE) (shogi_rules : GameRules SP SM SE) where
+  abbrev pub IsLegalIn : State DM SM → AnyGame DM SM → Type 0
+  IsLegalIn s (draughts game) = IsGameOf draughts_rules Draughts s game
+  IsLegalIn s (shogi game) = IsGameOf shogi_rules Shogi s game
+
+pub record IsLegalState {DP DM DE SP SM SE : Type 0} (draughts_rules : GameRules DP DM DE) (shogi_rules : GameRules SP SM SE) (s : State DM SM) : Type 0 where
+  pub last : s.last ≤ last_moment
+  pub members : Each IsLegalMember s.members
+  pub member_count : length s.members ≤ most_members
+  pub member_names : AreApart (λ m. m.name) s.members
+  pub member_keys : AreApart (λ m. m.key) s.members
+  pub events : Each IsLegalEvent s.events
+  pub event_count : length s.events ≤ most_events
+  pub event_names : AreApart (λ e. e.name) s.events
+  pub games : Each (IsLegalIn draughts_rules shogi_rules s) s.games
+  pub game_count : length s.games ≤ most_games
+  pub game_keys : AreApartIfAny (λ g. key_of g) s.games

@@ -1,0 +1,44 @@
+//! Laws of the whole machine, over two kinds of games: each is what a function with an empty body ensures.
+
+ghost use Rattle.std.specs.Prelude.{ℕ, IsTrue};
+ghost use Rattle.club_core.specs.Limits.{is_budget, is_increment};
+ghost use Rattle.club_core.specs.Game.{Game};
+ghost use Rattle.club_core.specs.Legal.{IsLegalGame};
+ghost use Rattle.club_core.specs.View.{Shows, ShowsPly, IsSound, terms_of};
+ghost use Rattle.club_core.specs.Laws.{FoldsAccepted, LeavesState, NeverFalls, KeepsLegal, AnswersAgain};
+
+use crate::rows::GameView;
+use club_rules::Rules;
+
+/// The requests that were accepted lead alone to the same state.
+pub fn accepted_suffice<D: Rules, S: Rules>()
+    ensures { FoldsAccepted D.rules S.rules }
+{}
+
+/// A request that is refused or repeated leaves the state.
+pub fn others_leave<D: Rules, S: Rules>()
+    ensures { LeavesState D.rules S.rules }
+{}
+
+/// The moment of the last accepted request never falls.
+pub fn moments_rise<D: Rules, S: Rules>()
+    ensures { NeverFalls D.rules S.rules }
+{}
+
+/// A request, at a moment that there is, leaves a legal state legal.
+pub fn requests_keep_legal<D: Rules, S: Rules>()
+    ensures { KeepsLegal D.rules S.rules }
+{}
+
+/// An accepted command that comes again from the one who gave it is repeated with the same answer, at any moment and
+/// whatever requests stand between.
+pub fn repeats_answer_again<D: Rules, S: Rules>()
+    ensures { AnswersAgain D.rules S.rules }
+{}
+
+/// A view that shows a legal game of an event is sound, so that a command can be decided over it.
+pub fn shown_is_sound<R: Rules>(view: &GameView<R>)
+    ensures { (game : Game R.Move) (ply : ℕ) → IsTrue (is_budget view.now.budget) → IsTrue (is_increment view.now.increment) →
+        IsLegalGame R.rules (terms_of view.now) game → Shows R.rules game view.now → ShowsPly R.rules game ply view.now →
+        IsSound R.rules view.now }
+{}

@@ -1,0 +1,160 @@
+//! Adding members and events, and seating, on lists that stand; and how refusals are written.
+
+use crate::answers::{Answer, Outcome};
+use crate::events::{Event, add_event};
+use crate::members::{Member, add_member, identify};
+use crate::refusals::Refusal;
+use crate::requests::{AddEvent, AddMember, Caller, Seat, Who};
+use crate::seats::{KeyedGame, Pairing, Seating, seat};
+use crate::values::{is_member_key, is_name};
+use club_rules::{GameKind, Memory, MoveRefusal};
+use std::alloc::Global;
+use std::test::Fail;
+
+fn text(alloc: Global, letters: &str) -> Result<String, Memory> {
+    Ok(String::from_str(alloc, letters)?)
+}
+
+fn member(alloc: Global, name: &str, key: &str) -> Result<Member, Memory> {
+    Ok(Member {
+        name: text(alloc, name)?,
+        key: text(alloc, key)?,
+    })
+}
+
+fn new_member(alloc: Global, name: &str, key: &str) -> Result<AddMember, Memory> {
+    Ok(AddMember {
+        name: text(alloc, name)?,
+        key: text(alloc, key)?,
+    })
+}
+
+fn id_of(outcome: Outcome) -> Option<u32> {
+    match outcome {
+        Outcome::Accepted(Answer::Member(id)) => Some(id),
+        Outcome::Accepted(Answer::Event(id)) => Some(id),
+        _ => None,
+    }
+}
+
+fn repeated_id_of(outcome: Outcome) -> Option<u32> {
+    match outcome {
+        Outcome::Repeated(Answer::Member(id)) => Some(id),
+        Outcome::Repeated(Answer::Event(id)) => Some(id),
+        _ => None,
+    }
+}
+
+fn refusal_of(outcome: Outcome) -> Option<Refusal> {
+    match outcome {
+        Outcome::Refused(refusal) => Some(refusal),
+        _ => None,
+    }
+}
+
+#[test]
+fn members_are_added_once(rt: HostRuntime) -> Result<(), Fail> {
+    let anna = member(rt.alloc(), "anna", "keyanna1")?;
+    let members = [anna];
+    let bert = new_member(rt.alloc(), "bert", "keybert2")?;
+    let again = new_member(rt.alloc(), "anna", "keyanna1")?;
+    let other_key = new_member(rt.alloc(), "anna", "keyanna2")?;
+    let short_key = new_member(rt.alloc(), "cara", "key")?;
+    assert_eq!(rt;
+        id_of(add_member(&members, Caller::Officer, &bert)),
+        Some(2)
+    );
+    assert_eq!(rt;
+        repeated_id_of(add_member(&members, Caller::Officer, &again)),
+        Some(1)
+    );
+    assert_eq!(rt;
+        refusal_of(add_member(&members, Caller::Officer, &other_key)),
+        Some(Refusal::NameTaken)
+    );
+    assert_eq!(rt;
+        refusal_of(add_member(&members, Caller::Officer, &short_key)),
+        Some(Refusal::BadValue)
+    );
+    assert_eq!(rt;
+        refusal_of(add_member(&members, Caller::Member(1), &bert)),
+        Some(Refusal::NotAllowed)
+    );
+    let key = Who::Key(text(rt.alloc(), "keyanna1")?);
+    assert_eq!(rt; identify(&members, &key), Some(Caller::Member(1)));
+    assert_eq!(rt; identify(&members, &Who::Officer), Some(Caller::Officer));
+    Ok(())
+}
+
+#[test]
+fn members_are_seated_once(rt: HostRuntime) -> Result<(), Fail> {
+    let anna = member(rt.alloc(), "anna", "keyanna1")?;
+    let bert = member(rt.alloc(), "bert", "keybert2")?;
+    let members = [anna, bert];
+    let autumn = AddEvent {
+        name: text(rt.alloc(), "autumn")?,
+        game: GameKind::Draughts,
+        budget: 60,
+        increment: 5,
+    };
+    assert_eq!(rt; id_of(add_event(&[], Caller::Officer, &autumn)), Some(1));
+    let events = [Event {
+        name: text(rt.alloc(), "autumn")?,
+        game: GameKind::Draughts,
+        budget: 60,
+        increment: 5,
+    }];
+    assert_eq!(rt;
+        repeated_id_of(add_event(&events, Caller::Officer, &autumn)),
+        Some(1)
+    );
+    let g1 = Seat {
+        key: text(rt.alloc(), "g1")?,
+        event: text(rt.alloc(), "autumn")?,
+        first: text(rt.alloc(), "anna")?,
+        second: text(rt.alloc(), "bert")?,
+    };
+    let started = KeyedGame {
+        game: 1,
+        pairing: Pairing {
+            event: 1,
+            first: 1,
+            second: 2,
+        },
+    };
+    let seating = seat(&members, &events, None, 0, Caller::Officer, &g1);
+    assert_eq!(rt; seating, Seating::Starts(started));
+    let again = seat(&members, &events, Some(started), 1, Caller::Officer, &g1);
+    assert_eq!(rt; again, Seating::Repeated(1));
+    let turned = KeyedGame {
+        game: 1,
+        pairing: Pairing {
+            event: 1,
+            first: 2,
+            second: 1,
+        },
+    };
+    let conflict = seat(&members, &events, Some(turned), 1, Caller::Officer, &g1);
+    assert_eq!(rt; conflict, Seating::Refused(Refusal::Conflict));
+    Ok(())
+}
+
+#[test]
+fn values_are_read(rt: HostRuntime) {
+    assert!(rt; is_name("autumn_2026.A-b"));
+    assert!(rt; !is_name("autumn 2026"));
+    assert!(rt; !is_name(""));
+    assert!(rt; is_member_key("keyanna1"));
+    assert!(rt; !is_member_key("key.anna1"));
+}
+
+#[test]
+fn refusals_are_written(rt: HostRuntime) -> Result<(), Fail> {
+    let conflict = format!(in rt.alloc(); "{}", Refusal::Conflict)?;
+    assert_eq!(rt; conflict.as_str(), "58 Conflict");
+    let text = format!(in rt.alloc(); "{}", Refusal::Play(MoveRefusal::BadText(2)))?;
+    assert_eq!(rt; text.as_str(), "20 BadText 2");
+    let capture = format!(in rt.alloc(); "{}", Refusal::Play(MoveRefusal::MustCapture))?;
+    assert_eq!(rt; capture.as_str(), "11 MustCapture");
+    Ok(())
+}
