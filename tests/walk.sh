@@ -69,6 +69,8 @@ at 0 'accepted ply 1 32-28' move 1 1 32-28
 at 0 'repeated ply 1 32-28' move 1 1 32-28
 at 0 'repeated ply 1 32-28' move 1 1 032-28
 at 1 'refused 58 Conflict' move 1 1 32-27
+cp c.db before.db
+cp c.db-wal before.db-wal 2> /dev/null
 at 0 'accepted ply 2 19-23' move 1 2 19-23
 at 1 'refused 11 MustCapture' move 1 3 33-29
 at 1 'refused 20 BadText 2' move 1 3 28x19
@@ -84,4 +86,30 @@ reads '1|1|32-28|1000|65|B:W28,31,33,34,35,36,37,38,39,40,41,42,43,44,45,46,47,4
 1|2|19-23|1000|65|W:W28,31,33,34,35,36,37,38,39,40,41,42,43,44,45,46,47,48,49,50:B1,2,3,4,5,6,7,8,9,10,11,12,13,14,15,16,17,18,20,23' 'SELECT * FROM moves ORDER BY game, ply'
 reads '1|g1|1|1|2|1000|1000|2|65|65|||||W:W28,31,33,34,35,36,37,38,39,40,41,42,43,44,45,46,47,48,49,50:B1,2,3,4,5,6,7,8,9,10,11,12,13,14,15,16,17,18,20,23|0|0' 'SELECT * FROM games'
 reads '0|0|0' 'SELECT (SELECT count(*) FROM challenges), (SELECT count(*) FROM seen), (SELECT count(*) FROM scores)'
+
+# A move with each of its requests for memory refused in turn, up to the two hundredth, and then with every ninety-seventh:
+# it is refused as a fault or done, and then the move stands or is made.
+refused_memory() {
+    gcc -shared -fPIC -O1 -o refuse.so "$top/tests/refuse.c" -ldl || return 1
+    local number=0 step=1 said
+    while [ $number -lt 100000 ]; do
+        number=$((number + step))
+        if [ $number -ge 200 ]; then step=97; fi
+        cp before.db r.db && cp before.db-wal r.db-wal 2> /dev/null
+        said=$(REFUSE=$number LD_PRELOAD=./refuse.so "$top/build/club" --now 1000 r.db move 1 2 19-23 2>&1)
+        case "$?:$said" in
+            '3:store 75 Memory' | '3:store 73 Store') ;;
+            '0:accepted ply 2 19-23') return 0 ;;
+            *) echo "  refused $number: $said" && return 1 ;;
+        esac
+        case "$("$top/build/club" --now 1000 r.db move 1 2 19-23 2>&1)" in
+            'accepted ply 2 19-23' | 'repeated ply 2 19-23') ;;
+            *) echo "  after $number was refused the move does not stand" && return 1 ;;
+        esac
+    done
+    return 1
+}
+if command -v gcc > /dev/null 2>&1; then
+    if refused_memory; then echo 'ok a move with its memory refused in turn'; else echo 'not ok a move with its memory refused in turn' && bad=1; fi
+fi
 exit $bad

@@ -1,0 +1,189 @@
+//! The program's words, read as one order.
+
+use clap::error::ErrorKind;
+use clap::{Arg, ArgAction, ArgMatches, value_parser};
+use clocks::Moment;
+use club_core::{AddEvent, AddMember, Command, Move, Seat};
+use club_rules::GameKind;
+use std::alloc::{AllocError, Global};
+
+/// What the program is asked to do.
+#[derive(Debug, Drop)]
+pub enum Task {
+    /// Make the tables of a club in the file.
+    Init,
+    /// Give the club a command of the officer's.
+    Request(Command),
+}
+
+/// A file, the moment that is to count if the words give one, and what to do.
+#[derive(Debug, Drop)]
+pub struct Order {
+    pub file: String,
+    pub now: Option<Moment>,
+    pub task: Task,
+}
+
+/// Words that are no order.
+#[derive(Debug, Drop)]
+pub enum BadWords {
+    /// What the parser says of them; its help, too.
+    Text(String),
+    /// Memory was refused.
+    Memory,
+}
+
+impl From<AllocError> for BadWords {
+    fn from(_refused: AllocError) -> BadWords {
+        BadWords::Memory
+    }
+}
+
+// The games that an event may have.
+static GAMES: [&str; 2] = ["draughts", "shogi"];
+
+// A positional word that has to be there.
+fn word<'a>(alloc: Global, name: &'a str) -> Arg<'a> {
+    Arg::new(alloc, name).required(true).action(ArgAction::Set)
+}
+
+// A positional whole number that has to be there.
+fn number<'a>(alloc: Global, name: &'a str) -> Arg<'a> {
+    word(alloc, name).value_parser(value_parser!(u64))
+}
+
+fn member_words<'a>(alloc: Global) -> Result<clap::Command<'a>, AllocError> {
+    clap::Command::new(alloc, "member")
+        .about("Adds a member, with the key that the member will show")
+        .arg(word(alloc, "NAME"))?
+        .arg(word(alloc, "KEY"))
+}
+
+fn event_words<'a>(alloc: Global) -> Result<clap::Command<'a>, AllocError> {
+    clap::Command::new(alloc, "event")
+        .about(
+            "Adds an event; each player starts with BUDGET seconds and gains INCREMENT at each move",
+        )
+        .arg(word(alloc, "NAME"))?
+        .arg(word(alloc, "GAME").value_parser(GAMES.as_slice()))?
+        .arg(number(alloc, "BUDGET"))?
+        .arg(number(alloc, "INCREMENT"))
+}
+
+fn seat_words<'a>(alloc: Global) -> Result<clap::Command<'a>, AllocError> {
+    clap::Command::new(alloc, "seat")
+        .about("Starts a game of an event between two members, under a key")
+        .arg(word(alloc, "KEY"))?
+        .arg(word(alloc, "EVENT"))?
+        .arg(word(alloc, "FIRST"))?
+        .arg(word(alloc, "SECOND"))
+}
+
+fn move_words<'a>(alloc: Global) -> Result<clap::Command<'a>, AllocError> {
+    clap::Command::new(alloc, "move")
+        .about("Plays a move for the side whose ply it is")
+        .arg(number(alloc, "GAME"))?
+        .arg(number(alloc, "PLY"))?
+        .arg(word(alloc, "TEXT"))
+}
+
+// The program's words, as the parser takes them.
+fn club_words<'a>(alloc: Global) -> Result<clap::Command<'a>, AllocError> {
+    let now = Arg::new(alloc, "SECONDS")
+        .long("now")
+        .help("The moment that counts, in Unix seconds, in place of the machine's clock")
+        .action(ArgAction::Set)
+        .value_parser(value_parser!(u64).range(0..=253_402_300_799));
+    let init = clap::Command::new(alloc, "init").about(
+        "Makes the tables of a club in an empty file",
+    );
+    clap::Command::new(alloc, "club")
+        .about("Keeps a club's games of draughts and shogi in one file")
+        .subcommand_required(true)
+        .arg(now)?
+        .arg(word(alloc, "FILE"))?
+        .subcommand(init)?
+        .subcommand(member_words(alloc)?)?
+        .subcommand(event_words(alloc)?)?
+        .subcommand(seat_words(alloc)?)?
+        .subcommand(move_words(alloc)?)
+}
+
+// A copy of a word that has to be there.
+fn text(alloc: Global, matches: &ArgMatches<'_>, name: &str) -> Result<String, AllocError> {
+    String::from_str(alloc, matches.get_str(name).unwrap_or(""))
+}
+
+// A number that has to be there.
+fn number_of(matches: &ArgMatches<'_>, name: &str) -> u64 {
+    matches.get_one::<u64>(name).unwrap_or(0)
+}
+
+fn game_of(matches: &ArgMatches<'_>) -> GameKind {
+    match matches.get_str("GAME") {
+        Some("shogi") => GameKind::Shogi,
+        _ => GameKind::Draughts,
+    }
+}
+
+// The command that the words of a subcommand give.
+fn task_of(alloc: Global, name: &str, words: &ArgMatches<'_>) -> Result<Task, AllocError> {
+    let command = match name {
+        "member" => Command::AddMember(AddMember {
+            name: text(alloc, words, "NAME")?,
+            key: text(alloc, words, "KEY")?,
+        }),
+        "event" => Command::AddEvent(AddEvent {
+            name: text(alloc, words, "NAME")?,
+            game: game_of(words),
+            budget: number_of(words, "BUDGET"),
+            increment: number_of(words, "INCREMENT"),
+        }),
+        "seat" => Command::Seat(Seat {
+            key: text(alloc, words, "KEY")?,
+            event: text(alloc, words, "EVENT")?,
+            first: text(alloc, words, "FIRST")?,
+            second: text(alloc, words, "SECOND")?,
+        }),
+        "move" => Command::Move(Move {
+            game: number_of(words, "GAME"),
+            ply: number_of(words, "PLY"),
+            text: text(alloc, words, "TEXT")?,
+        }),
+        _ => return Ok(Task::Init),
+    };
+    Ok(Task::Request(command))
+}
+
+// What the parser says of words that it refuses.
+fn refused(alloc: Global, error: &clap::Error) -> BadWords {
+    if error.kind() == ErrorKind::OutOfMemory {
+        return BadWords::Memory;
+    }
+    match error.to_string(alloc) {
+        Ok(text) => BadWords::Text(text),
+        Err(_) => BadWords::Memory,
+    }
+}
+
+/// The order that the words give; the first word is the program's own name.
+pub fn read_words(alloc: Global, words: &[&str]) -> Result<Order, BadWords> {
+    let club = club_words(alloc)?;
+    let matches = match club.try_get_matches_from(words) {
+        Ok(matches) => matches,
+        Err(error) => return Err(refused(alloc, &error)),
+    };
+    let task = match matches.subcommand() {
+        Some((name, words)) => task_of(alloc, name, words)?,
+        None => Task::Init,
+    };
+    let now = match matches.get_one::<u64>("SECONDS") {
+        Some(seconds) => Moment::new(seconds),
+        None => None,
+    };
+    Ok(Order {
+        file: text(alloc, &matches, "FILE")?,
+        now,
+        task,
+    })
+}

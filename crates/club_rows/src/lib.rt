@@ -1,0 +1,17 @@
+//! Between the machine and its tables: a game's rows as the game that they show, and what is made of a game as rows.
+#![tactic(auto)]
+
+pub mod asked;
+pub mod audit;
+pub mod ends;
+pub mod lines;
+pub mod numbers;
+pub mod records;
+pub mod replay;
+pub mod view;
+
+pub use asked::ask;
+pub use audit::{terms_of, wrong_table};
+pub use records::{move_row, record_of};
+pub use replay::Terms;
+pub use view::{Shown, view_of};

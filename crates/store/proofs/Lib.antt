@@ -1,0 +1,3 @@
+pub mod BlameLemmas
+pub mod BoundLemmas
+pub mod PlaceLemmas

@@ -1,0 +1,23 @@
+use Rattle.std.proofs.Common.{[]}
+use Rattle.std.proofs.lemmas.Result.{IfOk-weaker, IfErr-weaker}
+use Rattle.sqlite.specs.Held.{state}
+use Rattle.store_tables.specs.Tables.{games}
+use Rattle.store_tables.specs.Texts.{games_all}
+use Rattle.store_tables.proofs.SelectMeanings.{games_all_is, games_shown, games_first, games_columns}
+use Rattle.store_tables.proofs.TellLemmas.{tells, tells_ids, no_input, keeps_may}
+use Rattle.store.proofs.select.select_games.Goals as goal
+
+pub returns-clause-rows : goal.returns-clause-rows
+returns-clause-rows g c clean =
+    IfOk-weaker c.query_all.result _ _ (λ rows shown has. tells (games 10) 1 games_all games_columns games_all_is games_shown (state g.S.Store c.args.conn.now) (state g.S.Store c.query_all.new.self) rows.items has shown) (c.query_all.ensures.ok clean)
+
+pub returns-clause-ids : goal.returns-clause-ids
+returns-clause-ids g c clean =
+    IfOk-weaker c.query_all.result _ _ (λ rows shown has. tells_ids 10 games_all games_columns games_all_is games_first (state g.S.Store c.args.conn.now) (state g.S.Store c.query_all.new.self) rows.items has shown) (c.query_all.ensures.ok clean)
+
+pub returns-clause-known : goal.returns-clause-known
+returns-clause-known g c clean =
+    IfErr-weaker c.query_all.result _ _ (λ e failed has. no_input games_all [] (state g.S.Store c.args.conn.now) (state g.S.Store c.query_all.new.self) e games_all_is.plain has failed) (c.query_all.ensures.err clean)
+
+pub returns-clause-may : goal.returns-clause-may
+returns-clause-may g c clean has = keeps_may games_all [] (state g.S.Store c.args.conn.now) (state g.S.Store c.query_all.new.self) games_all_is.plain has c.query_all.ensures.survives clean

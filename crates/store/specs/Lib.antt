@@ -1,0 +1,4 @@
+pub mod Blames
+pub mod Changed
+pub mod Clubs
+pub mod Places

@@ -1,0 +1,170 @@
+//! An open club.
+
+ghost use Rattle.std.specs.Prelude.{◌≡◌, ◌≢◌, ◌≤◌, ◌⊎◌, false, true, Err, IfOk, IfErr, OnOk, OnErr};
+ghost use Rattle.sqlite.specs.State.{HasCleanDisk};
+ghost use Rattle.sqlite.specs.Held.{state};
+ghost use Rattle.sqlite_trees.specs.View.{doubt};
+ghost use Rattle.store_tables.specs.Contents.{IsExactly, IsExactlyEmpty, IsEmpty, IsOpened, Leaves, opening};
+ghost use Rattle.store_tables.specs.Reading.{KeepsMay};
+ghost use Rattle.store_tables.specs.Rows.{content_of};
+ghost use Rattle.store_tables.specs.Tables.{club_schema};
+ghost use Rattle.store.specs.Blames.{NamesTable, NamesSchema};
+ghost use Rattle.store.specs.Changed.{changed};
+ghost use Rattle.store.specs.Places.{AreWellFormed, NamesRows};
+
+use crate::changes::{Changes, commit_changes};
+use crate::command::{Decided, decide_request};
+use crate::examine::examine;
+use crate::fault::{OpenFault, StoreFault};
+use crate::make::create_tables;
+use crate::read::fault_of;
+use clocks::Moment;
+use club_core::{Command, Outcome, Who};
+use sqlite::{Alter, Connection};
+use std::alloc::Global;
+use std::marker::Model;
+
+/// The store of a club, over any store of `sqlite`. It stands outside a transaction between calls.
+#[derive(Drop)]
+pub struct Club<S: Alter> {
+    connection: Connection<S>,
+    /// A call has failed since the database was opened.
+    needs_reopening: bool,
+}
+
+impl<S: Alter> Model for Club<S> {
+    ghost use Rattle.std.specs.Prelude.{◌≡◌, false};
+    ghost use Rattle.store.specs.Clubs.{Kept, kept_code};
+
+    ghost Value = { Kept S };
+
+    ghost coded = { kept_code S.code };
+
+    ghost view = { λ c. record { connection = c.connection; needs_reopening = c.needs_reopening } };
+
+    ghost invariant = { λ c. c.connection.in_transaction ≡ false };
+}
+
+/// A connection over tables that were not taken as a club's.
+#[derive(Drop)]
+pub struct Unopened<S: Alter> {
+    pub fault: OpenFault,
+    pub conn: Connection<S>,
+}
+
+/// Makes the tables of a club with nothing in it, in an empty database, by one transaction with one commit. A database where one of the tables stands is left as it is. Nothing is allocated so far.
+pub fn create<S: Alter>(_alloc: Global, conn: Connection<S>) -> Result<Club<S>, Unopened<S>>
+    requires { conn.in_transaction ≡ false }
+    ensures ready { IfOk result (λ club. club.needs_reopening ≡ false) }
+    ensures stored { IfOk result (λ club. HasCleanDisk (state S.Store club.connection) → IsExactlyEmpty (state S.Store conn) → IsExactly opening (state S.Store club.connection)) }
+    ensures fresh { IfOk result (λ club. HasCleanDisk (state S.Store club.connection) → (state S.Store conn).now.schema ≢ club_schema) }
+    ensures clean { IfOk result (λ club. doubt (state S.Store conn).is_clean ≤ doubt (state S.Store club.connection).is_clean) }
+    ensures idle { IfErr result (λ u. u.conn.in_transaction ≡ false) }
+    ensures named { IfErr result (λ u. (u.fault ≡ OpenFault.Foreign) ⊎ (u.fault ≡ OpenFault.Store)) }
+    ensures fault { IfErr result (λ u. HasCleanDisk (state S.Store u.conn) → IsExactlyEmpty (state S.Store conn) → (db : _) → (state S.Store u.conn).may_leave db → IsEmpty db ⊎ Leaves opening db) }
+    ensures stays { IfErr result (λ u. HasCleanDisk (state S.Store u.conn) → (state S.Store conn).now.schema ≡ club_schema → KeepsMay (state S.Store conn) (state S.Store u.conn)) }
+    ensures known { IfErr result (λ u. doubt (state S.Store conn).is_clean ≤ doubt (state S.Store u.conn).is_clean) }
+{
+    let mut conn = conn;
+    match create_tables(&mut conn) {
+        Ok(()) => Ok(Club {
+            connection: conn,
+            needs_reopening: false,
+        }),
+        Err(error) => Err(Unopened {
+            fault: fault_of(error),
+            conn,
+        }),
+    }
+}
+
+/// Takes a connection over the tables of a club. It changes nothing.
+pub fn adopt<S: Alter>(alloc: Global, conn: Connection<S>) -> Result<Club<S>, Unopened<S>>
+    requires { conn.in_transaction ≡ false }
+    ensures ready { IfOk result (λ club. club.needs_reopening ≡ false) }
+    ensures found { IfOk result (λ club. HasCleanDisk (state S.Store club.connection) → IsOpened (state S.Store conn) → (rows : _) × AreWellFormed rows × IsExactly (content_of rows) (state S.Store club.connection)) }
+    ensures same { IfOk result (λ club. HasCleanDisk (state S.Store club.connection) → (content : _) → IsExactly content (state S.Store conn) → IsExactly content (state S.Store club.connection)) }
+    ensures clean { IfOk result (λ club. doubt (state S.Store conn).is_clean ≤ doubt (state S.Store club.connection).is_clean) }
+    ensures idle { IfErr result (λ u. u.conn.in_transaction ≡ false) }
+    ensures blames { IfErr result (λ u. HasCleanDisk (state S.Store u.conn) → IsOpened (state S.Store conn) → NamesTable (state S.Store conn).now u.fault ⊎ (NamesSchema (state S.Store conn).now u.fault ⊎ NamesRows (state S.Store conn).now u.fault)) }
+    ensures kept { IfErr result (λ u. HasCleanDisk (state S.Store u.conn) → (state S.Store conn).now.schema ≡ club_schema → KeepsMay (state S.Store conn) (state S.Store u.conn)) }
+    ensures known { IfErr result (λ u. doubt (state S.Store conn).is_clean ≤ doubt (state S.Store u.conn).is_clean) }
+{
+    let mut conn = conn;
+    match examine(alloc, &mut conn) {
+        Ok(()) => Ok(Club {
+            connection: conn,
+            needs_reopening: false,
+        }),
+        Err(fault) => Err(Unopened { fault, conn }),
+    }
+}
+
+impl<S: Alter> Club<S> {
+    /// Gives the connection back, also after a fault.
+    pub fn into_connection(self) -> Connection<S>
+        ensures same { result ≡ self.connection }
+        ensures idle { result.in_transaction ≡ false }
+    {
+        let Club {
+            connection,
+            needs_reopening: _,
+        } = self;
+        connection
+    }
+
+    /// Puts all of the rows in one transaction with one commit. After a fault every later call is refused with `Reopen`.
+    pub fn apply_changes(&mut self, changes: &Changes) -> Result<(), StoreFault>
+        ensures clean { doubt (state S.Store self.old.connection).is_clean ≤ doubt (state S.Store self.new.connection).is_clean }
+        ensures shut { self.old.needs_reopening ≡ true → (result ≡ Err StoreFault.Reopen) × (self.new ≡ self.old) }
+        ensures goes_on { OnOk result (self.new.needs_reopening ≡ false) }
+        ensures ends { OnErr result (self.new.needs_reopening ≡ true) }
+        ensures named { IfErr result (λ fault. self.old.needs_reopening ≡ false → fault ≡ StoreFault.Store) }
+        ensures stored { HasCleanDisk (state S.Store self.new.connection) → OnOk result ((content : _) → IsExactly content (state S.Store self.old.connection) → IsExactly (changed changes.now content) (state S.Store self.new.connection)) }
+        ensures fault { HasCleanDisk (state S.Store self.new.connection) → OnErr result (self.old.needs_reopening ≡ false → (content : _) → IsExactly content (state S.Store self.old.connection) → (db : _) → (state S.Store self.new.connection).may_leave db → Leaves content db ⊎ Leaves (changed changes.now content) db) }
+    {
+        if self.needs_reopening {
+            return Err(StoreFault::Reopen);
+        }
+        match commit_changes(&mut self.connection, changes) {
+            Ok(()) => Ok(()),
+            Err(_) => {
+                self.needs_reopening = true;
+                Err(StoreFault::Store)
+            }
+        }
+    }
+
+    /// Gives the club a command: what it answers, and the tables as they are to stand, in one transaction with one commit
+    /// where the command is accepted. After a fault every later call is refused with `Reopen`.
+    pub fn apply(
+        &mut self,
+        alloc: Global,
+        who: &Who,
+        command: &Command,
+        moment: Moment,
+    ) -> Result<Outcome, StoreFault>
+        ensures shut { self.old.needs_reopening ≡ true → (result ≡ Err StoreFault.Reopen) × (self.new ≡ self.old) }
+        ensures goes_on { OnOk result (self.new.needs_reopening ≡ false) }
+        ensures ends { OnErr result (self.new.needs_reopening ≡ true) }
+    {
+        if self.needs_reopening {
+            return Err(StoreFault::Reopen);
+        }
+        let decided = match decide_request(alloc, &mut self.connection, who, command, moment) {
+            Ok(decided) => decided,
+            Err(fault) => {
+                self.needs_reopening = true;
+                return Err(fault);
+            }
+        };
+        let Decided { outcome, changes } = decided;
+        match changes {
+            Some(changes) => match self.apply_changes(&changes) {
+                Ok(()) => Ok(outcome),
+                Err(fault) => Err(fault),
+            },
+            None => Ok(outcome),
+        }
+    }
+}

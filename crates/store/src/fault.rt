@@ -1,0 +1,38 @@
+//! What may go wrong with a club's store.
+
+use store_tables::Table;
+use thiserror::Error;
+
+/// Why a call on an open club failed. It shows as the number and name of the fault.
+#[derive(Debug, Clone, Copy, PartialEq, Eq, Drop, Error)]
+pub enum StoreFault {
+    /// A call of the database failed.
+    #[error("73 Store")]
+    Store,
+    /// An earlier call failed, and the database has to be opened again.
+    #[error("74 Reopen")]
+    Reopen,
+    /// The allocator refused.
+    #[error("75 Memory")]
+    Memory,
+}
+
+/// Why a database was not taken as a club's. It shows as the number and name of the fault.
+#[derive(Debug, Clone, Copy, PartialEq, Eq, Drop, Error)]
+pub enum OpenFault {
+    /// A table or a column of a club is missing, or one that is to be made stands there.
+    #[error("70 Foreign")]
+    Foreign,
+    /// The tables are of the schema with this number.
+    #[error("71 Schema {0}")]
+    Schema(i64),
+    /// This table has rows that no club has.
+    #[error("72 Damaged {0}")]
+    Damaged(Table),
+    /// A call of the database failed.
+    #[error("73 Store")]
+    Store,
+    /// The allocator refused.
+    #[error("75 Memory")]
+    Memory,
+}

@@ -1,0 +1,21 @@
+//! The store of a club: its tables over any store of `sqlite`, changed in transactions with one commit each.
+#![tactic(auto)]
+
+mod audit;
+mod changes;
+mod club;
+mod command;
+mod examine;
+mod fault;
+mod find;
+mod make;
+mod put;
+mod read;
+mod select;
+#[cfg(test)]
+mod tests;
+
+pub use changes::Changes;
+pub use club::{Club, Unopened, adopt, create};
+pub use fault::{OpenFault, StoreFault};
+pub use store_tables::Table;

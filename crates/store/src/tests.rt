@@ -1,0 +1,279 @@
+ghost use Rattle.std.specs.Prelude.{◌≡◌, false};
+
+use crate::find::{game_with_id, game_with_key, moves_of};
+use crate::{Changes, Club, OpenFault, StoreFault, Table, adopt, create};
+use sqlite::{Connection, Error, MemStore};
+use std::alloc::Global;
+use std::test::Fail;
+use store_tables::{
+    ChallengeRow, EventRow, GameRecord, MemberRow, MetaRow, MoveRow, ScoreRow, SeenRow,
+};
+
+fn text(alloc: Global, s: &str) -> Result<String, Error> {
+    let mut out = String::new(alloc);
+    out.push_str(s)?;
+    Ok(out)
+}
+
+fn nothing(alloc: Global) -> Changes {
+    Changes {
+        members: Vec::new(alloc),
+        events: Vec::new(alloc),
+        challenges: Vec::new(alloc),
+        games: Vec::new(alloc),
+        moves: Vec::new(alloc),
+        seen: Vec::new(alloc),
+        scores: Vec::new(alloc),
+        meta: None,
+    }
+}
+
+fn member(alloc: Global, id: i64, name: &str) -> Result<MemberRow, Error> {
+    Ok(MemberRow {
+        id,
+        name: text(alloc, name)?,
+        key: text(alloc, name)?,
+    })
+}
+
+fn game(alloc: Global) -> Result<GameRecord, Error> {
+    Ok(GameRecord {
+        id: 1,
+        key: Some(text(alloc, "final")?),
+        event: 1,
+        first: 1,
+        second: 2,
+        start: 100,
+        since: 160,
+        plies: 1,
+        left1: 540,
+        left2: 600,
+        offer_side: None,
+        offer_ply: Some(2),
+        end: None,
+        result: None,
+        position: text(alloc, "B:W1:B2")?,
+        track_a: 0,
+        track_b: 0,
+    })
+}
+
+fn add_people(alloc: Global, changes: &mut Changes) -> Result<(), Error> {
+    changes.members.push(member(alloc, 1, "anna")?)?;
+    changes.members.push(member(alloc, 2, "bert")?)?;
+    changes.events.push(EventRow {
+        id: 1,
+        name: text(alloc, "cup")?,
+        game: 0,
+        budget: 600,
+        increment: 0,
+    })?;
+    changes.challenges.push(ChallengeRow {
+        member: 1,
+        number: 7,
+        event: 1,
+        other: 2,
+        first: 1,
+        state: 3,
+        game: Some(1),
+    })?;
+    Ok(())
+}
+
+fn add_counts(alloc: Global, changes: &mut Changes) -> Result<(), Error> {
+    changes.seen.push(SeenRow {
+        game: 1,
+        position: text(alloc, "B:W1:B2")?,
+        count: 1,
+        first_ply: 1,
+    })?;
+    changes.scores.push(ScoreRow {
+        event: 1,
+        member: 1,
+        opponent: 2,
+        points: 0,
+        wins: 0,
+        draws: 0,
+        losses: 0,
+    })?;
+    Ok(())
+}
+
+/// Two members, an event, and a game after one ply, which left its player so many seconds.
+fn first_day(alloc: Global, left: i64) -> Result<Changes, Error> {
+    let mut changes = nothing(alloc);
+    add_people(alloc, &mut changes)?;
+    changes.games.push(game(alloc)?)?;
+    changes.moves.push(MoveRow {
+        game: 1,
+        ply: 1,
+        text: text(alloc, "32-28")?,
+        moment: 160,
+        left,
+        position: text(alloc, "B:W1:B2")?,
+    })?;
+    add_counts(alloc, &mut changes)?;
+    changes.meta = Some(MetaRow {
+        id: 1,
+        schema: 1,
+        last: 160,
+    });
+    Ok(changes)
+}
+
+fn made(alloc: Global) -> Result<Club<MemStore>, Fail> {
+    let empty = Connection::open_in_memory(alloc)?;
+    match create(alloc, empty) {
+        Ok(club) => Ok(club),
+        Err(unopened) => Err(Fail::from(unopened.fault)),
+    }
+}
+
+fn adopted(alloc: Global, conn: Connection<MemStore>) -> Result<Club<MemStore>, Fail>
+    requires { conn.in_transaction ≡ false }
+{
+    match adopt(alloc, conn) {
+        Ok(club) => Ok(club),
+        Err(unopened) => Err(Fail::from(unopened.fault)),
+    }
+}
+
+/// The fault of a club's database after this statement.
+fn fault_after(alloc: Global, sql: &str) -> Result<Option<OpenFault>, Fail> {
+    let mut club = made(alloc)?;
+    club.apply_changes(&first_day(alloc, 540)?)?;
+    let mut conn = club.into_connection();
+    conn.execute(sql, &[])?;
+    if !conn.is_autocommit() {
+        return Ok(None);
+    }
+    match adopt(alloc, conn) {
+        Ok(_) => Ok(None),
+        Err(unopened) => Ok(Some(unopened.fault)),
+    }
+}
+
+#[test]
+fn a_first_day(rt: HostRuntime) -> Result<(), Fail> {
+    let mut club = made(rt.alloc())?;
+    club.apply_changes(&first_day(rt.alloc(), 540)?)?;
+    club.apply_changes(&first_day(rt.alloc(), 539)?)?;
+    let club = adopted(rt.alloc(), club.into_connection())?;
+    let mut conn = club.into_connection();
+    let found = conn.query_all("SELECT left FROM moves", &[])?;
+    assert_eq!(rt; found.len(), 1);
+    let left: i64 = found[0].get(0)?;
+    assert_eq!(rt; left, 539);
+    let found = conn.query_all("SELECT key, offer_side, offer_ply FROM games", &[])?;
+    assert_eq!(rt; found.len(), 1);
+    let key: Option<String> = found[0].get(0)?;
+    let side: Option<i64> = found[0].get(1)?;
+    let ply: Option<i64> = found[0].get(2)?;
+    assert!(rt; key.is_some_and(|key| key.as_str() == "final"));
+    assert_eq!(rt; side, None);
+    assert_eq!(rt; ply, Some(2));
+    for (sql, want) in [
+        ("SELECT game FROM challenges", 1),
+        ("SELECT count FROM seen", 1),
+        ("SELECT opponent FROM scores", 2),
+        ("SELECT last FROM meta", 160),
+    ] {
+        let found: i64 = conn.query_row(sql, &[])?.get(0)?;
+        assert_eq!(rt; found, want, "{sql}");
+    }
+    Ok(())
+}
+
+#[test]
+fn an_empty_database_is_foreign(rt: HostRuntime) -> Result<(), Fail> {
+    let empty = Connection::open_in_memory(rt.alloc())?;
+    match adopt(rt.alloc(), empty) {
+        Ok(_) => assert!(rt; false),
+        Err(unopened) => assert!(rt; unopened.fault == OpenFault::Foreign),
+    }
+    Ok(())
+}
+
+#[test]
+fn a_club_is_not_made_twice(rt: HostRuntime) -> Result<(), Fail> {
+    let mut club = made(rt.alloc())?;
+    club.apply_changes(&first_day(rt.alloc(), 540)?)?;
+    match create(rt.alloc(), club.into_connection()) {
+        Ok(_) => assert!(rt; false),
+        Err(unopened) => {
+            assert!(rt; unopened.fault == OpenFault::Foreign);
+            let mut conn = adopted(rt.alloc(), unopened.conn)?.into_connection();
+            assert_eq!(rt; conn.query_all("SELECT id FROM members", &[])?.len(), 2);
+        }
+    }
+    Ok(())
+}
+
+#[test]
+fn wrong_tables_are_named(rt: HostRuntime) -> Result<(), Fail> {
+    for (sql, fault) in [
+        (
+            "UPDATE members SET id = 3 WHERE id = 2",
+            OpenFault::Damaged(Table::Members),
+        ),
+        ("UPDATE games SET id = 2", OpenFault::Damaged(Table::Games)),
+        ("UPDATE meta SET id = 2", OpenFault::Damaged(Table::Meta)),
+        (
+            "INSERT INTO meta (id, schema, last) VALUES (2, 1, 0)",
+            OpenFault::Damaged(Table::Meta),
+        ),
+        ("UPDATE meta SET schema = 9", OpenFault::Schema(9)),
+        ("DROP TABLE scores", OpenFault::Foreign),
+    ] {
+        assert!(rt; fault_after(rt.alloc(), sql)? == Some(fault), "{sql}");
+    }
+    assert!(rt; fault_after(rt.alloc(), "CREATE TABLE other (x INTEGER)")?.is_none());
+    Ok(())
+}
+
+#[test]
+fn after_a_fault_a_club_is_shut(rt: HostRuntime) -> Result<(), Fail> {
+    let mut club = made(rt.alloc())?;
+    let mut changes = nothing(rt.alloc());
+    changes.members.push(member(rt.alloc(), 1, "anna")?)?;
+    changes.members.push(member(rt.alloc(), 2, "anna")?)?;
+    assert!(rt; club.apply_changes(&changes) == Err(StoreFault::Store));
+    assert!(rt; club.apply_changes(&nothing(rt.alloc())) == Err(StoreFault::Reopen));
+    let mut conn = adopted(rt.alloc(), club.into_connection())?.into_connection();
+    assert_eq!(rt; conn.query_all("SELECT id FROM members", &[])?.len(), 0);
+    Ok(())
+}
+
+#[test]
+fn faults_show_their_numbers(rt: HostRuntime) -> Result<(), Fail> {
+    for (fault, want) in [
+        (OpenFault::Foreign, "70 Foreign"),
+        (OpenFault::Schema(9), "71 Schema 9"),
+        (OpenFault::Damaged(Table::Members), "72 Damaged members"),
+        (OpenFault::Store, "73 Store"),
+        (OpenFault::Memory, "75 Memory"),
+    ] {
+        assert_eq!(rt; format!(in rt.alloc(); "{fault}")?.as_str(), want);
+    }
+    assert_eq!(rt;
+        format!(in rt.alloc(); "{}", StoreFault::Reopen)?.as_str(),
+        "74 Reopen"
+    );
+    Ok(())
+}
+
+#[test]
+fn rows_are_found_by_their_keys(rt: HostRuntime) -> Result<(), Fail> {
+    let mut club = made(rt.alloc())?;
+    club.apply_changes(&first_day(rt.alloc(), 540)?)?;
+    let mut conn = club.into_connection();
+    assert_eq!(rt;
+        game_with_id(rt.alloc(), &mut conn, &1)?.as_slice(),
+        [game(rt.alloc())?].as_slice()
+    );
+    assert_eq!(rt; game_with_key(rt.alloc(), &mut conn, "final")?.len(), 1);
+    assert_eq!(rt; game_with_key(rt.alloc(), &mut conn, "finals")?.len(), 0);
+    assert_eq!(rt; moves_of(rt.alloc(), &mut conn, &1)?.len(), 1);
+    assert_eq!(rt; moves_of(rt.alloc(), &mut conn, &2)?.len(), 0);
+    Ok(())
+}

@@ -1,0 +1,15 @@
+pub mod ApartLemmas
+pub mod ContentLemmas
+pub mod IdLemmas
+pub mod KeyLemmas
+pub mod MakeLemmas
+pub mod Meanings
+pub mod OrderLemmas
+pub mod PutLemmas
+pub mod PutMeanings
+pub mod ReadLemmas
+pub mod RowLemmas
+pub mod SelectMeanings
+pub mod StepLemmas
+pub mod TellLemmas
+pub mod UpsertLemmas

@@ -1,0 +1,206 @@
+-- What a SELECT of all rows tells of whatever database, and what a SELECT by a key tells of a content.
+use Rattle.std.proofs.Common.{◌≡◌, ◌≢◌, ℕ, true, false, List, [], ◌∷◌, map, Ok, Err, Result, refl, sym, ap, subst, subst₂, ◌∙◌, inl, inr, IsTrue, Equal, Option, Some, slice_get, All, get_or}
+use Rattle.std.specs.List.{AllByRecursion, list_all}
+use Rattle.std.specs.List.Sorted.{IsSorted}
+use Rattle.std.specs.Cmp.{tied_back, tied_itself}
+use Rattle.std.specs.declared.cmp.Ordering.{Ordering}
+use Rattle.std.proofs.lemmas.List.Sorted.{IsPermutation-sym}
+use Rattle.sqlite_value.specs.declared.keys.Key.{Key}
+use Rattle.sqlite_value.specs.Order.{value_cmp}
+use Rattle.sqlite_value.proofs.OrderLemmas.{value_cmp_total}
+use Rattle.sqlite.specs.Order.{Row, column}
+use Rattle.sqlite.specs.Tree.{Trees}
+use Rattle.sqlite.specs.Table.{Table}
+use Rattle.sqlite.specs.Command.{Command}
+use Rattle.sqlite.specs.Command.TheVariants.{Select, Rows}
+use Rattle.sqlite.specs.Clock.{timed}
+use Rattle.sqlite.specs.Effect.{Database, Reads, RefusesToRead}
+use Rattle.sqlite.specs.Listing.{understood, reads_listing}
+use Rattle.sqlite.specs.State.{State, Shown, FailsToQuery, FailsToShow, IsNotRun, IsNoStatement, store_error, Survives, HasCleanDisk, CommitsShowing, IsUnchanged}
+use Rattle.sqlite.specs.declared.error.Error.{Error}
+use Rattle.sqlite.proofs.Callers.{IsPlain, command_of, reads_as, never_commits}
+use Rattle.sqlite_trees.specs.Tree.{rowid}
+use Rattle.sqlite_trees.specs.View.{is_int}
+use Rattle.sqlite_trees.specs.declared.error.StoreError.{StoreError}
+use Rattle.sqlite_trees.specs.declared.error.StoreError.TheVariants as failure
+use Rattle.sqlite_trees.proofs.ListLemmas.{all-permutation, ascending_from_map, all_from_map, ascending-map, all-map, ascending_weaker, all_weaker}
+use Rattle.sqlite_resolve.specs.declared.compiled.Compiled.{Compiled}
+use Rattle.sqlite_resolve.specs.declared.error.CompileError.{CompileError}
+use Rattle.sqlite_sql.specs.Term.{Term, eval_all, holds}
+use Rattle.sqlite_sql.specs.Program.{overlay}
+use Rattle.sqlite_sql.specs.Query.{output, output_cmp}
+use Rattle.sqlite_rules.specs.Lists.{Has}
+use Rattle.sqlite_rules.proofs.ListLemmas.{all_has, has_got}
+use Rattle.store_tables.specs.Content.{cells, same_key, Keeps}
+use Rattle.store_tables.specs.Contents.{Content, Stores, IsExactly, AreThose}
+use Rattle.store_tables.specs.Put.{selects}
+use Rattle.store_tables.specs.Reading.{AreIds, by_columns, Tells, TellsIds, IsNoInput, KeepsMay}
+use Rattle.store_tables.specs.Tables.{club_schema}
+use Rattle.store_tables.proofs.ApartLemmas.{pairs_turned, each_shown}
+use Rattle.store_tables.proofs.OrderLemmas.{sorted_rows, has_index}
+use Rattle.store_tables.proofs.ReadLemmas.{found_rows, shown_rows, shown_unchanged, may_as_before, unchanged_exactly}
+
+-- The text selects some terms of each row of one table, in the order of the first so many of these.
+pub record Selects (tree : ℕ) (count : ℕ) (sql : List ℕ) (project : List Term) : Type 0 where
+  pub order : List (Term × Key)
+  pub names : List (List ℕ)
+  pub command : command_of (understood club_schema sql) ≡ Select (record { lets = []; body = selects tree [] project order }) names
+  pub plain : IsPlain (understood club_schema sql)
+  pub unlisted : reads_listing club_schema sql ≡ false
+  pub overlaid : (d : Trees) → overlay d [] tree ≡ d tree
+  pub by : (r s : Row) → output_cmp (selects tree [] project order) (output (selects tree [] project order) ([] ∷ r ∷ [])) (output (selects tree [] project order) ([] ∷ s ∷ [])) ≡ by_columns count (eval_all project ([] ∷ r ∷ [])) (eval_all project ([] ∷ s ∷ []))
+
+module _ (tree count : ℕ) (sql : List ℕ) (project : List Term) (is : Selects tree count sql project) where
+  read_by : (old new : State) (rows : List Row) → old.now.schema ≡ club_schema → Shown sql [] old new rows → Reads (Select (record { lets = []; body = selects tree [] project is.order }) is.names) old.now [] rows
+  read_by old new rows has h = reads_as sql [] old new club_schema has _ is.command is.plain is.unlisted rows h
+
+  kept_by : (old new : State) (rows : List Row) → old.now.schema ≡ club_schema → Shown sql [] old new rows → IsUnchanged old new
+  kept_by old new rows has h = shown_unchanged sql [] old new rows (subst (λ s. IsPlain (understood s sql)) (sym has) is.plain) h
+
+  sorted_by : (old new : State) (rows : List Row) → old.now.schema ≡ club_schema → Shown sql [] old new rows → IsSorted (by_columns count) rows
+  sorted_by old new rows has h = sorted_rows old.now [] tree [] project is.order is.names rows (by_columns count) is.overlaid is.by (read_by old new rows has h)
+
+  abbrev Apart : Row → Row → Type 0
+  Apart a b = value_cmp (column a 0) (column b 0) ≢ Equal
+
+  abbrev show : Row → Row
+  show r = eval_all project ([] ∷ r ∷ [])
+
+  turn : (a b : Row) → Apart a b → Apart b a
+  turn a b differ same = differ (tied_back value_cmp_total (column b 0) (column a 0) same)
+
+-- where every column is selected, in the order of the key
+pub tells : (table : Table) (count : ℕ) (sql : List ℕ) (project : List Term) → Selects table.tree count sql project → ((r : Row) → eval_all project ([] ∷ r ∷ []) ≡ cells table r)
+    → (old new : State) (rows : List Row) → old.now.schema ≡ club_schema → Shown sql [] old new rows → Tells table count rows old new
+tells table count sql project is shows old new rows has h = record {
+  keeps = found_rows table project is.order is.names is.overlaid shows old.now rows (read_by table.tree count sql project is old new rows has h);
+  sorted = sorted_by table.tree count sql project is old new rows has h;
+  same = kept_by table.tree count sql project is old new rows has h;
+}
+
+-- where the rowid is selected first, and orders the rows
+pub tells_ids : (tree : ℕ) (sql : List ℕ) (project : List Term) → Selects tree 1 sql project → ((r : Row) → column (eval_all project ([] ∷ r ∷ [])) 0 ≡ rowid r)
+    → (old new : State) (rows : List Row) → old.now.schema ≡ club_schema → Shown sql [] old new rows → TellsIds tree rows old new
+tells_ids tree sql project is first old new rows has h =
+    let stored = old.now.trees tree in
+    let one = each_shown old.now [] tree project is.order is.names rows is.overlaid (read_by tree 1 sql project is old new rows has h) in
+    let differ = Apart tree 1 sql project is in
+    let shown = show tree 1 sql project is in
+    let turned = turn tree 1 sql project is in
+    record {
+      apart = λ ids. record {
+        apart = ascending_weaker (λ r s. differ (shown r) (shown s)) (λ r s. value_cmp (rowid r) (rowid s) ≢ Equal) (λ r s other same. other (subst₂ (λ x y. value_cmp x y ≡ Equal) (sym (first r)) (sym (first s)) same)) stored
+            (ascending_from_map differ shown stored (pairs_turned differ turned rows (map shown stored) (IsPermutation-sym _ _ one) ids.apart));
+        ints = all_weaker (λ r. IsTrue (is_int (column (shown r) 0))) (λ r. IsTrue (is_int (rowid r))) (λ r int. subst (λ v. IsTrue (is_int v)) (first r) int) stored
+            (all_from_map (λ x. IsTrue (is_int (column x 0))) shown stored (all-permutation (λ x. IsTrue (is_int (column x 0))) rows (map shown stored) (IsPermutation-sym _ _ one) ids.ints));
+      };
+      ids = λ are. record {
+        apart = pairs_turned differ turned (map shown stored) rows one (ascending-map differ shown stored
+            (ascending_weaker (λ r s. value_cmp (rowid r) (rowid s) ≢ Equal) (λ r s. differ (shown r) (shown s)) (λ r s other same. other (subst₂ (λ x y. value_cmp x y ≡ Equal) (first r) (first s) same)) stored are.apart));
+        ints = all-permutation (λ x. IsTrue (is_int (column x 0))) (map shown stored) rows one (all-map (λ x. IsTrue (is_int (column x 0))) shown stored
+            (all_weaker (λ r. IsTrue (is_int (rowid r))) (λ r. IsTrue (is_int (column (shown r) 0))) (λ r int. subst (λ v. IsTrue (is_int v)) (sym (first r)) int) stored are.ints));
+      };
+      sorted = sorted_by tree 1 sql project is old new rows has h;
+      same = kept_by tree 1 sql project is old new rows has h;
+    }
+
+-- The text selects every column of the rows of one table whose columns have given values, in some order.
+pub record Finds (table : Table) (place : ℕ) (key : List ℕ) (wanted params : Row) (sql : List ℕ) (cmp : Row → Row → Ordering) : Type 0 where
+  pub at : slice_get club_schema.tables place ≡ Some table
+  pub filter : List Term
+  pub project : List Term
+  pub order : List (Term × Key)
+  pub names : List (List ℕ)
+  pub command : command_of (understood club_schema sql) ≡ Select (record { lets = []; body = selects table.tree filter project order }) names
+  pub plain : IsPlain (understood club_schema sql)
+  pub unlisted : reads_listing club_schema sql ≡ false
+  pub overlaid : (d : Trees) → overlay d [] table.tree ≡ d table.tree
+  pub shows : (r : Row) → eval_all project (params ∷ r ∷ []) ≡ cells table r
+  pub picks : (r : Row) → list_all (holds (params ∷ r ∷ [])) filter ≡ same_key key (cells table r) wanted
+  pub by : (r s : Row) → output_cmp (selects table.tree filter project order) (output (selects table.tree filter project order) (params ∷ r ∷ [])) (output (selects table.tree filter project order) (params ∷ s ∷ [])) ≡ cmp (eval_all project (params ∷ r ∷ [])) (eval_all project (params ∷ s ∷ []))
+
+pub finds : (table : Table) (place : ℕ) (key : List ℕ) (wanted params : Row) (sql : List ℕ) (cmp : Row → Row → Ordering) → Finds table place key wanted params sql cmp
+    → (old new : State) (rows : List Row) → Survives old new (CommitsShowing sql params old) → HasCleanDisk new → Shown sql params old new rows
+    → (content : Content) → IsExactly content old → AreThose key wanted (content table.tree) rows × IsSorted cmp rows × IsExactly content new
+finds table place key wanted params sql cmp is old new rows s clean h content k =
+    let reads = reads_as sql params old new club_schema k.now.schema _ is.command is.plain is.unlisted rows h in
+    let are = shown_rows old.now params table.tree is.filter is.project is.order is.names rows is.overlaid reads in
+    let kept : Stores table old.now.trees content = all_has (λ t. Stores t old.now.trees content) club_schema.tables table k.now.tables (has_got club_schema.tables place table is.at) in (
+      record {
+        sound = λ x there.
+            let it = are.sound x there in
+            let same : cells table it.0 ≡ x = sym (it.3 ∙ is.shows it.0) in
+            (subst (λ y. Has (content table.tree) y) same (kept.rows.only it.0 it.1), subst (λ y. same_key key y wanted ≡ true) same (sym (is.picks it.0) ∙ it.2));
+        complete = λ x there same.
+            let it = kept.rows.stored x there in
+            subst (λ y. Has rows y) (is.shows it.0 ∙ it.2) (are.complete it.0 it.1 (is.picks it.0 ∙ subst (λ y. same_key key y wanted ≡ true) (sym it.2) same));
+      },
+      sorted_rows old.now params table.tree is.filter is.project is.order is.names rows cmp is.overlaid is.by reads,
+      unchanged_exactly content old new k (shown_unchanged sql params old new rows (subst (λ d. IsPlain (understood d sql)) (sym k.now.schema) is.plain) h) (may_as_before sql params old new is.plain s clean content k),
+    )
+
+pub keeps_may : (sql : List ℕ) (params : Row) (old new : State) → IsPlain (understood club_schema sql) → old.now.schema ≡ club_schema → Survives old new (CommitsShowing sql params old) → HasCleanDisk new → KeepsMay old new
+keeps_may sql params old new plain has s clean db left = elim (s.crash clean db left) [
+  | inl was ↦ was
+  | inr made ↦ absurd (never_commits sql params old db (subst (λ x. IsPlain (understood x sql)) (sym has) plain) made)
+]
+
+-- ---- which error
+
+no_store : (cause : StoreError) → IsNoInput (store_error cause)
+no_store failure.OutOfMemory why e = cc
+no_store failure.Io why e = cc
+no_store failure.Corrupt why e = cc
+no_store failure.Full why e = cc
+no_store failure.Broken why e = cc
+no_store failure.Unstorable why e = cc
+
+no_err : (r : Result Compiled CompileError) (fault : CompileError) → IsPlain r → r ≡ Err fault → ⊥
+no_err (Ok c) fault plain e = let x = e in cc
+no_err (Err why) fault plain e = plain
+
+no_read : (limit : Option ℕ) (command : Command) (db : Database) (params : Row) (e : Error) → RefusesToRead limit command db params e → IsNoInput e
+no_read limit (Select q names) db params e (inl h) why is = let x = sym h.0 ∙ is in cc
+no_read limit (Select q names) db params e (inr (inl h)) why is = let x = sym h.0 ∙ is in cc
+no_read limit (Select q names) db params e (inr (inr h)) why is = let x = sym h.0 ∙ is in cc
+no_read limit (Rows values width names) db params e h why is = let x = sym h.0 ∙ is in cc
+no_read limit _ db params e h why is = let x = sym h ∙ is in cc
+
+no_statement : (s : State) (sql : List ℕ) (params : Row) (e : Error) → IsPlain (understood s.now.schema sql) → IsNoStatement s sql params e → IsNoInput e
+no_statement s sql params e plain (inl h) why is = absurd (no_err _ h.0 plain h.1)
+no_statement s sql params e plain (inr h) why is = elim h.2 [
+  | inl many ↦ (let x = sym many.1 ∙ is in cc)
+  | inr (inl given) ↦ (let x = sym given.1 ∙ is in cc)
+  | inr (inr clock) ↦ (let x = sym clock.1 ∙ is in cc)
+]
+
+-- A query whose text is understood fails for another reason.
+pub no_input : (sql : List ℕ) (params : Row) (old new : State) (e : Error) → IsPlain (understood club_schema sql) → old.now.schema ≡ club_schema → FailsToQuery sql params old new e → IsNoInput e
+unfolding FailsToQuery IsNotRun
+no_input sql params old new e plain has (inl (inl h)) = no_statement old sql params e (subst (λ s. IsPlain (understood s sql)) (sym has) plain) h.0
+no_input sql params old new e plain has (inl (inr h)) = λ why is. no_store h.0 why (sym h.1 ∙ is)
+no_input sql params old new e plain has (inr h) =
+    let bare = subst (λ s. IsPlain (understood s sql)) (sym has) plain in
+    let none = (subst IsPlain h.1.is bare).0 in
+    let it = subst (FailsToShow old new sql h.0 (timed params h.0.formats h.1.now) e) none h.2 in
+    no_read old.step_limit h.0.command it.0 (timed params h.0.formats h.1.now) e it.2
+
+-- ---- two lists of the rows of one table
+
+-- what holds of each row of the one list holds of each of the other
+pub all_alike : (table : Table) (db : Trees) (P : Row → Type 0) (shown rows : List Row) → Keeps table db shown → Keeps table db rows → AllByRecursion P rows → All P shown
+all_alike table db P shown rows one two all i d within =
+    let there = one.stored (get_or shown i d) (has_index shown i d within) in
+    subst P there.2 (all_has P rows (cells table there.0) all (two.only there.0 there.1))
+
+only_row : (table : Table) (db : Trees) (shown : List Row) (x : Row) → Keeps table db shown → Keeps table db (x ∷ []) → (y : Row) → Has shown y → y ≡ x
+only_row table db shown x one two y there = let r = one.stored y there in elim (two.only r.0 r.1) [ inl same ↦ sym r.2 ∙ same | inr none ↦ absurd none ]
+
+-- where the table has one row, one is shown
+pub one_shown : (table : Table) (db : Trees) (shown : List Row) (x : Row) → Keeps table db shown → Keeps table db (x ∷ []) → AreIds shown → shown ≡ x ∷ []
+one_shown table db [] x one two ids = let it = two.stored x (inl refl) in absurd (one.only it.0 it.1)
+one_shown table db (y ∷ []) x one two ids = ap (λ r. r ∷ []) (only_row table db (y ∷ []) x one two y (inl refl))
+one_shown table db (y ∷ z ∷ rest) x one two ids =
+    let a = only_row table db (y ∷ z ∷ rest) x one two y (inl refl) in
+    let b = only_row table db (y ∷ z ∷ rest) x one two z (inr (inl refl)) in
+    absurd (ids.apart.0.0 (rw (a, b) (tied_itself value_cmp_total (column x 0))))

@@ -1,0 +1,134 @@
+-- The values that a row of each table has, in the order of its columns.
+use Rattle.std.specs.Prelude.{◌≡◌, ◌⊎◌, ℕ, ℤ, ◌<ℤ◌, List, [], ◌∷◌, string_bytes, IsUtf8, IsTrue, length}
+use Rattle.sqlite_value.specs.declared.value.Value.{Value}
+use Rattle.sqlite_value.specs.declared.value.Value.TheVariants.{Null, Int, Text}
+use Rattle.sqlite.specs.Values.{IsInt, or_null}
+use Rattle.sqlite.specs.Order.{Row, column}
+use Rattle.sqlite_trees.specs.Tree.{IsAscending}
+use Rattle.sqlite_trees.specs.View.{is_int}
+use Rattle.store_tables.specs.declared.rows.MetaRow.{MetaRow}
+use Rattle.store_tables.specs.declared.rows.MemberRow.{MemberRow}
+use Rattle.store_tables.specs.declared.rows.EventRow.{EventRow}
+use Rattle.store_tables.specs.declared.rows.ChallengeRow.{ChallengeRow}
+use Rattle.store_tables.specs.declared.rows.MoveRow.{MoveRow}
+use Rattle.store_tables.specs.declared.rows.GameRecord.{GameRecord}
+use Rattle.store_tables.specs.declared.rows.SeenRow.{SeenRow}
+use Rattle.store_tables.specs.declared.rows.ScoreRow.{ScoreRow}
+
+abbrev pub meta_cells : MetaRow → Row
+meta_cells r = Int r.id ∷ Int r.schema ∷ Int r.last ∷ []
+
+abbrev pub member_cells : MemberRow → Row
+member_cells r = Int r.id ∷ Text (string_bytes r.name) ∷ Text (string_bytes r.key) ∷ []
+
+abbrev pub event_cells : EventRow → Row
+event_cells r = Int r.id ∷ Text (string_bytes r.name) ∷ Int r.game ∷ Int r.budget ∷ Int r.increment ∷ []
+
+abbrev pub challenge_cells : ChallengeRow → Row
+challenge_cells r = Int r.member ∷ Int r.number ∷ Int r.event ∷ Int r.other ∷ Int r.first ∷ Int r.state ∷ or_null Int r.game ∷ []
+
+abbrev pub move_cells : MoveRow → Row
+move_cells r = Int r.game ∷ Int r.ply ∷ Text (string_bytes r.text) ∷ Int r.moment ∷ Int r.left ∷ Text (string_bytes r.position) ∷ []
+
+abbrev pub game_cells : GameRecord → Row
+game_cells r =
+    Int r.id ∷ or_null (λ s. Text (string_bytes s)) r.key ∷ Int r.event ∷ Int r.first ∷ Int r.second ∷ Int r.start ∷ Int r.since ∷ Int r.plies ∷ Int r.left1 ∷ Int r.left2
+    ∷ or_null Int r.offer_side ∷ or_null Int r.offer_ply ∷ or_null (λ s. Text (string_bytes s)) r.end ∷ or_null (λ s. Text (string_bytes s)) r.result ∷ Text (string_bytes r.position) ∷ Int r.track_a ∷ Int r.track_b ∷ []
+
+abbrev pub seen_cells : SeenRow → Row
+seen_cells r = Int r.game ∷ Text (string_bytes r.position) ∷ Int r.count ∷ Int r.first_ply ∷ []
+
+abbrev pub score_cells : ScoreRow → Row
+score_cells r = Int r.event ∷ Int r.member ∷ Int r.opponent ∷ Int r.points ∷ Int r.wins ∷ Int r.draws ∷ Int r.losses ∷ []
+
+-- ---- of the types that the columns name
+
+-- a text, in UTF-8
+abbrev pub IsText : Value → Type 0
+IsText v = (t : List ℕ) × (v ≡ Text t) × IsUtf8 t
+
+abbrev pub OrNull : (Value → Type 0) → Value → Type 0
+OrNull Is v = (v ≡ Null) ⊎ Is v
+
+pub record IsMeta (row : Row) : Type 0 where
+  pub width : length row ≡ 3
+  pub id : IsInt (column row 0)
+  pub schema : IsInt (column row 1)
+  pub last : IsInt (column row 2)
+
+pub record IsMember (row : Row) : Type 0 where
+  pub width : length row ≡ 3
+  pub id : IsInt (column row 0)
+  pub name : IsText (column row 1)
+  pub key : IsText (column row 2)
+
+pub record IsEvent (row : Row) : Type 0 where
+  pub width : length row ≡ 5
+  pub id : IsInt (column row 0)
+  pub name : IsText (column row 1)
+  pub game : IsInt (column row 2)
+  pub budget : IsInt (column row 3)
+  pub increment : IsInt (column row 4)
+
+pub record IsChallenge (row : Row) : Type 0 where
+  pub width : length row ≡ 7
+  pub member : IsInt (column row 0)
+  pub number : IsInt (column row 1)
+  pub event : IsInt (column row 2)
+  pub other : IsInt (column row 3)
+  pub first : IsInt (column row 4)
+  pub state : IsInt (column row 5)
+  pub game : OrNull IsInt (column row 6)
+
+pub record IsMove (row : Row) : Type 0 where
+  pub width : length row ≡ 6
+  pub game : IsInt (column row 0)
+  pub ply : IsInt (column row 1)
+  pub text : IsText (column row 2)
+  pub moment : IsInt (column row 3)
+  pub left : IsInt (column row 4)
+  pub position : IsText (column row 5)
+
+pub record IsGame (row : Row) : Type 0 where
+  pub width : length row ≡ 17
+  pub id : IsInt (column row 0)
+  pub key : OrNull IsText (column row 1)
+  pub event : IsInt (column row 2)
+  pub first : IsInt (column row 3)
+  pub second : IsInt (column row 4)
+  pub start : IsInt (column row 5)
+  pub since : IsInt (column row 6)
+  pub plies : IsInt (column row 7)
+  pub left1 : IsInt (column row 8)
+  pub left2 : IsInt (column row 9)
+  pub offer_side : OrNull IsInt (column row 10)
+  pub offer_ply : OrNull IsInt (column row 11)
+  pub end : OrNull IsText (column row 12)
+  pub result : OrNull IsText (column row 13)
+  pub position : IsText (column row 14)
+  pub track_a : IsInt (column row 15)
+  pub track_b : IsInt (column row 16)
+
+pub record IsSeen (row : Row) : Type 0 where
+  pub width : length row ≡ 4
+  pub game : IsInt (column row 0)
+  pub position : IsText (column row 1)
+  pub count : IsInt (column row 2)
+  pub first_ply : IsInt (column row 3)
+
+pub record IsScore (row : Row) : Type 0 where
+  pub width : length row ≡ 7
+  pub event : IsInt (column row 0)
+  pub member : IsInt (column row 1)
+  pub opponent : IsInt (column row 2)
+  pub points : IsInt (column row 3)
+  pub wins : IsInt (column row 4)
+  pub draws : IsInt (column row 5)
+  pub losses : IsInt (column row 6)
+
+-- each integer is above the one before it
+abbrev pub Rises : List ℤ → Type 0
+Rises ids = IsAscending (λ a b. a <ℤ b) ids
+
+abbrev pub BeginsWithInteger : Row → Type 0
+BeginsWithInteger row = IsTrue (is_int (column row 0))

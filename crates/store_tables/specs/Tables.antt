@@ -1,0 +1,82 @@
+-- The eight tables of schema 1, as SQL understands their CREATE texts. Each UNIQUE key, and each key of several columns, has a tree of its own after that of its table.
+use Rattle.std.specs.Prelude.{ℕ, ◌+◌, Bool, true, false, List, [], ◌∷◌, ◌++◌, map, codes, Option, Some, None, take}
+use Rattle.sqlite.specs.Collation.TheVariants.{Binary}
+use Rattle.sqlite.specs.declared.types.Value.TheVariants.{Null}
+use Rattle.sqlite.specs.Table.{Table}
+use Rattle.sqlite_schema.specs.declared.schema.Column.{Column}
+use Rattle.sqlite_schema.specs.declared.schema.Index.{Index}
+use Rattle.sqlite_schema.specs.declared.schema.Kind.{Kind}
+use Rattle.sqlite_value.specs.Keys.{plain}
+use Rattle.sqlite.specs.Schema.{Schema}
+use Rattle.sqlite.specs.Kind.TheVariants.{Integer, Text}
+use Rattle.sqlite_catalog.specs.Change.{automatics}
+
+abbrev pub column_of : List ℕ → Kind → Bool → Column
+column_of name kind required = record { name = name; kind = kind; is_strict = true; not_null = required; default = Null; collation = Binary }
+
+abbrev pub table_of : List ℕ → ℕ → List Column → Option ℕ → List ℕ → List (List ℕ) → Table
+table_of name tree columns key primary uniques = record {
+  name = name;
+  tree = tree;
+  columns = columns;
+  key = key;
+  primary = primary;
+  uniques = uniques;
+  orders = map (λ _. plain) uniques;
+  checks = [];
+  references = [];
+  computed = [];
+  stamps = record { places = []; terms = []; formats = [] };
+  is_counted = false;
+}
+
+abbrev pub meta : ℕ → Table
+meta tree = table_of (codes "meta") tree (column_of (codes "id") Integer false ∷ column_of (codes "schema") Integer true ∷ column_of (codes "last") Integer true ∷ []) (Some 0) (0 ∷ []) []
+
+abbrev pub members : ℕ → Table
+members tree = table_of (codes "members") tree (column_of (codes "id") Integer false ∷ column_of (codes "name") Text true ∷ column_of (codes "key") Text true ∷ []) (Some 0) (0 ∷ []) ((2 ∷ []) ∷ (3 ∷ []) ∷ [])
+
+abbrev pub moves : ℕ → Table
+moves tree = table_of (codes "moves") tree
+    (column_of (codes "game") Integer true ∷ column_of (codes "ply") Integer true ∷ column_of (codes "text") Text true ∷ column_of (codes "moment") Integer true ∷ column_of (codes "left") Integer true ∷ column_of (codes "position") Text true ∷ [])
+    None (1 ∷ 2 ∷ []) ((1 ∷ 2 ∷ []) ∷ [])
+
+abbrev pub events : ℕ → Table
+events tree = table_of (codes "events") tree (column_of (codes "id") Integer false ∷ column_of (codes "name") Text true ∷ column_of (codes "game") Integer true ∷ column_of (codes "budget") Integer true ∷ column_of (codes "increment") Integer true ∷ []) (Some 0) (0 ∷ []) ((2 ∷ []) ∷ [])
+
+abbrev pub challenges : ℕ → Table
+challenges tree = table_of (codes "challenges") tree
+    (column_of (codes "member") Integer true ∷ column_of (codes "number") Integer true ∷ column_of (codes "event") Integer true ∷ column_of (codes "other") Integer true ∷ column_of (codes "first") Integer true ∷ column_of (codes "state") Integer true ∷ column_of (codes "game") Integer false ∷ [])
+    None (1 ∷ 2 ∷ []) ((1 ∷ 2 ∷ []) ∷ [])
+
+abbrev pub games : ℕ → Table
+games tree = table_of (codes "games") tree
+    (column_of (codes "id") Integer false ∷ column_of (codes "key") Text false ∷ column_of (codes "event") Integer true ∷ column_of (codes "first") Integer true ∷ column_of (codes "second") Integer true ∷ column_of (codes "start") Integer true
+    ∷ column_of (codes "since") Integer true ∷ column_of (codes "plies") Integer true ∷ column_of (codes "left1") Integer true ∷ column_of (codes "left2") Integer true ∷ column_of (codes "offer_side") Integer false ∷ column_of (codes "offer_ply") Integer false
+    ∷ column_of (codes "end") Text false ∷ column_of (codes "result") Text false ∷ column_of (codes "position") Text true ∷ column_of (codes "track_a") Integer true ∷ column_of (codes "track_b") Integer true ∷ [])
+    (Some 0) (0 ∷ []) ((2 ∷ []) ∷ [])
+
+abbrev pub seen : ℕ → Table
+seen tree = table_of (codes "seen") tree (column_of (codes "game") Integer true ∷ column_of (codes "position") Text true ∷ column_of (codes "count") Integer true ∷ column_of (codes "first_ply") Integer true ∷ []) None (1 ∷ 2 ∷ []) ((1 ∷ 2 ∷ []) ∷ [])
+
+abbrev pub scores : ℕ → Table
+scores tree = table_of (codes "scores") tree
+    (column_of (codes "event") Integer true ∷ column_of (codes "member") Integer true ∷ column_of (codes "opponent") Integer true ∷ column_of (codes "points") Integer true ∷ column_of (codes "wins") Integer true ∷ column_of (codes "draws") Integer true ∷ column_of (codes "losses") Integer true ∷ [])
+    None (1 ∷ 2 ∷ 3 ∷ []) ((1 ∷ 2 ∷ 3 ∷ []) ∷ [])
+
+abbrev pub tables : List Table
+tables = meta 0 ∷ members 1 ∷ events 4 ∷ challenges 6 ∷ moves 8 ∷ games 10 ∷ seen 12 ∷ scores 14 ∷ []
+
+abbrev pub indexes_of : Table → List Index
+indexes_of table = automatics table 0 (table.tree + 1) table.uniques
+
+abbrev pub flat_indexes : List Table → List Index
+flat_indexes [] = []
+flat_indexes (t ∷ ts) = indexes_of t ++ flat_indexes ts
+
+abbrev pub club_schema : Schema
+club_schema = record { tables = tables; indexes = flat_indexes tables; views = [] }
+
+-- the schema with so many of the tables
+abbrev pub schema_after : ℕ → Schema
+schema_after n = record { tables = take n tables; indexes = flat_indexes (take n tables); views = [] }

@@ -1,0 +1,65 @@
+//! Whether the rows that a SELECT shows begin with integers, none of them twice.
+
+ghost use Rattle.std.specs.Prelude.{◌≡◌, ◌<◌, true, false, IfOk, IfErr, OnOk, All, map, length};
+ghost use Rattle.std.specs.List.Sorted.{IsSorted};
+ghost use Rattle.sqlite_value.specs.declared.value.Value.TheVariants.{Int};
+ghost use Rattle.sqlite.specs.Order.{column};
+ghost use Rattle.store_tables.specs.declared.parse.Unread.TheVariants.{Mistyped};
+ghost use Rattle.store_tables.specs.Reading.{AreIds, by_columns};
+ghost use Rattle.store_tables.specs.Cells.{Rises, BeginsWithInteger};
+
+use crate::parse::{Unread, read};
+use sqlite::Row;
+use std::alloc::Global;
+
+/// The integer that a row begins with.
+fn first_integer(row: &Row) -> Result<i64, Unread>
+    ensures shows { IfOk result (λ id. column row.now 0 ≡ Int id) }
+    ensures mistyped { IfErr result (λ e. e ≡ Mistyped → ¬ BeginsWithInteger row.now) }
+{
+    if row.column_count() == 0 {
+        return Err(Unread::Mistyped);
+    }
+    read(row, 0)
+}
+
+/// The integers that the rows begin with.
+fn first_integers(alloc: Global, rows: &[Row]) -> Result<Vec<i64>, Unread>
+    ensures shows { IfOk result (λ ids. map (λ r. column r 0) rows.now ≡ map Int ids.items) }
+    ensures mistyped { IfErr result (λ e. e ≡ Mistyped → ¬ All BeginsWithInteger rows.now) }
+{
+    let mut ids = Vec::new(alloc);
+    'rows: for row in rows {
+        let id = first_integer(row)?;
+        if ids.push(id).is_err() {
+            return Err(Unread::Memory);
+        }
+    }
+    Ok(ids)
+}
+
+/// Whether each integer is above the one before it.
+fn rise(ids: &[i64]) -> bool
+    ensures all { result ≡ true → Rises ids.now }
+    ensures none { result ≡ false → ¬ Rises ids.now }
+{
+    'ids: for i in 1..ids.len() {
+        if ids[i] <= ids[i - 1] {
+            return false;
+        }
+    }
+    true
+}
+
+/// Tests that rows which a SELECT has sorted begin with integers, none of them twice.
+pub fn check_ids(alloc: Global, rows: &[Row]) -> Result<(), Unread>
+    ensures apart { OnOk result (AreIds rows.now) }
+    ensures mistyped { IfErr result (λ e. e ≡ Mistyped → IsSorted (by_columns 1) rows.now → ¬ AreIds rows.now) }
+{
+    let ids = first_integers(alloc, rows)?;
+    if rise(&ids) {
+        Ok(())
+    } else {
+        Err(Unread::Mistyped)
+    }
+}

@@ -1,0 +1,14 @@
+//! The eight tables of a club: their rows as types, and what their texts of SQL mean.
+#![tactic(auto)]
+
+mod ids;
+mod names;
+mod parse;
+mod rows;
+
+pub use ids::check_ids;
+pub use names::Table;
+pub use parse::{TableRow, Unread, parse_all};
+pub use rows::{
+    ChallengeRow, EventRow, GameRecord, MemberRow, MetaRow, MoveRow, Rows, ScoreRow, SeenRow,
+};

@@ -1,0 +1,249 @@
+//! Rows of values as rows of a table.
+
+ghost use Rattle.std.specs.Prelude.{◌≡◌, ◌<◌, IfOk, IfErr, All, map, length, string_bytes};
+ghost use Rattle.sqlite_value.specs.declared.value.Value.TheVariants.{Int, Text};
+ghost use Rattle.sqlite.specs.Values.{IsInt, or_null};
+ghost use Rattle.sqlite.specs.Order.{Row as Cells, column};
+ghost use Rattle.store_tables.specs.declared.parse.Unread.TheVariants.{Mistyped};
+ghost use Rattle.store_tables.specs.Cells.{meta_cells, member_cells, event_cells, challenge_cells, move_cells, game_cells, seen_cells, score_cells};
+ghost use Rattle.store_tables.specs.Cells.{IsText, OrNull, IsMeta, IsMember, IsEvent, IsChallenge, IsMove, IsGame, IsSeen, IsScore};
+
+use crate::rows::{
+    ChallengeRow, EventRow, GameRecord, MemberRow, MetaRow, MoveRow, ScoreRow, SeenRow,
+};
+use sqlite::types::FromSql;
+use sqlite::{Error, ErrorCode, Row};
+use std::alloc::Global;
+
+/// Why a row was not read.
+#[derive(Debug, Clone, Copy, PartialEq, Eq, Drop)]
+pub enum Unread {
+    /// A value is of another type than its column, or there are more or fewer columns.
+    Mistyped,
+    /// The allocator refused.
+    Memory,
+}
+
+/// A row of a table, which its values show.
+pub trait TableRow: Sized + Drop {
+    // the values of the row, in the order of its columns
+    ghost cells: { Self → Cells };
+
+    // the values have the types of the columns
+    ghost IsTyped: { Cells → Type 0 };
+
+    /// The row that these values show.
+    fn parse(row: &Row) -> Result<Self, Unread>
+        ensures shows { IfOk result (λ r. row.now ≡ cells r) }
+        ensures mistyped { IfErr result (λ e. e ≡ Mistyped → ¬ IsTyped row.now) };
+}
+
+/// The value in a column.
+pub(crate) fn read<T: FromSql>(row: &Row, at: usize) -> Result<T, Unread>
+    requires { at < length row.now }
+    ensures reads { IfOk result (λ x. T.FromSql.reads_as (column row.now at) x) }
+    ensures mistyped { IfErr result (λ e. e ≡ Mistyped → ¬ T.FromSql.is_readable (column row.now at)) }
+{
+    match row.get(at) {
+        Ok(value) => Ok(value),
+        Err(Error::SqliteFailure(ErrorCode::OutOfMemory)) => Err(Unread::Memory),
+        Err(_) => Err(Unread::Mistyped),
+    }
+}
+
+/// The integer in a column, or None where it is null.
+fn read_integer(row: &Row, at: usize) -> Result<Option<i64>, Unread>
+    requires { at < length row.now }
+    ensures reads { IfOk result (λ o. column row.now at ≡ or_null Int o) }
+    ensures mistyped { IfErr result (λ e. e ≡ Mistyped → ¬ OrNull IsInt (column row.now at)) }
+{
+    read(row, at)
+}
+
+/// The text in a column, or None where it is null.
+fn read_text(row: &Row, at: usize) -> Result<Option<String>, Unread>
+    requires { at < length row.now }
+    ensures reads { IfOk result (λ o. column row.now at ≡ or_null (λ s. Text (string_bytes s)) o) }
+    ensures mistyped { IfErr result (λ e. e ≡ Mistyped → ¬ OrNull IsText (column row.now at)) }
+{
+    read(row, at)
+}
+
+/// The rows that these values show, in their order.
+pub fn parse_all<T: TableRow>(alloc: Global, rows: &[Row]) -> Result<Vec<T>, Unread>
+    ensures shows { IfOk result (λ found. rows.now ≡ map T.cells found.items) }
+    ensures mistyped { IfErr result (λ e. e ≡ Mistyped → ¬ All T.IsTyped rows.now) }
+{
+    let mut found = Vec::new(alloc);
+    'rows: for row in rows {
+        let parsed = T::parse(row)?;
+        if found.push(parsed).is_err() {
+            return Err(Unread::Memory);
+        }
+    }
+    Ok(found)
+}
+
+impl TableRow for MetaRow {
+    ghost cells = { meta_cells };
+
+    ghost IsTyped = { IsMeta };
+
+    fn parse(row: &Row) -> Result<MetaRow, Unread> {
+        if row.column_count() != 3 {
+            return Err(Unread::Mistyped);
+        }
+        Ok(MetaRow {
+            id: read(row, 0)?,
+            schema: read(row, 1)?,
+            last: read(row, 2)?,
+        })
+    }
+}
+
+impl TableRow for MemberRow {
+    ghost cells = { member_cells };
+
+    ghost IsTyped = { IsMember };
+
+    fn parse(row: &Row) -> Result<MemberRow, Unread> {
+        if row.column_count() != 3 {
+            return Err(Unread::Mistyped);
+        }
+        Ok(MemberRow {
+            id: read(row, 0)?,
+            name: read(row, 1)?,
+            key: read(row, 2)?,
+        })
+    }
+}
+
+impl TableRow for EventRow {
+    ghost cells = { event_cells };
+
+    ghost IsTyped = { IsEvent };
+
+    fn parse(row: &Row) -> Result<EventRow, Unread> {
+        if row.column_count() != 5 {
+            return Err(Unread::Mistyped);
+        }
+        Ok(EventRow {
+            id: read(row, 0)?,
+            name: read(row, 1)?,
+            game: read(row, 2)?,
+            budget: read(row, 3)?,
+            increment: read(row, 4)?,
+        })
+    }
+}
+
+impl TableRow for ChallengeRow {
+    ghost cells = { challenge_cells };
+
+    ghost IsTyped = { IsChallenge };
+
+    fn parse(row: &Row) -> Result<ChallengeRow, Unread> {
+        if row.column_count() != 7 {
+            return Err(Unread::Mistyped);
+        }
+        Ok(ChallengeRow {
+            member: read(row, 0)?,
+            number: read(row, 1)?,
+            event: read(row, 2)?,
+            other: read(row, 3)?,
+            first: read(row, 4)?,
+            state: read(row, 5)?,
+            game: read_integer(row, 6)?,
+        })
+    }
+}
+
+impl TableRow for MoveRow {
+    ghost cells = { move_cells };
+
+    ghost IsTyped = { IsMove };
+
+    fn parse(row: &Row) -> Result<MoveRow, Unread> {
+        if row.column_count() != 6 {
+            return Err(Unread::Mistyped);
+        }
+        Ok(MoveRow {
+            game: read(row, 0)?,
+            ply: read(row, 1)?,
+            text: read(row, 2)?,
+            moment: read(row, 3)?,
+            left: read(row, 4)?,
+            position: read(row, 5)?,
+        })
+    }
+}
+
+impl TableRow for GameRecord {
+    ghost cells = { game_cells };
+
+    ghost IsTyped = { IsGame };
+
+    fn parse(row: &Row) -> Result<GameRecord, Unread> {
+        if row.column_count() != 17 {
+            return Err(Unread::Mistyped);
+        }
+        Ok(GameRecord {
+            id: read(row, 0)?,
+            key: read_text(row, 1)?,
+            event: read(row, 2)?,
+            first: read(row, 3)?,
+            second: read(row, 4)?,
+            start: read(row, 5)?,
+            since: read(row, 6)?,
+            plies: read(row, 7)?,
+            left1: read(row, 8)?,
+            left2: read(row, 9)?,
+            offer_side: read_integer(row, 10)?,
+            offer_ply: read_integer(row, 11)?,
+            end: read_text(row, 12)?,
+            result: read_text(row, 13)?,
+            position: read(row, 14)?,
+            track_a: read(row, 15)?,
+            track_b: read(row, 16)?,
+        })
+    }
+}
+
+impl TableRow for SeenRow {
+    ghost cells = { seen_cells };
+
+    ghost IsTyped = { IsSeen };
+
+    fn parse(row: &Row) -> Result<SeenRow, Unread> {
+        if row.column_count() != 4 {
+            return Err(Unread::Mistyped);
+        }
+        Ok(SeenRow {
+            game: read(row, 0)?,
+            position: read(row, 1)?,
+            count: read(row, 2)?,
+            first_ply: read(row, 3)?,
+        })
+    }
+}
+
+impl TableRow for ScoreRow {
+    ghost cells = { score_cells };
+
+    ghost IsTyped = { IsScore };
+
+    fn parse(row: &Row) -> Result<ScoreRow, Unread> {
+        if row.column_count() != 7 {
+            return Err(Unread::Mistyped);
+        }
+        Ok(ScoreRow {
+            event: read(row, 0)?,
+            member: read(row, 1)?,
+            opponent: read(row, 2)?,
+            points: read(row, 3)?,
+            wins: read(row, 4)?,
+            draws: read(row, 5)?,
+            losses: read(row, 6)?,
+        })
+    }
+}
