@@ -1,2 +1,10 @@
+pub mod AskedLemmas
 pub mod LineLemmas
+pub mod MadeLemmas
+pub mod NextLemmas
 pub mod ReplayLemmas
+pub mod RowLemmas
+pub mod SameLemmas
+pub mod ShownLemmas
+pub mod ToldLemmas
+pub mod WholeLemmas

@@ -1,2 +1,7 @@
+pub mod Asked
+pub mod Made
+pub mod Records
 pub mod Replay
 pub mod Shown
+pub mod Tables
+pub mod Told

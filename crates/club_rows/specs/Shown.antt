@@ -1,11 +1,57 @@
--- What the rows of a game show.
+-- When rows are those of a legal game, and what they show of it.
+use Rattle.std.specs.Prelude.{◌≡◌, ◌<◌, ◌≤◌, ◌^◌, ℕ, List, map, IsTrue, IfSome, true}
 use Rattle.club_rules.specs.GameRules.{GameRules}
-use Rattle.club_core.specs.View.{IsSound}
+use Rattle.club_core.specs.Limits.{is_name, is_budget, is_increment, last_moment}
+use Rattle.club_core.specs.Events.{Terms}
+use Rattle.club_core.specs.Game.{Game}
+use Rattle.club_core.specs.Legal.{IsLegalGame}
+use Rattle.club_core.specs.LegalState.{Each}
+use Rattle.club_core.specs.declared.rows.GameView.{GameView}
+use Rattle.club_rows.specs.Told.{may_stand}
+use Rattle.club_core.specs.View.{IsRowOf, Shows, IsSound, terms_of}
+use Rattle.store_tables.specs.Cells.{game_cells, move_cells}
+use Rattle.store_tables.specs.declared.rows.GameRecord.{GameRecord}
+use Rattle.store_tables.specs.declared.rows.MoveRow.{MoveRow}
+use Rattle.club_rows.specs.Tables.{game_row, move_rows}
 use Rattle.club_rows.specs.declared.view.Shown.{Shown}
-use Rattle.club_rows.specs.declared.view.Shown.TheVariants.{Game, WrongMoves, WrongGame}
+use Rattle.club_rows.specs.declared.view.Shown.TheVariants as shown
 
--- the values of a view that is shown fit together
-abbrev pub IsSoundIfShown : {R P M E : Type 0} → GameRules P M E → Shown R P M E → Type 0
-IsSoundIfShown rules (Game view) = IsSound rules view
-IsSoundIfShown rules WrongMoves = Unit {0}
-IsSoundIfShown rules WrongGame = Unit {0}
+-- the game's values fit their columns: a key that is a name, ids of 32 bits, and no moment past the last one
+pub record FitsTables {M : Type 0} (number : ℕ) (game : Game M) : Type 0 where
+  pub id : number < 2 ^ 32
+  pub event : game.event < 2 ^ 32
+  pub first : game.first < 2 ^ 32
+  pub second : game.second < 2 ^ 32
+  pub key : IfSome game.key (λ k. IsTrue (is_name k))
+  pub start : game.start ≤ last_moment
+  pub entries : Each (λ e. e.moment ≤ last_moment) game.entries
+
+-- the rows are those of this legal game, which has this id and is played by these terms
+pub record AreRowsOf {P M E : Type 0} (rules : GameRules P M E) (terms : Terms) (id : ℕ) (stored : GameRecord) (stored_moves : List MoveRow) (game : Game M) : Type 0 where
+  pub budget : IsTrue (is_budget terms.budget)
+  pub increment : IsTrue (is_increment terms.increment)
+  pub legal : IsLegalGame rules terms game
+  pub fits : FitsTables id game
+  pub row : game_cells stored ≡ game_row rules terms id game
+  pub moves : map move_cells stored_moves ≡ move_rows rules terms id game
+
+-- a view is shown, by these terms, and it shows the game
+abbrev pub ShowsGame : {R P M E : Type 0} → GameRules P M E → Terms → Game M → Shown R P M E → Type 0
+ShowsGame rules terms game (shown.Game view) = (terms_of view ≡ terms) × Shows rules game view
+ShowsGame rules terms game shown.WrongMoves = ⊥
+ShowsGame rules terms game shown.WrongGame = ⊥
+
+-- where a view is shown, the rows are those of a legal game that it shows
+abbrev pub IsSoundIfShown : {R P M E : Type 0} → GameRules P M E → Terms → GameRecord → List MoveRow → Shown R P M E → Type 0
+IsSoundIfShown {R} {P} {M} {E} rules terms row moves (shown.Game view) =
+    (id : ℕ) × (game : Game M) × AreRowsOf rules terms id row moves game × (terms_of view ≡ terms) × Shows rules game view × IsSound rules view
+IsSoundIfShown rules terms row moves shown.WrongMoves = Unit {0}
+IsSoundIfShown rules terms row moves shown.WrongGame = Unit {0}
+
+-- a view is shown where its row may stand and is the one that is stored under that id
+abbrev pub StandsAs : {R P M E : Type 0} → GameRules P M E → GameRecord → ℕ → GameView R P M E → Shown R P M E → Type 0
+StandsAs {R} {P} {M} {E} rules stored id view (shown.Game v) =
+    (v ≡ view) × (may_stand rules.has_draw_offers view.row ≡ true) × ((terms : Terms) (game : Game M) → IsRowOf rules terms game view.row → game_cells stored ≡ game_row rules terms id game)
+StandsAs rules stored id view shown.WrongMoves = ⊥
+StandsAs {R} {P} {M} {E} rules stored id view shown.WrongGame =
+    (terms : Terms) (game : Game M) → IsRowOf rules terms game view.row → may_stand rules.has_draw_offers view.row ≡ true → game_cells stored ≡ game_row rules terms id game → ⊥

@@ -1,14 +1,21 @@
 //! How ends, sides and scores stand in the table of games.
 
-ghost use Rattle.std.specs.Prelude.{◌≡◌};
+ghost use Rattle.std.specs.Prelude.{◌≡◌, Option, Some, pos};
+ghost use Rattle.squares.specs.declared.sides.Side.{Side};
+ghost use Rattle.squares.specs.declared.sides.Score.{Score};
 ghost use Rattle.squares.specs.Sides.{score_text};
+ghost use Rattle.club_core.specs.declared.rows.OutsideEnd.{OutsideEnd};
+ghost use Rattle.club_core.specs.declared.rows.OutsideEnd.TheVariants.{Recorded};
+ghost use Rattle.club_rows.specs.Tables.{side_number, outside_text, end_name_text};
 
 use club_core::{GameEnd, OutsideEnd};
 use club_rules::Rules;
 use squares::{Score, Side};
 
 /// A side's number: 0 First, 1 Second.
-pub fn side_number(side: Side) -> i64 {
+pub fn side_number(side: Side) -> i64
+    ensures { result ≡ pos (side_number side) }
+{
     match side {
         Side::First => 0,
         Side::Second => 1,
@@ -16,7 +23,9 @@ pub fn side_number(side: Side) -> i64 {
 }
 
 /// The side of a number.
-pub fn side_of(number: i64) -> Option<Side> {
+pub fn side_of(number: i64) -> Option<Side>
+    ensures { (side : Side) → number ≡ pos (side_number side) → result ≡ Some side }
+{
     match number {
         0 => Some(Side::First),
         1 => Some(Side::Second),
@@ -25,7 +34,9 @@ pub fn side_of(number: i64) -> Option<Side> {
 }
 
 /// The name of an end other than by the rules.
-pub fn outside_name(end: OutsideEnd) -> &'static str {
+pub fn outside_name(end: OutsideEnd) -> &'static str
+    ensures { result.now ≡ outside_text end }
+{
     match end {
         OutsideEnd::Resigned => "Resigned",
         OutsideEnd::Agreed => "Agreed",
@@ -35,7 +46,9 @@ pub fn outside_name(end: OutsideEnd) -> &'static str {
 }
 
 /// The name of an end.
-pub fn end_name<R: Rules>(end: &GameEnd<R::End>) -> &'static str {
+pub fn end_name<R: Rules>(end: &GameEnd<R::End>) -> &'static str
+    ensures { result.now ≡ end_name_text R.rules end.now }
+{
     match end {
         GameEnd::Rule(end) => R::end_name(end).name(),
         GameEnd::Outside(end) => outside_name(*end),
@@ -43,7 +56,9 @@ pub fn end_name<R: Rules>(end: &GameEnd<R::End>) -> &'static str {
 }
 
 /// The score of a text.
-pub fn score_of(text: &str) -> Option<Score> {
+pub fn score_of(text: &str) -> Option<Score>
+    ensures { (score : Score) → text.now ≡ score_text score → result ≡ Some score }
+{
     match text {
         "2-0" => Some(Score::FirstWins),
         "1-1" => Some(Score::Draw),
@@ -53,7 +68,9 @@ pub fn score_of(text: &str) -> Option<Score> {
 }
 
 /// The end other than by the rules that a row names, with the score beside it.
-pub fn outside_of(name: &str, score: Option<Score>) -> Option<OutsideEnd> {
+pub fn outside_of(name: &str, score: Option<Score>) -> Option<OutsideEnd>
+    ensures { (end : OutsideEnd) → name.now ≡ outside_text end → ((s : Score) → end ≡ Recorded s → score ≡ Some s) → result ≡ Some end }
+{
     match name {
         "Resigned" => Some(OutsideEnd::Resigned),
         "Agreed" => Some(OutsideEnd::Agreed),

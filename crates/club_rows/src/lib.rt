@@ -4,10 +4,12 @@
 pub mod asked;
 pub mod audit;
 pub mod ends;
+pub mod laws;
 pub mod lines;
 pub mod numbers;
 pub mod records;
 pub mod replay;
+pub mod same;
 pub mod view;
 
 pub use asked::ask;

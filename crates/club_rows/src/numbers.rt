@@ -1,6 +1,6 @@
 //! Numbers of the machine as numbers of the tables, and back.
 
-ghost use Rattle.std.specs.Prelude.{◌≡◌, ◌<◌, ◌^◌, pos, IfSome};
+ghost use Rattle.std.specs.Prelude.{◌≡◌, ◌≢◌, ◌<◌, ◌≤◌, ◌^◌, ℕ, None, pos, IfSome};
 
 use clocks::Moment;
 
@@ -16,7 +16,8 @@ pub fn stored(number: u64) -> i64
 
 /// A number of a table, unless it is below 0.
 pub fn counted(number: i64) -> Option<u64>
-    ensures { IfSome result (λ n. pos n ≡ number) }
+    ensures some { IfSome result (λ n. pos n ≡ number) }
+    ensures none { result ≡ None → (n : ℕ) → number ≢ pos n }
 {
     match u64::try_from(number) {
         Ok(number) => Some(number),
@@ -26,7 +27,9 @@ pub fn counted(number: i64) -> Option<u64>
 
 /// An id of a table, unless it is no id.
 pub fn id(number: i64) -> Option<u32>
-    ensures { IfSome result (λ n. pos n ≡ number) }
+    ensures some { IfSome result (λ n. pos n ≡ number) }
+    ensures range { IfSome result (λ n. n < 2 ^ 32) }
+    ensures none { result ≡ None → (n : ℕ) → n < 2 ^ 32 → number ≢ pos n }
 {
     match u32::try_from(number) {
         Ok(number) => Some(number),
@@ -36,7 +39,9 @@ pub fn id(number: i64) -> Option<u32>
 
 /// A moment of a table, unless it is none.
 pub fn moment(seconds: i64) -> Option<Moment>
-    ensures { IfSome result (λ m. pos m ≡ seconds) }
+    ensures some { IfSome result (λ m. pos m ≡ seconds) }
+    ensures range { IfSome result (λ m. m ≤ 253_402_300_799) }
+    ensures none { result ≡ None → (n : ℕ) → n ≤ 253_402_300_799 → seconds ≢ pos n }
 {
     match counted(seconds) {
         Some(seconds) => Moment::new(seconds),

@@ -1,16 +1,31 @@
 //! What is stored of a game and of a move.
 
+ghost use Rattle.std.specs.Prelude.{◌≡◌, ◌<◌, ◌^◌, pos, [], ◌∷◌, IfOk, string_bytes};
+ghost use Rattle.std.specs.Option.{option_map};
+ghost use Rattle.sqlite_value.specs.declared.value.Value.TheVariants.{Text};
+ghost use Rattle.squares.specs.Sides.{score_text};
+ghost use Rattle.club_core.specs.Events.{Terms};
+ghost use Rattle.club_core.specs.Game.{Game};
+ghost use Rattle.club_core.specs.View.{IsRowOf};
+ghost use Rattle.store_tables.specs.Cells.{game_cells, move_cells};
+ghost use Rattle.club_core.specs.Answer.{move_reply_of};
+ghost use Rattle.club_rows.specs.Made.{made_row};
+ghost use Rattle.club_rows.specs.Records.{HasNumbersOf};
+ghost use Rattle.club_rows.specs.Tables.{number, side_number, game_row, end_name_text};
+
 use crate::ends::{end_name, side_number};
 use crate::numbers::stored;
 use clocks::Moment;
-use club_core::{GameRow, Moved};
+use club_core::{GameRow, Moved, Offer};
 use club_rules::{Memory, Rules};
 use squares::Score;
 use std::alloc::Global;
 use store_tables::{GameRecord, MoveRow};
 
 // A copy of a text that may be none.
-fn copied(text: &Option<String>) -> Result<Option<String>, Memory> {
+pub(crate) fn copied(text: &Option<String>) -> Result<Option<String>, Memory>
+    ensures { IfOk result (λ copy. option_map (λ s. string_bytes s) copy ≡ option_map (λ s. string_bytes s) text.now) }
+{
     match text {
         Some(text) => Ok(Some(text.clone()?)),
         None => Ok(None),
@@ -18,33 +33,64 @@ fn copied(text: &Option<String>) -> Result<Option<String>, Memory> {
 }
 
 // The text of a score that may be none.
-fn score_text(alloc: Global, score: Option<Score>) -> Result<Option<String>, Memory> {
+fn score_text(alloc: Global, score: Option<Score>) -> Result<Option<String>, Memory>
+    ensures { IfOk result (λ text. option_map (λ s. string_bytes s) text ≡ option_map score_text score) }
+{
     match score {
         Some(score) => Ok(Some(String::from_str(alloc, score.text())?)),
         None => Ok(None),
     }
 }
 
-fn end_text<R: Rules>(alloc: Global, row: &GameRow<R::End>) -> Result<Option<String>, Memory> {
+fn end_text<R: Rules>(alloc: Global, row: &GameRow<R::End>) -> Result<Option<String>, Memory>
+    ensures { IfOk result (λ text. option_map (λ s. string_bytes s) text ≡ option_map (end_name_text R.rules) row.now.end) }
+{
     match &row.end {
         Some(end) => Ok(Some(String::from_str(alloc, end_name::<R>(end))?)),
         None => Ok(None),
     }
 }
 
-/// The row of the table of games for a game of that id.
-pub fn record_of<R: Rules>(
-    alloc: Global,
-    id: u32,
-    row: &GameRow<R::End>,
-) -> Result<GameRecord, Memory> {
-    let (offer_side, offer_ply) = match row.offer {
-        Some(offer) => (Some(side_number(offer.side)), Some(i64::from(offer.ply))),
-        None => (None, None),
-    };
-    Ok(GameRecord {
+// The number of the side that made an offer.
+fn offer_side(offer: Option<Offer>) -> Option<i64>
+    ensures { result ≡ option_map (λ o. pos (side_number o.side)) offer }
+{
+    match offer {
+        Some(offer) => Some(side_number(offer.side)),
+        None => None,
+    }
+}
+
+// The ply of an offer.
+fn offer_ply(offer: Option<Offer>) -> Option<i64>
+    ensures { result ≡ option_map (λ o. pos o.ply) offer }
+{
+    match offer {
+        Some(offer) => Some(i64::from(offer.ply)),
+        None => None,
+    }
+}
+
+// The texts of a row of the table of games.
+#[derive(Drop)]
+struct Texts {
+    key: Option<String>,
+    end: Option<String>,
+    result: Option<String>,
+    position: String,
+}
+
+// The row of a game, with its texts.
+fn with_texts<E: Copy + Drop>(id: u32, row: &GameRow<E>, texts: Texts) -> GameRecord
+    ensures numbers { row.now.left_first < 2 ^ 63 → row.now.left_second < 2 ^ 63 → HasNumbersOf id row.now result }
+    ensures key { result.key ≡ texts.key }
+    ensures end { result.end ≡ texts.end }
+    ensures result { result.result ≡ texts.result }
+    ensures position { result.position ≡ texts.position }
+{
+    GameRecord {
         id: i64::from(id),
-        key: copied(&row.key)?,
+        key: texts.key,
         event: i64::from(row.event),
         first: i64::from(row.first),
         second: i64::from(row.second),
@@ -53,24 +99,53 @@ pub fn record_of<R: Rules>(
         plies: i64::from(row.plies),
         left1: stored(row.left_first),
         left2: stored(row.left_second),
-        offer_side,
-        offer_ply,
-        end: end_text::<R>(alloc, row)?,
-        result: score_text(alloc, row.result)?,
-        position: row.position.clone()?,
+        offer_side: offer_side(row.offer),
+        offer_ply: offer_ply(row.offer),
+        end: texts.end,
+        result: texts.result,
+        position: texts.position,
         track_a: 0,
         track_b: 0,
-    })
+    }
+}
+
+/// The row of the table of games for a game of that id.
+pub fn record_of<R: Rules>(
+    alloc: Global,
+    id: u32,
+    row: &GameRow<R::End>,
+) -> Result<GameRecord, Memory>
+    // Seconds that 63 bits hold are stored as they are.
+    ensures { IfOk result (λ r. row.now.left_first < 2 ^ 63 → row.now.left_second < 2 ^ 63 →
+        (terms : Terms) (game : Game R.Move) → IsRowOf R.rules terms game row.now → game_cells r ≡ game_row R.rules terms id game) }
+{
+    let key = copied(&row.key)?;
+    let end = end_text::<R>(alloc, row)?;
+    let result = score_text(alloc, row.result)?;
+    let position = row.position.clone()?;
+    let texts = Texts {
+        key,
+        end,
+        result,
+        position,
+    };
+    let record = with_texts(id, row, texts);
+    Ok(record)
 }
 
 /// The row of the table of moves for a move of a game.
-pub fn move_row(game: u32, moved: &Moved, moment: Moment) -> Result<MoveRow, Memory> {
+pub fn move_row(game: u32, moved: &Moved, moment: Moment) -> Result<MoveRow, Memory>
+    // Seconds that 63 bits hold are stored as they are.
+    ensures { IfOk result (λ r. moved.now.left < 2 ^ 63 → move_cells r ≡ made_row game (move_reply_of moved.now) moment) }
+{
+    let text = moved.text.clone()?;
+    let position = moved.position.clone()?;
     Ok(MoveRow {
         game: i64::from(game),
         ply: i64::from(moved.ply),
-        text: moved.text.clone()?,
+        text,
         moment: stored(moment.seconds()),
         left: stored(moved.left),
-        position: moved.position.clone()?,
+        position,
     })
 }

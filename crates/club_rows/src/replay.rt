@@ -1,9 +1,12 @@
 //! A game as its rows show it: replayed from its start, each row compared with what the rules and the clocks give.
 
-ghost use Rattle.std.specs.Prelude.{◌≡◌, ◌≤◌, ◌<◌, ◌+◌, ◌++◌, ◌∷◌, [], ◌*◌, ◌^◌, ℕ, IfOk, IfSome, Ok, length};
+ghost use Rattle.std.specs.Prelude.{◌≡◌, ◌≢◌, ◌≤◌, ◌<◌, ◌+◌, ◌++◌, ◌∷◌, [], ◌*◌, ◌^◌, ℕ, IfOk, IfSome, IsTrue, None, Ok, length, is_some};
 ghost use Rattle.squares.specs.Sides.{other};
 ghost use Rattle.club_rules.specs.Line.{IsLegalLine};
-ghost use Rattle.club_rows.specs.Replay.{IsReplayed, left_in};
+ghost use Rattle.club_core.specs.Limits.{is_budget, is_increment};
+ghost use Rattle.club_core.specs.Game.{Game, Entry};
+ghost use Rattle.club_rows.specs.Tables.{with_entry};
+ghost use Rattle.club_rows.specs.Replay.{IsReplayed, TakesTime, IsNext, Replays, Follows, WasReplayed, IsPlayedAs, left_in, clocks_replayed, terms_with, terms_given};
 
 use crate::numbers::{moment, stored};
 use clocks::{Clock, Moment};
@@ -30,13 +33,25 @@ pub struct Replayed<R: Rules> {
     pub since: Moment,
 }
 
+// A move that may be played next, and what stands after it.
+#[derive(Drop)]
+pub struct Next<R: Rules> {
+    pub made: R::Move,
+    pub position: R::Position,
+    pub turn: Side,
+    pub moment: Moment,
+    pub left: u64,
+}
+
 // The legal move that a row's text names in the position, if it is that move's text.
 fn move_of<R: Rules>(
     alloc: Global,
     position: &R::Position,
     text: &str,
 ) -> Result<Option<R::Move>, Memory>
-    ensures { IfOk result (λ found. IfSome found (λ made. R.rules.check position.now made ≡ Ok tt)) }
+    ensures legal { IfOk result (λ found. IfSome found (λ made. R.rules.check position.now made ≡ Ok tt)) }
+    ensures text { IfOk result (λ found. IfSome found (λ made. text.now ≡ R.rules.write_move position.now made)) }
+    ensures none { IfOk result (λ found. found ≡ None → (made : R.Move) → R.rules.check position.now made ≡ Ok tt → text.now ≢ R.rules.write_move position.now made) }
 {
     let made = match R::read_move(alloc, position, text)? {
         Ok(made) => made,
@@ -73,7 +88,9 @@ fn clock<R: Rules>(game: &Replayed<R>, side: Side, increment: u64) -> Clock
 // A game at its start.
 fn start<R: Rules>(alloc: Global, budget: u64, start: Moment) -> Replayed<R>
     requires { budget ≤ 31536000 }
-    ensures { (increment : ℕ) → IsReplayed R.rules increment 0 result }
+    ensures safe { (increment : ℕ) → IsReplayed R.rules increment 0 result }
+    ensures clocks { clocks_replayed result ≡ record { left_first = budget; left_second = budget; since = start } }
+    ensures line { result.line.items ≡ [] }
 {
     Replayed {
         position: R::start(),
@@ -93,7 +110,8 @@ fn clock_after<R: Rules>(
 ) -> Option<(Moment, u64)>
     requires increment { increment ≤ 2592000 }
     requires room { game.now.left_first + game.now.left_second < 2 ^ 62 }
-    ensures { IfSome result (λ after. after.1 ≤ left_in game.now turn + increment) }
+    ensures some { IfSome result (λ after. TakesTime game.now turn increment row.now after.0 after.1) }
+    ensures none { result ≡ None → (moment left : ℕ) → ¬ TakesTime game.now turn increment row.now moment left }
 {
     let moment = match moment(row.moment) {
         Some(moment) => moment,
@@ -116,54 +134,36 @@ fn clock_after<R: Rules>(
 // Whether the rules have ended the game.
 fn is_ended<R: Rules>(alloc: Global, game: &Replayed<R>) -> Result<bool, Memory>
     requires { IsLegalLine R.rules R.rules.start game.now.line.items }
+    ensures { IfOk result (λ ended. ended ≡ is_some (R.rules.judge R.rules.start game.now.line.items)) }
 {
     let end = R::judge(alloc, &R::start(), &game.line)?;
     Ok(end.is_some())
 }
 
-// The game with one move more, which leaves the mover so many seconds.
-fn advanced<R: Rules>(
-    game: Replayed<R>,
-    made: R::Move,
-    position: R::Position,
-    moment: Moment,
-    turn: Side,
-    left: u64,
-) -> Result<Replayed<R>, Memory>
-    ensures line { IfOk result (λ new. new.line.items ≡ game.line.items ++ made ∷ []) }
-    ensures position { IfOk result (λ new. new.position ≡ position) }
-    ensures mover { IfOk result (λ new. left_in new turn ≡ left) }
-    ensures other { IfOk result (λ new. left_in new (other turn) ≡ left_in game (other turn)) }
-    ensures since { IfOk result (λ new. new.since ≡ moment) }
-{
-    let (left_first, left_second) = match turn {
-        Side::First => (left, game.left_second),
-        Side::Second => (game.left_first, left),
-    };
-    let mut line = game.line;
-    line.push(made)?;
-    Ok(Replayed {
-        position,
-        line,
-        left_first,
-        left_second,
-        since: moment,
-    })
-}
-
-// The game with one row more, if the row is that of a move that was played there.
-fn with_row<R: Rules>(
+// The move that a row shows, if it may be played next.
+fn next_of<R: Rules>(
     alloc: Global,
-    game: Replayed<R>,
+    game: &Replayed<R>,
     increment: u64,
+    id: u32,
     row: &MoveRow,
-) -> Result<Option<Replayed<R>>, Memory>
+) -> Result<Option<Next<R>>, Memory>
     requires increment { increment ≤ 2592000 }
-    requires room { length game.line.items < 600 }
-    requires game { IsReplayed R.rules increment (length game.line.items) game }
-    ensures { IfOk result (λ found. IfSome found (λ new. IsReplayed R.rules increment (length game.line.items + 1) new)) }
+    requires room { game.now.left_first + game.now.left_second < 2 ^ 62 }
+    requires plies { length game.now.line.items < 600 }
+    requires line { IsLegalLine R.rules R.rules.start game.now.line.items }
+    ensures some { IfOk result (λ found. IfSome found (λ next. IsNext R.rules increment id game.now row.now next.made next.moment next.left)) }
+    ensures after { IfOk result (λ found. IfSome found (λ next. next.position ≡ R.rules.play game.now.position next.made)) }
+    ensures turn { IfOk result (λ found. IfSome found (λ next. next.turn ≡ R.rules.turn game.now.position)) }
+    ensures none { IfOk result (λ found. found ≡ None → (made : R.Move) (moment left : ℕ) → ¬ IsNext R.rules increment id game.now row.now made moment left) }
 {
-    if is_ended(alloc, &game)? || row.ply != stored(game.line.len() as u64 + 1) {
+    if is_ended(alloc, game)? {
+        return Ok(None);
+    }
+    if row.game != i64::from(id) {
+        return Ok(None);
+    }
+    if row.ply != stored(game.line.len() as u64 + 1) {
         return Ok(None);
     }
     let made = match move_of::<R>(alloc, &game.position, row.text.as_str())? {
@@ -171,7 +171,7 @@ fn with_row<R: Rules>(
         None => return Ok(None),
     };
     let turn = R::turn(&game.position);
-    let (moment, left) = match clock_after(&game, turn, increment, row) {
+    let (moment, left) = match clock_after(game, turn, increment, row) {
         Some(after) => after,
         None => return Ok(None),
     };
@@ -180,21 +180,83 @@ fn with_row<R: Rules>(
     if written.as_str() != row.position.as_str() {
         return Ok(None);
     }
-    let new = advanced(game, made, position, moment, turn, left)?;
-    Ok(Some(new))
+    Ok(Some(Next {
+        made,
+        position,
+        turn,
+        moment,
+        left,
+    }))
+}
+
+// The game with that move more.
+fn advanced<R: Rules>(game: Replayed<R>, next: Next<R>) -> Result<Replayed<R>, Memory>
+    ensures line { IfOk result (λ new. new.line.items ≡ game.line.items ++ next.made ∷ []) }
+    ensures position { IfOk result (λ new. new.position ≡ next.position) }
+    ensures mover { IfOk result (λ new. left_in new next.turn ≡ next.left) }
+    ensures other { IfOk result (λ new. left_in new (other next.turn) ≡ left_in game (other next.turn)) }
+    ensures since { IfOk result (λ new. new.since ≡ next.moment) }
+{
+    let (left_first, left_second) = match next.turn {
+        Side::First => (next.left, game.left_second),
+        Side::Second => (game.left_first, next.left),
+    };
+    let mut line = game.line;
+    line.push(next.made)?;
+    Ok(Replayed {
+        position: next.position,
+        line,
+        left_first,
+        left_second,
+        since: next.moment,
+    })
+}
+
+// The game with one row more, if the row is that of a move that was played there.
+fn with_row<R: Rules>(
+    alloc: Global,
+    game: Replayed<R>,
+    increment: u64,
+    id: u32,
+    row: &MoveRow,
+) -> Result<Option<Replayed<R>>, Memory>
+    requires increment { increment ≤ 2592000 }
+    requires room { length game.line.items < 600 }
+    requires game { IsReplayed R.rules increment (length game.line.items) game }
+    ensures safe { IfOk result (λ found. IfSome found (λ new. IsReplayed R.rules increment (length game.line.items + 1) new)) }
+    ensures some { IfOk result (λ found. IfSome found (λ new. (budget : ℕ) (old : Game R.Move) →
+        Replays R.rules (terms_with budget increment) old game → (e : Entry R.Move) × Follows R.rules (terms_with budget increment) id old row.now e × Replays R.rules (terms_with budget increment) (with_entry old e) new)) }
+    ensures none { IfOk result (λ found. found ≡ None → (budget : ℕ) (old : Game R.Move) →
+        Replays R.rules (terms_with budget increment) old game → (e : Entry R.Move) → ¬ Follows R.rules (terms_with budget increment) id old row.now e) }
+{
+    match next_of::<R>(alloc, &game, increment, id, row)? {
+        Some(next) => {
+            let new = advanced(game, next)?;
+            Ok(Some(new))
+        }
+        None => Ok(None),
+    }
 }
 
 /// The game that the rows of its moves show, if they are those of a legal game of these terms from that moment on.
 pub fn replay<R: Rules>(
     alloc: Global,
     terms: Terms,
+    id: u32,
     from: Moment,
     rows: &[MoveRow],
 ) -> Result<Option<Replayed<R>>, Memory>
-    ensures { IfOk result (λ found. IfSome found (λ game. (terms.budget ≤ 31536000) × (terms.increment ≤ 2592000) × (length rows.now ≤ 600)
+    ensures safe { IfOk result (λ found. IfSome found (λ game. (terms.budget ≤ 31536000) × (terms.increment ≤ 2592000) × (length rows.now ≤ 600)
         × IsReplayed R.rules terms.increment (length rows.now) game)) }
+    ensures terms { IfOk result (λ found. IfSome found (λ game. IsTrue (is_budget terms.budget) × IsTrue (is_increment terms.increment))) }
+    ensures some { IfOk result (λ found. IfSome found (λ game. WasReplayed R.rules (terms_given terms) id from rows.now (length rows.now) game)) }
+    ensures none { IfOk result (λ found. found ≡ None → IsTrue (is_budget terms.budget) → IsTrue (is_increment terms.increment) →
+        (game : Game R.Move) → ¬ IsPlayedAs R.rules (terms_given terms) id from rows.now game) }
 {
-    if !is_budget(terms.budget) || !is_increment(terms.increment) {
+    if !is_budget(terms.budget) {
+        return Ok(None);
+    }
+    if !is_increment(terms.increment) {
         return Ok(None);
     }
     if rows.len() > MOST_PLIES as usize {
@@ -202,7 +264,7 @@ pub fn replay<R: Rules>(
     }
     let mut game = start(alloc, terms.budget, from);
     for row in rows {
-        game = match with_row::<R>(alloc, game, terms.increment, row)? {
+        game = match with_row::<R>(alloc, game, terms.increment, id, row)? {
             Some(game) => game,
             None => return Ok(None),
         };

@@ -1,55 +1,100 @@
-//! The view of a game that its rows give, and whether they are the rows of a legal game.
+//! The view of a game that its rows give, if they are those of a legal game.
 
-ghost use Rattle.std.specs.Prelude.{◌≡◌, ◌≤◌, ◌<◌, ◌+◌, ◌*◌, ◌^◌, ℕ, IfOk, IfSome, Ok, length};
+ghost use Rattle.std.specs.Prelude.{◌≡◌, ◌≢◌, ◌≤◌, ◌<◌, ◌^◌, ℕ, List, pos, Option, None, Some, true, false, IfOk, IfSome, length, string_bytes, is_some};
+ghost use Rattle.std.specs.Option.{option_map};
+ghost use Rattle.squares.specs.declared.sides.Score.{Score};
+ghost use Rattle.squares.specs.Sides.{score_text};
 ghost use Rattle.club_rules.specs.Line.{IsLegalLine};
-ghost use Rattle.club_core.specs.View.{IsSound};
-ghost use Rattle.club_rows.specs.Replay.{IsReplayed};
-ghost use Rattle.club_rows.specs.Shown.{IsSoundIfShown};
+ghost use Rattle.club_core.specs.declared.rows.Offer.{Offer};
+ghost use Rattle.club_core.specs.declared.rows.OutsideEnd.{OutsideEnd};
+ghost use Rattle.club_core.specs.declared.rows.OutsideEnd.TheVariants.{Recorded};
+ghost use Rattle.club_core.specs.Game.{Game, Entry, end_with, score_with};
+ghost use Rattle.club_core.specs.View.{IsSound, Shows, rule_in, terms_of};
+ghost use Rattle.club_rows.specs.Tables.{side_number, outside_text};
+ghost use Rattle.club_rows.specs.Replay.{IsReplayed, Replays, WasReplayed, game_from, terms_given};
+ghost use Rattle.club_rows.specs.Shown.{AreRowsOf, ShowsGame, IsSoundIfShown, StandsAs};
+ghost use Rattle.club_rows.specs.declared.view.Told.{Told};
+ghost use Rattle.club_rows.specs.Told.{HasNumbers, IsTold, AreIds, game_told, may_have_key, may_have_offer, may_have_end, may_stand};
 
 use crate::ends::{outside_of, score_of, side_of};
-use crate::lines::position_after;
-use crate::numbers::{counted, id, moment};
-use crate::records::record_of;
+use crate::numbers::{id, moment};
+use crate::records::{copied, record_of};
 use crate::replay::{Replayed, Terms, replay};
+use crate::same::is_same;
 use clocks::Moment;
-use club_core::{Asked, GameEnd, GameRow, GameView, Offer, OutsideEnd, is_name};
+use club_core::{GameEnd, GameRow, GameView, Offer, OutsideEnd, is_name};
 use club_rules::{Memory, Rules};
 use squares::{Score, Side};
 use std::alloc::Global;
 use store_tables::{GameRecord, MoveRow};
 
 // The offer that a row has: none without a side and a ply.
-fn offer_in(record: &GameRecord) -> Option<Offer> {
-    let side = match record.offer_side {
-        Some(side) => side_of(side)?,
-        None => return None,
-    };
-    let ply = match record.offer_ply {
-        Some(ply) => id(ply)?,
-        None => return None,
-    };
-    Some(Offer { side, ply })
-}
-
-// The end other than by the rules that a row names.
-fn outside_in(record: &GameRecord) -> Option<OutsideEnd> {
-    let score = match &record.result {
-        Some(text) => score_of(text.as_str()),
+fn offer_in(row: &GameRecord) -> Option<Offer>
+    ensures { (offer : Option Offer) → row.now.offer_side ≡ option_map (λ o. pos (side_number o.side)) offer →
+        row.now.offer_ply ≡ option_map (λ o. pos o.ply) offer → IfSome offer (λ o. o.ply < 2 ^ 32) → result ≡ offer }
+{
+    let side = match row.offer_side {
+        Some(side) => side_of(side),
         None => None,
     };
-    match &record.end {
-        Some(name) => outside_of(name.as_str(), score),
+    let ply = match row.offer_ply {
+        Some(ply) => id(ply),
+        None => None,
+    };
+    match side {
+        Some(side) => match ply {
+            Some(ply) => Some(Offer { side, ply }),
+            None => None,
+        },
         None => None,
     }
 }
 
+// The score that a row names.
+fn score_in(row: &GameRecord) -> Option<Score>
+    ensures { (score : Score) → option_map (λ s. string_bytes s) row.now.result ≡ Some (score_text score) → result ≡ Some score }
+{
+    match &row.result {
+        Some(text) => score_of(text.as_str()),
+        None => None,
+    }
+}
+
+// The end other than by the rules that a row names.
+fn outside_in(row: &GameRecord) -> Option<OutsideEnd>
+    ensures { (outside : Option OutsideEnd) → option_map (λ s. string_bytes s) row.now.end ≡ option_map outside_text outside →
+        ((s : Score) → outside ≡ Some (Recorded s) → option_map (λ s. string_bytes s) row.now.result ≡ Some (score_text s)) → result ≡ outside }
+{
+    match &row.end {
+        Some(name) => outside_of(name.as_str(), score_in(row)),
+        None => None,
+    }
+}
+
+// The end other than by the rules that stands: none where the rules gave one.
+fn outside_left(row: &GameRecord, is_ended: bool) -> Option<OutsideEnd>
+    ensures alone { is_some result ≡ true → is_ended ≡ false }
+    ensures ruled { is_ended ≡ true → result ≡ None }
+    ensures told { is_ended ≡ false → (outside : Option OutsideEnd) → option_map (λ s. string_bytes s) row.now.end ≡ option_map outside_text outside →
+        ((s : Score) → outside ≡ Some (Recorded s) → option_map (λ s. string_bytes s) row.now.result ≡ Some (score_text s)) → result ≡ outside }
+{
+    if is_ended {
+        return None;
+    }
+    let outside = outside_in(row);
+    outside
+}
+
 // The score of an end, by the side to move.
-fn score_of_end<R: Rules>(end: &Option<GameEnd<R::End>>, turn: Side) -> Option<Score> {
+fn score_of_end<R: Rules>(end: &Option<GameEnd<R::End>>, turn: Side) -> Option<Score>
+    ensures { result ≡ score_with R.rules end.now turn }
+{
     match end {
         Some(GameEnd::Rule(end)) => Some(R::outcome(end, turn)),
         Some(GameEnd::Outside(OutsideEnd::Agreed)) => Some(Score::Draw),
         Some(GameEnd::Outside(OutsideEnd::Recorded(score))) => Some(*score),
-        Some(GameEnd::Outside(_)) => Some(Score::lost_by(turn)),
+        Some(GameEnd::Outside(OutsideEnd::Resigned)) => Some(Score::lost_by(turn)),
+        Some(GameEnd::Outside(OutsideEnd::Time)) => Some(Score::lost_by(turn)),
         None => None,
     }
 }
@@ -65,77 +110,135 @@ pub enum Shown<R: Rules> {
     WrongGame,
 }
 
-// The event and the players of a row, by their ids.
+// The ids and the start of a row.
 #[derive(Clone, Copy)]
-struct Ids {
+struct Numbers {
+    game: u32,
     event: u32,
     first: u32,
     second: u32,
+    start: Moment,
 }
 
-fn ids_in(record: &GameRecord) -> Option<Ids> {
-    let event = id(record.event)?;
-    let first = id(record.first)?;
-    let second = id(record.second)?;
-    Some(Ids {
+fn numbers_in(row: &GameRecord) -> Option<Numbers>
+    ensures some { IfSome result (λ n. HasNumbers row.now n.game n.event n.first n.second n.start) }
+    ensures ids { IfSome result (λ n. AreIds n.game n.event n.first n.second n.start) }
+    ensures none { result ≡ None → (game event first second start : ℕ) → AreIds game event first second start → ¬ HasNumbers row.now game event first second start }
+{
+    let game = match id(row.id) {
+        Some(game) => game,
+        None => return None,
+    };
+    let event = match id(row.event) {
+        Some(event) => event,
+        None => return None,
+    };
+    let first = match id(row.first) {
+        Some(first) => first,
+        None => return None,
+    };
+    let second = match id(row.second) {
+        Some(second) => second,
+        None => return None,
+    };
+    let start = match moment(row.start) {
+        Some(start) => start,
+        None => return None,
+    };
+    Some(Numbers {
+        game,
         event,
         first,
         second,
+        start,
     })
 }
 
-// The end of a game: the rules' if there is one, else the one that the row names.
-fn end_of<R: Rules>(
-    alloc: Global,
-    record: &GameRecord,
-    line: &[R::Move],
-) -> Result<Option<GameEnd<R::End>>, Memory>
-    requires { IsLegalLine R.rules R.rules.start line.now }
+// The end of a game: the rules' if there is one, else the other.
+fn end_with<E: Copy + Drop>(ruled: Option<E>, outside: Option<OutsideEnd>) -> Option<GameEnd<E>>
+    ensures { result ≡ end_with ruled outside }
 {
-    match R::judge(alloc, &R::start(), line)? {
-        Some(end) => Ok(Some(GameEnd::Rule(end))),
-        None => match outside_in(record) {
-            Some(end) => Ok(Some(GameEnd::Outside(end))),
-            None => Ok(None),
+    match ruled {
+        Some(end) => Some(GameEnd::Rule(end)),
+        None => match outside {
+            Some(end) => Some(GameEnd::Outside(end)),
+            None => None,
         },
     }
 }
 
-fn key_in(record: &GameRecord) -> Result<Option<String>, Memory> {
-    match &record.key {
-        Some(key) => Ok(Some(key.clone()?)),
-        None => Ok(None),
-    }
+// What a row tells of a game beside its moves.
+#[derive(Drop)]
+struct Told<E: Copy + Drop> {
+    key: Option<String>,
+    numbers: Numbers,
+    offer: Option<Offer>,
+    ruled: Option<E>,
+    outside: Option<OutsideEnd>,
 }
 
-// The view of a game that was replayed, with the key, the players, the offer and the outside end of its row.
-fn viewed<R: Rules>(
+// What a row tells of a game whose moves were replayed.
+fn told_in<R: Rules>(
     alloc: Global,
-    record: &GameRecord,
-    ids: &Ids,
+    row: &GameRecord,
+    numbers: Numbers,
+    game: &Replayed<R>,
+) -> Result<Told<R::End>, Memory>
+    requires { IsLegalLine R.rules R.rules.start game.now.line.items }
+    ensures key { IfOk result (λ t. option_map (λ s. string_bytes s) t.key ≡ option_map (λ s. string_bytes s) row.now.key) }
+    ensures numbers { IfOk result (λ t. t.numbers ≡ numbers) }
+    ensures ruled { IfOk result (λ t. t.ruled ≡ R.rules.judge R.rules.start game.now.line.items) }
+    ensures offer { IfOk result (λ t. (offer : Option Offer) → row.now.offer_side ≡ option_map (λ o. pos (side_number o.side)) offer →
+        row.now.offer_ply ≡ option_map (λ o. pos o.ply) offer → IfSome offer (λ o. o.ply < 2 ^ 32) → t.offer ≡ offer) }
+    ensures alone { IfOk result (λ t. is_some t.outside ≡ true → t.ruled ≡ None) }
+    ensures none { IfOk result (λ t. is_some t.ruled ≡ true → t.outside ≡ None) }
+    ensures outside { IfOk result (λ t. t.ruled ≡ None → (outside : Option OutsideEnd) → option_map (λ s. string_bytes s) row.now.end ≡ option_map outside_text outside →
+        ((s : Score) → outside ≡ Some (Recorded s) → option_map (λ s. string_bytes s) row.now.result ≡ Some (score_text s)) → t.outside ≡ outside) }
+{
+    let ruled = R::judge(alloc, &R::start(), &game.line)?;
+    let outside = outside_left(row, ruled.is_some());
+    let offer = offer_in(row);
+    let key = copied(&row.key)?;
+    Ok(Told {
+        key,
+        numbers,
+        offer,
+        ruled,
+        outside,
+    })
+}
+
+// The view of a game that was replayed, with what its row tells.
+fn with_told<R: Rules>(
+    alloc: Global,
+    told: Told<R::End>,
     terms: Terms,
-    start: Moment,
     game: Replayed<R>,
 ) -> Result<GameView<R>, Memory>
     requires increment { terms.increment ≤ 2592000 }
     requires plies { length game.line.items ≤ 600 }
     requires game { IsReplayed R.rules terms.increment (length game.line.items) game }
-    ensures { IfOk result (λ view. IsSound R.rules view) }
+    ensures sound { IfOk result (λ view. IsSound R.rules view) }
+    ensures first { IfOk result (λ view. view.row.left_first < 2 ^ 63) }
+    ensures second { IfOk result (λ view. view.row.left_second < 2 ^ 63) }
+    ensures terms { IfOk result (λ view. terms_of view ≡ terms_given terms) }
+    ensures shows { IfOk result (λ view. (entries : List (Entry R.Move)) → told.ruled ≡ R.rules.judge R.rules.start game.line.items →
+        Replays R.rules (terms_given terms) (game_from told.numbers.start entries) game → Shows R.rules (game_told told entries) view) }
 {
-    let end = end_of::<R>(alloc, record, &game.line)?;
     let position = R::write_position(alloc, &game.position)?;
+    let end = end_with(told.ruled, told.outside);
     let result = score_of_end::<R>(&end, R::turn(&game.position));
     let row = GameRow {
-        key: key_in(record)?,
-        event: ids.event,
-        first: ids.first,
-        second: ids.second,
-        start,
+        key: told.key,
+        event: told.numbers.event,
+        first: told.numbers.first,
+        second: told.numbers.second,
+        start: told.numbers.start,
         since: game.since,
         plies: game.line.len() as u32,
         left_first: game.left_first,
         left_second: game.left_second,
-        offer: offer_in(record),
+        offer: told.offer,
         end,
         result,
         position,
@@ -150,62 +253,131 @@ fn viewed<R: Rules>(
     })
 }
 
+// The view of a game that was replayed and has that row.
+fn viewed<R: Rules>(
+    alloc: Global,
+    row: &GameRecord,
+    numbers: &Numbers,
+    terms: Terms,
+    game: Replayed<R>,
+) -> Result<GameView<R>, Memory>
+    requires increment { terms.increment ≤ 2592000 }
+    requires plies { length game.line.items ≤ 600 }
+    requires game { IsReplayed R.rules terms.increment (length game.line.items) game }
+    ensures sound { IfOk result (λ view. IsSound R.rules view) }
+    ensures first { IfOk result (λ view. view.row.left_first < 2 ^ 63) }
+    ensures second { IfOk result (λ view. view.row.left_second < 2 ^ 63) }
+    ensures terms { IfOk result (λ view. terms_of view ≡ terms_given terms) }
+    ensures shows { IfOk result (λ view. (told : Told R.End) × IsTold R.rules row.now numbers.now game.line.items told × ((entries : List (Entry R.Move)) →
+        Replays R.rules (terms_given terms) (game_from numbers.now.start entries) game → Shows R.rules (game_told told entries) view)) }
+{
+    let told = told_in(alloc, row, *numbers, &game)?;
+    let view = with_told(alloc, told, terms, game)?;
+    Ok(view)
+}
+
+// Whether the key of a game may stand.
+fn may_have_key(key: &Option<String>) -> bool
+    ensures { result ≡ may_have_key (option_map (λ s. string_bytes s) key.now) }
+{
+    match key {
+        Some(key) => is_name(key.as_str()),
+        None => true,
+    }
+}
+
+// Whether the rules gave the end.
+fn is_ruled<E: Copy + Drop>(end: &Option<GameEnd<E>>) -> bool
+    ensures { result ≡ is_some (rule_in end.now) }
+{
+    match end {
+        Some(GameEnd::Rule(_)) => true,
+        Some(GameEnd::Outside(_)) => false,
+        None => false,
+    }
+}
+
 // Whether an offer may stand in the row: at the next ply of a running game whose players may agree on a draw.
-fn is_offer_allowed<R: Rules>(row: &GameRow<R::End>) -> bool {
-    let offer = match row.offer {
-        Some(offer) => offer,
-        None => return true,
-    };
-    let is_ruled = matches!(&row.end, Some(GameEnd::Rule(_)));
-    R::has_draw_offers() && !is_ruled && u64::from(offer.ply) == u64::from(row.plies) + 1
+fn may_have_offer<R: Rules>(row: &GameRow<R::End>) -> bool
+    requires { row.now.plies ≤ 600 }
+    ensures { result ≡ may_have_offer R.rules.has_draw_offers row.now.plies (is_some (rule_in row.now.end)) row.now.offer }
+{
+    match row.offer {
+        Some(offer) => { R::has_draw_offers() && !is_ruled(&row.end) && offer.ply == row.plies + 1 }
+        None => true,
+    }
 }
 
 // Whether the row's end other than by the rules may stand.
-fn is_end_allowed<E: Copy + Drop>(row: &GameRow<E>) -> bool {
+fn may_have_end<E: Copy + Drop>(row: &GameRow<E>) -> bool
+    ensures { result ≡ may_have_end (is_some row.now.key) (is_some row.now.offer) row.now.start row.now.since row.now.end }
+{
     match &row.end {
         Some(GameEnd::Outside(OutsideEnd::Agreed)) => row.offer.is_some(),
         Some(GameEnd::Outside(OutsideEnd::Recorded(_))) => {
-            row.key.is_some() && row.offer.is_none() && row.since == row.start
+            row.key.is_some() && !row.offer.is_some() && row.since.seconds() == row.start.seconds()
         }
-        _ => true,
+        Some(GameEnd::Outside(OutsideEnd::Resigned)) => true,
+        Some(GameEnd::Outside(OutsideEnd::Time)) => true,
+        Some(GameEnd::Rule(_)) => true,
+        None => true,
     }
 }
 
 // Whether the game's key, players, offer and end may stand.
-fn is_allowed<R: Rules>(row: &GameRow<R::End>) -> bool {
-    let is_key = match &row.key {
-        Some(key) => is_name(key.as_str()),
-        None => true,
-    };
-    is_key && row.first != row.second && is_offer_allowed::<R>(row) && is_end_allowed(row)
+fn may_stand<R: Rules>(row: &GameRow<R::End>) -> bool
+    requires { row.now.plies ≤ 600 }
+    ensures { result ≡ may_stand R.rules.has_draw_offers row.now }
+{
+    may_have_key(&row.key)
+        && row.first != row.second
+        && may_have_offer::<R>(row)
+        && may_have_end(row)
 }
 
-/// The view of the game whose row and moves these are, with no ply asked of, if they are those of a legal game.
-pub fn view_of<R: Rules>(
+// The view, where its row may stand and is the one that is stored.
+fn stands<R: Rules>(
     alloc: Global,
-    record: &GameRecord,
-    terms: Terms,
-    moves: &[MoveRow],
+    row: &GameRecord,
+    game: u32,
+    view: GameView<R>,
 ) -> Result<Shown<R>, Memory>
-    ensures { IfOk result (IsSoundIfShown R.rules) }
+    requires plies { view.row.plies ≤ 600 }
+    requires first { view.row.left_first < 2 ^ 63 }
+    requires second { view.row.left_second < 2 ^ 63 }
+    ensures { IfOk result (StandsAs R.rules row.now game view) }
 {
-    let (Some(start), Some(ids), Some(game_id)) = (
-        moment(record.start),
-        ids_in(record),
-        id(record.id),
-    ) else {
-        return Ok(Shown::WrongGame);
-    };
-    let game = match replay::<R>(alloc, terms, start, moves)? {
-        Some(game) => game,
-        None => return Ok(Shown::WrongMoves),
-    };
-    let view = viewed(alloc, record, &ids, terms, start, game)?;
-    if !is_allowed::<R>(&view.row) {
+    if !may_stand::<R>(&view.row) {
         return Ok(Shown::WrongGame);
     }
-    if record_of::<R>(alloc, game_id, &view.row)? != *record {
+    let made = record_of::<R>(alloc, game, &view.row)?;
+    if !is_same(&made, row) {
         return Ok(Shown::WrongGame);
     }
     Ok(Shown::Game(view))
+}
+
+/// The view of the game whose row and moves these are, with no ply asked of, if they are those of a legal game that is
+/// played by these terms.
+pub fn view_of<R: Rules>(
+    alloc: Global,
+    row: &GameRecord,
+    terms: Terms,
+    moves: &[MoveRow],
+) -> Result<Shown<R>, Memory>
+    ensures sound { IfOk result (IsSoundIfShown R.rules (terms_given terms) row.now moves.now) }
+    ensures complete { IfOk result (λ shown. (id : ℕ) (game : Game R.Move) → AreRowsOf R.rules (terms_given terms) id row.now moves.now game →
+        ShowsGame R.rules (terms_given terms) game shown) }
+{
+    let numbers = match numbers_in(row) {
+        Some(numbers) => numbers,
+        None => return Ok(Shown::WrongGame),
+    };
+    let game = match replay::<R>(alloc, terms, numbers.game, numbers.start, moves)? {
+        Some(game) => game,
+        None => return Ok(Shown::WrongMoves),
+    };
+    let view = viewed(alloc, row, &numbers, terms, game)?;
+    let shown = stands(alloc, row, numbers.game, view)?;
+    Ok(shown)
 }

@@ -65,9 +65,6 @@ names t definition place IsTyped old e at typed (inr (inr (named, wrong))) = inr
 pub still : (old mid : State) → IsUnchanged old mid → old.now.schema ≡ club_schema → mid.now.schema ≡ club_schema
 still old mid same has = ap (λ (d : Database). d.schema) same.0.now_is ∙ has
 
-pub names_before : (old mid : State) (e : OpenFault) → IsUnchanged old mid → NamesTable mid.now e → NamesTable old.now e
-names_before old mid e same = subst (λ d. NamesTable d e) same.0.now_is
-
 pub read_after : (table : Definition) (count : ℕ) (rows : List Row) (old mid new : State) → IsUnchanged old mid → IsReadAs table count rows mid new → IsReadAs table count rows old new
 read_after table count rows old mid new same it = record {
   keeps = subst (λ (d : Database). Keeps table d.trees rows) same.0.now_is it.keeps;

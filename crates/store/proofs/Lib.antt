@@ -1,3 +1,4 @@
 pub mod BlameLemmas
 pub mod BoundLemmas
+pub mod FoundLemmas
 pub mod PlaceLemmas

@@ -2,3 +2,4 @@ pub mod Blames
 pub mod Changed
 pub mod Clubs
 pub mod Places
+pub mod Whole

@@ -1,7 +1,7 @@
 //! An open club.
 
 ghost use Rattle.std.specs.Prelude.{◌≡◌, ◌≢◌, ◌≤◌, ◌⊎◌, false, true, Err, IfOk, IfErr, OnOk, OnErr};
-ghost use Rattle.sqlite.specs.State.{HasCleanDisk};
+ghost use Rattle.sqlite.specs.State.{HasCleanDisk, IsUnchanged};
 ghost use Rattle.sqlite.specs.Held.{state};
 ghost use Rattle.sqlite_trees.specs.View.{doubt};
 ghost use Rattle.store_tables.specs.Contents.{IsExactly, IsExactlyEmpty, IsEmpty, IsOpened, Leaves, opening};
@@ -10,6 +10,7 @@ ghost use Rattle.store_tables.specs.Rows.{content_of};
 ghost use Rattle.store_tables.specs.Tables.{club_schema};
 ghost use Rattle.store.specs.Blames.{NamesTable, NamesSchema};
 ghost use Rattle.store.specs.Changed.{changed};
+ghost use Rattle.store.specs.Whole.{IsAccepted};
 ghost use Rattle.store.specs.Places.{AreWellFormed, NamesRows};
 
 use crate::changes::{Changes, commit_changes};
@@ -84,6 +85,7 @@ pub fn adopt<S: Alter>(alloc: Global, conn: Connection<S>) -> Result<Club<S>, Un
     ensures ready { IfOk result (λ club. club.needs_reopening ≡ false) }
     ensures found { IfOk result (λ club. HasCleanDisk (state S.Store club.connection) → IsOpened (state S.Store conn) → (rows : _) × AreWellFormed rows × IsExactly (content_of rows) (state S.Store club.connection)) }
     ensures same { IfOk result (λ club. HasCleanDisk (state S.Store club.connection) → (content : _) → IsExactly content (state S.Store conn) → IsExactly content (state S.Store club.connection)) }
+    ensures unchanged { IfOk result (λ club. HasCleanDisk (state S.Store club.connection) → (state S.Store conn).now.schema ≡ club_schema → IsUnchanged (state S.Store conn) (state S.Store club.connection) × KeepsMay (state S.Store conn) (state S.Store club.connection)) }
     ensures clean { IfOk result (λ club. doubt (state S.Store conn).is_clean ≤ doubt (state S.Store club.connection).is_clean) }
     ensures idle { IfErr result (λ u. u.conn.in_transaction ≡ false) }
     ensures blames { IfErr result (λ u. HasCleanDisk (state S.Store u.conn) → IsOpened (state S.Store conn) → NamesTable (state S.Store conn).now u.fault ⊎ (NamesSchema (state S.Store conn).now u.fault ⊎ NamesRows (state S.Store conn).now u.fault)) }
@@ -147,6 +149,10 @@ impl<S: Alter> Club<S> {
         ensures shut { self.old.needs_reopening ≡ true → (result ≡ Err StoreFault.Reopen) × (self.new ≡ self.old) }
         ensures goes_on { OnOk result (self.new.needs_reopening ≡ false) }
         ensures ends { OnErr result (self.new.needs_reopening ≡ true) }
+        ensures clean { doubt (state S.Store self.old.connection).is_clean ≤ doubt (state S.Store self.new.connection).is_clean }
+        ensures stored { HasCleanDisk (state S.Store self.new.connection) → OnOk result ((content : _) → IsExactly content (state S.Store self.old.connection) → IsExactly content (state S.Store self.new.connection) ⊎ ((changes : _) × IsExactly (changed changes content) (state S.Store self.new.connection))) }
+        ensures unchanged { HasCleanDisk (state S.Store self.new.connection) → IfOk result (λ outcome. ¬ IsAccepted outcome → (content : _) → IsExactly content (state S.Store self.old.connection) → IsExactly content (state S.Store self.new.connection)) }
+        ensures fault { HasCleanDisk (state S.Store self.new.connection) → OnErr result (self.old.needs_reopening ≡ false → (content : _) → IsExactly content (state S.Store self.old.connection) → (db : _) → (state S.Store self.new.connection).may_leave db → Leaves content db ⊎ ((changes : _) × Leaves (changed changes content) db)) }
     {
         if self.needs_reopening {
             return Err(StoreFault::Reopen);

@@ -1,6 +1,11 @@
 //! What a command does to the tables.
 
-ghost use Rattle.std.specs.Prelude.{◌≡◌, ◌≤◌, false, IfOk, length};
+ghost use Rattle.std.specs.Prelude.{◌≡◌, ◌≤◌, false, IfOk, OnOk, length};
+ghost use Rattle.sqlite.specs.State.{HasCleanDisk};
+ghost use Rattle.sqlite.specs.Held.{state};
+ghost use Rattle.sqlite_trees.specs.View.{doubt};
+ghost use Rattle.store_tables.specs.Contents.{IsExactly, Leaves};
+ghost use Rattle.store.specs.Whole.{IsWhole};
 ghost use Rattle.club_core.specs.View.{IsSound};
 ghost use Rattle.club_rules.specs.Draughts.{draughts};
 
@@ -52,7 +57,10 @@ fn first<T: Drop>(rows: Vec<T>) -> Option<T> {
 }
 
 // Refused or repeated: nothing is put.
-fn unchanged(outcome: Outcome) -> Decided {
+fn unchanged(outcome: Outcome) -> Decided
+    ensures outcome { result.outcome ≡ outcome }
+    ensures none { result.changes ≡ None }
+{
     Decided {
         outcome,
         changes: None,
@@ -135,6 +143,7 @@ fn on_member(
     moment: Moment,
 ) -> Result<Decided, StoreFault>
     requires { length members.now ≤ 200 }
+    ensures acts { IfOk result IsWhole }
 {
     let outcome = add_member(members, caller, command);
     let id = match &outcome {
@@ -162,6 +171,7 @@ fn on_event(
     moment: Moment,
 ) -> Result<Decided, StoreFault>
     requires { length events.now ≤ 50 }
+    ensures acts { IfOk result IsWhole }
 {
     let outcome = add_event(events, caller, command);
     let id = match &outcome {
@@ -251,6 +261,10 @@ fn on_seat<S: Alter>(
     requires members { length members.now ≤ 200 }
     requires events { length events.now ≤ 50 }
     ensures idle { conn.old.in_transaction ≡ false → conn.new.in_transaction ≡ false }
+    ensures clean { doubt (state S.Store conn.old).is_clean ≤ doubt (state S.Store conn.new).is_clean }
+    ensures kept { HasCleanDisk (state S.Store conn.new) → OnOk result ((content : _) → IsExactly content (state S.Store conn.old) → IsExactly content (state S.Store conn.new)) }
+    ensures may { HasCleanDisk (state S.Store conn.new) → (content : _) → IsExactly content (state S.Store conn.old) → (db : _) → (state S.Store conn.new).may_leave db → Leaves content db }
+    ensures acts { IfOk result IsWhole }
 {
     let under_key = keyed_of(&first(find::game_with_key(alloc, conn, command.key.as_str())?))?;
     let Ok(games) = u32::try_from(find::count_games(conn)?) else {
@@ -275,7 +289,9 @@ fn played(
     game: u32,
     shown: Decision<Draughts>,
     moment: Moment,
-) -> Result<Decided, StoreFault> {
+) -> Result<Decided, StoreFault>
+    ensures acts { IfOk result IsWhole }
+{
     let (row, answer) = match shown {
         Decision::Accepted {
             row,
@@ -335,6 +351,10 @@ fn on_game<S: Alter>(
     moment: Moment,
 ) -> Result<Decided, StoreFault>
     ensures idle { conn.old.in_transaction ≡ false → conn.new.in_transaction ≡ false }
+    ensures clean { doubt (state S.Store conn.old).is_clean ≤ doubt (state S.Store conn.new).is_clean }
+    ensures kept { HasCleanDisk (state S.Store conn.new) → OnOk result ((content : _) → IsExactly content (state S.Store conn.old) → IsExactly content (state S.Store conn.new)) }
+    ensures may { HasCleanDisk (state S.Store conn.new) → (content : _) → IsExactly content (state S.Store conn.old) → (db : _) → (state S.Store conn.new).may_leave db → Leaves content db }
+    ensures acts { IfOk result IsWhole }
 {
     let events = find::events(alloc, conn)?;
     let moves = find::moves_of(alloc, conn, &record.id)?;
@@ -356,6 +376,7 @@ fn on_view(
     moment: Moment,
 ) -> Result<Decided, StoreFault>
     requires { IsSound draughts view.now }
+    ensures acts { IfOk result IsWhole }
 {
     let moment = moment.later(view.row.since);
     let decision = decide(alloc, view, caller, command, moment)?;
@@ -371,12 +392,15 @@ fn on_move<S: Alter>(
     moment: Moment,
 ) -> Result<Decided, StoreFault>
     ensures idle { conn.old.in_transaction ≡ false → conn.new.in_transaction ≡ false }
+    ensures clean { doubt (state S.Store conn.old).is_clean ≤ doubt (state S.Store conn.new).is_clean }
+    ensures kept { HasCleanDisk (state S.Store conn.new) → OnOk result ((content : _) → IsExactly content (state S.Store conn.old) → IsExactly content (state S.Store conn.new)) }
+    ensures may { HasCleanDisk (state S.Store conn.new) → (content : _) → IsExactly content (state S.Store conn.old) → (db : _) → (state S.Store conn.new).may_leave db → Leaves content db }
+    ensures acts { IfOk result IsWhole }
 {
-    let record = match i64::try_from(command.game) {
-        Ok(game) => first(find::game_with_id(alloc, conn, &game)?),
-        Err(_) => None,
+    let Ok(game) = i64::try_from(command.game) else {
+        return Ok(unchanged(Outcome::Refused(Refusal::UnknownGame)));
     };
-    match record {
+    match first(find::game_with_id(alloc, conn, &game)?) {
         Some(record) => on_game(alloc, conn, &record, caller, command, moment),
         None => Ok(unchanged(Outcome::Refused(Refusal::UnknownGame))),
     }
@@ -393,6 +417,10 @@ fn on_command<S: Alter>(
 ) -> Result<Decided, StoreFault>
     requires { length members.now ≤ 200 }
     ensures idle { conn.old.in_transaction ≡ false → conn.new.in_transaction ≡ false }
+    ensures clean { doubt (state S.Store conn.old).is_clean ≤ doubt (state S.Store conn.new).is_clean }
+    ensures kept { HasCleanDisk (state S.Store conn.new) → OnOk result ((content : _) → IsExactly content (state S.Store conn.old) → IsExactly content (state S.Store conn.new)) }
+    ensures may { HasCleanDisk (state S.Store conn.new) → (content : _) → IsExactly content (state S.Store conn.old) → (db : _) → (state S.Store conn.new).may_leave db → Leaves content db }
+    ensures acts { IfOk result IsWhole }
 {
     match command {
         Command::AddMember(command) => on_member(alloc, members, caller, command, moment),
@@ -418,6 +446,10 @@ pub(crate) fn decide_request<S: Alter>(
     moment: Moment,
 ) -> Result<Decided, StoreFault>
     ensures idle { conn.old.in_transaction ≡ false → conn.new.in_transaction ≡ false }
+    ensures clean { doubt (state S.Store conn.old).is_clean ≤ doubt (state S.Store conn.new).is_clean }
+    ensures kept { HasCleanDisk (state S.Store conn.new) → OnOk result ((content : _) → IsExactly content (state S.Store conn.old) → IsExactly content (state S.Store conn.new)) }
+    ensures may { HasCleanDisk (state S.Store conn.new) → (content : _) → IsExactly content (state S.Store conn.old) → (db : _) → (state S.Store conn.new).may_leave db → Leaves content db }
+    ensures acts { IfOk result IsWhole }
 {
     let last = match first(find::meta(alloc, conn)?) {
         Some(meta) => moment_of(meta.last),

@@ -1,22 +1,25 @@
 //! The rows that a command needs, by their keys.
 
-ghost use Rattle.std.specs.Prelude.{◌≡◌, ◌≤◌, ◌⊎◌, false, IfOk, IfErr, [], ◌∷◌, map, string_bytes};
+ghost use Rattle.std.specs.Prelude.{◌≡◌, ◌≤◌, ◌⊎◌, false, IfOk, IfErr, OnOk, [], ◌∷◌, map, length, string_bytes};
 ghost use Rattle.std.specs.List.Sorted.{IsSorted};
 ghost use Rattle.sqlite.specs.State.{HasCleanDisk};
 ghost use Rattle.sqlite.specs.Held.{state};
 ghost use Rattle.sqlite.specs.declared.types.Value.TheVariants.{Null, Int, Text};
 ghost use Rattle.sqlite_trees.specs.View.{doubt};
-ghost use Rattle.store_tables.specs.Cells.{move_cells, game_cells};
+ghost use Rattle.store_tables.specs.Cells.{move_cells, game_cells, member_cells, event_cells, meta_cells};
 ghost use Rattle.store_tables.specs.Contents.{IsExactly, Leaves, AreThose};
 ghost use Rattle.store_tables.specs.Reading.{by_ply};
+ghost use Rattle.store.specs.Places.{BeginWithPlaces};
 
 use crate::fault::StoreFault;
-use crate::select::{select_events, select_games, select_members, select_meta};
+use crate::select::{select_events, select_members, select_meta};
 use sqlite::{Alter, Connection, Error, Row, params};
 use std::alloc::Global;
 use store_tables::{
     EventRow, GameRecord, MemberRow, MetaRow, MoveRow, TableRow, Unread, parse_all,
 };
+
+const GAME_IDS: &str = "SELECT id FROM games ORDER BY id";
 
 const MOVES_OF_GAME: &str =
     "SELECT game, ply, text, moment, left, position FROM moves WHERE game = ?1 ORDER BY ply";
@@ -129,6 +132,10 @@ pub(crate) fn members<S: Alter>(
     conn: &mut Connection<S>,
 ) -> Result<Vec<MemberRow>, StoreFault>
     ensures idle { conn.old.in_transaction ≡ false → conn.new.in_transaction ≡ false }
+    ensures clean { doubt (state S.Store conn.old).is_clean ≤ doubt (state S.Store conn.new).is_clean }
+    ensures rows { HasCleanDisk (state S.Store conn.new) → IfOk result (λ found. (content : _) → IsExactly content (state S.Store conn.old) → BeginWithPlaces (content 1) → map member_cells found.items ≡ content 1) }
+    ensures kept { HasCleanDisk (state S.Store conn.new) → OnOk result ((content : _) → IsExactly content (state S.Store conn.old) → IsExactly content (state S.Store conn.new)) }
+    ensures may { HasCleanDisk (state S.Store conn.new) → (content : _) → IsExactly content (state S.Store conn.old) → (db : _) → (state S.Store conn.new).may_leave db → Leaves content db }
 {
     match select_members(conn) {
         Ok(shown) => parsed(alloc, &shown),
@@ -142,6 +149,10 @@ pub(crate) fn events<S: Alter>(
     conn: &mut Connection<S>,
 ) -> Result<Vec<EventRow>, StoreFault>
     ensures idle { conn.old.in_transaction ≡ false → conn.new.in_transaction ≡ false }
+    ensures clean { doubt (state S.Store conn.old).is_clean ≤ doubt (state S.Store conn.new).is_clean }
+    ensures rows { HasCleanDisk (state S.Store conn.new) → IfOk result (λ found. (content : _) → IsExactly content (state S.Store conn.old) → BeginWithPlaces (content 4) → map event_cells found.items ≡ content 4) }
+    ensures kept { HasCleanDisk (state S.Store conn.new) → OnOk result ((content : _) → IsExactly content (state S.Store conn.old) → IsExactly content (state S.Store conn.new)) }
+    ensures may { HasCleanDisk (state S.Store conn.new) → (content : _) → IsExactly content (state S.Store conn.old) → (db : _) → (state S.Store conn.new).may_leave db → Leaves content db }
 {
     match select_events(conn) {
         Ok(shown) => parsed(alloc, &shown),
@@ -155,6 +166,10 @@ pub(crate) fn meta<S: Alter>(
     conn: &mut Connection<S>,
 ) -> Result<Vec<MetaRow>, StoreFault>
     ensures idle { conn.old.in_transaction ≡ false → conn.new.in_transaction ≡ false }
+    ensures clean { doubt (state S.Store conn.old).is_clean ≤ doubt (state S.Store conn.new).is_clean }
+    ensures rows { HasCleanDisk (state S.Store conn.new) → IfOk result (λ found. (content : _) → IsExactly content (state S.Store conn.old) → BeginWithPlaces (content 0) → map meta_cells found.items ≡ content 0) }
+    ensures kept { HasCleanDisk (state S.Store conn.new) → OnOk result ((content : _) → IsExactly content (state S.Store conn.old) → IsExactly content (state S.Store conn.new)) }
+    ensures may { HasCleanDisk (state S.Store conn.new) → (content : _) → IsExactly content (state S.Store conn.old) → (db : _) → (state S.Store conn.new).may_leave db → Leaves content db }
 {
     match select_meta(conn) {
         Ok(shown) => parsed(alloc, &shown),
@@ -162,12 +177,17 @@ pub(crate) fn meta<S: Alter>(
     }
 }
 
-/// How many games there are.
+/// How many games there are, where their ids are places.
 pub(crate) fn count_games<S: Alter>(conn: &mut Connection<S>) -> Result<usize, StoreFault>
     ensures idle { conn.old.in_transaction ≡ false → conn.new.in_transaction ≡ false }
+    ensures clean { doubt (state S.Store conn.old).is_clean ≤ doubt (state S.Store conn.new).is_clean }
+    ensures count { HasCleanDisk (state S.Store conn.new) → IfOk result (λ n. (content : _) → IsExactly content (state S.Store conn.old) → BeginWithPlaces (content 10) → (n ≡ length (content 10)) × IsExactly content (state S.Store conn.new)) }
+    ensures kept { HasCleanDisk (state S.Store conn.new) → OnOk result ((content : _) → IsExactly content (state S.Store conn.old) → IsExactly content (state S.Store conn.new)) }
+    ensures named { IfErr result (λ fault. fault ≡ StoreFault.Store) }
+    ensures may { HasCleanDisk (state S.Store conn.new) → (content : _) → IsExactly content (state S.Store conn.old) → (db : _) → (state S.Store conn.new).may_leave db → Leaves content db }
 {
-    match select_games(conn) {
-        Ok(shown) => Ok(shown.len()),
+    match conn.query_all(GAME_IDS, &[]) {
+        Ok(ids) => Ok(ids.len()),
         Err(_) => Err(StoreFault::Store),
     }
 }

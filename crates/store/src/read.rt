@@ -10,6 +10,7 @@ ghost use Rattle.store_tables.specs.Cells.{IsMeta, IsMember, IsEvent, IsChalleng
 ghost use Rattle.store_tables.specs.Reading.{AreIds, by_columns, IsNoInput, KeepsMay};
 ghost use Rattle.store_tables.specs.Tables.{club_schema, meta, members, events, challenges, moves, games, seen, scores};
 ghost use Rattle.store_tables.specs.Contents.{Holds};
+ghost use Rattle.store_tables.specs.Rows.{HaveIds};
 ghost use Rattle.store.specs.Blames.{IsReadAs, IsOneMeta, HasTypes, Faults, Blames, NamesTable, NamesSchema, AreRead};
 
 use crate::fault::OpenFault;
@@ -73,6 +74,7 @@ fn read_members<S: Alter>(
     ensures idle { conn.old.in_transaction ≡ false → conn.new.in_transaction ≡ false }
     ensures clean { doubt (state S.Store conn.old).is_clean ≤ doubt (state S.Store conn.new).is_clean }
     ensures rows { HasCleanDisk (state S.Store conn.new) → IfOk result (λ found. (state S.Store conn.old).now.schema ≡ club_schema → IsReadAs (members 1) 1 (map member_cells found.items) (state S.Store conn.old) (state S.Store conn.new)) }
+    ensures ids { IfOk result (λ found. AreIds (map member_cells found.items)) }
     ensures blames { HasCleanDisk (state S.Store conn.new) → IfErr result (λ e. (state S.Store conn.old).now.schema ≡ club_schema → Blames Table.Members (members 1) IsMember (state S.Store conn.old) e) }
     ensures may { HasCleanDisk (state S.Store conn.new) → (state S.Store conn.old).now.schema ≡ club_schema → KeepsMay (state S.Store conn.old) (state S.Store conn.new) }
 {
@@ -94,6 +96,7 @@ fn read_events<S: Alter>(
     ensures idle { conn.old.in_transaction ≡ false → conn.new.in_transaction ≡ false }
     ensures clean { doubt (state S.Store conn.old).is_clean ≤ doubt (state S.Store conn.new).is_clean }
     ensures rows { HasCleanDisk (state S.Store conn.new) → IfOk result (λ found. (state S.Store conn.old).now.schema ≡ club_schema → IsReadAs (events 4) 1 (map event_cells found.items) (state S.Store conn.old) (state S.Store conn.new)) }
+    ensures ids { IfOk result (λ found. AreIds (map event_cells found.items)) }
     ensures blames { HasCleanDisk (state S.Store conn.new) → IfErr result (λ e. (state S.Store conn.old).now.schema ≡ club_schema → Blames Table.Events (events 4) IsEvent (state S.Store conn.old) e) }
     ensures may { HasCleanDisk (state S.Store conn.new) → (state S.Store conn.old).now.schema ≡ club_schema → KeepsMay (state S.Store conn.old) (state S.Store conn.new) }
 {
@@ -162,6 +165,7 @@ fn read_games<S: Alter>(
     ensures idle { conn.old.in_transaction ≡ false → conn.new.in_transaction ≡ false }
     ensures clean { doubt (state S.Store conn.old).is_clean ≤ doubt (state S.Store conn.new).is_clean }
     ensures rows { HasCleanDisk (state S.Store conn.new) → IfOk result (λ found. (state S.Store conn.old).now.schema ≡ club_schema → IsReadAs (games 10) 1 (map game_cells found.items) (state S.Store conn.old) (state S.Store conn.new)) }
+    ensures ids { IfOk result (λ found. AreIds (map game_cells found.items)) }
     ensures blames { HasCleanDisk (state S.Store conn.new) → IfErr result (λ e. (state S.Store conn.old).now.schema ≡ club_schema → Blames Table.Games (games 10) IsGame (state S.Store conn.old) e) }
     ensures may { HasCleanDisk (state S.Store conn.new) → (state S.Store conn.old).now.schema ≡ club_schema → KeepsMay (state S.Store conn.old) (state S.Store conn.new) }
 {
@@ -269,6 +273,7 @@ fn read_people<S: Alter>(
     ensures idle { conn.old.in_transaction ≡ false → conn.new.in_transaction ≡ false }
     ensures clean { doubt (state S.Store conn.old).is_clean ≤ doubt (state S.Store conn.new).is_clean }
     ensures rows { HasCleanDisk (state S.Store conn.new) → IfOk result (λ found. (state S.Store conn.old).now.schema ≡ club_schema → IsReadAs (members 1) 1 (map member_cells found.0.items) (state S.Store conn.old) (state S.Store conn.new) × IsReadAs (events 4) 1 (map event_cells found.1.items) (state S.Store conn.old) (state S.Store conn.new) × IsReadAs (challenges 6) 2 (map challenge_cells found.2.items) (state S.Store conn.old) (state S.Store conn.new)) }
+    ensures ids { IfOk result (λ found. AreIds (map member_cells found.0.items) × AreIds (map event_cells found.1.items)) }
     ensures blames { HasCleanDisk (state S.Store conn.new) → IfErr result (λ e. (state S.Store conn.old).now.schema ≡ club_schema → NamesTable (state S.Store conn.old).now e) }
     ensures may { HasCleanDisk (state S.Store conn.new) → (state S.Store conn.old).now.schema ≡ club_schema → KeepsMay (state S.Store conn.old) (state S.Store conn.new) }
 {
@@ -295,6 +300,7 @@ fn read_play<S: Alter>(
     ensures idle { conn.old.in_transaction ≡ false → conn.new.in_transaction ≡ false }
     ensures clean { doubt (state S.Store conn.old).is_clean ≤ doubt (state S.Store conn.new).is_clean }
     ensures rows { HasCleanDisk (state S.Store conn.new) → IfOk result (λ found. (state S.Store conn.old).now.schema ≡ club_schema → IsReadAs (moves 8) 2 (map move_cells found.0.items) (state S.Store conn.old) (state S.Store conn.new) × IsReadAs (games 10) 1 (map game_cells found.1.items) (state S.Store conn.old) (state S.Store conn.new)) }
+    ensures ids { IfOk result (λ found. AreIds (map game_cells found.1.items)) }
     ensures blames { HasCleanDisk (state S.Store conn.new) → IfErr result (λ e. (state S.Store conn.old).now.schema ≡ club_schema → NamesTable (state S.Store conn.old).now e) }
     ensures may { HasCleanDisk (state S.Store conn.new) → (state S.Store conn.old).now.schema ≡ club_schema → KeepsMay (state S.Store conn.old) (state S.Store conn.new) }
 {
@@ -368,6 +374,7 @@ pub(crate) fn read_rows<S: Alter>(
     ensures idle { conn.old.in_transaction ≡ false → conn.new.in_transaction ≡ false }
     ensures clean { doubt (state S.Store conn.old).is_clean ≤ doubt (state S.Store conn.new).is_clean }
     ensures rows { HasCleanDisk (state S.Store conn.new) → IfOk result (λ rows. (state S.Store conn.old).now.schema ≡ club_schema → AreRead rows (state S.Store conn.old) (state S.Store conn.new)) }
+    ensures ids { IfOk result HaveIds }
     ensures blames { HasCleanDisk (state S.Store conn.new) → IfErr result (λ e. (state S.Store conn.old).now.schema ≡ club_schema → NamesTable (state S.Store conn.old).now e ⊎ NamesSchema (state S.Store conn.old).now e) }
     ensures may { HasCleanDisk (state S.Store conn.new) → (state S.Store conn.old).now.schema ≡ club_schema → KeepsMay (state S.Store conn.old) (state S.Store conn.new) }
 {

@@ -1,7 +1,9 @@
 ghost use Rattle.std.specs.Prelude.{◌≡◌, false};
 
-use crate::find::{game_with_id, game_with_key, moves_of};
+use crate::find::{count_games, game_with_id, game_with_key, moves_of};
 use crate::{Changes, Club, OpenFault, StoreFault, Table, adopt, create};
+use clocks::Moment;
+use club_core::{AddMember, Answer, Command, Outcome, Who};
 use sqlite::{Connection, Error, MemStore};
 use std::alloc::Global;
 use std::test::Fail;
@@ -28,11 +30,15 @@ fn nothing(alloc: Global) -> Changes {
     }
 }
 
-fn member(alloc: Global, id: i64, name: &str) -> Result<MemberRow, Error> {
+// The opening with First's man gone from 32 to 28.
+const AFTER_32_28: &str =
+    "B:W28,31,33,34,35,36,37,38,39,40,41,42,43,44,45,46,47,48,49,50:B1,2,3,4,5,6,7,8,9,10,11,12,13,14,15,16,17,18,19,20";
+
+fn member(alloc: Global, id: i64, name: &str, key: &str) -> Result<MemberRow, Error> {
     Ok(MemberRow {
         id,
         name: text(alloc, name)?,
-        key: text(alloc, name)?,
+        key: text(alloc, key)?,
     })
 }
 
@@ -49,18 +55,18 @@ fn game(alloc: Global) -> Result<GameRecord, Error> {
         left1: 540,
         left2: 600,
         offer_side: None,
-        offer_ply: Some(2),
+        offer_ply: None,
         end: None,
         result: None,
-        position: text(alloc, "B:W1:B2")?,
+        position: text(alloc, AFTER_32_28)?,
         track_a: 0,
         track_b: 0,
     })
 }
 
 fn add_people(alloc: Global, changes: &mut Changes) -> Result<(), Error> {
-    changes.members.push(member(alloc, 1, "anna")?)?;
-    changes.members.push(member(alloc, 2, "bert")?)?;
+    changes.members.push(member(alloc, 1, "anna", "keyanna1")?)?;
+    changes.members.push(member(alloc, 2, "bert", "keybert2")?)?;
     changes.events.push(EventRow {
         id: 1,
         name: text(alloc, "cup")?,
@@ -68,6 +74,11 @@ fn add_people(alloc: Global, changes: &mut Changes) -> Result<(), Error> {
         budget: 600,
         increment: 0,
     })?;
+    Ok(())
+}
+
+// Rows of the tables that a club does not use yet.
+fn add_counts(alloc: Global, changes: &mut Changes) -> Result<(), Error> {
     changes.challenges.push(ChallengeRow {
         member: 1,
         number: 7,
@@ -77,13 +88,9 @@ fn add_people(alloc: Global, changes: &mut Changes) -> Result<(), Error> {
         state: 3,
         game: Some(1),
     })?;
-    Ok(())
-}
-
-fn add_counts(alloc: Global, changes: &mut Changes) -> Result<(), Error> {
     changes.seen.push(SeenRow {
         game: 1,
-        position: text(alloc, "B:W1:B2")?,
+        position: text(alloc, AFTER_32_28)?,
         count: 1,
         first_ply: 1,
     })?;
@@ -110,9 +117,8 @@ fn first_day(alloc: Global, left: i64) -> Result<Changes, Error> {
         text: text(alloc, "32-28")?,
         moment: 160,
         left,
-        position: text(alloc, "B:W1:B2")?,
+        position: text(alloc, AFTER_32_28)?,
     })?;
-    add_counts(alloc, &mut changes)?;
     changes.meta = Some(MetaRow {
         id: 1,
         schema: 1,
@@ -154,11 +160,12 @@ fn fault_after(alloc: Global, sql: &str) -> Result<Option<OpenFault>, Fail> {
 }
 
 #[test]
-fn a_first_day(rt: HostRuntime) -> Result<(), Fail> {
+fn a_row_is_put_for_the_one_with_its_key(rt: HostRuntime) -> Result<(), Fail> {
     let mut club = made(rt.alloc())?;
     club.apply_changes(&first_day(rt.alloc(), 540)?)?;
-    club.apply_changes(&first_day(rt.alloc(), 539)?)?;
-    let club = adopted(rt.alloc(), club.into_connection())?;
+    let mut changes = first_day(rt.alloc(), 539)?;
+    add_counts(rt.alloc(), &mut changes)?;
+    club.apply_changes(&changes)?;
     let mut conn = club.into_connection();
     let found = conn.query_all("SELECT left FROM moves", &[])?;
     assert_eq!(rt; found.len(), 1);
@@ -171,7 +178,7 @@ fn a_first_day(rt: HostRuntime) -> Result<(), Fail> {
     let ply: Option<i64> = found[0].get(2)?;
     assert!(rt; key.is_some_and(|key| key.as_str() == "final"));
     assert_eq!(rt; side, None);
-    assert_eq!(rt; ply, Some(2));
+    assert_eq!(rt; ply, None);
     for (sql, want) in [
         ("SELECT game FROM challenges", 1),
         ("SELECT count FROM seen", 1),
@@ -216,7 +223,39 @@ fn wrong_tables_are_named(rt: HostRuntime) -> Result<(), Fail> {
             "UPDATE members SET id = 3 WHERE id = 2",
             OpenFault::Damaged(Table::Members),
         ),
+        (
+            "UPDATE members SET key = 'short' WHERE id = 1",
+            OpenFault::Damaged(Table::Members),
+        ),
+        (
+            "UPDATE events SET budget = 0",
+            OpenFault::Damaged(Table::Events),
+        ),
         ("UPDATE games SET id = 2", OpenFault::Damaged(Table::Games)),
+        (
+            "UPDATE games SET left1 = 539",
+            OpenFault::Damaged(Table::Games),
+        ),
+        (
+            "UPDATE games SET second = 1",
+            OpenFault::Damaged(Table::Games),
+        ),
+        (
+            "UPDATE moves SET text = '33-28'",
+            OpenFault::Damaged(Table::Moves),
+        ),
+        (
+            "UPDATE moves SET left = 539",
+            OpenFault::Damaged(Table::Moves),
+        ),
+        (
+            "UPDATE meta SET last = 159",
+            OpenFault::Damaged(Table::Meta),
+        ),
+        (
+            "INSERT INTO scores (event, member, opponent, points, wins, draws, losses) VALUES (1, 1, 2, 0, 0, 0, 0)",
+            OpenFault::Damaged(Table::Scores),
+        ),
         ("UPDATE meta SET id = 2", OpenFault::Damaged(Table::Meta)),
         (
             "INSERT INTO meta (id, schema, last) VALUES (2, 1, 0)",
@@ -235,8 +274,12 @@ fn wrong_tables_are_named(rt: HostRuntime) -> Result<(), Fail> {
 fn after_a_fault_a_club_is_shut(rt: HostRuntime) -> Result<(), Fail> {
     let mut club = made(rt.alloc())?;
     let mut changes = nothing(rt.alloc());
-    changes.members.push(member(rt.alloc(), 1, "anna")?)?;
-    changes.members.push(member(rt.alloc(), 2, "anna")?)?;
+    changes
+        .members
+        .push(member(rt.alloc(), 1, "anna", "keyanna1")?)?;
+    changes
+        .members
+        .push(member(rt.alloc(), 2, "anna", "keybert2")?)?;
     assert!(rt; club.apply_changes(&changes) == Err(StoreFault::Store));
     assert!(rt; club.apply_changes(&nothing(rt.alloc())) == Err(StoreFault::Reopen));
     let mut conn = adopted(rt.alloc(), club.into_connection())?.into_connection();
@@ -275,5 +318,25 @@ fn rows_are_found_by_their_keys(rt: HostRuntime) -> Result<(), Fail> {
     assert_eq!(rt; game_with_key(rt.alloc(), &mut conn, "finals")?.len(), 0);
     assert_eq!(rt; moves_of(rt.alloc(), &mut conn, &1)?.len(), 1);
     assert_eq!(rt; moves_of(rt.alloc(), &mut conn, &2)?.len(), 0);
+    assert_eq!(rt; count_games(&mut conn)?, 1);
+    Ok(())
+}
+
+#[test]
+fn a_command_acts_once(rt: HostRuntime) -> Result<(), Fail> {
+    let mut club = made(rt.alloc())?;
+    let command = Command::AddMember(AddMember {
+        name: text(rt.alloc(), "anna")?,
+        key: text(rt.alloc(), "keyanna1")?,
+    });
+    let Some(moment) = Moment::new(1000) else {
+        return Err(Fail::new("no moment"));
+    };
+    let first = club.apply(rt.alloc(), &Who::Officer, &command, moment)?;
+    let second = club.apply(rt.alloc(), &Who::Officer, &command, moment)?;
+    assert!(rt; matches!(first, Outcome::Accepted(Answer::Member(1))));
+    assert!(rt; matches!(second, Outcome::Repeated(Answer::Member(1))));
+    let mut conn = adopted(rt.alloc(), club.into_connection())?.into_connection();
+    assert_eq!(rt; conn.query_all("SELECT id FROM members", &[])?.len(), 1);
     Ok(())
 }

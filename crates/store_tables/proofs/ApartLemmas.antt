@@ -1,24 +1,18 @@
--- What `SELECT rowid FROM t ORDER BY rowid` shows: that no rowid comes twice.
-use Rattle.std.proofs.Common.{◌≡◌, ◌≢◌, ℕ, List, [], ◌∷◌, map, flat_map, refl, sym, ap, subst, subst₂, ◌∙◌, IsTrue, Equal}
-use Rattle.std.specs.List.{AllByRecursion}
+-- With no filter a SELECT shows a row for each row of the tree, and what holds of each two rows holds of each two that are shown.
+use Rattle.std.proofs.Common.{◌≡◌, ℕ, List, [], ◌∷◌, map, flat_map, refl, sym, ap, subst, subst₂, ◌∙◌}
 use Rattle.std.specs.List.Sorted.{IsPermutation}
-use Rattle.std.proofs.lemmas.List.Sorted.{IsPermutation-sym, IsPermutation-refl, IsPermutation-trans, IsPermutation-cons, IsPermutation-middle, IsPermutation-map}
-use Rattle.std.specs.Cmp.{tied_back}
+use Rattle.std.proofs.lemmas.List.Sorted.{IsPermutation-refl, IsPermutation-trans, IsPermutation-cons, IsPermutation-middle, IsPermutation-map}
 use Rattle.sqlite_value.specs.declared.value.Value.TheVariants.{Null}
 use Rattle.sqlite_value.specs.declared.keys.Key.{Key}
-use Rattle.sqlite_value.specs.Order.{value_cmp}
-use Rattle.sqlite_value.proofs.OrderLemmas.{value_cmp_total}
-use Rattle.sqlite.specs.Order.{Row, column}
+use Rattle.sqlite.specs.Order.{Row}
 use Rattle.sqlite.specs.Tree.{Trees}
 use Rattle.sqlite.specs.Effect.{Database, Reads}
 use Rattle.sqlite.specs.Command.TheVariants.{Select}
-use Rattle.sqlite_trees.specs.Tree.{IsAscending, rowid}
-use Rattle.sqlite_trees.specs.View.{is_int}
-use Rattle.sqlite_trees.proofs.ListLemmas.{along_permutation, all-permutation, ascending_from_map, all_from_map, map-map}
-use Rattle.sqlite_sql.specs.Term.{Term, col, eval_all}
+use Rattle.sqlite_trees.specs.Tree.{IsAscending}
+use Rattle.sqlite_trees.proofs.ListLemmas.{along_permutation, all-permutation, map-map}
+use Rattle.sqlite_sql.specs.Term.{Term, eval_all}
 use Rattle.sqlite_sql.specs.Query.{IsAnswer, Output, output}
 use Rattle.sqlite_sql.specs.Program.{overlay}
-use Rattle.store_tables.specs.Content.{AreApart}
 use Rattle.store_tables.specs.Put.{selects}
 
 module _ {X : Type 0} (P : X → X → Type 0) (back : (a b : X) → P a b → P b a) where
@@ -48,16 +42,3 @@ each_shown db params tree project order names rows plain h =
     let kept : a.kept ≡ map (output q) (map env (db.trees tree)) = a.distinct ∙ ap (map (output q)) staged in
     let shown = IsPermutation-map (λ (o : Output). o.1) (map (output q) (map env (db.trees tree))) a.ordered (subst (λ k. IsPermutation k a.ordered) kept a.same) in
     subst₂ IsPermutation (map-map (λ (o : Output). o.1) (output q) (map env (db.trees tree)) ∙ map-map (λ e. (output q e).1) env (db.trees tree)) (sym a.shown) shown
-
--- where the rowids that are shown are integers, and none comes twice, so they are in the tree
-pub ids_apart : (db : Database) (tree : ℕ) (order : List (Term × Key)) (names : List (List ℕ)) (rows : List Row) → ((d : Trees) → overlay d [] tree ≡ d tree)
-    → Reads (Select (record { lets = []; body = selects tree [] (col 1 0 ∷ []) order }) names) db [] rows
-    → IsAscending (λ a b. value_cmp (column a 0) (column b 0) ≢ Equal) rows → AllByRecursion (λ x. IsTrue (is_int (column x 0))) rows → AreApart (db.trees tree)
-ids_apart db tree order names rows plain h apart ints =
-    let show = λ (r : Row). rowid r ∷ [] in
-    let turned = IsPermutation-sym (map show (db.trees tree)) rows (each_shown db [] tree (col 1 0 ∷ []) order names rows plain h) in
-    record {
-      apart = ascending_from_map (λ a b. value_cmp (column a 0) (column b 0) ≢ Equal) show (db.trees tree)
-          (pairs_turned (λ a b. value_cmp (column a 0) (column b 0) ≢ Equal) (λ a b no same. no (tied_back value_cmp_total (column b 0) (column a 0) same)) rows (map show (db.trees tree)) turned apart);
-      ints = all_from_map (λ x. IsTrue (is_int (column x 0))) show (db.trees tree) (all-permutation (λ x. IsTrue (is_int (column x 0))) rows (map show (db.trees tree)) turned ints);
-    }

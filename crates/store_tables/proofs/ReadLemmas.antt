@@ -30,7 +30,7 @@ has_mapped f [] y h = absurd h
 has_mapped f (x ∷ xs) y (inl e) = (x, inl refl, e)
 has_mapped f (x ∷ xs) y (inr h) = let it = has_mapped f xs y h in (it.0, inr it.1, it.2)
 
-has_map : {A B : Type 0} (f : A → B) (xs : List A) (x : A) → Has xs x → Has (map f xs) (f x)
+pub has_map : {A B : Type 0} (f : A → B) (xs : List A) (x : A) → Has xs x → Has (map f xs) (f x)
 has_map f [] x h = absurd h
 has_map f (y ∷ xs) x (inl e) = inl (ap f e)
 has_map f (y ∷ xs) x (inr h) = inr (has_map f xs x h)

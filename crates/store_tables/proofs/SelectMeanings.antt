@@ -274,3 +274,15 @@ game_by_key_is key = record {
   picks = λ r. refl;
   by = λ r s. refl;
 }
+
+pub game_ids_is : Selects 10 1 t.game_ids (col 1 0 ∷ [])
+unfolding understood everything
+game_ids_is = record {
+  order = (col 1 0, ascending Binary) ∷ [];
+  names = codes "id" ∷ [];
+  command = refl;
+  plain = (refl, refl);
+  unlisted = refl;
+  overlaid = λ d. refl;
+  by = λ r s. refl;
+}

@@ -1,5 +1,5 @@
 -- What each statement that puts a row does inside a transaction, and what a commit makes of it.
-use Rattle.std.proofs.Common.{◌≡◌, ℕ, List, [], ◌∷◌, ◌++◌, Ok, refl, sym, subst, subst₂, ◌∙◌, ap, IsTrue, false, true, Some, slice_get}
+use Rattle.std.proofs.Common.{◌≡◌, ℕ, List, [], ◌∷◌, ◌++◌, Ok, refl, sym, subst, subst₂, ◌∙◌, ap, IsTrue, false, Some, slice_get}
 use Rattle.sqlite.specs.Order.{Row}
 use Rattle.sqlite.specs.Tree.{Trees}
 use Rattle.sqlite.specs.Table.{Table}
@@ -82,9 +82,6 @@ steps_then f g a b c one two = record {
   committed = two.committed ∙ one.committed;
   inside = two.inside;
 }
-
-pub no_step : (a : State) → a.in_transaction ≡ true → Steps (λ content. content) a a
-no_step a inside = record { holds = λ content k. k; committed = refl; inside = inside }
 
 put_each-push : (tree : ℕ) (key : List ℕ) (rows : List Row) (row : Row) (content : Content) → put_each tree key (rows ++ row ∷ []) content ≡ put_in tree key row (put_each tree key rows content)
 put_each-push tree key [] row content = refl

@@ -38,7 +38,7 @@ use Rattle.store_tables.specs.Reading.{AreIds, by_columns, Tells, TellsIds, IsNo
 use Rattle.store_tables.specs.Tables.{club_schema}
 use Rattle.store_tables.proofs.ApartLemmas.{pairs_turned, each_shown}
 use Rattle.store_tables.proofs.OrderLemmas.{sorted_rows, has_index}
-use Rattle.store_tables.proofs.ReadLemmas.{found_rows, shown_rows, shown_unchanged, may_as_before, unchanged_exactly}
+use Rattle.store_tables.proofs.ReadLemmas.{found_rows, shown_rows, has_map, has_mapped, shown_unchanged, may_as_before, unchanged_exactly}
 
 -- The text selects some terms of each row of one table, in the order of the first so many of these.
 pub record Selects (tree : ℕ) (count : ℕ) (sql : List ℕ) (project : List Term) : Type 0 where
@@ -103,6 +103,21 @@ tells_ids tree sql project is first old new rows has h =
       sorted = sorted_by tree 1 sql project is old new rows has h;
       same = kept_by tree 1 sql project is old new rows has h;
     }
+
+-- where the first column of each row is selected
+pub tells_first : (table : Table) (sql : List ℕ) (project : List Term) → Selects table.tree 1 sql project → ((r : Row) → eval_all project ([] ∷ r ∷ []) ≡ column (cells table r) 0 ∷ [])
+    → (old new : State) (rows wanted : List Row) → old.now.schema ≡ club_schema → Shown sql [] old new rows → Keeps table old.now.trees wanted → (z : Row) → (Has rows z → Has (map (λ r. column r 0 ∷ []) wanted) z) × (Has (map (λ r. column r 0 ∷ []) wanted) z → Has rows z)
+tells_first table sql project is shows old new rows wanted has h keeps z =
+    let first : Row → Row = λ r. column r 0 ∷ [] in
+    let are = shown_rows old.now [] table.tree [] project is.order is.names rows is.overlaid (read_by table.tree 1 sql project is old new rows has h) in (
+      λ there.
+          let it = are.sound z there in
+          subst (Has (map first wanted)) (sym (it.3 ∙ shows it.0)) (has_map first wanted (cells table it.0) (keeps.only it.0 it.1)),
+      λ there.
+          let y = has_mapped first wanted z there in
+          let it = keeps.stored y.0 y.1 in
+          subst (Has rows) (shows it.0 ∙ ap first it.2 ∙ sym y.2) (are.complete it.0 it.1 refl),
+    )
 
 -- The text selects every column of the rows of one table whose columns have given values, in some order.
 pub record Finds (table : Table) (place : ℕ) (key : List ℕ) (wanted params : Row) (sql : List ℕ) (cmp : Row → Row → Ordering) : Type 0 where

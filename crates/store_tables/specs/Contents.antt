@@ -115,11 +115,6 @@ pub record IsExactlyEmpty (s : State) : Type 0 where
 
 -- ---- what a SELECT shows
 
--- the lists have the same rows
-pub record AreSame (rows found : List Row) : Type 0 where
-  pub sound : (x : Row) → Has found x → Has rows x
-  pub complete : (x : Row) → Has rows x → Has found x
-
 -- those of the rows that have the key
 pub record AreThose (key : List ℕ) (wanted : Row) (rows found : List Row) : Type 0 where
   pub sound : (x : Row) → Has found x → Has rows x × (same_key key x wanted ≡ true)

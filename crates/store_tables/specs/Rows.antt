@@ -3,7 +3,7 @@ use Rattle.std.specs.Prelude.{if◌then◌else◌, ◌==◌, [], ◌∷◌, map}
 use Rattle.std.specs.List.Sorted.{IsSorted}
 use Rattle.store_tables.specs.Cells.{meta_cells, member_cells, event_cells, challenge_cells, move_cells, game_cells, seen_cells, score_cells}
 use Rattle.store_tables.specs.Contents.{Content}
-use Rattle.store_tables.specs.Reading.{by_columns}
+use Rattle.store_tables.specs.Reading.{AreIds, by_columns}
 use Rattle.store_tables.specs.declared.rows.Rows.{Rows}
 
 -- the content whose tables have these rows
@@ -28,3 +28,9 @@ pub record AreInOrder (rows : Rows) : Type 0 where
   pub games : IsSorted (by_columns 1) (map game_cells rows.games.items)
   pub seen : IsSorted (by_columns 2) (map seen_cells rows.seen.items)
   pub scores : IsSorted (by_columns 3) (map score_cells rows.scores.items)
+
+-- No two members, events or games have one id.
+pub record HaveIds (rows : Rows) : Type 0 where
+  pub members : AreIds (map member_cells rows.members.items)
+  pub events : AreIds (map event_cells rows.events.items)
+  pub games : AreIds (map game_cells rows.games.items)

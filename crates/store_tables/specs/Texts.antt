@@ -94,3 +94,7 @@ game_by_id = codes "SELECT id, key, event, first, second, start, since, plies, l
 
 abbrev pub game_by_key : List ℕ
 game_by_key = codes "SELECT id, key, event, first, second, start, since, plies, left1, left2, offer_side, offer_ply, end, result, position, track_a, track_b FROM games WHERE key = ?1"
+
+-- the ids of all games
+abbrev pub game_ids : List ℕ
+game_ids = codes "SELECT id FROM games ORDER BY id"

@@ -1,7 +1,7 @@
-use Rattle.std.proofs.Common.{◌≡◌, ◌∙◌, ◌-◌, Ok, subst, sym, ap, take}
+use Rattle.std.proofs.Common.{◌≡◌, ◌∙◌, ◌-◌, Ok, subst, sym, ap, take, refl, arith}
 use Rattle.std.specs.Prelude.{slice_get, Some}
-use Rattle.std.proofs.lemmas.Option.{slice_get-get_or}
-use Rattle.club_rules.specs.Line.{IsLegalLine}
+use Rattle.std.proofs.lemmas.Option.{slice_get-get_or, same_Some}
+use Rattle.club_rules.specs.Line.{IsLegalLine, position_after}
 use Rattle.club_rules.proofs.Lines.{check-at}
 use Rattle.club_rows.proofs.LineLemmas.{IsLegalLine-take}
 use Rattle.club_rows.proofs.asked.asked_at.Goals as goal
@@ -12,8 +12,8 @@ position_after-requires g c =
     subst (λ ms. IsLegalLine rules rules.start (take (c.args.ply - 1) ms)) (sym c.as_slice-line.ensures.value)
     (IsLegalLine-take rules (c.args.ply - 1) rules.start c.args.view.now.line.items c.requires.line)
 
-pub returns-in-Some-left : goal.returns-in-Some-left
-returns-in-Some-left g c =
+pub returns-in-Some-seconds_in-clause-legal : goal.returns-in-Some-seconds_in-clause-legal
+returns-in-Some-seconds_in-clause-legal g c =
     let rules = g.R.Rules.rules in
     let line = c.as_slice-line.result.now in
     let k = c.args.ply - 1 in
@@ -21,3 +21,29 @@ returns-in-Some-left g c =
     let here : slice_get line k ≡ Some c.in-Some.made.now = slice_get-get_or line k c.in-Some.made.now at.3.0 ∙ ap Some (sym (at.3.1 c.in-Some.made.now)) in
     let legal : IsLegalLine rules rules.start line = subst (IsLegalLine rules rules.start) (sym c.as_slice-line.ensures.value) c.requires.line in
     subst (λ p. rules.check p c.in-Some.made.now ≡ Ok tt) (sym c.position_after.ensures) (check-at rules rules.start line k c.in-Some.made.now legal here)
+
+pub returns-in-Some-seconds_in-clause-some : goal.returns-in-Some-seconds_in-clause-some
+returns-in-Some-seconds_in-clause-some g c =
+    let line = c.as_slice-line.result.now in
+    let k = c.args.ply - 1 in
+    let at = c.in-Some.ensures.lookup in
+    let made : slice_get line k ≡ Some c.in-Some.made.now = slice_get-get_or line k c.in-Some.made.now at.3.0 ∙ ap Some (sym (at.3.1 c.in-Some.made.now)) in
+    let at_row = c.in-Some-get.ensures.lookup in
+    let row : slice_get c.args.moves.now k ≡ Some c.in-Some-get.row.now = slice_get-get_or c.args.moves.now k c.in-Some-get.row.now at_row.3.0 ∙ ap Some (sym (at_row.3.1 c.in-Some-get.row.now)) in
+    record {
+      at = refl;
+      counted = omega arith;
+      made = ap (λ l. slice_get l k) (sym c.as_slice-line.ensures.value) ∙ made;
+      before = c.position_after.ensures ∙ ap (λ l. position_after g.R.Rules.rules g.R.Rules.rules.start (take k l)) c.as_slice-line.ensures.value;
+      row = c.in-Some-get.row.now;
+      row_is = row;
+      left = c.in-Some-seconds_in.ensures.some;
+    }
+
+pub returns-in-None-seconds_in-clause-none : goal.returns-in-None-seconds_in-clause-none
+returns-in-None-seconds_in-clause-none g c = λ none low high made row left at_line at_row is.
+    let k = c.args.ply - 1 in
+    let got = c.in-Some-get.ensures.lookup in
+    let here : slice_get c.args.moves.now k ≡ Some c.in-Some-get.row.now = slice_get-get_or c.args.moves.now k c.in-Some-get.row.now got.3.0 ∙ ap Some (sym (got.3.1 c.in-Some-get.row.now)) in
+    let same : c.in-Some-get.row.now ≡ row = same_Some c.in-Some-get.row.now row (sym here ∙ at_row) in
+    c.in-None-seconds_in.ensures.none refl left (ap (λ r. r.left) same ∙ is)

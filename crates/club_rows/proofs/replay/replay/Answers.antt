@@ -1,19 +1,62 @@
-use Rattle.std.proofs.Common.{◌≡◌, subst, sym, arith}
-use Rattle.std.specs.Prelude.{IfSome, ℕ, ◌+◌, length}
-use Rattle.club_rows.specs.Replay.{IsReplayed}
+use Rattle.std.proofs.Common.{◌≡◌, ◌<◌, ◌∙◌, refl, ap, subst, sym, arith}
+use Rattle.std.specs.Prelude.{IfSome, ℕ, ◌+◌, length, Some, slice_get}
+use Rattle.std.proofs.lemmas.Option.{slice_get_read}
+use Rattle.club_rules.specs.Line.{position_after}
+use Rattle.club_core.specs.Game.{Game, Entry}
+use Rattle.club_core.proofs.Legals.{AreRules}
+use Rattle.club_rows.specs.Tables.{with_entry}
+use Rattle.club_rows.specs.Replay.{IsReplayed, Replays, Follows, game_from, terms_with, terms_given}
+use Rattle.club_rows.proofs.WholeLemmas.{was-start, was-more, was-none, played-count}
 use Rattle.club_rows.proofs.replay.replay.Goals as goal
 
-pub loop-row-init : goal.loop-row-init
-loop-row-init g c = c.start-game.ensures c.args.terms.increment
-
 pub with_row-requires-clause-room : goal.with_row-requires-clause-room
-with_row-requires-clause-room g c = omega (arith, c.loop-row.invariant.plies_are, c.loop-row-test.true, c.if-rows.false)
+with_row-requires-clause-room g c = omega (arith, c.loop-row.invariant.0.plies_are, c.loop-row-test.true, c.if-rows.false)
 
 pub with_row-requires-clause-game : goal.with_row-requires-clause-game
 with_row-requires-clause-game g c =
-    subst (λ (n : ℕ). IsReplayed g.R.Rules.rules c.args.terms.increment n c.loop-row.game) (sym c.loop-row.invariant.plies_are) c.loop-row.invariant
+    subst (λ (n : ℕ). IsReplayed g.R.Rules.rules c.args.terms.increment n c.loop-row.game) (sym c.loop-row.invariant.0.plies_are) c.loop-row.invariant.0
+
+pub returns-then-rows-clause-none : goal.returns-then-rows-clause-none
+returns-then-rows-clause-none g c = λ none budget increment game is.
+    let count = played-count g.R.Rules.rules (terms_given c.args.terms) c.args.id c.args.from c.args.rows.now game is in
+    omega (arith, count, is.legal.plies, c.if-rows.true)
+
+pub loop-row-init : goal.loop-row-init
+loop-row-init g c =
+    let laws = g.R.Rules.rules in
+    let are : AreRules laws = record { first_starts = g.met.R.Rules.first_starts; turn_passes = g.met.R.Rules.turn_passes; same_is = g.met.R.Rules.same_is; ends_at_limit = g.met.R.Rules.ends_at_limit } in
+    let safe = c.start-game.ensures.safe c.args.terms.increment in (
+      safe,
+      was-start laws (terms_given c.args.terms) c.args.id are c.args.from c.args.rows.now c.start-game.result (record {
+        line = c.start-game.ensures.line;
+        position = safe.position ∙ ap (position_after laws laws.start) c.start-game.ensures.line;
+        clocks = c.start-game.ensures.clocks;
+      }),
+    )
+
+pub returns-in-None-clause-none : goal.returns-in-None-clause-none
+returns-in-None-clause-none g c = λ none budget increment game is.
+    let laws = g.R.Rules.rules in
+    let are : AreRules laws = record { first_starts = g.met.R.Rules.first_starts; turn_passes = g.met.R.Rules.turn_passes; same_is = g.met.R.Rules.same_is; ends_at_limit = g.met.R.Rules.ends_at_limit } in
+    let was = c.loop-row.invariant.1 in
+    let at : slice_get c.args.rows.now c.loop-row.row-index ≡ Some c.row-item.result = slice_get_read c.args.rows.now (length c.args.rows.now) c.loop-row.row-index c.row-item.result refl c.loop-row-test.true c.row-item.is in
+    was-none laws (terms_given c.args.terms) c.args.id are c.args.from c.args.rows.now c.loop-row.row-index c.loop-row.game c.row-item.result was at
+    (λ e follows. c.in_ok-game.ensures.none c.in-None.is c.args.terms.budget (game_from c.args.from was.entries) was.replays e follows) game is
 
 pub loop-row-preserved : goal.loop-row-preserved
 loop-row-preserved g c =
-    let kept = subst (λ o. IfSome o (λ new. IsReplayed g.R.Rules.rules c.args.terms.increment (length c.loop-row.game.line.items + 1) new)) c.in-Some.is c.in_ok-game.ensures in
-    subst (λ (n : ℕ). IsReplayed g.R.Rules.rules c.args.terms.increment (n + 1) c.in-Some.game) c.loop-row.invariant.plies_are kept
+    let laws = g.R.Rules.rules in
+    let are : AreRules laws = record { first_starts = g.met.R.Rules.first_starts; turn_passes = g.met.R.Rules.turn_passes; same_is = g.met.R.Rules.same_is; ends_at_limit = g.met.R.Rules.ends_at_limit } in
+    let was = c.loop-row.invariant.1 in
+    let old = c.loop-row.invariant.0 in
+    let k = c.loop-row.row-index in
+    let new = c.in-Some.game in
+    let terms = terms_given c.args.terms in
+    let at : slice_get c.args.rows.now k ≡ Some c.row-item.result = slice_get_read c.args.rows.now (length c.args.rows.now) k c.row-item.result refl c.loop-row-test.true c.row-item.is in
+    let kept = subst (λ o. IfSome o (λ new. IsReplayed laws c.args.terms.increment (length c.loop-row.game.line.items + 1) new)) c.in-Some.is c.in_ok-game.ensures.safe in
+    let some = subst (λ o. IfSome o (λ new. (budget : ℕ) (game : Game g.row.R-Move.Denot) → Replays laws (terms_with budget c.args.terms.increment) game c.loop-row.game → (e : Entry g.row.R-Move.Denot) × Follows laws (terms_with budget c.args.terms.increment) c.args.id game c.row-item.result e × Replays laws (terms_with budget c.args.terms.increment) (with_entry game e) new)) c.in-Some.is c.in_ok-game.ensures.some in
+    let next = some c.args.terms.budget (game_from c.args.from was.entries) was.replays in
+    let room : k < 600 = omega (arith, c.loop-row-test.true, c.if-rows.false) in (
+      subst (λ (n : ℕ). IsReplayed laws c.args.terms.increment (n + 1) new) old.plies_are kept,
+      was-more laws terms c.args.id are c.args.from c.args.rows.now g.met.R.Rules.reads_back k c.loop-row.game new c.row-item.result next.0 was room at next.1 next.2,
+    )

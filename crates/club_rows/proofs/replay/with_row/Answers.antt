@@ -1,12 +1,46 @@
-use Rattle.std.proofs.Common.{◌≡◌, ◌≤◌, ◌+◌, Ok, length, subst, sym, arith}
+use Rattle.std.proofs.Common.{◌≡◌, ◌≤◌, ◌+◌, length, subst, sym, arith, ◌∙◌}
 use Rattle.std.specs.Prelude.{IfSome}
-use Rattle.club_rows.specs.Replay.{IsReplayed, left_in}
+use Rattle.club_rules.specs.Line.{IsLegalLine}
+use Rattle.club_core.proofs.Legals.{AreRules}
+use Rattle.club_rows.specs.Replay.{IsNext, terms_with, left_in}
+use Rattle.club_rows.proofs.NextLemmas.{follows-next, next-follows, replays-more}
 use Rattle.club_rows.proofs.ReplayLemmas.{replayed-more}
 use Rattle.club_rows.proofs.replay.with_row.Goals as goal
 
-pub returns : goal.returns
-returns g c =
-    let legal : g.R.Rules.rules.check c.args.game.position c.in-Some.made ≡ Ok tt = subst (λ o. IfSome o (λ made. g.R.Rules.rules.check c.args.game.position made ≡ Ok tt)) c.in-Some.is c.in_ok-made.ensures in
-    let room : left_in c.in_ok-new.new c.turn-turn.result ≤ left_in c.args.game c.turn-turn.result + c.args.increment = subst (λ n. n ≤ left_in c.args.game c.turn-turn.result + c.args.increment) (sym c.in_ok-new.ensures.mover) c.in-Some-clock_after.ensures in
-    replayed-more g.R.Rules.rules c.args.increment (length c.args.game.line.items) c.args.game c.in_ok-new.new c.turn-turn.result c.in-Some.made c.play-position.result
-    c.requires.game legal c.play-position.ensures c.in_ok-new.ensures.line c.in_ok-new.ensures.position room c.in_ok-new.ensures.other
+pub returns-in_ok-new-in-Some-clause-safe : goal.returns-in_ok-new-in-Some-clause-safe
+returns-in_ok-new-in-Some-clause-safe g c =
+    let laws = g.R.Rules.rules in
+    let old = c.args.game in
+    let made = c.in_ok-new-in-Some.ensures in
+    let next : IsNext laws c.args.increment c.args.id old c.args.row.now c.in-Some.next.made c.in-Some.next.moment c.in-Some.next.left = subst (λ o. IfSome o (λ n. IsNext laws c.args.increment c.args.id old c.args.row.now n.made n.moment n.left)) c.in-Some.is c.in_ok-next.ensures.some in
+    let position : c.in-Some.next.position ≡ laws.play old.position c.in-Some.next.made = subst (λ o. IfSome o (λ n. n.position ≡ laws.play old.position n.made)) c.in-Some.is c.in_ok-next.ensures.after in
+    let turn : c.in-Some.next.turn ≡ laws.turn old.position = subst (λ o. IfSome o (λ n. n.turn ≡ laws.turn old.position)) c.in-Some.is c.in_ok-next.ensures.turn in
+    let most : c.in-Some.next.left ≤ left_in old (laws.turn old.position) + c.args.increment = omega (arith, next.time.left) in
+    let room : left_in c.in_ok-new-in-Some.new c.in-Some.next.turn ≤ left_in old c.in-Some.next.turn + c.args.increment =
+    subst (λ n. n ≤ left_in old c.in-Some.next.turn + c.args.increment) (sym made.mover) (subst (λ s. c.in-Some.next.left ≤ left_in old s + c.args.increment) (sym turn) most) in
+    replayed-more laws c.args.increment (length old.line.items) old c.in_ok-new-in-Some.new c.in-Some.next.turn c.in-Some.next.made c.in-Some.next.position
+    c.requires.game next.legal position made.line made.position room made.other
+
+pub returns-in_ok-new-in-Some-clause-some : goal.returns-in_ok-new-in-Some-clause-some
+returns-in_ok-new-in-Some-clause-some g c = λ budget game replays.
+    let laws = g.R.Rules.rules in
+    let are : AreRules laws = record { first_starts = g.met.R.Rules.first_starts; turn_passes = g.met.R.Rules.turn_passes; same_is = g.met.R.Rules.same_is; ends_at_limit = g.met.R.Rules.ends_at_limit } in
+    let old = c.args.game in
+    let made = c.in_ok-new-in-Some.ensures in
+    let next : IsNext laws c.args.increment c.args.id old c.args.row.now c.in-Some.next.made c.in-Some.next.moment c.in-Some.next.left = subst (λ o. IfSome o (λ n. IsNext laws c.args.increment c.args.id old c.args.row.now n.made n.moment n.left)) c.in-Some.is c.in_ok-next.ensures.some in
+    let position : c.in-Some.next.position ≡ laws.play old.position c.in-Some.next.made = subst (λ o. IfSome o (λ n. n.position ≡ laws.play old.position n.made)) c.in-Some.is c.in_ok-next.ensures.after in
+    let turn : c.in-Some.next.turn ≡ laws.turn old.position = subst (λ o. IfSome o (λ n. n.turn ≡ laws.turn old.position)) c.in-Some.is c.in_ok-next.ensures.turn in
+    let line = subst (IsLegalLine laws laws.start) replays.line c.requires.game.line in
+    let terms = terms_with budget c.args.increment in (
+      record { made = c.in-Some.next.made; moment = c.in-Some.next.moment },
+      follows-next laws are terms c.args.id game line old replays c.args.row.now c.in-Some.next.made c.in-Some.next.moment c.in-Some.next.left next,
+      replays-more laws are terms c.args.id game line old replays c.args.row.now c.in_ok-new-in-Some.new (record { made = c.in-Some.next.made; moment = c.in-Some.next.moment }) c.in-Some.next.turn c.in-Some.next.left
+          turn next.time.left made.line (made.position ∙ position) made.mover made.other made.since,
+    )
+
+pub returns-in-None-clause-none : goal.returns-in-None-clause-none
+returns-in-None-clause-none g c = λ none budget game replays e follows.
+    let laws = g.R.Rules.rules in
+    let are : AreRules laws = record { first_starts = g.met.R.Rules.first_starts; turn_passes = g.met.R.Rules.turn_passes; same_is = g.met.R.Rules.same_is; ends_at_limit = g.met.R.Rules.ends_at_limit } in
+    let line = subst (IsLegalLine laws laws.start) replays.line c.requires.game.line in
+    c.in_ok-next.ensures.none c.in-None.is e.made e.moment _ (next-follows laws are (terms_with budget c.args.increment) c.args.id game line c.args.game replays c.args.row.now e follows)

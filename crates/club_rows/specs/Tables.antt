@@ -1,0 +1,142 @@
+-- The tables of a club: the rows that stand for a state, each column by what follows from the games.
+use Rattle.std.specs.Prelude.{◌≡◌, ℕ, suc, pos, ◌+◌, ◌==◌, List, [], ◌∷◌, ◌++◌, length, codes, if◌then◌else◌}
+use Rattle.sqlite_value.specs.declared.value.Value.{Value}
+use Rattle.sqlite_value.specs.declared.value.Value.TheVariants.{Int, Text}
+use Rattle.sqlite.specs.Values.{or_null}
+use Rattle.sqlite.specs.Order.{Row}
+use Rattle.squares.specs.declared.sides.Side.{Side}
+use Rattle.squares.specs.declared.sides.Side.TheVariants.{First, Second}
+use Rattle.squares.specs.Sides.{score_text}
+use Rattle.club_rules.specs.declared.names.GameKind.{GameKind}
+use Rattle.club_rules.specs.declared.names.GameKind.TheVariants.{Draughts, Shogi}
+use Rattle.club_rules.specs.GameRules.{GameRules}
+use Rattle.club_rules.specs.EndName.{end_text}
+use Rattle.club_core.specs.declared.rows.OutsideEnd.{OutsideEnd}
+use Rattle.club_core.specs.declared.rows.OutsideEnd.TheVariants.{Resigned, Agreed, Time, Recorded}
+use Rattle.club_core.specs.declared.rows.GameEnd.{GameEnd}
+use Rattle.club_core.specs.declared.rows.GameEnd.TheVariants.{Rule, Outside}
+use Rattle.club_core.specs.Members.{Member}
+use Rattle.club_core.specs.Events.{Terms, Event}
+use Rattle.club_core.specs.Game.{Entry, Game, clocks_of, left_of, last_position, turn_of, end_of, result_of}
+use Rattle.club_core.specs.LegalState.{Each, IsLegalState}
+use Rattle.club_core.specs.State.{AnyGame, draughts, shogi, State, place, terms_at}
+use Rattle.store_tables.specs.Contents.{Content}
+
+abbrev pub number : ℕ → Value
+number n = Int (pos n)
+
+abbrev pub side_number : Side → ℕ
+side_number First = 0
+side_number Second = 1
+
+abbrev pub kind_number : GameKind → ℕ
+kind_number Draughts = 0
+kind_number Shogi = 1
+
+-- the name of an end other than by the rules
+abbrev pub outside_text : OutsideEnd → List ℕ
+outside_text Resigned = codes "Resigned"
+outside_text Agreed = codes "Agreed"
+outside_text Time = codes "Time"
+outside_text (Recorded score) = codes "Recorded"
+
+-- the name of an end
+abbrev pub end_name_text : {P M E : Type 0} → GameRules P M E → GameEnd E → List ℕ
+end_name_text rules (Rule e) = end_text (rules.end_name e)
+end_name_text rules (Outside o) = outside_text o
+
+-- ---- one game
+
+-- the game with one entry more
+abbrev pub with_entry : {M : Type 0} → Game M → Entry M → Game M
+with_entry game e = record game { entries = game.entries ++ e ∷ [] }
+
+-- the game before its first entry
+abbrev pub at_start : {M : Type 0} → Game M → Game M
+at_start game = record game { entries = [] }
+
+module _ {P M E : Type 0} (rules : GameRules P M E) (terms : Terms) (id : ℕ) where
+  -- the row of the game that has this id
+  abbrev pub game_row : Game M → Row
+  game_row game =
+      number id
+      ∷ or_null Text game.key
+      ∷ number game.event
+      ∷ number game.first
+      ∷ number game.second
+      ∷ number game.start
+      ∷ number (clocks_of game terms).since
+      ∷ number (length game.entries)
+      ∷ number (clocks_of game terms).left_first
+      ∷ number (clocks_of game terms).left_second
+      ∷ or_null (λ o. number (side_number o.side)) game.offer
+      ∷ or_null (λ o. number o.ply) game.offer
+      ∷ or_null (λ e. Text (end_name_text rules e)) (end_of rules game)
+      ∷ or_null (λ score. Text (score_text score)) (result_of rules game)
+      ∷ Text (rules.write_position (last_position rules game))
+      ∷ number 0
+      ∷ number 0
+      ∷ []
+
+  -- the row of an entry that is played in the game: the move as it is written where it is played, and the mover's seconds and the position after it
+  abbrev pub entry_row : Game M → Entry M → Row
+  entry_row game e =
+      number id
+      ∷ number (length game.entries + 1)
+      ∷ Text (rules.write_move (last_position rules game) e.made)
+      ∷ number e.moment
+      ∷ number (left_of (turn_of rules game) (clocks_of (with_entry game e) terms))
+      ∷ Text (rules.write_position (last_position rules (with_entry game e)))
+      ∷ []
+
+  -- the rows of entries that are played in the game, one after another
+  abbrev pub entry_rows : Game M → List (Entry M) → List Row
+  entry_rows game [] = []
+  entry_rows game (e ∷ es) = entry_row game e ∷ entry_rows (with_entry game e) es
+
+  -- the rows of the game's plies
+  abbrev pub move_rows : Game M → List Row
+  move_rows game = entry_rows (at_start game) game.entries
+
+-- ---- a club
+
+abbrev pub member_row : ℕ → Member → Row
+member_row id m = number id ∷ Text m.name ∷ Text m.key ∷ []
+
+abbrev pub event_row : ℕ → Event → Row
+event_row id e = number id ∷ Text e.name ∷ number (kind_number e.game) ∷ number e.terms.budget ∷ number e.terms.increment ∷ []
+
+-- the row of each element, the ids counting up from this one
+abbrev pub numbered_from : {A : Type 0} → (ℕ → A → Row) → ℕ → List A → List Row
+numbered_from row id [] = []
+numbered_from row id (x ∷ xs) = row id x ∷ numbered_from row (suc id) xs
+
+-- the rows that each element has, the ids counting up from this one
+abbrev pub gathered_from : {A : Type 0} → (ℕ → A → List Row) → ℕ → List A → List Row
+gathered_from rows id [] = []
+gathered_from rows id (x ∷ xs) = rows id x ++ gathered_from rows (suc id) xs
+
+module _ {DP DM DE SP SM SE : Type 0} (draughts_rules : GameRules DP DM DE) (shogi_rules : GameRules SP SM SE) where
+  module _ (events : List Event) where
+    abbrev pub row_of_game : ℕ → AnyGame DM SM → Row
+    row_of_game id (draughts g) = game_row draughts_rules (terms_at (place events g.event)) id g
+    row_of_game id (shogi g) = game_row shogi_rules (terms_at (place events g.event)) id g
+
+    abbrev pub rows_of_moves : ℕ → AnyGame DM SM → List Row
+    rows_of_moves id (draughts g) = move_rows draughts_rules (terms_at (place events g.event)) id g
+    rows_of_moves id (shogi g) = move_rows shogi_rules (terms_at (place events g.event)) id g
+
+  -- The rows of each table by its number: 0 meta, 1 members, 4 events, 8 moves, 10 games. Ids count from 1. Challenges, seen and scores have no row yet.
+  abbrev pub tables_of : State DM SM → Content
+  tables_of s t =
+      if t == 0 then (number 1 ∷ number 1 ∷ number s.last ∷ []) ∷ []
+      else (if t == 1 then numbered_from member_row 1 s.members
+      else (if t == 4 then numbered_from event_row 1 s.events
+      else (if t == 8 then gathered_from (rows_of_moves s.events) 1 s.games
+      else (if t == 10 then numbered_from (row_of_game s.events) 1 s.games
+      else []))))
+
+-- a legal state of a club that plays draughts alone so far
+pub record IsLegalClub {DP DM DE SP SM SE : Type 0} (draughts_rules : GameRules DP DM DE) (shogi_rules : GameRules SP SM SE) (s : State DM SM) : Type 0 where
+  pub legal : IsLegalState draughts_rules shogi_rules s
+  pub kinds : Each (λ e. e.game ≡ Draughts) s.events
