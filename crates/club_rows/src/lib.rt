@@ -10,6 +10,8 @@ pub mod numbers;
 pub mod records;
 pub mod replay;
 pub mod same;
+#[cfg(test)]
+mod tests;
 pub mod view;
 
 pub use asked::ask;
