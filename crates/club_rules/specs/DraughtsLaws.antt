@@ -38,6 +38,17 @@ passed false a e = cc
 pub check-legal : (p : Position) (m : DMove) → check_move p m ≡ Ok tt → Legal p m
 check-legal p m ok = (check_of-is p m).legal.0 (passed (nat_eq (set.len m.taken) 0) (check_of p m) ok).1
 
+pub check-takes_nothing : (p : Position) (m : DMove) → check_move p m ≡ Ok tt → set.len m.taken ≡ 0
+check-takes_nothing p m ok = eqb-true (set.len m.taken) 0 (passed (nat_eq (set.len m.taken) 0) (check_of p m) ok).0
+
+through : (b : Bool) (a : Answer) → b ≡ true → IsOk a → cond b (refused_by a) (Err NoSuchMove) ≡ Ok tt
+through true (Ok u) e ok = refl
+through true (Err x) e ok = cc
+through false a e ok = cc
+
+pub check-passes : (p : Position) (m : DMove) → Legal p m → set.len m.taken ≡ 0 → check_move p m ≡ Ok tt
+check-passes p m legal none = through (nat_eq (set.len m.taken) 0) (check_of p m) (eq-eqb (set.len m.taken) 0 none) ((check_of-is p m).legal.1 legal)
+
 -- a move that the club's check passes takes nothing
 check-quiet : (p : Position) (m : DMove) → check_move p m ≡ Ok tt → IsQuiet p m
 check-quiet p m ok =

@@ -1,5 +1,6 @@
 pub mod Draughts
 pub mod DraughtsLaws
+pub mod DraughtsPlayed
 pub mod EndName
 pub mod Fen
 pub mod GameRules

@@ -2,6 +2,7 @@
 //! and by the ply limit.
 
 pub mod fen;
+pub mod laws;
 pub mod quiet;
 pub mod rules;
 
