@@ -1,15 +1,21 @@
-// Refuses the request for memory whose number REFUSE gives, counted from 1; loaded before the C library.
+// Refuses the request for memory whose number REFUSE gives, counted from 1, and leaves a file `refused` where it did;
+// loaded before the C library.
 #define _GNU_SOURCE
 #include <dlfcn.h>
 #include <errno.h>
+#include <fcntl.h>
 #include <stddef.h>
 #include <stdlib.h>
+#include <unistd.h>
 
 static long asked = 0;
 
 static int is_refused(void) {
     const char *number = getenv("REFUSE");
-    return number != NULL && ++asked == atol(number);
+    if (number == NULL || ++asked != atol(number)) return 0;
+    int marker = open("refused", O_CREAT | O_WRONLY, 0600);
+    if (marker >= 0) close(marker);
+    return 1;
 }
 
 void *malloc(size_t size) {
