@@ -1,0 +1,80 @@
+//! Positions in which a lone king stands against few pieces.
+ghost use Rattle.std.specs.Prelude.{◌≡◌};
+ghost use Rattle.std.specs.FinMap as map;
+ghost use Rattle.draughts_draws.specs.Ends.{is_piece_of, is_king_of, count_of_pieces, count_of_kings, has_lone_king, has_three, has_two, is_three_to_one, is_two_to_one};
+
+use squares::{DPiece, DPos, Dsq, Side};
+
+fn is_piece_of(side: Side, piece: Option<DPiece>) -> bool
+    ensures { result ≡ is_piece_of side piece }
+{
+    match piece {
+        Some(piece) => piece.side == side,
+        None => false,
+    }
+}
+
+fn is_king_of(side: Side, piece: Option<DPiece>) -> bool
+    ensures { result ≡ is_king_of side piece }
+{
+    match piece {
+        Some(piece) => piece.side == side && piece.king,
+        None => false,
+    }
+}
+
+#[tactic(auto, unfolding(crate::specs::Ends::count_of_pieces))]
+fn count_of_pieces(side: Side, position: &DPos) -> usize
+    ensures { result ≡ count_of_pieces side position.now }
+{
+    Dsq::all()
+        .iter()
+        .filter(|square| is_piece_of(side, position.at(**square)))
+        .count()
+}
+
+#[tactic(auto, unfolding(crate::specs::Ends::count_of_kings))]
+fn count_of_kings(side: Side, position: &DPos) -> usize
+    ensures { result ≡ count_of_kings side position.now }
+{
+    Dsq::all()
+        .iter()
+        .filter(|square| is_king_of(side, position.at(**square)))
+        .count()
+}
+
+fn has_lone_king(side: Side, position: &DPos) -> bool
+    ensures { result ≡ has_lone_king side position.now }
+{
+    count_of_pieces(side, position) == 1 && count_of_kings(side, position) == 1
+}
+
+fn has_three(side: Side, position: &DPos) -> bool
+    ensures { result ≡ has_three side position.now }
+{
+    count_of_pieces(side, position) == 3 && count_of_kings(side, position) >= 1
+}
+
+fn has_two(side: Side, position: &DPos) -> bool
+    ensures { result ≡ has_two side position.now }
+{
+    count_of_pieces(side, position) == 2 && count_of_kings(side, position) >= 1
+}
+
+// Three pieces of either side, at least one of them a king, against a lone king.
+pub(crate) fn is_three_to_one(position: &DPos) -> bool
+    ensures { result ≡ is_three_to_one position.now }
+{
+    (has_three(Side::First, position) && has_lone_king(Side::Second, position))
+        || (has_three(Side::Second, position) && has_lone_king(Side::First, position))
+}
+
+// A king of either side, or two pieces with at least one king, against a lone king.
+pub(crate) fn is_two_to_one(position: &DPos) -> bool
+    ensures { result ≡ is_two_to_one position.now }
+{
+    ((has_lone_king(Side::First, position) || has_two(Side::First, position))
+        && has_lone_king(Side::Second, position))
+        || ((has_lone_king(Side::Second, position) || has_two(Side::Second, position))
+            && has_lone_king(Side::First, position))
+}

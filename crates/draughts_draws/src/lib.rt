@@ -1,0 +1,15 @@
+//! When a game of international draughts ends by the rules.
+#![tactic(auto)]
+
+mod classes;
+mod conditions;
+pub mod ends;
+pub mod faults;
+pub mod judging;
+
+pub use ends::DEnd;
+pub use faults::Fault;
+pub use judging::judge;
+
+#[cfg(test)]
+mod tests;
