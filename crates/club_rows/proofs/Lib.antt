@@ -1,4 +1,6 @@
+pub mod AlikeLemmas
 pub mod AskedLemmas
+pub mod ClubsAlike
 pub mod LineLemmas
 pub mod MadeLemmas
 pub mod NextLemmas

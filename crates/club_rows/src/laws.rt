@@ -1,10 +1,20 @@
 //! Laws of the tables: each is what a function with an empty body ensures.
 
+ghost use Rattle.std.specs.Prelude.{◌≡◌, ℕ};
+ghost use Rattle.club_core.specs.LegalState.{IsLegalState};
+ghost use Rattle.club_core.specs.State.{State};
 ghost use Rattle.club_rows.specs.Made.{MadeRowIsLast};
+ghost use Rattle.club_rows.specs.Tables.{tables_of};
 
 use club_rules::Rules;
 
 /// A move that is played in a legal game adds the row of its answer to the rows of the game's moves, as the last one.
 pub fn made_row_is_last<R: Rules>()
     ensures { MadeRowIsLast R.rules }
+{}
+
+/// The tables tell the club: two legal states with the same tables are one.
+pub fn tables_tell_the_club<R: Rules, Q: Rules>()
+    ensures { (s t : State R.Move Q.Move) → IsLegalState R.rules Q.rules s → IsLegalState R.rules Q.rules t →
+        ((n : ℕ) → tables_of R.rules Q.rules s n ≡ tables_of R.rules Q.rules t n) → s ≡ t }
 {}

@@ -1,4 +1,5 @@
 pub mod BlameLemmas
 pub mod BoundLemmas
 pub mod FoundLemmas
+pub mod OpenLemmas
 pub mod PlaceLemmas

@@ -11,6 +11,7 @@ mod find;
 mod make;
 mod put;
 mod read;
+mod reopen;
 mod select;
 #[cfg(test)]
 mod tests;
@@ -18,4 +19,5 @@ mod tests;
 pub use changes::Changes;
 pub use club::{Club, Unopened, adopt, create};
 pub use fault::{OpenFault, StoreFault};
+pub use reopen::holds_exactly;
 pub use store_tables::Table;

@@ -1,0 +1,176 @@
+-- Legal clubs with the same tables are one.
+use Rattle.std.proofs.Common.{◌≡◌, ℕ, zero, suc, pos, List, [], ◌∷◌, ◌++◌, length, Option, Some, None, Ok, refl, ap, sym, ◌∙◌, subst}
+use Rattle.std.specs.Prelude.{slice_get}
+use Rattle.sqlite_value.specs.declared.value.Value.{Value}
+use Rattle.sqlite_value.specs.declared.value.Value.TheVariants.{Int, Text}
+use Rattle.sqlite.specs.Order.{Row}
+use Rattle.club_rules.specs.declared.names.GameKind.{GameKind}
+use Rattle.club_rules.specs.declared.names.GameKind.TheVariants.{Draughts, Shogi}
+use Rattle.club_rules.specs.GameRules.{GameRules}
+use Rattle.club_core.specs.Members.{Member}
+use Rattle.club_core.specs.Events.{Terms, Event}
+use Rattle.club_core.specs.Game.{Game}
+use Rattle.club_core.specs.Legal.{IsLegalGame}
+use Rattle.club_core.specs.LegalState.{Each, IsGameOf, IsLegalState}
+use Rattle.club_core.specs.State.{AnyGame, draughts, shogi, State, place, terms_at, kind_at}
+use Rattle.club_rows.specs.Tables.{number, kind_number, member_row, event_row, game_row, move_rows, at_start, row_of_game, rows_of_moves, numbered_from, gathered_from, tables_of}
+use Rattle.club_rows.proofs.SameLemmas.{seventeen-parts, same-int, same-bytes}
+use Rattle.club_rows.proofs.WholeLemmas.{rows-count}
+use Rattle.club_rows.proofs.AlikeLemmas.{heads-alike, tails-alike, numbers-alike, games-alike}
+
+-- ---- lists of rows
+
+numbered-alike : {A : Type 0} (row : ℕ → A → Row) → ((id : ℕ) (x y : A) → row id x ≡ row id y → x ≡ y) → (id : ℕ) (xs ys : List A) → numbered_from row id xs ≡ numbered_from row id ys → xs ≡ ys
+numbered-alike row alike id [] [] is = refl
+numbered-alike row alike id [] (y ∷ ys) is = cc
+numbered-alike row alike id (x ∷ xs) [] is = cc
+numbered-alike row alike id (x ∷ xs) (y ∷ ys) is =
+    let head : x ≡ y = alike id x y (heads-alike (row id x) (row id y) _ _ is) in
+    let tail : xs ≡ ys = numbered-alike row alike (suc id) xs ys (tails-alike (row id x) (row id y) _ _ is) in
+    λ i. head i ∷ tail i
+
+-- lists in two parts that are one, where the first parts are as long
+fronts-alike : {A : Type 0} (ks ls cs ds : List A) → length ks ≡ length ls → ks ++ cs ≡ ls ++ ds → ks ≡ ls
+fronts-alike [] [] cs ds long is = refl
+fronts-alike [] (b ∷ ls) cs ds long is = cc
+fronts-alike (a ∷ ks) [] cs ds long is = cc
+fronts-alike (a ∷ ks) (b ∷ ls) cs ds long is =
+    let shorter : length ks ≡ length ls = cc in
+    let rest = fronts-alike ks ls cs ds shorter (tails-alike a b _ _ is) in
+    let head = heads-alike a b _ _ is in
+    λ i. head i ∷ rest i
+
+backs-alike : {A : Type 0} (ks ls cs ds : List A) → length ks ≡ length ls → ks ++ cs ≡ ls ++ ds → cs ≡ ds
+backs-alike [] [] cs ds long is = is
+backs-alike [] (b ∷ ls) cs ds long is = cc
+backs-alike (a ∷ ks) [] cs ds long is = cc
+backs-alike (a ∷ ks) (b ∷ ls) cs ds long is =
+    let shorter : length ks ≡ length ls = cc in
+    backs-alike ks ls cs ds shorter (tails-alike a b _ _ is)
+
+-- ---- members and events
+
+members-alike : (id : ℕ) (m n : Member) → member_row id m ≡ member_row id n → m ≡ n
+members-alike id m n is =
+    let rest = tails-alike _ _ _ _ is in
+    let name = same-bytes m.name n.name (heads-alike _ _ _ _ rest) in
+    let key = same-bytes m.key n.key (heads-alike _ _ _ _ (tails-alike _ _ _ _ rest)) in
+    λ i. record { name = name i; key = key i }
+
+kinds-alike : (a b : GameKind) → kind_number a ≡ kind_number b → a ≡ b
+kinds-alike Draughts Draughts is = refl
+kinds-alike Shogi Shogi is = refl
+kinds-alike Draughts Shogi is = cc
+kinds-alike Shogi Draughts is = cc
+
+events-alike : (id : ℕ) (d e : Event) → event_row id d ≡ event_row id e → d ≡ e
+events-alike id d e is =
+    let one = tails-alike _ _ _ _ is in
+    let two = tails-alike _ _ _ _ one in
+    let three = tails-alike _ _ _ _ two in
+    let name = same-bytes d.name e.name (heads-alike _ _ _ _ one) in
+    let game = kinds-alike d.game e.game (numbers-alike _ _ (heads-alike _ _ _ _ two)) in
+    let budget = numbers-alike _ _ (heads-alike _ _ _ _ three) in
+    let increment = numbers-alike _ _ (heads-alike _ _ _ _ (tails-alike _ _ _ _ three)) in
+    λ i. record { name = name i; game = game i; terms = record { budget = budget i; increment = increment i } }
+
+-- ---- games
+
+module _ {DP DM DE SP SM SE : Type 0} (one : GameRules DP DM DE) (two : GameRules SP SM SE)
+    (reads-one : (p : DP) (m : DM) → one.check p m ≡ Ok tt → one.read_move p (one.write_move p m) ≡ Ok m)
+    (reads-two : (p : SP) (m : SM) → two.check p m ≡ Ok tt → two.read_move p (two.write_move p m) ≡ Ok m) where
+  module _ (events : List Event) where
+    -- a game that is legal by the terms of its event, which is of its kind
+    abbrev Stands : AnyGame DM SM → Type 0
+    Stands (draughts g) = IsLegalGame one (terms_at (place events g.event)) g × (kind_at (place events g.event) ≡ Draughts)
+    Stands (shogi g) = IsLegalGame two (terms_at (place events g.event)) g × (kind_at (place events g.event) ≡ Shogi)
+
+    abbrev row : ℕ → AnyGame DM SM → Row
+    row = row_of_game one two events
+
+    abbrev rows : ℕ → AnyGame DM SM → List Row
+    rows = rows_of_moves one two events
+
+    same-event : (id e f : ℕ) (v0 v1 : Value) (vs ws : List Value) (w0 w1 : Value) → ◌≡◌ {A = Row} (v0 ∷ v1 ∷ number e ∷ vs) (w0 ∷ w1 ∷ number f ∷ ws) → e ≡ f
+    same-event id e f v0 v1 vs ws w0 w1 is = numbers-alike e f (heads-alike _ _ _ _ (tails-alike _ _ _ _ (tails-alike _ _ _ _ is)))
+
+    no-kind : (a b : ℕ) → a ≡ b → kind_at (place events a) ≡ Draughts → kind_at (place events b) ≡ Shogi → ⊥
+    no-kind a b is first second =
+        let clash : ◌≡◌ {A = GameKind} Draughts Shogi = sym first ∙ (ap (λ n. kind_at (place events n)) is ∙ second) in
+        absurd (let e = clash in cc)
+
+    any-alike : (id : ℕ) (x y : AnyGame DM SM) → Stands x → Stands y → row id x ≡ row id y → rows id x ≡ rows id y → x ≡ y
+    any-alike id (draughts g) (draughts h) this that is moves =
+        let event : g.event ≡ h.event = same-event id g.event h.event _ _ _ _ _ _ is in
+        let terms : terms_at (place events h.event) ≡ terms_at (place events g.event) = ap (λ n. terms_at (place events n)) (sym event) in
+        ap draughts
+        (games-alike one reads-one (terms_at (place events g.event)) id g h this.0
+        (subst (λ t. IsLegalGame one t h) terms that.0)
+        (is ∙ ap (λ t. game_row one t id h) terms)
+        (moves ∙ ap (λ t. move_rows one t id h) terms))
+    any-alike id (shogi g) (shogi h) this that is moves =
+        let event : g.event ≡ h.event = same-event id g.event h.event _ _ _ _ _ _ is in
+        let terms : terms_at (place events h.event) ≡ terms_at (place events g.event) = ap (λ n. terms_at (place events n)) (sym event) in
+        ap shogi
+        (games-alike two reads-two (terms_at (place events g.event)) id g h this.0
+        (subst (λ t. IsLegalGame two t h) terms that.0)
+        (is ∙ ap (λ t. game_row two t id h) terms)
+        (moves ∙ ap (λ t. move_rows two t id h) terms))
+    any-alike id (draughts g) (shogi h) this that is moves = absurd (no-kind g.event h.event (same-event id g.event h.event _ _ _ _ _ _ is) this.1 that.1)
+    any-alike id (shogi g) (draughts h) this that is moves = absurd (no-kind h.event g.event (sym (same-event id g.event h.event _ _ _ _ _ _ is)) that.1 this.1)
+
+    -- how many plies the game's row counts
+    abbrev plies : AnyGame DM SM → ℕ
+    plies (draughts g) = length g.entries
+    plies (shogi g) = length g.entries
+
+    plies-alike : (id : ℕ) (x y : AnyGame DM SM) → row id x ≡ row id y → plies x ≡ plies y
+    plies-alike id (draughts g) (draughts h) is = let p = seventeen-parts _ _ _ _ _ _ _ _ _ _ _ _ _ _ _ _ _ _ _ _ _ _ _ _ _ _ _ _ _ _ _ _ _ _ is in numbers-alike _ _ p.p7
+    plies-alike id (draughts g) (shogi h) is = let p = seventeen-parts _ _ _ _ _ _ _ _ _ _ _ _ _ _ _ _ _ _ _ _ _ _ _ _ _ _ _ _ _ _ _ _ _ _ is in numbers-alike _ _ p.p7
+    plies-alike id (shogi g) (draughts h) is = let p = seventeen-parts _ _ _ _ _ _ _ _ _ _ _ _ _ _ _ _ _ _ _ _ _ _ _ _ _ _ _ _ _ _ _ _ _ _ is in numbers-alike _ _ p.p7
+    plies-alike id (shogi g) (shogi h) is = let p = seventeen-parts _ _ _ _ _ _ _ _ _ _ _ _ _ _ _ _ _ _ _ _ _ _ _ _ _ _ _ _ _ _ _ _ _ _ is in numbers-alike _ _ p.p7
+
+    rows-long : (id : ℕ) (x : AnyGame DM SM) → length (rows id x) ≡ plies x
+    rows-long id (draughts g) = rows-count one (terms_at (place events g.event)) id (at_start g) g.entries
+    rows-long id (shogi g) = rows-count two (terms_at (place events g.event)) id (at_start g) g.entries
+
+    all-alike : (id : ℕ) (xs ys : List (AnyGame DM SM)) → Each Stands xs → Each Stands ys → numbered_from row id xs ≡ numbered_from row id ys → gathered_from rows id xs ≡ gathered_from rows id ys → xs ≡ ys
+    all-alike id [] [] these those is moves = refl
+    all-alike id [] (y ∷ ys) these those is moves = cc
+    all-alike id (x ∷ xs) [] these those is moves = cc
+    all-alike id (x ∷ xs) (y ∷ ys) these those is moves =
+        let here : row id x ≡ row id y = heads-alike (row id x) (row id y) _ _ is in
+        let long : length (rows id x) ≡ length (rows id y) = rows-long id x ∙ (plies-alike id x y here ∙ sym (rows-long id y)) in
+        let head : x ≡ y = any-alike id x y (these zero x refl) (those zero y refl) here (fronts-alike (rows id x) (rows id y) _ _ long moves) in
+        let tail : xs ≡ ys =
+        all-alike (suc id) xs ys (λ n z at. these (suc n) z at) (λ n z at. those (suc n) z at) (tails-alike (row id x) (row id y) _ _ is)
+        (backs-alike (rows id x) (rows id y) _ _ long moves)
+        in
+        λ i. head i ∷ tail i
+
+  stands-draughts : (s : State DM SM) (g : Game DM) → IsGameOf one Draughts s g → Stands s.events (draughts g)
+  stands-draughts s g is =
+      let terms : is.event.terms ≡ terms_at (place s.events g.event) = sym (ap terms_at is.in_event) in
+      (subst (λ t. IsLegalGame one t g) terms is.legal, ap kind_at is.in_event ∙ is.of_kind)
+
+  stands-shogi : (s : State DM SM) (g : Game SM) → IsGameOf two Shogi s g → Stands s.events (shogi g)
+  stands-shogi s g is =
+      let terms : is.event.terms ≡ terms_at (place s.events g.event) = sym (ap terms_at is.in_event) in
+      (subst (λ t. IsLegalGame two t g) terms is.legal, ap kind_at is.in_event ∙ is.of_kind)
+
+  all-stand : (s : State DM SM) → IsLegalState one two s → Each (Stands s.events) s.games
+  all-stand s legal n (draughts g) at = stands-draughts s g (legal.games n (draughts g) at)
+  all-stand s legal n (shogi g) at = stands-shogi s g (legal.games n (shogi g) at)
+
+  pub clubs-alike : (s t : State DM SM) → IsLegalState one two s → IsLegalState one two t → ((n : ℕ) → tables_of one two s n ≡ tables_of one two t n) → s ≡ t
+  clubs-alike s t this that same =
+      let last : s.last ≡ t.last = numbers-alike _ _ (heads-alike _ _ _ _ (tails-alike _ _ _ _ (tails-alike _ _ _ _ (heads-alike _ _ _ _ (same 0))))) in
+      let members : s.members ≡ t.members = numbered-alike member_row members-alike 1 s.members t.members (same 1) in
+      let events : s.events ≡ t.events = numbered-alike event_row events-alike 1 s.events t.events (same 4) in
+      let games : s.games ≡ t.games =
+      all-alike s.events 1 s.games t.games (all-stand s this)
+      (subst (λ es. Each (Stands es) t.games) (sym events) (all-stand t that))
+      (same 10 ∙ ap (λ es. numbered_from (row_of_game one two es) 1 t.games) (sym events))
+      (same 8 ∙ ap (λ es. gathered_from (rows_of_moves one two es) 1 t.games) (sym events))
+      in
+      λ i. record { last = last i; members = members i; events = events i; games = games i }
