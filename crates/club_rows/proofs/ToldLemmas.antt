@@ -100,11 +100,11 @@ module _ {P M E : Type 0} (rules : GameRules P M E) where
 
 -- ---- the moments of a game that was recorded
 
-spend-since : (increment : ℕ) (side : Side) (m : ℕ) (c : Clocks) → (spend increment side m c).since ≡ m
+pub spend-since : (increment : ℕ) (side : Side) (m : ℕ) (c : Clocks) → (spend increment side m c).since ≡ m
 spend-since increment First m c = refl
 spend-since increment Second m c = refl
 
-since-rises : (increment : ℕ) (side : Side) (ms : List ℕ) (c : Clocks) → IsTimely increment side ms c → c.since ≤ (spend_all increment side ms c).since
+pub since-rises : (increment : ℕ) (side : Side) (ms : List ℕ) (c : Clocks) → IsTimely increment side ms c → c.since ≤ (spend_all increment side ms c).since
 since-rises increment side [] c timely = omega arith
 since-rises increment side (m ∷ ms) c timely =
     let rest = since-rises increment (other side) ms (spend increment side m c) timely.2 in

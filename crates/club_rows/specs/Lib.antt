@@ -1,4 +1,6 @@
 pub mod Asked
+pub mod Audit
+pub mod Club
 pub mod Made
 pub mod Records
 pub mod Replay

@@ -1,140 +1,138 @@
 //! Whether the rows of all tables are those of a legal club.
 
-use crate::numbers::{counted, moment, stored};
-use crate::replay::Terms;
+ghost use Rattle.std.specs.Prelude.{◌≡◌, ◌≢◌, ◌+◌, ◌++◌, ◌<◌, ◌≤◌, ◌^◌, ℕ, List, pos, true, false, None, Some, IfOk, length, IfSome, slice_get, string_bytes};
+ghost use Rattle.std.specs.Option.{option_map};
+ghost use Rattle.squares.specs.declared.draughts.moves.DMove.{DMove};
+ghost use Rattle.club_core.specs.Game.{Game, left_of};
+ghost use Rattle.club_core.specs.LegalState.{Each, AreApartIfAny};
+ghost use Rattle.club_core.specs.Limits.{most_games};
+ghost use Rattle.club_core.specs.State.{AnyGame};
+ghost use Rattle.club_core.specs.View.{clocks_in};
+ghost use Rattle.club_rows.specs.Audit.{HasPeople, NamesEvent, IsWithin, IsGameAt, AreGames};
+ghost use Rattle.club_rows.specs.Club.{ClubState, IsClub, IsStoredAs};
+
+use crate::numbers::moment;
+use crate::people::{are_events, are_members, is_place, terms_of};
 use crate::view::{Shown, view_of};
 use clocks::Moment;
-use club_core::values::{MOST_EVENTS, MOST_GAMES, MOST_MEMBERS, is_budget, is_increment};
-use club_core::{GameEnd, GameView, OutsideEnd, is_member_key, is_name};
+use club_core::values::MOST_GAMES;
+use club_core::{GameEnd, GameView, OutsideEnd};
 use club_rules::{Draughts, Memory, Rules};
 use squares::Side;
 use std::alloc::Global;
-use store_tables::{EventRow, GameRecord, MemberRow, MoveRow, Rows, Table};
+use std::collections::HashSet;
+use store_tables::{EventRow, GameRecord, MoveRow, Rows, Table};
 
-// Whether the id is that of the row at this place, from 0.
-fn is_place(id: i64, place: usize) -> bool {
-    match usize::try_from(id) {
-        Ok(id) => id > 0 && id - 1 == place,
-        Err(_) => false,
-    }
-}
-
-// Whether another member has the name or the key.
-fn is_taken(members: &[MemberRow], member: &MemberRow) -> bool {
-    members.iter().any(|other| {
-        other.id != member.id
-            && (other.name.as_str() == member.name.as_str()
-                || other.key.as_str() == member.key.as_str())
-    })
-}
-
-fn are_members(members: &[MemberRow]) -> bool {
-    for (place, member) in members.iter().enumerate() {
-        let is_fit = is_place(member.id, place)
-            && is_name(member.name.as_str())
-            && is_member_key(member.key.as_str())
-            && !is_taken(members, member);
-        if !is_fit {
-            return false;
-        }
-    }
-    members.len() <= MOST_MEMBERS
-}
-
-/// The seconds that an event gives, unless they are outside their limits.
-pub fn terms_of(event: &EventRow) -> Option<Terms> {
-    let budget = counted(event.budget)?;
-    let increment = counted(event.increment)?;
-    if is_budget(budget) && is_increment(increment) {
-        Some(Terms { budget, increment })
-    } else {
-        None
-    }
-}
-
-fn has_other(events: &[EventRow], event: &EventRow) -> bool {
-    events.iter().any(|other| other.id != event.id && other.name.as_str() == event.name.as_str())
-}
-
-// Events are of draughts alone so far.
-fn are_events(events: &[EventRow]) -> bool {
-    for (place, event) in events.iter().enumerate() {
-        let is_fit = is_place(event.id, place)
-            && is_name(event.name.as_str())
-            && event.game == 0
-            && terms_of(event).is_some()
-            && !has_other(events, event);
-        if !is_fit {
-            return false;
-        }
-    }
-    events.len() <= MOST_EVENTS
+// Whether the row is of a move of the game.
+fn is_of(row: &MoveRow, game: &GameRecord) -> bool
+    ensures sound { result ≡ true → row.now.game ≡ game.now.id }
+    ensures complete { row.now.game ≡ game.now.id → result ≡ true }
+{
+    row.game == game.id
 }
 
 // The moves that a list begins with and that are this game's, and the rest.
-fn split_at_game(moves: &[MoveRow], game: i64) -> (&[MoveRow], &[MoveRow]) {
+fn split_at_game<'a>(moves: &'a [MoveRow], game: &GameRecord) -> (&'a [MoveRow], &'a [MoveRow])
+    ensures whole { moves.now ≡ result.0.now ++ result.1.now }
+    ensures own { Each (λ r. r.game ≡ game.now.id) result.0.now }
+    ensures others { (r : MoveRow) → slice_get result.1.now 0 ≡ Some r → r.game ≢ game.now.id }
+{
     for (place, row) in moves.iter().enumerate() {
-        if row.game != game {
+        if !is_of(row, game) {
             return moves.split_at(place);
         }
     }
     moves.split_at(moves.len())
 }
 
-// Whether a side that lost by its time had run out of it before the last moment.
-fn is_late_enough(view: &GameView<Draughts>, last: Moment) -> bool {
-    let left = match Draughts::turn(&view.position) {
+// The seconds that the side to move has left.
+fn left_to_mover<R: Rules>(view: &GameView<R>) -> u64
+    ensures { result ≡ left_of (R.rules.turn view.now.position) (clocks_in view.now.row) }
+{
+    match R::turn(&view.position) {
         Side::First => view.row.left_first,
         Side::Second => view.row.left_second,
-    };
-    let elapsed = last.seconds().saturating_sub(view.row.since.seconds());
+    }
+}
+
+// Whether no moment of the game is above the last one, and a side that lost by its time had run out of it before then.
+fn is_within<R: Rules>(view: &GameView<R>, last: Moment) -> bool
+    ensures sound { result ≡ true → IsWithin R.rules view.now last }
+    ensures complete { IsWithin R.rules view.now last → result ≡ true }
+{
+    if view.row.since > last {
+        return false;
+    }
+    let elapsed = last.seconds() - view.row.since.seconds();
     match &view.row.end {
-        Some(GameEnd::Outside(OutsideEnd::Time)) => left < elapsed,
-        _ => true,
+        Some(GameEnd::Outside(OutsideEnd::Time)) => left_to_mover(view) < elapsed,
+        Some(GameEnd::Outside(OutsideEnd::Resigned)) => true,
+        Some(GameEnd::Outside(OutsideEnd::Agreed)) => true,
+        Some(GameEnd::Outside(OutsideEnd::Recorded(_))) => true,
+        Some(GameEnd::Rule(_)) => true,
+        None => true,
     }
 }
 
 // Whether the id is that of one of so many rows.
-fn is_among(id: i64, count: usize) -> bool {
+fn is_among(id: i64, count: usize) -> bool
+    ensures sound { result ≡ true → (n : ℕ) × (id ≡ pos n) × (0 < n) × (n ≤ count) }
+    ensures complete { (n : ℕ) → id ≡ pos n → 0 < n → n ≤ count → result ≡ true }
+{
     match usize::try_from(id) {
         Ok(id) => 0 < id && id <= count,
         Err(_) => false,
     }
 }
 
-// Whether the row's event and players exist; the event's row is the one at its place.
-fn event_of<'a>(rows: &'a Rows, game: &GameRecord) -> Option<&'a EventRow> {
-    let is_fit = is_among(game.first, rows.members.len())
-        && is_among(game.second, rows.members.len());
-    if !is_fit {
+// The row of the game's event, at its place, if there is one and the players exist.
+fn event_of<'a>(rows: &'a Rows, game: &GameRecord) -> Option<&'a EventRow>
+    ensures some { IfSome result (λ e. (event first second : ℕ) × NamesEvent rows.now game.now event first second e.now) }
+    ensures none { result ≡ None → (event first second : ℕ) (e : EventRow) → ¬ NamesEvent rows.now game.now event first second e }
+{
+    if !is_among(game.first, rows.members.as_slice().len()) {
+        return None;
+    }
+    if !is_among(game.second, rows.members.as_slice().len()) {
         return None;
     }
     match usize::try_from(game.event) {
         Ok(0) => None,
-        Ok(event) => rows.events.get(event - 1),
+        Ok(event) => rows.events.as_slice().get(event - 1),
         Err(_) => None,
     }
 }
 
-// The first wrong table by the rows of one game, up to the last moment.
+// The first wrong table by the rows of the game at this place, from 0, up to the last moment.
 fn wrong_by_game(
     alloc: Global,
     rows: &Rows,
+    place: usize,
     game: &GameRecord,
     moves: &[MoveRow],
     last: Moment,
-) -> Result<Option<Table>, Memory> {
-    let terms = match event_of(rows, game) {
-        Some(event) => terms_of(event),
-        None => None,
+) -> Result<Option<Table>, Memory>
+    requires room { place + 1 < 2 ^ 64 }
+    requires last { rows.now.meta.last ≡ pos last }
+    ensures sound { IfOk result (λ wrong. wrong ≡ None → (s : ClubState) → HasPeople s rows.now →
+        (g : Game DMove) × IsGameAt s (place + 1) game.now moves.now g) }
+    ensures complete { IfOk result (λ wrong. (s : ClubState) → HasPeople s rows.now → place < most_games →
+        (g : Game DMove) → IsGameAt s (place + 1) game.now moves.now g → wrong ≡ None) }
+{
+    if !is_place(game.id, place) {
+        return Ok(Some(Table::Games));
+    }
+    let event = match event_of(rows, game) {
+        Some(event) => event,
+        None => return Ok(Some(Table::Games)),
     };
-    let terms = match terms {
+    let terms = match terms_of(event) {
         Some(terms) => terms,
         None => return Ok(Some(Table::Games)),
     };
     match view_of::<Draughts>(alloc, game, terms, moves)? {
         Shown::Game(view) => {
-            if view.row.since > last || !is_late_enough(&view, last) {
+            if !is_within(&view, last) {
                 return Ok(Some(Table::Meta));
             }
             Ok(None)
@@ -145,14 +143,17 @@ fn wrong_by_game(
 }
 
 // The first wrong table by the rows of the games.
-fn wrong_by_games(alloc: Global, rows: &Rows, last: Moment) -> Result<Option<Table>, Memory> {
+fn wrong_by_games(alloc: Global, rows: &Rows, last: Moment) -> Result<Option<Table>, Memory>
+    requires { rows.now.meta.last ≡ pos last }
+    ensures sound { IfOk result (λ wrong. wrong ≡ None → (s : ClubState) → HasPeople s rows.now →
+        (games : List (AnyGame DMove DMove)) × AreGames s games rows.now.games.items rows.now.moves.items) }
+    ensures complete { IfOk result (λ wrong. (s : ClubState) → HasPeople s rows.now → (games : List (AnyGame DMove DMove)) →
+        AreGames s games rows.now.games.items rows.now.moves.items → length games ≤ most_games → wrong ≡ None) }
+{
     let mut rest = rows.moves.as_slice();
     for (place, game) in rows.games.iter().enumerate() {
-        if !is_place(game.id, place) {
-            return Ok(Some(Table::Games));
-        }
-        let (moves, others) = split_at_game(rest, game.id);
-        match wrong_by_game(alloc, rows, game, moves, last)? {
+        let (moves, others) = split_at_game(rest, game);
+        match wrong_by_game(alloc, rows, place, game, moves, last)? {
             Some(table) => return Ok(Some(table)),
             None => {}
         }
@@ -165,24 +166,30 @@ fn wrong_by_games(alloc: Global, rows: &Rows, last: Moment) -> Result<Option<Tab
 }
 
 // Whether two games have one key.
-fn share_key(alloc: Global, games: &[GameRecord]) -> Result<bool, Memory> {
-    let mut keys = Vec::new(alloc);
+fn share_key(alloc: Global, games: &[GameRecord]) -> Result<bool, Memory>
+    ensures apart { IfOk result (λ shared. shared ≡ false → AreApartIfAny (λ r. option_map (λ s. string_bytes s) r.key) games.now) }
+    ensures shared { IfOk result (λ shared. shared ≡ true → ¬ AreApartIfAny (λ r. option_map (λ s. string_bytes s) r.key) games.now) }
+{
+    let mut keys = HashSet::new(alloc);
     for game in games {
-        if let Some(key) = &game.key {
-            keys.push(key.as_str())?;
+        match &game.key {
+            Some(key) => {
+                if !keys.insert(key.as_str())? {
+                    return Ok(true);
+                }
+            }
+            None => {}
         }
     }
-    keys.sort()?;
-    Ok(
-        keys.windows(2).any(|pair| match pair {
-            [one, other] => one == other,
-            _ => false,
-        }),
-    )
+    Ok(false)
 }
 
-/// A table with rows that no legal club has, if there is one.
-pub fn wrong_table(alloc: Global, rows: &Rows) -> Result<Option<Table>, Memory> {
+/// A table with rows that no legal club has, if there is one; none where the rows of all tables are those of a legal
+/// club.
+pub fn wrong_table(alloc: Global, rows: &Rows) -> Result<Option<Table>, Memory>
+    ensures sound { IfOk result (λ wrong. wrong ≡ None → (s : ClubState) × IsClub s × IsStoredAs s rows.now) }
+    ensures complete { IfOk result (λ wrong. (s : ClubState) → IsClub s → IsStoredAs s rows.now → wrong ≡ None) }
+{
     if !are_members(&rows.members) {
         return Ok(Some(Table::Members));
     }
@@ -196,7 +203,10 @@ pub fn wrong_table(alloc: Global, rows: &Rows) -> Result<Option<Table>, Memory> 
         Some(last) => last,
         None => return Ok(Some(Table::Meta)),
     };
-    if rows.games.len() > MOST_GAMES as usize || share_key(alloc, &rows.games)? {
+    if rows.games.len() > MOST_GAMES as usize {
+        return Ok(Some(Table::Games));
+    }
+    if share_key(alloc, &rows.games)? {
         return Ok(Some(Table::Games));
     }
     match wrong_by_games(alloc, rows, last)? {

@@ -7,6 +7,7 @@ pub mod ends;
 pub mod laws;
 pub mod lines;
 pub mod numbers;
+mod people;
 pub mod records;
 pub mod replay;
 pub mod same;
@@ -15,7 +16,8 @@ mod tests;
 pub mod view;
 
 pub use asked::ask;
-pub use audit::{terms_of, wrong_table};
+pub use audit::wrong_table;
+pub use people::terms_of;
 pub use records::{move_row, record_of};
 pub use replay::Terms;
 pub use view::{Shown, view_of};

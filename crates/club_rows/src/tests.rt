@@ -230,3 +230,52 @@ fn the_wrong_table_is_named(rt: HostRuntime) -> Result<(), Fail> {
     assert!(rt; wrong_table(alloc, &illegal)? == Some(Table::Moves));
     Ok(())
 }
+
+/// A member with that id, name and key.
+fn member(alloc: Global, id: i64, name: &str, key: &str) -> Result<MemberRow, Fail> {
+    Ok(MemberRow {
+        id,
+        name: text(alloc, name)?,
+        key: text(alloc, key)?,
+    })
+}
+
+#[test]
+fn rows_that_do_not_fit_together_are_named(rt: HostRuntime) -> Result<(), Fail> {
+    let alloc = rt.alloc();
+    let mut namesakes = club(alloc, row(alloc, 1, 1060, AFTER_32_28)?, 1060)?;
+    namesakes.members = vec![in alloc;
+        member(alloc, 1, "anna", "keyanna1")?,
+        member(alloc, 2, "anna", "keybert2")?,
+    ]?;
+    assert!(rt; wrong_table(alloc, &namesakes)? == Some(Table::Members));
+    let mut alone = club(alloc, row(alloc, 1, 1060, AFTER_32_28)?, 1060)?;
+    alone.members = vec![in alloc; member(alloc, 1, "anna", "keyanna1")?]?;
+    assert!(rt; wrong_table(alloc, &alone)? == Some(Table::Games));
+    let mut left_over = club(alloc, row(alloc, 1, 1060, AFTER_32_28)?, 1060)?;
+    left_over.games = Vec::new(alloc);
+    assert!(rt; wrong_table(alloc, &left_over)? == Some(Table::Moves));
+    Ok(())
+}
+
+#[test]
+fn a_key_names_one_game(rt: HostRuntime) -> Result<(), Fail> {
+    let alloc = rt.alloc();
+    let mut two = club(alloc, row(alloc, 1, 1060, AFTER_32_28)?, 1060)?;
+    let first = row(alloc, 1, 1060, AFTER_32_28)?;
+    let second = GameRecord {
+        id: 2,
+        ..row(alloc, 0, 1000, START)?
+    };
+    two.games = vec![in alloc; first, second]?;
+    assert!(rt; wrong_table(alloc, &two)? == Some(Table::Games));
+    let first = row(alloc, 1, 1060, AFTER_32_28)?;
+    let other = GameRecord {
+        id: 2,
+        key: None,
+        ..row(alloc, 0, 1000, START)?
+    };
+    two.games = vec![in alloc; first, other]?;
+    assert!(rt; wrong_table(alloc, &two)? == None);
+    Ok(())
+}

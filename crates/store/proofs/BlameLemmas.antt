@@ -1,6 +1,7 @@
 -- From what was read of a table to what a fault says of it, and to the content.
-use Rattle.std.proofs.Common.{◌≡◌, ℕ, List, [], ◌∷◌, All, inl, inr, refl, subst, sym, ap, ◌∙◌, Some, pos, get_or, slice_get}
+use Rattle.std.proofs.Common.{◌≡◌, ℕ, List, [], ◌∷◌, All, inl, inr, refl, subst, sym, ap, ◌∙◌, Some, pos, get_or, slice_get, map}
 use Rattle.std.specs.List.{AllByRecursion}
+use Rattle.std.specs.List.Sorted.{IsPermutation}
 use Rattle.sqlite.specs.Order.{Row}
 use Rattle.sqlite.specs.Effect.{Database}
 use Rattle.sqlite.specs.Table.{Table as Definition}
@@ -11,7 +12,7 @@ use Rattle.sqlite_rules.proofs.ListLemmas.{all_has, has_got}
 use Rattle.store_tables.specs.Cells.{IsMeta, meta_cells}
 use Rattle.store_tables.specs.declared.rows.MetaRow.{MetaRow}
 use Rattle.sqlite_rules.specs.Lists.{Has}
-use Rattle.store_tables.specs.Content.{Keeps, AreApart}
+use Rattle.store_tables.specs.Content.{Keeps, AreApart, cells}
 use Rattle.store_tables.specs.Contents.{Content, Stores, Holds, IsOpened, IsExactly, Leaves}
 use Rattle.store_tables.specs.Reading.{Tells, TellsIds}
 use Rattle.store_tables.specs.Reading.{KeepsMay}
@@ -68,13 +69,14 @@ still old mid same has = ap (λ (d : Database). d.schema) same.0.now_is ∙ has
 pub read_after : (table : Definition) (count : ℕ) (rows : List Row) (old mid new : State) → IsUnchanged old mid → IsReadAs table count rows mid new → IsReadAs table count rows old new
 read_after table count rows old mid new same it = record {
   keeps = subst (λ (d : Database). Keeps table d.trees rows) same.0.now_is it.keeps;
+  once = subst (λ (d : Database). IsPermutation (map (cells table) (d.trees table.tree)) rows) same.0.now_is it.once;
   apart = subst (λ (d : Database). AreApart (d.trees table.tree)) same.0.now_is it.apart;
   sorted = it.sorted;
   same = unchanged_then old mid new same it.same;
 }
 
 pub read_before : (table : Definition) (count : ℕ) (rows : List Row) (old mid new : State) → IsReadAs table count rows old mid → IsUnchanged mid new → IsReadAs table count rows old new
-read_before table count rows old mid new it same = record { keeps = it.keeps; apart = it.apart; sorted = it.sorted; same = unchanged_then old mid new it.same same }
+read_before table count rows old mid new it same = record { keeps = it.keeps; once = it.once; apart = it.apart; sorted = it.sorted; same = unchanged_then old mid new it.same same }
 
 pub names_schema : (found : MetaRow) (old new : State) → IsReadAs (meta 0) 1 (meta_cells found ∷ []) old new → found.id ≡ pos 1 → (found.schema ≡ pos 1 → ⊥) → NamesSchema old.now (Schema found.schema)
 names_schema found old new read id other = (

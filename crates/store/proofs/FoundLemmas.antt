@@ -20,7 +20,7 @@ use Rattle.sqlite.specs.State.{State, Shown, Survives, HasCleanDisk, IsUnchanged
 use Rattle.store.specs.Places.{BeginWithPlaces}
 
 -- two lists of the rows of one table
-moved : (table : Definition) (db : Trees) (xs ys : List Row) → Keeps table db xs → Keeps table db ys → (z : Row) → Has xs z → Has ys z
+pub moved : (table : Definition) (db : Trees) (xs ys : List Row) → Keeps table db xs → Keeps table db ys → (z : Row) → Has xs z → Has ys z
 moved table db xs ys one two z h = let r = one.stored z h in subst (Has ys) r.2 (two.only r.0 r.1)
 
 -- where ids are places, a table is shown as the list that it is

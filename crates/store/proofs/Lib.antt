@@ -1,5 +1,16 @@
 pub mod BlameLemmas
 pub mod BoundLemmas
+pub mod ClubLemmas
 pub mod FoundLemmas
 pub mod OpenLemmas
+pub mod OpeningLemmas
+pub mod MoveOrderLemmas
+pub mod GameRows
+pub mod LegalLemmas
+pub mod NextRows
+pub mod OutcomeLemmas
 pub mod PlaceLemmas
+pub mod PlayedLemmas
+pub mod PutSame
+pub mod ReadRows
+pub mod SameLemmas

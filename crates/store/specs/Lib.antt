@@ -2,4 +2,5 @@ pub mod Blames
 pub mod Changed
 pub mod Clubs
 pub mod Places
+pub mod Steps
 pub mod Whole

@@ -1,13 +1,15 @@
--- What makes the rows of a club well formed, beside the types of their values.
-use Rattle.std.specs.Prelude.{◌≡◌, ◌⊎◌, ℕ, ◌+◌, ◌<◌, ℤ, pos, ⊤, List, [], ◌∷◌, map, length, get_or}
+-- Ids that are places, and what a fault says of the rows of all tables.
+use Rattle.std.specs.Prelude.{◌≡◌, ◌⊎◌, ℕ, ◌+◌, ◌<◌, ℤ, pos, ⊤, List, [], map, length, get_or}
 use Rattle.sqlite.specs.Effect.{Database}
 use Rattle.sqlite.specs.Order.{Row, column}
 use Rattle.sqlite.specs.declared.types.Value.TheVariants.{Int}
 use Rattle.store_tables.specs.Contents.{Holds}
-use Rattle.store_tables.specs.Rows.{content_of, AreInOrder, HaveIds}
 use Rattle.store_tables.specs.declared.rows.Rows.{Rows}
 use Rattle.store_tables.specs.declared.names.Table.{Table}
 use Rattle.store_tables.specs.declared.names.Table.TheVariants.{Members, Events, Games}
+use Rattle.club_rules.specs.Draughts.{draughts}
+use Rattle.club_rows.specs.Club.{ClubState, IsClub, IsStoredAs, tables}
+use Rattle.club_rows.specs.Tables.{tables_of}
 use Rattle.store.specs.declared.fault.OpenFault.{OpenFault}
 use Rattle.store.specs.declared.fault.OpenFault.TheVariants.{Damaged, Memory}
 
@@ -22,21 +24,13 @@ HasPlaces Events rows = ArePlaces (map (λ r. r.id) rows.events.items)
 HasPlaces Games rows = ArePlaces (map (λ r. r.id) rows.games.items)
 HasPlaces _ rows = ⊤
 
--- `meta` has the id 1 and schema 1, the rows rise by their keys, and ids are places.
-pub record AreWellFormed (rows : Rows) : Type 0 where
-  pub id : rows.meta.id ≡ pos 1
-  pub schema : rows.meta.schema ≡ pos 1
-  pub order : AreInOrder rows
-  pub ids : HaveIds rows
-  pub places : (t : Table) → HasPlaces t rows
+-- Memory was refused, or a table is called damaged, and then no legal club is stored as these rows.
+abbrev pub BlamesRows : Rows → OpenFault → Type 0
+BlamesRows rows fault = (fault ≡ Memory) ⊎ ((t : Table) × (fault ≡ Damaged t) × ((s : ClubState) → IsClub s → ¬ IsStoredAs s rows))
 
--- A table is named, once all rows were read.
+-- A table is called damaged, and no legal club has the tables of the database.
 abbrev pub NamesRows : Database → OpenFault → Type 0
-NamesRows db fault = (rows : Rows) × AreInOrder rows × HaveIds rows × Holds db (content_of rows) × ((t : Table) × (fault ≡ Damaged t))
-
--- memory was refused, or a table is called damaged
-abbrev pub IsDamage : OpenFault → Type 0
-IsDamage fault = (fault ≡ Memory) ⊎ ((t : Table) × (fault ≡ Damaged t))
+NamesRows db fault = (t : Table) × (fault ≡ Damaged t) × ((s : ClubState) → IsClub s → ¬ Holds db (tables s))
 
 -- the rows begin with their places
 abbrev pub BeginWithPlaces : List Row → Type 0

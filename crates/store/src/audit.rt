@@ -1,7 +1,8 @@
 //! Which table of a club is wrong.
 
 ghost use Rattle.std.specs.Prelude.{◌≡◌, ◌≢◌, ◌+◌, ◌^◌, ◌<◌, ℤ, pos, true, false, None, IfSome, IfErr, OnOk, map};
-ghost use Rattle.store.specs.Places.{ArePlaces, HasPlaces, IsDamage};
+ghost use Rattle.club_rows.specs.Club.{IsClub, IsStoredAs};
+ghost use Rattle.store.specs.Places.{ArePlaces, HasPlaces, BlamesRows};
 
 use crate::fault::OpenFault;
 use std::alloc::Global;
@@ -83,8 +84,8 @@ fn misplaced(rows: &Rows) -> Option<Table>
 
 /// Tests that the rows are those of a legal club.
 pub(crate) fn audit(alloc: Global, rows: &Rows) -> Result<(), OpenFault>
-    ensures places { OnOk result ((t : _) → HasPlaces t rows.now) }
-    ensures fault { IfErr result IsDamage }
+    ensures club { OnOk result ((s : _) × IsClub s × IsStoredAs s rows.now) }
+    ensures fault { IfErr result (BlamesRows rows.now) }
 {
     match misplaced(rows) {
         Some(table) => return Err(OpenFault::Damaged(table)),

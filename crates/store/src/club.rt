@@ -4,14 +4,17 @@ ghost use Rattle.std.specs.Prelude.{◌≡◌, ◌≢◌, ◌≤◌, ◌⊎◌, 
 ghost use Rattle.sqlite.specs.State.{HasCleanDisk, IsUnchanged};
 ghost use Rattle.sqlite.specs.Held.{state};
 ghost use Rattle.sqlite_trees.specs.View.{doubt};
-ghost use Rattle.store_tables.specs.Contents.{IsExactly, IsExactlyEmpty, IsEmpty, IsOpened, Leaves, opening};
+ghost use Rattle.store_tables.specs.Contents.{IsExactly, IsExactlyEmpty, IsEmpty, IsOpened, Leaves};
 ghost use Rattle.store_tables.specs.Reading.{KeepsMay};
-ghost use Rattle.store_tables.specs.Rows.{content_of};
 ghost use Rattle.store_tables.specs.Tables.{club_schema};
 ghost use Rattle.store.specs.Blames.{NamesTable, NamesSchema};
 ghost use Rattle.store.specs.Changed.{changed};
 ghost use Rattle.store.specs.Whole.{IsAccepted};
-ghost use Rattle.store.specs.Places.{AreWellFormed, NamesRows};
+ghost use Rattle.store.specs.Places.{NamesRows};
+ghost use Rattle.club_core.specs.Answer.{answered, outcome_of};
+ghost use Rattle.club_core.specs.State.{opening_state};
+ghost use Rattle.club_rows.specs.Club.{ClubState, IsClub, tables};
+ghost use Rattle.store.specs.Steps.{request, club_step, club_next};
 
 use crate::changes::{Changes, commit_changes};
 use crate::command::{Decided, decide_request};
@@ -57,12 +60,12 @@ pub struct Unopened<S: Alter> {
 pub fn create<S: Alter>(_alloc: Global, conn: Connection<S>) -> Result<Club<S>, Unopened<S>>
     requires { conn.in_transaction ≡ false }
     ensures ready { IfOk result (λ club. club.needs_reopening ≡ false) }
-    ensures stored { IfOk result (λ club. HasCleanDisk (state S.Store club.connection) → IsExactlyEmpty (state S.Store conn) → IsExactly opening (state S.Store club.connection)) }
+    ensures stored { IfOk result (λ club. HasCleanDisk (state S.Store club.connection) → IsExactlyEmpty (state S.Store conn) → IsExactly (tables opening_state) (state S.Store club.connection)) }
     ensures fresh { IfOk result (λ club. HasCleanDisk (state S.Store club.connection) → (state S.Store conn).now.schema ≢ club_schema) }
     ensures clean { IfOk result (λ club. doubt (state S.Store conn).is_clean ≤ doubt (state S.Store club.connection).is_clean) }
     ensures idle { IfErr result (λ u. u.conn.in_transaction ≡ false) }
     ensures named { IfErr result (λ u. (u.fault ≡ OpenFault.Foreign) ⊎ (u.fault ≡ OpenFault.Store)) }
-    ensures fault { IfErr result (λ u. HasCleanDisk (state S.Store u.conn) → IsExactlyEmpty (state S.Store conn) → (db : _) → (state S.Store u.conn).may_leave db → IsEmpty db ⊎ Leaves opening db) }
+    ensures fault { IfErr result (λ u. HasCleanDisk (state S.Store u.conn) → IsExactlyEmpty (state S.Store conn) → (db : _) → (state S.Store u.conn).may_leave db → IsEmpty db ⊎ Leaves (tables opening_state) db) }
     ensures stays { IfErr result (λ u. HasCleanDisk (state S.Store u.conn) → (state S.Store conn).now.schema ≡ club_schema → KeepsMay (state S.Store conn) (state S.Store u.conn)) }
     ensures known { IfErr result (λ u. doubt (state S.Store conn).is_clean ≤ doubt (state S.Store u.conn).is_clean) }
 {
@@ -83,12 +86,13 @@ pub fn create<S: Alter>(_alloc: Global, conn: Connection<S>) -> Result<Club<S>, 
 pub fn adopt<S: Alter>(alloc: Global, conn: Connection<S>) -> Result<Club<S>, Unopened<S>>
     requires { conn.in_transaction ≡ false }
     ensures ready { IfOk result (λ club. club.needs_reopening ≡ false) }
-    ensures found { IfOk result (λ club. HasCleanDisk (state S.Store club.connection) → IsOpened (state S.Store conn) → (rows : _) × AreWellFormed rows × IsExactly (content_of rows) (state S.Store club.connection)) }
+    ensures found { IfOk result (λ club. HasCleanDisk (state S.Store club.connection) → IsOpened (state S.Store conn) → (s : _) × IsClub s × IsExactly (tables s) (state S.Store club.connection)) }
     ensures same { IfOk result (λ club. HasCleanDisk (state S.Store club.connection) → (content : _) → IsExactly content (state S.Store conn) → IsExactly content (state S.Store club.connection)) }
     ensures unchanged { IfOk result (λ club. HasCleanDisk (state S.Store club.connection) → (state S.Store conn).now.schema ≡ club_schema → IsUnchanged (state S.Store conn) (state S.Store club.connection) × KeepsMay (state S.Store conn) (state S.Store club.connection)) }
     ensures clean { IfOk result (λ club. doubt (state S.Store conn).is_clean ≤ doubt (state S.Store club.connection).is_clean) }
     ensures idle { IfErr result (λ u. u.conn.in_transaction ≡ false) }
-    ensures blames { IfErr result (λ u. HasCleanDisk (state S.Store u.conn) → IsOpened (state S.Store conn) → NamesTable (state S.Store conn).now u.fault ⊎ (NamesSchema (state S.Store conn).now u.fault ⊎ NamesRows (state S.Store conn).now u.fault)) }
+    ensures blames { IfErr result (λ u. HasCleanDisk (state S.Store u.conn) → (state S.Store conn).now.schema ≡ club_schema → NamesTable (state S.Store conn).now u.fault ⊎ (NamesSchema (state S.Store conn).now u.fault ⊎ NamesRows (state S.Store conn).now u.fault)) }
+    ensures good { IfErr result (λ u. HasCleanDisk (state S.Store u.conn) → (s : _) → IsClub s → IsExactly (tables s) (state S.Store conn) → (u.fault ≡ OpenFault.Store) ⊎ (u.fault ≡ OpenFault.Memory)) }
     ensures kept { IfErr result (λ u. HasCleanDisk (state S.Store u.conn) → (state S.Store conn).now.schema ≡ club_schema → KeepsMay (state S.Store conn) (state S.Store u.conn)) }
     ensures known { IfErr result (λ u. doubt (state S.Store conn).is_clean ≤ doubt (state S.Store u.conn).is_clean) }
 {
@@ -137,8 +141,9 @@ impl<S: Alter> Club<S> {
         }
     }
 
-    /// Gives the club a command: what it answers, and the tables as they are to stand, in one transaction with one commit
-    /// where the command is accepted. After a fault every later call is refused with `Reopen`.
+    /// Gives the club a command, as the machine takes it: its answer, and the tables of the state after it, in one
+    /// transaction with one commit where the command is accepted. A fault leaves the tables before, or those after, whole;
+    /// after it every later call is refused with `Reopen`.
     pub fn apply(
         &mut self,
         alloc: Global,
@@ -150,9 +155,13 @@ impl<S: Alter> Club<S> {
         ensures goes_on { OnOk result (self.new.needs_reopening ≡ false) }
         ensures ends { OnErr result (self.new.needs_reopening ≡ true) }
         ensures clean { doubt (state S.Store self.old.connection).is_clean ≤ doubt (state S.Store self.new.connection).is_clean }
-        ensures stored { HasCleanDisk (state S.Store self.new.connection) → OnOk result ((content : _) → IsExactly content (state S.Store self.old.connection) → IsExactly content (state S.Store self.new.connection) ⊎ ((changes : _) × IsExactly (changed changes content) (state S.Store self.new.connection))) }
+        ensures answer { HasCleanDisk (state S.Store self.new.connection) → IfOk result (λ outcome. (s : ClubState) → IsClub s → IsExactly (tables s) (state S.Store self.old.connection) →
+            outcome_of outcome ≡ answered (club_step s (request who.now command.now moment))) }
+        ensures step { HasCleanDisk (state S.Store self.new.connection) → OnOk result ((s : ClubState) → IsClub s → IsExactly (tables s) (state S.Store self.old.connection) →
+            IsExactly (tables (club_next s (request who.now command.now moment))) (state S.Store self.new.connection)) }
+        ensures fault { HasCleanDisk (state S.Store self.new.connection) → OnErr result (self.old.needs_reopening ≡ false → (s : ClubState) → IsClub s → IsExactly (tables s) (state S.Store self.old.connection) →
+            (db : _) → (state S.Store self.new.connection).may_leave db → Leaves (tables s) db ⊎ Leaves (tables (club_next s (request who.now command.now moment))) db) }
         ensures unchanged { HasCleanDisk (state S.Store self.new.connection) → IfOk result (λ outcome. ¬ IsAccepted outcome → (content : _) → IsExactly content (state S.Store self.old.connection) → IsExactly content (state S.Store self.new.connection)) }
-        ensures fault { HasCleanDisk (state S.Store self.new.connection) → OnErr result (self.old.needs_reopening ≡ false → (content : _) → IsExactly content (state S.Store self.old.connection) → (db : _) → (state S.Store self.new.connection).may_leave db → Leaves content db ⊎ ((changes : _) × Leaves (changed changes content) db)) }
     {
         if self.needs_reopening {
             return Err(StoreFault::Reopen);

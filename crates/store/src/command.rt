@@ -1,13 +1,30 @@
 //! What a command does to the tables.
 
-ghost use Rattle.std.specs.Prelude.{◌≡◌, ◌≤◌, false, IfOk, OnOk, length};
+ghost use Rattle.std.specs.Prelude.{◌≡◌, ◌≤◌, ◌<◌, ◌^◌, ℕ, List, [], ◌∷◌, map, pos, suc, Some, None, false, IfOk, OnOk, length, slice_get, string_bytes};
+ghost use Rattle.std.specs.Option.{option_map};
 ghost use Rattle.sqlite.specs.State.{HasCleanDisk};
 ghost use Rattle.sqlite.specs.Held.{state};
 ghost use Rattle.sqlite_trees.specs.View.{doubt};
-ghost use Rattle.store_tables.specs.Contents.{IsExactly, Leaves};
-ghost use Rattle.store.specs.Whole.{IsWhole};
-ghost use Rattle.club_core.specs.View.{IsSound};
+ghost use Rattle.squares.specs.declared.draughts.moves.DMove.{DMove};
 ghost use Rattle.club_rules.specs.Draughts.{draughts};
+ghost use Rattle.club_core.specs.Answer.{outcome_of, members_of, event_of, events_of, added_event, keyed_of, pairing_of, command_of, move_reply_of, outcome_of};
+ghost use Rattle.club_core.specs.Events as core;
+ghost use Rattle.club_core.specs.Members as core_members;
+ghost use Rattle.club_core.specs.Game.{Game};
+ghost use Rattle.club_core.specs.Step.{move, game_step};
+ghost use Rattle.club_core.specs.State as club;
+ghost use Rattle.club_core.specs.State.{AnyGame, is_accepted, place, terms_at, game_under, keyed_game, seated, add_member, add_event, on_game};
+ghost use Rattle.club_core.specs.LegalState.{Each, IsLegalEvent};
+ghost use Rattle.club_core.specs.View.{IsSound, IsRowOf, IsDecision, Shows, ShowsPly, terms_of};
+ghost use Rattle.club_rows.specs.Made.{made_row};
+ghost use Rattle.club_rows.specs.Replay.{terms_given};
+ghost use Rattle.club_rows.specs.Shown.{AreRowsOf};
+ghost use Rattle.club_rows.specs.Tables.{number, kind_number, numbered_from, member_row, event_row, game_row, move_rows};
+ghost use Rattle.store_tables.specs.Cells.{meta_cells, member_cells, event_cells, game_cells, move_cells};
+ghost use Rattle.store_tables.specs.Contents.{IsExactly, Leaves, AreThose};
+ghost use Rattle.club_rows.specs.Club.{ClubState, IsClub, tables};
+ghost use Rattle.store.specs.Steps.{request, club_step, caller_step, game_in, HaveSame, ArePuts, IsDecided, IsRecordOf};
+ghost use Rattle.store.specs.Whole.{IsWhole};
 
 use crate::changes::Changes;
 use crate::fault::StoreFault;
@@ -15,13 +32,13 @@ use crate::find;
 use clocks::Moment;
 use club_core::values::{MOST_EVENTS, MOST_MEMBERS};
 use club_core::{
-    AddEvent, AddMember, Answer, Caller, Command, Decision, Event, GameView, KeyedGame, Member,
-    Move, Outcome, Pairing, Refusal, Seat, Seating, Who, add_event, add_member, decide, identify,
-    seat, seated_row,
+    AddEvent, AddMember, Answer, Caller, Command, Decision, Event, GameRow, GameView, KeyedGame,
+    Member, Move, Moved, Outcome, Pairing, Refusal, Seat, Seating, Who, add_event, add_member,
+    decide, identify, seat, seated_row,
 };
 use club_rows::numbers::{counted, id, moment as moment_of, stored};
-use club_rows::{Shown, ask, move_row, record_of, terms_of, view_of};
-use club_rules::{Draughts, GameKind, Memory};
+use club_rows::{Shown, Terms, ask, move_row, record_of, view_of};
+use club_rules::{Draughts, DraughtsEnd, GameKind, Memory};
 use sqlite::{Alter, Connection};
 use std::alloc::Global;
 use store_tables::{EventRow, GameRecord, MemberRow, MetaRow, MoveRow};
@@ -52,7 +69,9 @@ impl From<std::alloc::AllocError> for StoreFault {
 }
 
 // The first of the rows, if there is one.
-fn first<T: Drop>(rows: Vec<T>) -> Option<T> {
+fn first<T: Drop>(rows: Vec<T>) -> Option<T>
+    ensures { result ≡ slice_get rows.items 0 }
+{
     rows.into_iter().next()
 }
 
@@ -68,7 +87,9 @@ fn unchanged(outcome: Outcome) -> Decided
 }
 
 // No rows but that of `meta`, at the moment of an accepted command.
-fn at(alloc: Global, moment: Moment) -> Changes {
+fn at(alloc: Global, moment: Moment) -> Changes
+    ensures { ArePuts result moment [] [] [] [] }
+{
     Changes {
         members: Vec::new(alloc),
         events: Vec::new(alloc),
@@ -85,15 +106,27 @@ fn at(alloc: Global, moment: Moment) -> Changes {
     }
 }
 
-// The members, as the machine knows them.
-fn members_of(alloc: Global, rows: Vec<MemberRow>) -> Result<Vec<Member>, StoreFault>
-    ensures { IfOk result (λ members. length members.items ≤ 200) }
+// Whether the outcome is an accepted one.
+fn is_accepted(outcome: &Outcome) -> bool
+    ensures { result ≡ is_accepted (outcome_of outcome.now) }
+{
+    match outcome {
+        Outcome::Accepted(_) => true,
+        Outcome::Repeated(_) => false,
+        Outcome::Refused(_) => false,
+    }
+}
+
+// The members of which these are the rows, by id.
+fn members_of(alloc: Global, rows: &[MemberRow]) -> Result<Vec<Member>, StoreFault>
+    ensures room { IfOk result (λ members. length members.items ≤ 200) }
+    ensures values { IfOk result (λ members. (all : List core_members.Member) → map member_cells rows.now ≡ numbered_from member_row 1 all → members_of members.items ≡ all) }
 {
     if rows.len() > MOST_MEMBERS {
         return Err(StoreFault::Store);
     }
     let mut members = Vec::new(alloc);
-    for row in &rows {
+    for row in rows {
         members.push(Member {
             name: row.name.clone()?,
             key: row.key.clone()?,
@@ -102,8 +135,10 @@ fn members_of(alloc: Global, rows: Vec<MemberRow>) -> Result<Vec<Member>, StoreF
     Ok(members)
 }
 
-// An event, as the machine knows it.
-fn event_of(row: &EventRow) -> Result<Event, StoreFault> {
+// The event of which this is the row.
+fn event_of(row: &EventRow) -> Result<Event, StoreFault>
+    ensures { IfOk result (λ e. (id : ℕ) (event : core.Event) → event_cells row.now ≡ event_row id event → event_of e ≡ event) }
+{
     let game = match row.game {
         0 => GameKind::Draughts,
         1 => GameKind::Shogi,
@@ -120,9 +155,10 @@ fn event_of(row: &EventRow) -> Result<Event, StoreFault> {
     })
 }
 
-// The events, as the machine knows them.
+// The events of which these are the rows, by id.
 fn events_of(alloc: Global, rows: &[EventRow]) -> Result<Vec<Event>, StoreFault>
-    ensures { IfOk result (λ events. length events.items ≤ 50) }
+    ensures room { IfOk result (λ events. length events.items ≤ 50) }
+    ensures values { IfOk result (λ events. (all : List core.Event) → map event_cells rows.now ≡ numbered_from event_row 1 all → events_of events.items ≡ all) }
 {
     if rows.len() > MOST_EVENTS {
         return Err(StoreFault::Store);
@@ -132,6 +168,19 @@ fn events_of(alloc: Global, rows: &[EventRow]) -> Result<Vec<Event>, StoreFault>
         events.push(event_of(row)?)?;
     }
     Ok(events)
+}
+
+// The row of a member that is added.
+fn member_row(id: u32, command: &AddMember) -> Result<MemberRow, StoreFault>
+    ensures { IfOk result (λ row. member_cells row ≡ member_row id (record { name = string_bytes command.now.name; key = string_bytes command.now.key })) }
+{
+    let name = command.name.clone()?;
+    let key = command.key.clone()?;
+    Ok(MemberRow {
+        id: i64::from(id),
+        name,
+        key,
+    })
 }
 
 // What adding a member does.
@@ -144,21 +193,45 @@ fn on_member(
 ) -> Result<Decided, StoreFault>
     requires { length members.now ≤ 200 }
     ensures acts { IfOk result IsWhole }
+    ensures step { IfOk result (λ d. (s : ClubState) → members_of members.now ≡ s.members →
+        IsDecided s (caller_step s moment caller (add_member (string_bytes command.now.name) (string_bytes command.now.key))) d) }
 {
     let outcome = add_member(members, caller, command);
-    let id = match &outcome {
-        Outcome::Accepted(Answer::Member(id)) => *id,
-        _ => return Ok(unchanged(outcome)),
-    };
+    if !is_accepted(&outcome) {
+        return Ok(unchanged(outcome));
+    }
     let mut changes = at(alloc, moment);
-    changes.members.push(MemberRow {
-        id: i64::from(id),
-        name: command.name.clone()?,
-        key: command.key.clone()?,
-    })?;
+    changes
+        .members
+        .push(member_row(members.len() as u32 + 1, command)?)?;
     Ok(Decided {
         outcome,
         changes: Some(changes),
+    })
+}
+
+// The number of a game.
+fn kind_number(game: GameKind) -> i64
+    ensures { result ≡ pos (kind_number game) }
+{
+    match game {
+        GameKind::Draughts => 0,
+        GameKind::Shogi => 1,
+    }
+}
+
+// The row of an event that is added.
+fn event_row(id: u32, command: &AddEvent) -> Result<EventRow, StoreFault>
+    // Seconds that 63 bits hold are stored as they are.
+    ensures { IfOk result (λ row. command.now.budget < 2 ^ 63 → command.now.increment < 2 ^ 63 → event_cells row ≡ event_row id (added_event command.now)) }
+{
+    let name = command.name.clone()?;
+    Ok(EventRow {
+        id: i64::from(id),
+        name,
+        game: kind_number(command.game),
+        budget: stored(command.budget),
+        increment: stored(command.increment),
     })
 }
 
@@ -172,61 +245,77 @@ fn on_event(
 ) -> Result<Decided, StoreFault>
     requires { length events.now ≤ 50 }
     ensures acts { IfOk result IsWhole }
+    ensures step { IfOk result (λ d. (s : ClubState) → IsClub s → events_of events.now ≡ s.events →
+        IsDecided s (caller_step s moment caller (add_event (added_event command.now))) d) }
 {
     let outcome = add_event(events, caller, command);
-    let id = match &outcome {
-        Outcome::Accepted(Answer::Event(id)) => *id,
-        _ => return Ok(unchanged(outcome)),
-    };
-    let game = match command.game {
-        GameKind::Draughts => 0,
-        GameKind::Shogi => 1,
-    };
+    if !is_accepted(&outcome) {
+        return Ok(unchanged(outcome));
+    }
     let mut changes = at(alloc, moment);
-    changes.events.push(EventRow {
-        id: i64::from(id),
-        name: command.name.clone()?,
-        game,
-        budget: stored(command.budget),
-        increment: stored(command.increment),
-    })?;
+    changes
+        .events
+        .push(event_row(events.len() as u32 + 1, command)?)?;
     Ok(Decided {
         outcome,
         changes: Some(changes),
     })
 }
 
-// The game under a key, as the machine knows it.
-fn keyed_of(record: &Option<GameRecord>) -> Result<Option<KeyedGame>, StoreFault> {
-    let record = match record {
-        Some(record) => record,
-        None => return Ok(None),
-    };
+// The ids in the row of a game: its own, and those of its event and players.
+fn ids_in(row: &GameRecord) -> Result<KeyedGame, StoreFault>
+    ensures { IfOk result (λ k. (s : ClubState) (id : ℕ) (game : AnyGame DMove DMove) → game_cells row.now ≡ game_in s id game →
+        Some (keyed_of k) ≡ keyed_game (Some game) id) }
+{
     let (Some(game), Some(event), Some(first), Some(second)) = (
-        id(record.id),
-        id(record.event),
-        id(record.first),
-        id(record.second),
+        id(row.id),
+        id(row.event),
+        id(row.first),
+        id(row.second),
     ) else {
         return Err(StoreFault::Store);
     };
-    Ok(Some(KeyedGame {
+    Ok(KeyedGame {
         game,
         pairing: Pairing {
             event,
             first,
             second,
         },
-    }))
+    })
 }
 
-// The budget of an event.
-fn budget_of(events: &[Event], event: u32) -> Result<u64, StoreFault> {
+// The game that stands under a key, if there is one.
+fn game_under<S: Alter>(
+    alloc: Global,
+    conn: &mut Connection<S>,
+    key: &str,
+) -> Result<Option<KeyedGame>, StoreFault>
+    ensures idle { conn.old.in_transaction ≡ false → conn.new.in_transaction ≡ false }
+    ensures clean { doubt (state S.Store conn.old).is_clean ≤ doubt (state S.Store conn.new).is_clean }
+    ensures kept { HasCleanDisk (state S.Store conn.new) → OnOk result ((content : _) → IsExactly content (state S.Store conn.old) → IsExactly content (state S.Store conn.new)) }
+    ensures may { HasCleanDisk (state S.Store conn.new) → (content : _) → IsExactly content (state S.Store conn.old) → (db : _) → (state S.Store conn.new).may_leave db → Leaves content db }
+    ensures found { HasCleanDisk (state S.Store conn.new) → IfOk result (λ k. (s : ClubState) → IsClub s → IsExactly (tables s) (state S.Store conn.old) →
+        option_map keyed_of k ≡ game_under s.games key.now) }
+{
+    match first(find::game_with_key(alloc, conn, key)?) {
+        Some(row) => Ok(Some(ids_in(&row)?)),
+        None => Ok(None),
+    }
+}
+
+// The seconds that the event of this id gives.
+fn terms_at(events: &[Event], event: u32) -> Result<Terms, StoreFault>
+    ensures { IfOk result (λ terms. (e : core.Event) × (place (events_of events.now) event ≡ Some e) × (terms_given terms ≡ e.terms)) }
+{
     if event == 0 {
         return Err(StoreFault::Store);
     }
     match events.get(event as usize - 1) {
-        Some(event) => Ok(event.budget),
+        Some(event) => Ok(Terms {
+            budget: event.budget,
+            increment: event.increment,
+        }),
         None => Err(StoreFault::Store),
     }
 }
@@ -238,9 +327,12 @@ fn seated(
     new: KeyedGame,
     key: &str,
     moment: Moment,
-) -> Result<Changes, StoreFault> {
-    let budget = budget_of(events, new.pairing.event)?;
-    let row = seated_row::<Draughts>(alloc, key, new.pairing, budget, moment)?;
+) -> Result<Changes, StoreFault>
+    ensures { IfOk result (λ changes. Each IsLegalEvent (events_of events.now) →
+        ArePuts changes moment [] [] (game_row draughts (terms_at (place (events_of events.now) new.pairing.event)) new.game (seated (Some key.now) (pairing_of new.pairing) moment) ∷ []) []) }
+{
+    let terms = terms_at(events, new.pairing.event)?;
+    let row = seated_row::<Draughts>(alloc, key, new.pairing, terms.budget, moment)?;
     let mut changes = at(alloc, moment);
     changes
         .games
@@ -265,8 +357,11 @@ fn on_seat<S: Alter>(
     ensures kept { HasCleanDisk (state S.Store conn.new) → OnOk result ((content : _) → IsExactly content (state S.Store conn.old) → IsExactly content (state S.Store conn.new)) }
     ensures may { HasCleanDisk (state S.Store conn.new) → (content : _) → IsExactly content (state S.Store conn.old) → (db : _) → (state S.Store conn.new).may_leave db → Leaves content db }
     ensures acts { IfOk result IsWhole }
+    ensures step { HasCleanDisk (state S.Store conn.new) → IfOk result (λ d. (s : ClubState) → IsClub s → members_of members.now ≡ s.members → events_of events.now ≡ s.events →
+        IsExactly (tables s) (state S.Store conn.old) → IsDecided s (caller_step s moment caller
+        (club.seat (string_bytes command.now.key) (string_bytes command.now.event) (string_bytes command.now.first) (string_bytes command.now.second))) d) }
 {
-    let under_key = keyed_of(&first(find::game_with_key(alloc, conn, command.key.as_str())?))?;
+    let under_key = game_under(alloc, conn, command.key.as_str())?;
     let Ok(games) = u32::try_from(find::count_games(conn)?) else {
         return Err(StoreFault::Store);
     };
@@ -283,6 +378,27 @@ fn on_seat<S: Alter>(
     }
 }
 
+// The rows of a game in which a move was played.
+fn moved_rows(
+    alloc: Global,
+    game: u32,
+    row: &GameRow<DraughtsEnd>,
+    moved: &Moved,
+    moment: Moment,
+) -> Result<Changes, StoreFault>
+    // Seconds that 63 bits hold are stored as they are.
+    ensures { IfOk result (λ changes. (terms : core.Terms) (new : Game DMove) → row.now.left_first < 2 ^ 63 → row.now.left_second < 2 ^ 63 → moved.now.left < 2 ^ 63 →
+        IsRowOf draughts terms new row.now →
+        ArePuts changes moment [] [] (game_row draughts terms game new ∷ []) (made_row game (move_reply_of moved.now) moment ∷ [])) }
+{
+    let mut changes = at(alloc, moment);
+    changes
+        .games
+        .push(record_of::<Draughts>(alloc, game, row)?)?;
+    changes.moves.push(move_row(game, moved, moment)?)?;
+    Ok(changes)
+}
+
 // What a move does to the game that is shown.
 fn played(
     alloc: Global,
@@ -291,6 +407,9 @@ fn played(
     moment: Moment,
 ) -> Result<Decided, StoreFault>
     ensures acts { IfOk result IsWhole }
+    ensures step { IfOk result (λ d. (s : ClubState) (old : Game DMove) (who : Caller) (ply : ℕ) (text : List ℕ) → IsClub s → place s.games game ≡ Some (club.draughts old) →
+        IsDecision draughts (terms_at (place s.events old.event)) old (game_step draughts (terms_at (place s.events old.event)) old moment who (move ply text)) shown →
+        IsDecided s (caller_step s moment who (on_game game (move ply text))) d) }
 {
     let (row, answer) = match shown {
         Decision::Accepted {
@@ -301,41 +420,31 @@ fn played(
         Decision::Repeated(answer) => return Ok(unchanged(Outcome::Repeated(answer))),
         Decision::Refused(refusal) => return Ok(unchanged(Outcome::Refused(refusal))),
     };
-    let mut changes = at(alloc, moment);
-    changes
-        .games
-        .push(record_of::<Draughts>(alloc, game, &row)?)?;
-    if let Answer::Moved(moved) = &answer {
-        changes.moves.push(move_row(game, moved, moment)?)?;
-    }
+    let changes = match &answer {
+        Answer::Moved(moved) => moved_rows(alloc, game, &row, moved, moment)?,
+        _ => return Err(StoreFault::Store),
+    };
     Ok(Decided {
         outcome: Outcome::Accepted(answer),
         changes: Some(changes),
     })
 }
 
-// The row of the event of a game.
-fn event_at<'a>(events: &'a [EventRow], game: &GameRecord) -> Result<&'a EventRow, StoreFault> {
-    match events.iter().find(|event| event.id == game.event) {
-        Some(event) => Ok(event),
-        None => Err(StoreFault::Store),
-    }
-}
-
 // The view of a game, asked of a ply.
 fn asked_view(
     alloc: Global,
-    record: &GameRecord,
-    event: &EventRow,
+    row: &GameRecord,
+    terms: Terms,
     moves: &[MoveRow],
     ply: u64,
 ) -> Result<GameView<Draughts>, StoreFault>
-    ensures { IfOk result (λ view. IsSound draughts view) }
+    ensures sound { IfOk result (λ view. IsSound draughts view) }
+    ensures terms { IfOk result (λ view. terms_of view ≡ terms_given terms) }
+    // The order and the number of the rows of the moves are found here, so that these may be any that are the game's.
+    ensures shows { IfOk result (λ view. (id : ℕ) (game : Game DMove) → IsRecordOf draughts (terms_given terms) id row.now game →
+        HaveSame (map move_cells moves.now) (move_rows draughts (terms_given terms) id game) → Shows draughts game view × ShowsPly draughts game ply view) }
 {
-    let Some(terms) = terms_of(event) else {
-        return Err(StoreFault::Store);
-    };
-    match view_of::<Draughts>(alloc, record, terms, moves)? {
+    match view_of::<Draughts>(alloc, row, terms, moves)? {
         Shown::Game(view) => Ok(ask(view, moves, ply)),
         _ => Err(StoreFault::Store),
     }
@@ -345,7 +454,7 @@ fn asked_view(
 fn on_game<S: Alter>(
     alloc: Global,
     conn: &mut Connection<S>,
-    record: &GameRecord,
+    row: &GameRecord,
     caller: Caller,
     command: &Move,
     moment: Moment,
@@ -355,15 +464,16 @@ fn on_game<S: Alter>(
     ensures kept { HasCleanDisk (state S.Store conn.new) → OnOk result ((content : _) → IsExactly content (state S.Store conn.old) → IsExactly content (state S.Store conn.new)) }
     ensures may { HasCleanDisk (state S.Store conn.new) → (content : _) → IsExactly content (state S.Store conn.old) → (db : _) → (state S.Store conn.new).may_leave db → Leaves content db }
     ensures acts { IfOk result IsWhole }
+    ensures step { HasCleanDisk (state S.Store conn.new) → IfOk result (λ d. (s : ClubState) (number : ℕ) (old : Game DMove) → IsClub s → s.last ≤ moment →
+        place s.games number ≡ Some (club.draughts old) → game_cells row.now ≡ game_in s number (club.draughts old) →
+        IsExactly (tables s) (state S.Store conn.old) → IsDecided s (caller_step s moment caller (on_game number (move command.now.ply (string_bytes command.now.text)))) d) }
 {
-    let events = find::events(alloc, conn)?;
-    let moves = find::moves_of(alloc, conn, &record.id)?;
-    let Some(game) = id(record.id) else {
-        return Err(StoreFault::Store);
-    };
-    let event = event_at(&events, record)?;
-    let view = asked_view(alloc, record, event, moves.as_slice(), command.ply)?;
-    on_view(alloc, game, &view, caller, command, moment)
+    let ids = ids_in(row)?;
+    let events = events_of(alloc, &find::events(alloc, conn)?)?;
+    let moves = find::moves_of(alloc, conn, &row.id)?;
+    let terms = terms_at(&events, ids.pairing.event)?;
+    let view = asked_view(alloc, row, terms, moves.as_slice(), command.ply)?;
+    on_view(alloc, ids.game, &view, caller, command, moment)
 }
 
 // What a move does in the game that the view shows.
@@ -377,6 +487,9 @@ fn on_view(
 ) -> Result<Decided, StoreFault>
     requires { IsSound draughts view.now }
     ensures acts { IfOk result IsWhole }
+    ensures step { IfOk result (λ d. (s : ClubState) (old : Game DMove) → IsClub s → s.last ≤ moment → place s.games game ≡ Some (club.draughts old) →
+        terms_of view.now ≡ terms_at (place s.events old.event) → Shows draughts old view.now → ShowsPly draughts old command.now.ply view.now →
+        IsDecided s (caller_step s moment caller (on_game game (move command.now.ply (string_bytes command.now.text)))) d) }
 {
     let moment = moment.later(view.row.since);
     let decision = decide(alloc, view, caller, command, moment)?;
@@ -396,12 +509,14 @@ fn on_move<S: Alter>(
     ensures kept { HasCleanDisk (state S.Store conn.new) → OnOk result ((content : _) → IsExactly content (state S.Store conn.old) → IsExactly content (state S.Store conn.new)) }
     ensures may { HasCleanDisk (state S.Store conn.new) → (content : _) → IsExactly content (state S.Store conn.old) → (db : _) → (state S.Store conn.new).may_leave db → Leaves content db }
     ensures acts { IfOk result IsWhole }
+    ensures step { HasCleanDisk (state S.Store conn.new) → IfOk result (λ d. (s : ClubState) → IsClub s → s.last ≤ moment → IsExactly (tables s) (state S.Store conn.old) →
+        IsDecided s (caller_step s moment caller (on_game command.now.game (move command.now.ply (string_bytes command.now.text)))) d) }
 {
     let Ok(game) = i64::try_from(command.game) else {
         return Ok(unchanged(Outcome::Refused(Refusal::UnknownGame)));
     };
     match first(find::game_with_id(alloc, conn, &game)?) {
-        Some(record) => on_game(alloc, conn, &record, caller, command, moment),
+        Some(row) => on_game(alloc, conn, &row, caller, command, moment),
         None => Ok(unchanged(Outcome::Refused(Refusal::UnknownGame))),
     }
 }
@@ -421,6 +536,8 @@ fn on_command<S: Alter>(
     ensures kept { HasCleanDisk (state S.Store conn.new) → OnOk result ((content : _) → IsExactly content (state S.Store conn.old) → IsExactly content (state S.Store conn.new)) }
     ensures may { HasCleanDisk (state S.Store conn.new) → (content : _) → IsExactly content (state S.Store conn.old) → (db : _) → (state S.Store conn.new).may_leave db → Leaves content db }
     ensures acts { IfOk result IsWhole }
+    ensures step { HasCleanDisk (state S.Store conn.new) → IfOk result (λ d. (s : ClubState) → IsClub s → s.last ≤ moment → members_of members.now ≡ s.members →
+        IsExactly (tables s) (state S.Store conn.old) → IsDecided s (caller_step s moment caller (command_of command.now)) d) }
 {
     match command {
         Command::AddMember(command) => on_member(alloc, members, caller, command, moment),
@@ -433,6 +550,30 @@ fn on_command<S: Alter>(
             on_seat(alloc, conn, members, &events, caller, command, moment)
         }
         Command::Move(command) => on_move(alloc, conn, caller, command, moment),
+    }
+}
+
+// The moment that the row of `meta` has.
+fn last_in(row: &MetaRow) -> Result<Moment, StoreFault>
+    ensures { IfOk result (λ last. (n : ℕ) → meta_cells row.now ≡ number 1 ∷ number 1 ∷ number n ∷ [] → last ≡ n) }
+{
+    match moment_of(row.last) {
+        Some(last) => Ok(last),
+        None => Err(StoreFault::Store),
+    }
+}
+
+// The moment of the last accepted command.
+fn last_moment<S: Alter>(alloc: Global, conn: &mut Connection<S>) -> Result<Moment, StoreFault>
+    ensures idle { conn.old.in_transaction ≡ false → conn.new.in_transaction ≡ false }
+    ensures clean { doubt (state S.Store conn.old).is_clean ≤ doubt (state S.Store conn.new).is_clean }
+    ensures kept { HasCleanDisk (state S.Store conn.new) → OnOk result ((content : _) → IsExactly content (state S.Store conn.old) → IsExactly content (state S.Store conn.new)) }
+    ensures may { HasCleanDisk (state S.Store conn.new) → (content : _) → IsExactly content (state S.Store conn.old) → (db : _) → (state S.Store conn.new).may_leave db → Leaves content db }
+    ensures last { HasCleanDisk (state S.Store conn.new) → IfOk result (λ last. (s : ClubState) → IsExactly (tables s) (state S.Store conn.old) → last ≡ s.last) }
+{
+    match first(find::meta(alloc, conn)?) {
+        Some(row) => Ok(last_in(&row)?),
+        None => Err(StoreFault::Store),
     }
 }
 
@@ -450,15 +591,11 @@ pub(crate) fn decide_request<S: Alter>(
     ensures kept { HasCleanDisk (state S.Store conn.new) → OnOk result ((content : _) → IsExactly content (state S.Store conn.old) → IsExactly content (state S.Store conn.new)) }
     ensures may { HasCleanDisk (state S.Store conn.new) → (content : _) → IsExactly content (state S.Store conn.old) → (db : _) → (state S.Store conn.new).may_leave db → Leaves content db }
     ensures acts { IfOk result IsWhole }
+    ensures step { HasCleanDisk (state S.Store conn.new) → IfOk result (λ d. (s : ClubState) → IsClub s → IsExactly (tables s) (state S.Store conn.old) →
+        IsDecided s (club_step s (request who.now command.now moment)) d) }
 {
-    let last = match first(find::meta(alloc, conn)?) {
-        Some(meta) => moment_of(meta.last),
-        None => None,
-    };
-    let Some(last) = last else {
-        return Err(StoreFault::Store);
-    };
-    let members = members_of(alloc, find::members(alloc, conn)?)?;
+    let last = last_moment(alloc, conn)?;
+    let members = members_of(alloc, &find::members(alloc, conn)?)?;
     match identify(&members, who) {
         Some(caller) => { on_command(alloc, conn, &members, caller, command, moment.later(last)) }
         None => Ok(unchanged(Outcome::Refused(Refusal::UnknownKey))),

@@ -6,10 +6,10 @@ ghost use Rattle.sqlite.specs.Held.{state};
 ghost use Rattle.sqlite_trees.specs.View.{doubt};
 ghost use Rattle.store_tables.specs.Contents.{IsExactly, IsOpened};
 ghost use Rattle.store_tables.specs.Reading.{KeepsMay};
-ghost use Rattle.store_tables.specs.Rows.{content_of};
 ghost use Rattle.store_tables.specs.Tables.{club_schema};
 ghost use Rattle.store.specs.Blames.{NamesTable, NamesSchema};
-ghost use Rattle.store.specs.Places.{AreWellFormed, NamesRows};
+ghost use Rattle.club_rows.specs.Club.{IsClub, tables};
+ghost use Rattle.store.specs.Places.{NamesRows};
 
 use crate::audit::audit;
 use crate::fault::OpenFault;
@@ -21,9 +21,9 @@ use std::alloc::Global;
 pub(crate) fn examine<S: Alter>(alloc: Global, conn: &mut Connection<S>) -> Result<(), OpenFault>
     ensures idle { conn.old.in_transaction ≡ false → conn.new.in_transaction ≡ false }
     ensures clean { doubt (state S.Store conn.old).is_clean ≤ doubt (state S.Store conn.new).is_clean }
-    ensures found { HasCleanDisk (state S.Store conn.new) → OnOk result (IsOpened (state S.Store conn.old) → (rows : _) × AreWellFormed rows × IsExactly (content_of rows) (state S.Store conn.new)) }
+    ensures found { HasCleanDisk (state S.Store conn.new) → OnOk result (IsOpened (state S.Store conn.old) → (s : _) × IsClub s × IsExactly (tables s) (state S.Store conn.new)) }
     ensures same { HasCleanDisk (state S.Store conn.new) → OnOk result ((state S.Store conn.old).now.schema ≡ club_schema → IsUnchanged (state S.Store conn.old) (state S.Store conn.new)) }
-    ensures blames { HasCleanDisk (state S.Store conn.new) → IfErr result (λ e. IsOpened (state S.Store conn.old) → NamesTable (state S.Store conn.old).now e ⊎ (NamesSchema (state S.Store conn.old).now e ⊎ NamesRows (state S.Store conn.old).now e)) }
+    ensures blames { HasCleanDisk (state S.Store conn.new) → IfErr result (λ e. (state S.Store conn.old).now.schema ≡ club_schema → NamesTable (state S.Store conn.old).now e ⊎ (NamesSchema (state S.Store conn.old).now e ⊎ NamesRows (state S.Store conn.old).now e)) }
     ensures may { HasCleanDisk (state S.Store conn.new) → (state S.Store conn.old).now.schema ≡ club_schema → KeepsMay (state S.Store conn.old) (state S.Store conn.new) }
 {
     let rows = match read_rows(alloc, conn) {

@@ -8,6 +8,7 @@ mod command;
 mod examine;
 mod fault;
 mod find;
+pub mod laws;
 mod make;
 mod put;
 mod read;

@@ -1,7 +1,7 @@
 -- What a SELECT of all rows tells of whatever database, and what a SELECT by a key tells of a content.
 use Rattle.std.proofs.Common.{◌≡◌, ◌≢◌, ℕ, true, false, List, [], ◌∷◌, map, Ok, Err, Result, refl, sym, ap, subst, subst₂, ◌∙◌, inl, inr, IsTrue, Equal, Option, Some, slice_get, All, get_or}
 use Rattle.std.specs.List.{AllByRecursion, list_all}
-use Rattle.std.specs.List.Sorted.{IsSorted}
+use Rattle.std.specs.List.Sorted.{IsSorted, IsPermutation}
 use Rattle.std.specs.Cmp.{tied_back, tied_itself}
 use Rattle.std.specs.declared.cmp.Ordering.{Ordering}
 use Rattle.std.proofs.lemmas.List.Sorted.{IsPermutation-sym}
@@ -69,11 +69,17 @@ module _ (tree count : ℕ) (sql : List ℕ) (project : List Term) (is : Selects
   turn : (a b : Row) → Apart a b → Apart b a
   turn a b differ same = differ (tied_back value_cmp_total (column b 0) (column a 0) same)
 
+maps-same : {A B : Type 0} (f g : A → B) → ((x : A) → f x ≡ g x) → (xs : List A) → map f xs ≡ map g xs
+maps-same f g same [] = refl
+maps-same f g same (x ∷ xs) = λ i. same x i ∷ maps-same f g same xs i
+
 -- where every column is selected, in the order of the key
 pub tells : (table : Table) (count : ℕ) (sql : List ℕ) (project : List Term) → Selects table.tree count sql project → ((r : Row) → eval_all project ([] ∷ r ∷ []) ≡ cells table r)
     → (old new : State) (rows : List Row) → old.now.schema ≡ club_schema → Shown sql [] old new rows → Tells table count rows old new
 tells table count sql project is shows old new rows has h = record {
   keeps = found_rows table project is.order is.names is.overlaid shows old.now rows (read_by table.tree count sql project is old new rows has h);
+  once = subst (λ shown. IsPermutation shown rows) (maps-same (λ r. eval_all project ([] ∷ r ∷ [])) (cells table) shows (old.now.trees table.tree))
+      (each_shown old.now [] table.tree project is.order is.names rows is.overlaid (read_by table.tree count sql project is old new rows has h));
   sorted = sorted_by table.tree count sql project is old new rows has h;
   same = kept_by table.tree count sql project is old new rows has h;
 }

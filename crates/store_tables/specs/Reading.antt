@@ -1,7 +1,7 @@
 -- What reading a table tells, of whatever database.
-use Rattle.std.specs.Prelude.{◌≢◌, ℕ, zero, suc, List, [], ◌∷◌, IsTrue}
+use Rattle.std.specs.Prelude.{◌≢◌, ℕ, zero, suc, List, [], ◌∷◌, map, IsTrue}
 use Rattle.std.specs.List.{AllByRecursion}
-use Rattle.std.specs.List.Sorted.{IsSorted}
+use Rattle.std.specs.List.Sorted.{IsSorted, IsPermutation}
 use Rattle.std.specs.declared.cmp.Ordering.{Ordering}
 use Rattle.std.specs.declared.cmp.Ordering.TheVariants.{Equal}
 use Rattle.sqlite_value.specs.declared.keys.Key.{Key}
@@ -18,7 +18,7 @@ use Rattle.sqlite_resolve.specs.declared.error.CompileError.{CompileError}
 use Rattle.sqlite_sql.specs.Query.{key_cmp}
 use Rattle.sqlite_trees.specs.Tree.{IsAscending}
 use Rattle.sqlite_trees.specs.View.{is_int}
-use Rattle.store_tables.specs.Content.{Keeps, AreApart}
+use Rattle.store_tables.specs.Content.{Keeps, AreApart, cells}
 
 -- the first column of these rows has integers, none of them twice
 pub record AreIds (rows : List Row) : Type 0 where
@@ -37,9 +37,10 @@ by_columns n = key_cmp 0 (rising n)
 abbrev pub by_ply : Row → Row → Ordering
 by_ply = key_cmp 1 (rising 1)
 
--- These are the rows of the table, in the order of their key, and the connection is as it was.
+-- These are the rows of the table, each of them once, in the order of their key, and the connection is as it was.
 pub record Tells (table : Table) (keys : ℕ) (rows : List Row) (old new : State) : Type 0 where
   pub keeps : Keeps table old.now.trees rows
+  pub once : IsPermutation (map (cells table) (old.now.trees table.tree)) rows
   pub sorted : IsSorted (by_columns keys) rows
   pub same : IsUnchanged old new
 

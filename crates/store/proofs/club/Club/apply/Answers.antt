@@ -1,25 +1,40 @@
-use Rattle.std.proofs.Common.{rules, arith, inl, inr}
+use Rattle.std.proofs.Common.{subst, rules, arith, inl, inr}
 use Rattle.sqlite.specs.Held.{state}
 use Rattle.sqlite.specs.State.{HasCleanDisk}
-use Rattle.store_tables.specs.Contents.{Content, IsExactly}
+use Rattle.store_tables.specs.Contents.{IsExactly}
+use Rattle.store.specs.Changed.{changed}
+use Rattle.club_rows.specs.Club.{tables}
+use Rattle.store.specs.Steps.{request, club_next, changed_if, AreSame}
+use Rattle.store.proofs.SameLemmas.{exactly_same, leaves_same}
 use Rattle.store.proofs.club.Club.apply.Goals as goal
 
 pub returns-in-Err-clause-fault : goal.returns-in-Err-clause-fault
-returns-in-Err-clause-fault g c clean usable content k db left =
-    let inside : IsExactly content (state g.S.Store c.self.inside.connection) = search rules in
-    inl (c.decide_request.ensures.may clean content inside db left)
+returns-in-Err-clause-fault g c clean usable s is_club k db left =
+    let inside : IsExactly (tables s) (state g.S.Store c.self.inside.connection) = search rules in
+    inl (c.decide_request.ensures.may clean (tables s) inside db left)
 
-pub returns-in-Ok-apply_changes-clause-stored : goal.returns-in-Ok-apply_changes-clause-stored
-returns-in-Ok-apply_changes-clause-stored g c clean content k =
-    let inside : IsExactly content (state g.S.Store c.self.inside.connection) = search rules in
+pub returns-in-Ok-apply_changes-clause-step : goal.returns-in-Ok-apply_changes-clause-step
+returns-in-Ok-apply_changes-clause-step g c clean s is_club k =
+    let inside : IsExactly (tables s) (state g.S.Store c.self.inside.connection) = search rules in
     let decided : HasCleanDisk (state g.S.Store c.decide_request.new.conn) = omega (arith, c.apply_changes.ensures.clean) in
-    inr (c.in-Some.changes, c.in-Ok-apply_changes.ensures.stored clean content (c.in-Ok.ensures.kept decided content inside))
+    let next = tables (club_next s (request c.args.who.now c.args.command.now c.args.moment)) in
+    let same = subst (λ cs. AreSame (changed_if cs (tables s)) next) c.in-Some.is (c.in-Ok.ensures.step decided s is_club inside).rows in
+    exactly_same (changed c.in-Some.changes (tables s)) next _ same (c.in-Ok-apply_changes.ensures.stored clean (tables s) (c.in-Ok.ensures.kept decided (tables s) inside))
 
 pub returns-in-Err-apply_changes-clause-fault : goal.returns-in-Err-apply_changes-clause-fault
-returns-in-Err-apply_changes-clause-fault g c clean usable content k db left =
-    let inside : IsExactly content (state g.S.Store c.self.inside.connection) = search rules in
+returns-in-Err-apply_changes-clause-fault g c clean usable s is_club k db left =
+    let inside : IsExactly (tables s) (state g.S.Store c.self.inside.connection) = search rules in
     let decided : HasCleanDisk (state g.S.Store c.decide_request.new.conn) = omega (arith, c.apply_changes.ensures.clean) in
-    elim (c.in-Err-apply_changes.ensures.fault clean (search rules) content (c.in-Ok.ensures.kept decided content inside) db left) [
+    let next = tables (club_next s (request c.args.who.now c.args.command.now c.args.moment)) in
+    let same = subst (λ cs. AreSame (changed_if cs (tables s)) next) c.in-Some.is (c.in-Ok.ensures.step decided s is_club inside).rows in
+    elim (c.in-Err-apply_changes.ensures.fault clean (search rules) (tables s) (c.in-Ok.ensures.kept decided (tables s) inside) db left) [
       | inl before ↦ inl before
-      | inr after ↦ inr (c.in-Some.changes, after)
+      | inr after ↦ inr (leaves_same (changed c.in-Some.changes (tables s)) next db same after)
     ]
+
+pub returns-in-None-clause-step : goal.returns-in-None-clause-step
+returns-in-None-clause-step g c clean s is_club k =
+    let inside : IsExactly (tables s) (state g.S.Store c.self.inside.connection) = search rules in
+    let next = tables (club_next s (request c.args.who.now c.args.command.now c.args.moment)) in
+    let same = subst (λ cs. AreSame (changed_if cs (tables s)) next) c.in-None.is (c.in-Ok.ensures.step clean s is_club inside).rows in
+    exactly_same (tables s) next _ same (c.in-Ok.ensures.kept clean (tables s) inside)

@@ -1,0 +1,112 @@
+-- What the rows of single tables are tested for: the members, the events and the games of a legal club.
+use Rattle.std.specs.Prelude.{◌≡◌, ◌≢◌, ◌+◌, ◌<◌, ◌≤◌, ℕ, pos, List, map, length, Some, IsTrue, string_bytes}
+use Rattle.squares.specs.declared.draughts.moves.DMove.{DMove}
+use Rattle.club_rules.specs.declared.names.GameKind.TheVariants.{Draughts}
+use Rattle.club_rules.specs.Draughts.{draughts}
+use Rattle.club_rules.specs.GameRules.{GameRules}
+use Rattle.club_core.specs.declared.rows.GameEnd.TheVariants.{Outside}
+use Rattle.club_core.specs.declared.rows.GameView.{GameView}
+use Rattle.club_core.specs.declared.rows.OutsideEnd.TheVariants.{Time}
+use Rattle.club_core.specs.Limits.{last_moment, most_members, most_events, is_budget, is_increment}
+use Rattle.club_core.specs.Members.{Member}
+use Rattle.club_core.specs.Events.{Event}
+use Rattle.club_core.specs.Game.{Game, left_of}
+use Rattle.club_core.specs.LegalState.{Each, AreApart, IsLegalMember, IsLegalEvent, IsGameOf, IsLegalIn}
+use Rattle.club_core.specs.State.{AnyGame, place, terms_at}
+use Rattle.club_core.specs.View.{clocks_in}
+use Rattle.store_tables.specs.Cells.{member_cells, event_cells, move_cells, game_cells}
+use Rattle.store_tables.specs.declared.rows.MemberRow.{MemberRow}
+use Rattle.store_tables.specs.declared.rows.EventRow.{EventRow}
+use Rattle.store_tables.specs.declared.rows.MoveRow.{MoveRow}
+use Rattle.store_tables.specs.declared.rows.GameRecord.{GameRecord}
+use Rattle.store_tables.specs.declared.rows.Rows.{Rows}
+use Rattle.club_rows.specs.Club.{ClubState}
+use Rattle.club_rows.specs.Tables.{member_row, event_row, game_row, move_rows, numbered_from, gathered_from, row_of_game, rows_of_moves}
+
+-- ---- members
+
+-- where the other row is of another member, it has another name and another key
+pub record IsOtherMember (row other : MemberRow) : Type 0 where
+  pub name : other.id ≢ row.id → string_bytes other.name ≢ string_bytes row.name
+  pub key : other.id ≢ row.id → string_bytes other.key ≢ string_bytes row.key
+
+-- the row is that of a legal member at this place, from 0, and no other row has the member's name or key
+pub record IsMemberAt (rows : List MemberRow) (index : ℕ) (row : MemberRow) : Type 0 where
+  pub member : Member
+  pub cells : member_cells row ≡ member_row (index + 1) member
+  pub legal : IsLegalMember member
+  pub others : Each (IsOtherMember row) rows
+
+-- the rows are those of the members of a legal club
+pub record AreMembers (members : List Member) (rows : List MemberRow) : Type 0 where
+  pub rows_are : map member_cells rows ≡ numbered_from member_row 1 members
+  pub legal : Each IsLegalMember members
+  pub count : length members ≤ most_members
+  pub names : AreApart (λ m. m.name) members
+  pub keys : AreApart (λ m. m.key) members
+
+-- ---- events
+
+-- the row gives these seconds, and both are within their limits
+pub record GivesTerms (row : EventRow) (budget increment : ℕ) : Type 0 where
+  pub budget_is : row.budget ≡ pos budget
+  pub increment_is : row.increment ≡ pos increment
+  pub has_budget : IsTrue (is_budget budget)
+  pub has_increment : IsTrue (is_increment increment)
+
+-- where the other row is of another event, it has another name
+abbrev pub IsOtherEvent : EventRow → EventRow → Type 0
+IsOtherEvent row other = other.id ≢ row.id → string_bytes other.name ≢ string_bytes row.name
+
+-- the row is that of a legal event of draughts at this place, from 0, and no other row has the event's name
+pub record IsEventAt (rows : List EventRow) (index : ℕ) (row : EventRow) : Type 0 where
+  pub event : Event
+  pub cells : event_cells row ≡ event_row (index + 1) event
+  pub legal : IsLegalEvent event
+  pub of_draughts : event.game ≡ Draughts
+  pub others : Each (IsOtherEvent row) rows
+
+-- the rows are those of the events of a legal club
+pub record AreEvents (events : List Event) (rows : List EventRow) : Type 0 where
+  pub rows_are : map event_cells rows ≡ numbered_from event_row 1 events
+  pub legal : Each IsLegalEvent events
+  pub of_draughts : Each (λ e. e.game ≡ Draughts) events
+  pub count : length events ≤ most_events
+  pub names : AreApart (λ e. e.name) events
+
+-- ---- games
+
+-- the club's last moment, its members and its events are those of the rows
+pub record HasPeople (s : ClubState) (rows : Rows) : Type 0 where
+  pub moment : rows.meta.last ≡ pos s.last
+  pub within : s.last ≤ last_moment
+  pub members : AreMembers s.members rows.members.items
+  pub events : AreEvents s.events rows.events.items
+
+-- the game names this event, whose row is this one, and two players who are members
+pub record NamesEvent (rows : Rows) (game : GameRecord) (event first second : ℕ) (row : EventRow) : Type 0 where
+  pub event_is : game.event ≡ pos event
+  pub first_is : game.first ≡ pos first
+  pub second_is : game.second ≡ pos second
+  pub row_is : place rows.events.items event ≡ Some row
+  pub first_low : 0 < first
+  pub first_high : first ≤ length rows.members.items
+  pub second_low : 0 < second
+  pub second_high : second ≤ length rows.members.items
+
+-- the clocks run from no later than the last moment, and a side that lost by its time had run out of it before then
+pub record IsWithin {R P M E : Type 0} (rules : GameRules P M E) (view : GameView R P M E) (last : ℕ) : Type 0 where
+  pub since : view.row.since ≤ last
+  pub lost_by_time : view.row.end ≡ Some (Outside Time) → view.row.since + left_of (rules.turn view.position) (clocks_in view.row) < last
+
+-- the rows are those of this game of the club, which has this id
+pub record IsGameAt (s : ClubState) (id : ℕ) (row : GameRecord) (moves : List MoveRow) (game : Game DMove) : Type 0 where
+  pub legal : IsGameOf draughts Draughts s game
+  pub row_is : game_cells row ≡ game_row draughts (terms_at (place s.events game.event)) id game
+  pub moves_are : map move_cells moves ≡ move_rows draughts (terms_at (place s.events game.event)) id game
+
+-- the rows are those of these games of the club
+pub record AreGames (s : ClubState) (games : List (AnyGame DMove DMove)) (rows : List GameRecord) (moves : List MoveRow) : Type 0 where
+  pub rows_are : map game_cells rows ≡ numbered_from (row_of_game draughts draughts s.events) 1 games
+  pub moves_are : map move_cells moves ≡ gathered_from (rows_of_moves draughts draughts s.events) 1 games
+  pub legal : Each (IsLegalIn draughts draughts s) games

@@ -1,0 +1,174 @@
+-- From the rows that were read to the club that is stored so, and back.
+use Rattle.std.proofs.Common.{◌≡◌, ◌⊎◌, ℕ, ℤ, zero, suc, pos, ◌+◌, ◌<◌, ◌==◌, cond, Bool, true, false, List, [], ◌∷◌, length, map, refl, ap, sym, subst, ◌∙◌, arith, get_or, inl, inr}
+use Rattle.std.proofs.lemmas.Bool.{eqb-true}
+use Rattle.sqlite_value.specs.declared.value.Value.TheVariants.{Int}
+use Rattle.sqlite.specs.Effect.{Database}
+use Rattle.sqlite.specs.Order.{Row, column}
+use Rattle.sqlite.specs.State.{State}
+use Rattle.sqlite.specs.Table.{Table as Definition}
+use Rattle.sqlite.specs.Tree.{Trees}
+use Rattle.sqlite_rules.specs.Lists.{Has}
+use Rattle.squares.specs.declared.draughts.moves.DMove.{DMove}
+use Rattle.club_rules.specs.Draughts as rules
+use Rattle.club_core.specs.Events.{Event}
+use Rattle.club_core.specs.State.{AnyGame, draughts, shogi}
+use Rattle.store_tables.specs.Cells.{meta_cells, member_cells, event_cells, challenge_cells, move_cells, game_cells, seen_cells, score_cells}
+use Rattle.store_tables.specs.Content.{Keeps}
+use Rattle.store_tables.specs.Contents.{Content, Holds}
+use Rattle.store_tables.specs.Reading.{AreIds}
+use Rattle.store_tables.specs.Rows.{content_of, HaveIds}
+use Rattle.store_tables.specs.Tables.{meta, members, events, challenges, games, seen, scores}
+use Rattle.store_tables.specs.declared.names.Table.{Table}
+use Rattle.store_tables.specs.declared.names.Table.TheVariants.{Members, Events, Challenges, Moves, Games, Seen, Scores, Meta}
+use Rattle.store_tables.specs.declared.rows.Rows.{Rows}
+use Rattle.store_tables.proofs.IdLemmas.{in_order, one_list, places_rise}
+use Rattle.club_rows.specs.Club.{ClubState, IsClub, IsStoredAs}
+use Rattle.club_rows.specs.Tables.{member_row, event_row, numbered_from, row_of_game, tables_of}
+use Rattle.club_rows.proofs.TextLemmas.{members-typed, events-typed, moves-typed, games-typed}
+use Rattle.store.proofs.FoundLemmas.{moved}
+use Rattle.store.proofs.MoveOrderLemmas.{moves_are}
+use Rattle.store.specs.Blames.{IsReadAs, AreRead, HasTypes, NamesTable, NamesSchema}
+use Rattle.store.specs.Places.{ArePlaces, HasPlaces, BeginWithPlaces, NamesRows}
+use Rattle.store.specs.declared.fault.OpenFault.{OpenFault}
+use Rattle.store.specs.declared.fault.OpenFault.TheVariants.{Store, Memory}
+
+-- ---- the rows of a club as its content
+
+skip : {A : Type 0} (b : Bool) (x y : A) → (b ≡ true → x ≡ y) → cond b x y ≡ y
+skip true x y same = same refl
+skip false x y same = refl
+
+-- the rows of a club are the content that it has
+pub club_content : (s : ClubState) (rows : Rows) → IsStoredAs s rows → rows.meta.id ≡ pos 1 → rows.meta.schema ≡ pos 1 → content_of rows ≡ tables_of rules.draughts rules.draughts s
+club_content s rows stored id schema = λ i t. at t i
+  where
+    made : Content
+    made = tables_of rules.draughts rules.draughts s
+
+    later : ℕ → List Row
+    later t = cond (t == 8) (made 8) (cond (t == 10) (made 10) [])
+
+    counts : (t : ℕ) → cond (t == 12) (map seen_cells rows.seen.items) (cond (t == 14) (map score_cells rows.scores.items) []) ≡ []
+    counts t =
+        (λ i. cond (t == 12) (map seen_cells (stored.seen i)) (cond (t == 14) (map score_cells (stored.scores i)) []))
+        ∙ skip (t == 12) [] (cond (t == 14) [] []) (λ is. sym (skip (t == 14) [] [] (λ _. refl))) ∙ skip (t == 14) [] [] (λ _. refl)
+
+    above : (t : ℕ) → cond (t == 6) (map challenge_cells rows.challenges.items) (cond (t == 8) (map move_cells rows.moves.items) (cond (t == 10) (map game_cells rows.games.items) (cond (t == 12) (map seen_cells rows.seen.items) (cond (t == 14) (map score_cells rows.scores.items) [])))) ≡ later t
+    above t =
+        (λ i. cond (t == 6) (map challenge_cells (stored.challenges i)) (cond (t == 8) (stored.moves i) (cond (t == 10) (stored.games i) (counts t i))))
+        ∙ skip (t == 6) [] (later t) (λ is. ap later (sym (eqb-true t 6 is)))
+
+    first : ◌≡◌ {A = List Row} (meta_cells rows.meta ∷ []) (made 0)
+    first = λ i. (Int (id i) ∷ Int (schema i) ∷ Int (stored.last i) ∷ []) ∷ []
+
+    at : (t : ℕ) → content_of rows t ≡ made t
+    at t = λ i. cond (t == 0) (first i) (cond (t == 1) (stored.members i) (cond (t == 4) (stored.events i) (above t i)))
+
+-- ---- places
+
+next-is : (n k : ℕ) → suc n + k ≡ n + suc k
+next-is n k = omega arith
+
+here-is : (n : ℕ) → n ≡ n + 0
+here-is n = omega arith
+
+one-more : (k : ℕ) → 1 + k ≡ k + 1
+one-more k = omega arith
+
+heads : {A : Type 0} (x y : A) (xs ys : List A) → x ∷ xs ≡ y ∷ ys → (x ≡ y) × (xs ≡ ys)
+heads x y xs ys is = (cc, cc)
+
+module _ {R A : Type 0} (cells : R → Row) (row : ℕ → A → Row) (id : R → ℤ) (tells : (r : R) (n : ℕ) (x : A) → cells r ≡ row n x → id r ≡ pos n) where
+  ids_from : (n : ℕ) (rows : List R) (xs : List A) → map cells rows ≡ numbered_from row n xs → (k : ℕ) → k < length (map id rows) → get_or (map id rows) k (pos 0) ≡ pos (n + k)
+  ids_from n [] xs are k low = absurd (omega arith)
+  ids_from n (r ∷ rs) [] are k low = cc
+  ids_from n (r ∷ rs) (x ∷ xs) are zero low = tells r n x (heads _ _ _ _ are).0 ∙ ap pos (here-is n)
+  ids_from n (r ∷ rs) (x ∷ xs) are (suc k) low = ids_from (suc n) rs xs (heads _ _ _ _ are).1 k (omega (arith, low)) ∙ ap pos (next-is n k)
+
+  ids_are : (rows : List R) (xs : List A) → map cells rows ≡ numbered_from row 1 xs → ArePlaces (map id rows)
+  ids_are rows xs are k low = ids_from 1 rows xs are k low ∙ ap pos (one-more k)
+
+row_id : (events : List Event) (n : ℕ) (any : AnyGame DMove DMove) → column (row_of_game rules.draughts rules.draughts events n any) 0 ≡ Int (pos n)
+row_id events n (draughts g) = refl
+row_id events n (shogi g) = refl
+
+same-int : (a b : ℤ) → Int a ≡ Int b → a ≡ b
+same-int a b is = cc
+
+-- the ids of a club's rows are places
+pub stored_places : (s : ClubState) (rows : Rows) → IsStoredAs s rows → (t : Table) → HasPlaces t rows
+stored_places s rows stored Members = ids_are member_cells member_row (λ r. r.id) (λ r n x is. same-int _ _ (ap (λ c. column c 0) is)) rows.members.items s.members stored.members
+stored_places s rows stored Events = ids_are event_cells event_row (λ r. r.id) (λ r n x is. same-int _ _ (ap (λ c. column c 0) is)) rows.events.items s.events stored.events
+stored_places s rows stored Games =
+    ids_are game_cells (row_of_game rules.draughts rules.draughts s.events) (λ r. r.id) (λ r n x is. same-int _ _ (ap (λ c. column c 0) is ∙ row_id s.events n x)) rows.games.items s.games stored.games
+stored_places s rows stored Challenges = tt
+stored_places s rows stored Moves = tt
+stored_places s rows stored Seen = tt
+stored_places s rows stored Scores = tt
+stored_places s rows stored Meta = tt
+
+-- rows that are numbered from 1 begin with their places
+numbered_begin : {A : Type 0} (row : ℕ → A → Row) → ((n : ℕ) (x : A) → column (row n x) 0 ≡ Int (pos n)) → (n : ℕ) (xs : List A) (k : ℕ) → k < length (numbered_from row n xs) → column (get_or (numbered_from row n xs) k []) 0 ≡ Int (pos (n + k))
+numbered_begin row first n [] k low = absurd (omega arith)
+numbered_begin row first n (x ∷ xs) zero low = first n x ∙ ap (λ m. Int (pos m)) (here-is n)
+numbered_begin row first n (x ∷ xs) (suc k) low = numbered_begin row first (suc n) xs k (omega (arith, low)) ∙ ap (λ m. Int (pos m)) (next-is n k)
+
+begin_places : {A : Type 0} (row : ℕ → A → Row) → ((n : ℕ) (x : A) → column (row n x) 0 ≡ Int (pos n)) → (xs : List A) → BeginWithPlaces (numbered_from row 1 xs)
+begin_places row first xs k low = numbered_begin row first 1 xs k low ∙ ap (λ m. Int (pos m)) (one-more k)
+
+-- ---- types
+
+-- the rows of a legal club have the types of their columns
+pub club_typed : (s : ClubState) → IsClub s → (t : Table) → HasTypes t (tables_of rules.draughts rules.draughts s)
+club_typed s club Members = members-typed s club
+club_typed s club Events = events-typed s club
+club_typed s club Challenges = tt
+club_typed s club Moves = moves-typed s club
+club_typed s club Games = games-typed s club
+club_typed s club Seen = tt
+club_typed s club Scores = tt
+club_typed s club Meta = record { schema = pos 1; last = pos s.last; is = refl }
+
+one_schema : (s : ClubState) (n last : ℤ) → Has (tables_of rules.draughts rules.draughts s 0) (Int (pos 1) ∷ Int n ∷ Int last ∷ []) → n ≡ pos 1
+one_schema s n last (inl is) = cc
+one_schema s n last (inr none) = absurd none
+
+-- a database with the tables of a legal club is blamed for nothing
+pub good_fault : (s : ClubState) → IsClub s → (db : Database) → Holds db (tables_of rules.draughts rules.draughts s) → (fault : OpenFault) → NamesTable db fault ⊎ (NamesSchema db fault ⊎ NamesRows db fault) → (fault ≡ Store) ⊎ (fault ≡ Memory)
+good_fault s club db holds fault (inl (inl store)) = inl store
+good_fault s club db holds fault (inl (inr (inl memory))) = inr memory
+good_fault s club db holds fault (inl (inr (inr (t, named, wrong)))) = absurd (wrong (tables_of rules.draughts rules.draughts s) holds (club_typed s club t))
+good_fault s club db holds fault (inr (inl (n, named, other, has))) = absurd (let (last, at) = has (tables_of rules.draughts rules.draughts s) holds in other (one_schema s n last at))
+good_fault s club db holds fault (inr (inr (t, named, none))) = absurd (none s club holds)
+
+-- ---- what was read
+
+-- rows with ids that are places were read as the list that they are
+ids_read : (table : Definition) (rows wanted : List Row) (old new : State) → IsReadAs table 1 rows old new → AreIds rows → Keeps table old.now.trees wanted → BeginWithPlaces wanted → rows ≡ wanted
+ids_read table rows wanted old new read ids keeps places =
+    one_list rows wanted (in_order rows read.sorted ids) (places_rise wanted places) (moved table old.now.trees rows wanted read.keeps keeps) (moved table old.now.trees wanted rows keeps read.keeps)
+
+none_read : {R : Type 0} (cells : R → Row) (rows : List R) → ((z : Row) → Has (map cells rows) z → ⊥) → rows ≡ []
+none_read cells [] none = refl
+none_read cells (r ∷ rs) none = absurd (none (cells r) (inl refl))
+
+one_last : (last moment : ℤ) (schema : ℤ) (id : ℤ) → Has ((Int (pos 1) ∷ Int (pos 1) ∷ Int moment ∷ []) ∷ []) (Int id ∷ Int schema ∷ Int last ∷ []) → last ≡ moment
+one_last last moment schema id (inl is) = cc
+one_last last moment schema id (inr none) = absurd none
+
+-- the rows that were read of a legal club are those that it is stored as
+pub club_read : (s : ClubState) → IsClub s → (rows : Rows) (old new : State) → Holds old.now (tables_of rules.draughts rules.draughts s) → AreRead rows old new → HaveIds rows → IsStoredAs s rows
+club_read s club rows old new holds read ids =
+    let made = tables_of rules.draughts rules.draughts s in
+    let db = old.now.trees in
+    let t = holds.tables in
+    record {
+      last = one_last rows.meta.last (pos s.last) rows.meta.schema rows.meta.id (moved (meta 0) db (meta_cells rows.meta ∷ []) (made 0) read.meta.keeps t.0.rows (meta_cells rows.meta) (inl refl));
+      members = ids_read (members 1) (map member_cells rows.members.items) (made 1) old new read.members ids.members t.1.0.rows (begin_places member_row (λ n x. refl) s.members);
+      events = ids_read (events 4) (map event_cells rows.events.items) (made 4) old new read.events ids.events t.1.1.0.rows (begin_places event_row (λ n x. refl) s.events);
+      challenges = none_read challenge_cells rows.challenges.items (moved (challenges 6) db (map challenge_cells rows.challenges.items) (made 6) read.challenges.keeps t.1.1.1.0.rows);
+      moves = moves_are s club (map move_cells rows.moves.items) old new holds read.moves;
+      games = ids_read (games 10) (map game_cells rows.games.items) (made 10) old new read.games ids.games t.1.1.1.1.1.0.rows (begin_places (row_of_game rules.draughts rules.draughts s.events) (row_id s.events) s.games);
+      seen = none_read seen_cells rows.seen.items (moved (seen 12) db (map seen_cells rows.seen.items) (made 12) read.seen.keeps t.1.1.1.1.1.1.0.rows);
+      scores = none_read score_cells rows.scores.items (moved (scores 14) db (map score_cells rows.scores.items) (made 14) read.scores.keeps t.1.1.1.1.1.1.1.0.rows);
+    }

@@ -1,0 +1,29 @@
+-- The rows of a club that was just made are the tables of the machine's opening state.
+use Rattle.std.proofs.Common.{◌≡◌, ℕ, Bool, true, false, List, [], refl, subst}
+use Rattle.std.specs.Prelude.{if◌then◌else◌, ◌==◌}
+use Rattle.sqlite.specs.Order.{Row}
+use Rattle.sqlite.specs.Tree.{Trees}
+use Rattle.sqlite.specs.State.{State}
+use Rattle.club_core.specs.State.{opening_state}
+use Rattle.club_rows.specs.Club.{tables}
+use Rattle.store_tables.specs.Contents.{Content, IsExactly, Leaves, opening}
+
+nothing-else : (z a b c d : Bool) (rows : List Row) → ◌≡◌ {A = List Row} (if z then rows else []) (if z then rows else (if a then [] else (if b then [] else (if c then [] else (if d then [] else [])))))
+nothing-else true a b c d rows = refl
+nothing-else false true b c d rows = refl
+nothing-else false false true c d rows = refl
+nothing-else false false false true d rows = refl
+nothing-else false false false false true rows = refl
+nothing-else false false false false false rows = refl
+
+opening-at : (t : ℕ) → opening t ≡ tables opening_state t
+opening-at t = nothing-else (t == 0) (t == 1) (t == 4) (t == 8) (t == 10) _
+
+pub opening-is : ◌≡◌ {A = Content} opening (tables opening_state)
+opening-is = λ i t. opening-at t i
+
+pub opening-exactly : (s : State) → IsExactly opening s → IsExactly (tables opening_state) s
+opening-exactly s is = subst (λ c. IsExactly c s) opening-is is
+
+pub opening-left : (db : Trees) → Leaves opening db → Leaves (tables opening_state) db
+opening-left db is = subst (λ c. Leaves c db) opening-is is

@@ -1,0 +1,319 @@
+-- Rows that are put into a table that has an id for each place of a list.
+use Rattle.std.proofs.Common.{◌≡◌, ℕ, zero, suc, ◌+◌, ◌<◌, List, [], ◌∷◌, ◌++◌, length, map, take, get_or, pos, Option, Some, None, true, false, not, ◌&&◌, refl, ap, sym, subst, subst₂, ◌∙◌, arith, add-one, inl, inr, ◌⊎◌, true≢false}
+use Rattle.std.specs.Prelude.{slice_get, slice_set}
+use Rattle.std.specs.Cmp.{tied_itself}
+use Rattle.std.proofs.lemmas.Bool.{cases_Bool, and_parts, and_from, not-true}
+use Rattle.std.proofs.lemmas.Option.{slice_get_within}
+use Rattle.sqlite.specs.Order.{Row, column}
+use Rattle.sqlite.specs.Collation.TheVariants.{Binary}
+use Rattle.sqlite_schema.specs.Rules.{equal}
+use Rattle.sqlite_value.specs.Keys.{first_key}
+use Rattle.sqlite_value.proofs.OrderLemmas.{value_cmp_total}
+use Rattle.sqlite_rules.specs.Lists.{Has}
+use Rattle.sqlite_rules.proofs.ListLemmas.{has_filtered, has_kept, has_either, has_left, has_right, has_got}
+use Rattle.club_core.proofs.Lists.{got-append, got-set, set-got, get-append, at-last, put-at}
+use Rattle.club_rows.specs.Tables.{number, numbered_from, gathered_from}
+use Rattle.store_tables.specs.Content.{same_key, put}
+use Rattle.store_tables.proofs.KeyLemmas.{equal_ints, equal_from}
+use Rattle.store.specs.Steps.{HaveSame}
+
+pub same_itself : (rows : List Row) → HaveSame rows rows
+same_itself rows = record { there = λ z h. h; back = λ z h. h }
+
+pub same_by : (one other : List Row) → one ≡ other → HaveSame one other
+same_by one other is = subst (HaveSame one) is (same_itself one)
+
+-- ---- keys
+
+pos_same : (m n : ℕ) → pos m ≡ pos n → m ≡ n
+pos_same m n is = cc
+
+value_itself : (m : ℕ) → equal Binary (number m) (number m) ≡ true
+value_itself m = equal_from (number m) (number m) refl refl (tied_itself value_cmp_total (number m))
+
+pub ids_agree : (a b : Row) (m : ℕ) → column a 0 ≡ number m → column b 0 ≡ number m → same_key (0 ∷ []) a b ≡ true
+unfolding first_key
+ids_agree a b m p q = subst₂ (λ x y. (equal Binary x y && true) ≡ true) (sym p) (sym q) (and_from _ _ (value_itself m) refl)
+
+pub ids_same : (a b : Row) (m n : ℕ) → column a 0 ≡ number m → column b 0 ≡ number n → same_key (0 ∷ []) a b ≡ true → m ≡ n
+unfolding first_key
+ids_same a b m n p q same =
+    pos_same m n (equal_ints (pos m) (pos n) (subst₂ (λ x y. equal Binary x y ≡ true) p q (and_parts _ _ same).0))
+
+pub ids_apart : (a b : Row) (m n : ℕ) → column a 0 ≡ number m → column b 0 ≡ number n → (m ≡ n → ⊥) → same_key (0 ∷ []) a b ≡ false
+ids_apart a b m n p q apart = elim (cases_Bool (same_key (0 ∷ []) a b)) [
+  | inl same ↦ absurd (apart (ids_same a b m n p q same))
+  | inr other ↦ other
+]
+
+pub pairs_apart : (a b : Row) (m n k j : ℕ) → column a 0 ≡ number m → column b 0 ≡ number n → column a 1 ≡ number k → column b 1 ≡ number j → (m ≡ n → k ≡ j → ⊥) → same_key (0 ∷ 1 ∷ []) a b ≡ false
+unfolding first_key
+pairs_apart a b m n k j p q r t apart = elim (cases_Bool (same_key (0 ∷ 1 ∷ []) a b)) [
+  | inl same ↦
+      let parts = and_parts _ _ same in
+      let rest = and_parts _ _ parts.1 in
+      absurd (apart
+      (pos_same m n (equal_ints (pos m) (pos n) (subst₂ (λ x y. equal Binary x y ≡ true) p q parts.0)))
+      (pos_same k j (equal_ints (pos k) (pos j) (subst₂ (λ x y. equal Binary x y ≡ true) r t rest.0))))
+  | inr other ↦ other
+]
+
+-- ---- a row that is put
+
+module _ (key : List ℕ) (row : Row) (rows : List Row) (z : Row) where
+  pub put_had : Has (put key row rows) z → (z ≡ row) ⊎ (Has rows z × (same_key key z row ≡ false))
+  put_had (inl is) = inl is
+  put_had (inr h) = let old = has_filtered (λ x. not (same_key key x row)) rows z h in inr (old.0, not-true _ old.1)
+
+  pub put_kept : Has rows z → same_key key z row ≡ false → Has (put key row rows) z
+  put_kept h apart = inr (has_kept (λ x. not (same_key key x row)) rows z h (ap not apart))
+
+-- the one row of a table is replaced
+pub one_replaced : (old new : Row) (m : ℕ) → column old 0 ≡ number m → column new 0 ≡ number m → HaveSame (put (0 ∷ []) new (old ∷ [])) (new ∷ [])
+one_replaced old new m p q = record {
+  there = λ z h. elim (put_had (0 ∷ []) new (old ∷ []) z h) [
+    | inl is ↦ inl is
+    | inr was ↦ elim was.0 [
+      | inl is ↦ absurd (true≢false (sym (ids_agree old new m p q) ∙ (ap (λ x. same_key (0 ∷ []) x new) (sym is) ∙ was.1)))
+      | inr none ↦ absurd none
+    ]
+  ];
+  back = λ z h. elim h [ inl is ↦ inl is | inr none ↦ absurd none ];
+}
+
+-- ---- elements of lists
+
+pub at_get : {A : Type 0} (xs : List A) (k : ℕ) (x : A) → k < length xs → x ≡ get_or xs k x → slice_get xs k ≡ Some x
+at_get [] k x within is = absurd (omega arith)
+at_get (y ∷ ys) zero x within is = ap Some (sym is)
+at_get (y ∷ ys) (suc k) x within is = at_get ys k x (omega arith) is
+
+take_suc : {A : Type 0} (xs : List A) (k : ℕ) (x : A) → slice_get xs k ≡ Some x → take (suc k) xs ≡ take k xs ++ x ∷ []
+take_suc [] k x at = cc
+take_suc (y ∷ ys) zero x at = let e : y ≡ x = cc in ap (λ (z : _). z ∷ []) e
+take_suc (y ∷ ys) (suc k) x at = ap (λ zs. y ∷ zs) (take_suc ys k x at)
+
+pub take_next : {A : Type 0} (xs : List A) (k : ℕ) (x : A) → slice_get xs k ≡ Some x → take (k + 1) xs ≡ take k xs ++ x ∷ []
+take_next xs k x at = rw add-one (take_suc xs k x at)
+
+-- ---- a row for each element, by ids that count up
+
+module _ {A : Type 0} (row : ℕ → A → Row) where
+  pub numbered_had : (id : ℕ) (xs : List A) (z : Row) → Has (numbered_from row id xs) z → (n : ℕ) × (x : A) × (slice_get xs n ≡ Some x) × (z ≡ row (id + n) x)
+  numbered_had id [] z h = absurd h
+  numbered_had id (x ∷ xs) z (inl is) = let here : id ≡ id + 0 = omega arith in (0, x, refl, is ∙ ap (λ k. row k x) here)
+  numbered_had id (x ∷ xs) z (inr h) =
+      let (n, y, at, is) = numbered_had (suc id) xs z h in
+      let later : suc id + n ≡ id + suc n = omega arith in
+      (suc n, y, at, is ∙ ap (λ k. row k y) later)
+
+  pub numbered_has : (id : ℕ) (xs : List A) (n : ℕ) (x : A) → slice_get xs n ≡ Some x → Has (numbered_from row id xs) (row (id + n) x)
+  numbered_has id [] n x at = cc
+  numbered_has id (y ∷ ys) zero x at =
+      let here : id + 0 ≡ id = omega arith in
+      let same : x ≡ y = cc in
+      inl (ap (λ k. row k x) here ∙ ap (row id) same)
+  numbered_has id (y ∷ ys) (suc n) x at =
+      let later : suc id + n ≡ id + suc n = omega arith in
+      inr (subst (λ k. Has (numbered_from row (suc id) ys) (row k x)) later (numbered_has (suc id) ys n x at))
+
+  pub numbered_length : (id : ℕ) (xs : List A) → length (numbered_from row id xs) ≡ length xs
+  numbered_length id [] = refl
+  numbered_length id (x ∷ xs) = ap suc (numbered_length (suc id) xs)
+
+  -- the element whose row stands at a place
+  pub numbered_at : {R : Type 0} (cells : R → Row) (id : ℕ) (rs : List R) (xs : List A) → map cells rs ≡ numbered_from row id xs → (k : ℕ) (r : R) → slice_get rs k ≡ Some r → (x : A) × (slice_get xs k ≡ Some x) × (cells r ≡ row (id + k) x)
+  numbered_at cells id [] xs same k r at = cc
+  numbered_at cells id (q ∷ rs) [] same k r at = cc
+  numbered_at cells id (q ∷ rs) (x ∷ xs) same zero r at =
+      let first : cells q ≡ row id x = cc in
+      let is : r ≡ q = cc in
+      let here : id ≡ id + 0 = omega arith in
+      (x, refl, ap cells is ∙ (first ∙ ap (λ k. row k x) here))
+  numbered_at cells id (q ∷ rs) (x ∷ xs) same (suc k) r at =
+      let rest : map cells rs ≡ numbered_from row (suc id) xs = cc in
+      let (y, stands, is) = numbered_at cells (suc id) rs xs rest k r at in
+      let later : suc id + k ≡ id + suc k = omega arith in
+      (y, stands, is ∙ ap (λ j. row j y) later)
+
+  module _ (first : (id : ℕ) (x : A) → column (row id x) 0 ≡ number id) where
+    pub numbered_places : (id : ℕ) (xs : List A) (k : ℕ) → k < length (numbered_from row id xs) → column (get_or (numbered_from row id xs) k []) 0 ≡ number (id + k)
+    numbered_places id [] k within = absurd (omega arith)
+    numbered_places id (x ∷ xs) zero within = let here : id ≡ id + 0 = omega arith in first id x ∙ ap number here
+    numbered_places id (x ∷ xs) (suc k) within =
+        let later : suc id + k ≡ id + suc k = omega arith in
+        numbered_places (suc id) xs k (omega arith) ∙ ap number later
+
+    -- a row with the next id is put
+    pub row_added : (xs : List A) (x : A) (r : Row) → r ≡ row (1 + length xs) x → HaveSame (put (0 ∷ []) r (numbered_from row 1 xs)) (numbered_from row 1 (xs ++ x ∷ []))
+    row_added xs x r is = record {
+      there = λ z h. elim (put_had (0 ∷ []) r (numbered_from row 1 xs) z h) [
+        | inl new ↦ subst (Has (numbered_from row 1 (xs ++ x ∷ []))) (sym (new ∙ is)) (numbered_has 1 (xs ++ x ∷ []) (length xs) x (at-last xs x))
+        | inr old ↦
+            let (n, y, at, same) = numbered_had 1 xs z old.0 in
+            subst (Has (numbered_from row 1 (xs ++ x ∷ []))) (sym same) (numbered_has 1 (xs ++ x ∷ []) n y (get-append xs (x ∷ []) n y at))
+      ];
+      back = λ z h.
+          let (n, y, at, same) = numbered_had 1 (xs ++ x ∷ []) z h in
+          elim (got-append xs x n y at) [
+            | inl old ↦
+                let within : n < length xs = slice_get_within xs n y old in
+                put_kept (0 ∷ []) r (numbered_from row 1 xs) z
+                (subst (Has (numbered_from row 1 xs)) (sym same) (numbered_has 1 xs n y old))
+                (ids_apart z r (1 + n) (1 + length xs) (ap (λ w. column w 0) same ∙ first (1 + n) y) (ap (λ w. column w 0) is ∙ first (1 + length xs) x) (λ e. absurd (omega arith)))
+            | inr new ↦ inl (same ∙ (ap (λ k. row (1 + k) y) new.0 ∙ (ap (row (1 + length xs)) (sym new.1) ∙ sym is)))
+          ];
+    }
+
+    -- a row is put for the one with its id
+    pub row_replaced : (xs : List A) (i : ℕ) (old new : A) (r : Row) → slice_get xs i ≡ Some old → r ≡ row (1 + i) new → HaveSame (put (0 ∷ []) r (numbered_from row 1 xs)) (numbered_from row 1 (slice_set xs i new))
+    row_replaced xs i old new r at_i is = record {
+      there = λ z h. elim (put_had (0 ∷ []) r (numbered_from row 1 xs) z h) [
+        | inl put ↦ subst (Has (numbered_from row 1 (slice_set xs i new))) (sym (put ∙ is)) (numbered_has 1 (slice_set xs i new) i new (put-at xs i old new at_i))
+        | inr was ↦
+            let (n, y, at, same) = numbered_had 1 xs z was.0 in
+            elim (set-got xs i new n y at) [
+              | inl kept ↦ subst (Has (numbered_from row 1 (slice_set xs i new))) (sym same) (numbered_has 1 (slice_set xs i new) n y kept)
+              | inr here ↦
+                  let first_z : column z 0 ≡ number (1 + i) = ap (λ w. column w 0) same ∙ (first (1 + n) y ∙ ap (λ k. number (1 + k)) here.0) in
+                  absurd (true≢false (sym (ids_agree z r (1 + i) first_z (ap (λ w. column w 0) is ∙ first (1 + i) new)) ∙ was.1))
+            ]
+      ];
+      back = λ z h.
+          let (n, y, at, same) = numbered_had 1 (slice_set xs i new) z h in
+          elim (cases_Bool (same_key (0 ∷ []) z r)) [
+            | inl alike ↦
+                let here : 1 + n ≡ 1 + i = ids_same z r (1 + n) (1 + i) (ap (λ w. column w 0) same ∙ first (1 + n) y) (ap (λ w. column w 0) is ∙ first (1 + i) new) alike in
+                let n_is : n ≡ i = omega (arith, here) in
+                let there : slice_get (slice_set xs i new) n ≡ Some new = subst (λ k. slice_get (slice_set xs i new) k ≡ Some new) (sym n_is) (put-at xs i old new at_i) in
+                let y_is : y ≡ new = cc in
+                inl (same ∙ (ap (λ k. row k y) here ∙ (ap (row (1 + i)) y_is ∙ sym is)))
+            | inr other ↦ elim (got-set xs i new n y at) [
+              | inl was ↦ put_kept (0 ∷ []) r (numbered_from row 1 xs) z (subst (Has (numbered_from row 1 xs)) (sym same) (numbered_has 1 xs n y was)) other
+              | inr put ↦ inl (same ∙ (ap (λ k. row (1 + k) y) put.0 ∙ (ap (row (1 + i)) (sym put.1) ∙ sym is)))
+            ]
+          ];
+    }
+
+-- ---- the rows of each element
+
+module _ {A : Type 0} (rows : ℕ → A → List Row) where
+  pub gathered_had : (id : ℕ) (xs : List A) (z : Row) → Has (gathered_from rows id xs) z → (n : ℕ) × (x : A) × (slice_get xs n ≡ Some x) × Has (rows (id + n) x) z
+  gathered_had id [] z h = absurd h
+  gathered_had id (x ∷ xs) z h = elim (has_either (rows id x) (gathered_from rows (suc id) xs) z h) [
+    | inl here ↦ let same : id ≡ id + 0 = omega arith in (0, x, refl, subst (λ k. Has (rows k x) z) same here)
+    | inr later ↦
+        let (n, y, at, has) = gathered_had (suc id) xs z later in
+        let same : suc id + n ≡ id + suc n = omega arith in
+        (suc n, y, at, subst (λ k. Has (rows k y) z) same has)
+  ]
+
+  pub gathered_has : (id : ℕ) (xs : List A) (n : ℕ) (x : A) (z : Row) → slice_get xs n ≡ Some x → Has (rows (id + n) x) z → Has (gathered_from rows id xs) z
+  gathered_has id [] n x z at h = cc
+  gathered_has id (y ∷ ys) zero x z at h =
+      let same : id + 0 ≡ id = omega arith in
+      let is : x ≡ y = cc in
+      has_left (rows id y) (gathered_from rows (suc id) ys) z (subst₂ (λ k w. Has (rows k w) z) same is h)
+  gathered_has id (y ∷ ys) (suc n) x z at h =
+      let same : id + suc n ≡ suc id + n = omega arith in
+      has_right (rows id y) (gathered_from rows (suc id) ys) z (gathered_has (suc id) ys n x z at (subst (λ k. Has (rows k x) z) same h))
+
+  -- an element that has no rows adds none
+  pub nothing_added : (xs : List A) (x : A) → ((id : ℕ) → rows id x ≡ []) → HaveSame (gathered_from rows 1 xs) (gathered_from rows 1 (xs ++ x ∷ []))
+  nothing_added xs x none = record {
+    there = λ z h.
+        let (n, y, at, has) = gathered_had 1 xs z h in
+        gathered_has 1 (xs ++ x ∷ []) n y z (get-append xs (x ∷ []) n y at) has;
+    back = λ z h.
+        let (n, y, at, has) = gathered_had 1 (xs ++ x ∷ []) z h in
+        elim (got-append xs x n y at) [
+          | inl old ↦ gathered_has 1 xs n y z old has
+          | inr new ↦ absurd (subst (λ l. Has l z) (ap (rows (1 + n)) (sym new.1) ∙ none (1 + n)) has)
+        ];
+  }
+
+  -- one element gets one row more, whose key no row has
+  pub one_row_more : (xs : List A) (i : ℕ) (old new : A) (r : Row) → slice_get xs i ≡ Some old → rows (1 + i) new ≡ rows (1 + i) old ++ r ∷ []
+      → ((n : ℕ) (x : A) (z : Row) → slice_get xs n ≡ Some x → Has (rows (1 + n) x) z → same_key (0 ∷ 1 ∷ []) z r ≡ false)
+      → HaveSame (put (0 ∷ 1 ∷ []) r (gathered_from rows 1 xs)) (gathered_from rows 1 (slice_set xs i new))
+  one_row_more xs i old new r at_i grown fresh = record {
+    there = λ z h. elim (put_had (0 ∷ 1 ∷ []) r (gathered_from rows 1 xs) z h) [
+      | inl is ↦
+          gathered_has 1 (slice_set xs i new) i new z (put-at xs i old new at_i)
+          (subst (λ l. Has l z) (sym grown) (has_right (rows (1 + i) old) (r ∷ []) z (inl is)))
+      | inr was ↦
+          let (n, y, at, has) = gathered_had 1 xs z was.0 in
+          elim (set-got xs i new n y at) [
+            | inl kept ↦ gathered_has 1 (slice_set xs i new) n y z kept has
+            | inr here ↦
+                let there : slice_get xs n ≡ Some old = subst (λ k. slice_get xs k ≡ Some old) (sym here.0) at_i in
+                let y_is : y ≡ old = cc in
+                let has_old : Has (rows (1 + i) old) z = subst₂ (λ k w. Has (rows (1 + k) w) z) here.0 y_is has in
+                gathered_has 1 (slice_set xs i new) n new z here.1
+                (subst (λ k. Has (rows (1 + k) new) z) (sym here.0) (subst (λ l. Has l z) (sym grown) (has_left (rows (1 + i) old) (r ∷ []) z has_old)))
+          ]
+    ];
+    back = λ z h.
+        let (n, y, at, has) = gathered_had 1 (slice_set xs i new) z h in
+        elim (got-set xs i new n y at) [
+          | inl was ↦ put_kept (0 ∷ 1 ∷ []) r (gathered_from rows 1 xs) z (gathered_has 1 xs n y z was has) (fresh n y z was has)
+          | inr here ↦
+              let in_new : Has (rows (1 + i) new) z = subst₂ (λ k w. Has (rows (1 + k) w) z) here.0 (sym here.1) has in
+              elim (has_either (rows (1 + i) old) (r ∷ []) z (subst (λ l. Has l z) grown in_new)) [
+                | inl before ↦ put_kept (0 ∷ 1 ∷ []) r (gathered_from rows 1 xs) z (gathered_has 1 xs i old z at_i before) (fresh i old z at_i before)
+                | inr last ↦ elim last [ inl is ↦ inl is | inr none ↦ absurd none ]
+              ]
+        ];
+  }
+
+-- ---- rows that do not change
+
+pub numbered_alike : {A : Type 0} (row other : ℕ → A → Row) (id : ℕ) (xs : List A) → ((n : ℕ) (x : A) → slice_get xs n ≡ Some x → (k : ℕ) → row k x ≡ other k x) → numbered_from row id xs ≡ numbered_from other id xs
+numbered_alike row other id [] same = refl
+numbered_alike row other id (x ∷ xs) same =
+    let here = same 0 x refl id in
+    let rest = numbered_alike row other (suc id) xs (λ n y at. same (suc n) y at) in
+    λ i. here i ∷ rest i
+
+pub gathered_alike : {A : Type 0} (rows others : ℕ → A → List Row) (id : ℕ) (xs : List A) → ((n : ℕ) (x : A) → slice_get xs n ≡ Some x → (k : ℕ) → rows k x ≡ others k x) → gathered_from rows id xs ≡ gathered_from others id xs
+gathered_alike rows others id [] same = refl
+gathered_alike rows others id (x ∷ xs) same =
+    let here = same 0 x refl id in
+    let rest = gathered_alike rows others (suc id) xs (λ n y at. same (suc n) y at) in
+    λ i. here i ++ rest i
+
+-- ---- lists whose rows have their places in a column
+
+pub same_list : (xs ys : List Row) → ((n : ℕ) (z : Row) → slice_get xs n ≡ Some z → slice_get ys n ≡ Some z) → ((n : ℕ) (z : Row) → slice_get ys n ≡ Some z → slice_get xs n ≡ Some z) → xs ≡ ys
+same_list [] [] there back = refl
+same_list [] (y ∷ ys) there back = let none : ◌≡◌ {A = Option Row} None (Some y) = back 0 y refl in cc
+same_list (x ∷ xs) [] there back = let none : ◌≡◌ {A = Option Row} None (Some x) = there 0 x refl in cc
+same_list (x ∷ xs) (y ∷ ys) there back =
+    let here : ◌≡◌ {A = Option Row} (Some y) (Some x) = there 0 x refl in
+    let e : x ≡ y = cc in
+    let rest = same_list xs ys (λ n z h. there (suc n) z h) (λ n z h. back (suc n) z h) in
+    λ i. e i ∷ rest i
+
+pub had_at : (xs : List Row) (z : Row) → Has xs z → (n : ℕ) × (slice_get xs n ≡ Some z)
+had_at [] z h = absurd h
+had_at (x ∷ xs) z (inl is) = (0, ap Some (sym is))
+had_at (x ∷ xs) z (inr h) = let (n, at) = had_at xs z h in (suc n, at)
+
+-- each row has its place, from 1, in the column
+abbrev pub AreAtPlaces : ℕ → List Row → Type 0
+AreAtPlaces at xs = (n : ℕ) (z : Row) → slice_get xs n ≡ Some z → column z at ≡ number (1 + n)
+
+placed_same : (at : ℕ) (xs ys : List Row) → AreAtPlaces at xs → AreAtPlaces at ys → ((z : Row) → Has xs z → Has ys z) → (n : ℕ) (z : Row) → slice_get xs n ≡ Some z → slice_get ys n ≡ Some z
+placed_same at xs ys places others same n z stands =
+    let (k, there) = had_at ys z (same z (has_got xs n z stands)) in
+    let e : pos (1 + k) ≡ pos (1 + n) = number_same (1 + k) (1 + n) (sym (others k z there) ∙ places n z stands) in
+    let k_is : k ≡ n = omega (arith, pos_same (1 + k) (1 + n) e) in
+    subst (λ j. slice_get ys j ≡ Some z) k_is there
+  where
+    number_same : (a b : ℕ) → number a ≡ number b → pos a ≡ pos b
+    number_same a b is = cc
+
+-- the same rows by their places are one list
+pub one_line : (at : ℕ) (xs ys : List Row) → AreAtPlaces at xs → AreAtPlaces at ys → HaveSame xs ys → xs ≡ ys
+one_line at xs ys places others same =
+    same_list xs ys (placed_same at xs ys places others same.there) (placed_same at ys xs others places same.back)

@@ -1,0 +1,109 @@
+-- What rows of the tables of a club tell.
+use Rattle.std.proofs.Common.{◌≡◌, ℕ, zero, suc, ◌+◌, ◌-◌, ◌<◌, ◌≤◌, List, [], ◌∷◌, ◌++◌, length, map, take, get_or, Some, None, refl, ap, sym, ◌∙◌, arith, inl}
+use Rattle.std.specs.Prelude.{slice_get, string_bytes}
+use Rattle.std.proofs.Math.Seq.{take-length}
+use Rattle.std.proofs.lemmas.List.{length-map, map-append}
+use Rattle.sqlite.specs.Order.{Row, column}
+use Rattle.sqlite_rules.specs.Lists.{Has}
+use Rattle.club_core.specs.declared.members.Member as given_member
+use Rattle.club_core.specs.Answer.{member_of}
+use Rattle.club_core.specs.Members.{Member}
+use Rattle.club_core.specs.Events.{Event, Terms}
+use Rattle.club_core.specs.State.{place, terms_at}
+use Rattle.club_rules.specs.Draughts.{draughts}
+use Rattle.club_rows.specs.Tables.{number, numbered_from, member_row, event_row}
+use Rattle.store_tables.specs.Cells.{member_cells}
+use Rattle.store_tables.specs.declared.rows.MemberRow.{MemberRow}
+use Rattle.store.specs.Places.{BeginWithPlaces}
+use Rattle.club_rows.specs.Club.{ClubState, tables}
+use Rattle.store.specs.Steps.{game_in}
+use Rattle.store.proofs.PutSame.{numbered_at, numbered_length, numbered_places, at_get, take_next}
+use Rattle.store.proofs.NextRows.{first_of_game}
+
+-- ---- rows that are read one after another
+
+module _ {A B R : Type 0} (of : B → A) (cells : R → Row) (row : ℕ → A → Row) (rows : List R) (all : List A) (same : map cells rows ≡ numbered_from row 1 all) where
+  -- one row more was read
+  pub one_more_read : (k : ℕ) (r : R) (done news : List B) (b : B) → map of done ≡ take k all → k < length rows → r ≡ get_or rows k r → news ≡ done ++ b ∷ [] → ((id : ℕ) (x : A) → cells r ≡ row id x → of b ≡ x) → map of news ≡ take (k + 1) all
+  one_more_read k r done news b so_far within is more reads =
+      let (x, at, stands) = numbered_at row cells 1 rows all same k r (at_get rows k r within is) in
+      ap (map of) more
+      ∙ (map-append of done (b ∷ [])
+      ∙ (ap (λ l. l ++ of b ∷ []) so_far
+      ∙ (ap (λ y. take k all ++ y ∷ []) (reads (1 + k) x stands) ∙ sym (take_next all k x at))))
+
+  -- all were read
+  pub all_read : (k : ℕ) (done : List B) → map of done ≡ take k all → length rows ≤ k → k ≤ length rows → map of done ≡ all
+  all_read k done so_far least most =
+      let rows_count : length (map cells rows) ≡ length rows = simp length-map in
+      let count : length (map cells rows) ≡ length all = ap length same ∙ numbered_length row 1 all in
+      let k_is : k ≡ length all = omega (arith, count, rows_count, least, most) in
+      so_far ∙ (ap (λ n. take n all) k_is ∙ take-length all)
+
+pub member_read : (r : MemberRow) (m : given_member.Member) → string_bytes m.name ≡ string_bytes r.name → string_bytes m.key ≡ string_bytes r.key → (id : ℕ) (x : Member) → member_cells r ≡ member_row id x → member_of m ≡ x
+member_read r m name key id x same =
+    let name_is : string_bytes r.name ≡ x.name = cc in
+    let key_is : string_bytes r.key ≡ x.key = cc in
+    let n = name ∙ name_is in
+    let k = key ∙ key_is in
+    λ i. record { name = n i; key = k i }
+
+-- ---- what stands at a place
+
+mapped_get : {A B : Type 0} (f : A → B) (xs : List A) (k : ℕ) (x : A) → slice_get xs k ≡ Some x → slice_get (map f xs) k ≡ Some (f x)
+mapped_get f [] k x at = cc
+mapped_get f (y ∷ ys) zero x at = let e : y ≡ x = cc in ap (λ z. Some (f z)) e
+mapped_get f (y ∷ ys) (suc k) x at = mapped_get f ys k x at
+
+pub placed : {A B : Type 0} (f : A → B) (xs : List A) (id : ℕ) (x : A) → (id ≡ 0 → ⊥) → id - 1 < length xs → x ≡ get_or xs (id - 1) x → place (map f xs) id ≡ Some (f x)
+placed f xs zero x some within is = absurd (some refl)
+placed f xs (suc k) x some within is =
+    let k_is : suc k - 1 ≡ k = omega arith in
+    mapped_get f xs k x (at_get xs k x (omega (arith, within)) (is ∙ ap (λ j. get_or xs j x) k_is))
+
+-- the one row that was pushed
+pub one_pushed : {R : Type 0} (cells : R → Row) (old new : List R) (r : R) (row : Row) → map cells old ≡ [] → new ≡ old ++ r ∷ [] → cells r ≡ row → map cells new ≡ row ∷ []
+one_pushed cells [] new r row none more is = ap (map cells) more ∙ ap (λ (w : Row). w ∷ []) is
+one_pushed cells (q ∷ old) new r row none more is = cc
+
+-- ---- the first of the rows that were found
+
+pub first_mapped : {R : Type 0} (cells : R → Row) (rows : List R) (r : R) → slice_get rows 0 ≡ Some r → Has (map cells rows) (cells r)
+first_mapped cells [] r at = cc
+first_mapped cells (q ∷ rows) r at = let e : r ≡ q = cc in inl (ap cells e)
+
+pub none_mapped : {R : Type 0} (cells : R → Row) (rows : List R) → slice_get rows 0 ≡ None → map cells rows ≡ []
+none_mapped cells [] at = refl
+none_mapped cells (q ∷ rows) at = cc
+
+-- ---- rows that begin with their places
+
+pub begins : {A : Type 0} (row : ℕ → A → Row) (first : (id : ℕ) (x : A) → column (row id x) 0 ≡ number id) (xs : List A) → BeginWithPlaces (numbered_from row 1 xs)
+begins row first xs k within =
+    let same : 1 + k ≡ k + 1 = omega arith in
+    numbered_places row first 1 xs k within ∙ ap number same
+
+pub members_begin : (xs : List Member) → BeginWithPlaces (numbered_from member_row 1 xs)
+members_begin xs = begins member_row (λ id x. refl) xs
+
+pub events_begin : (xs : List Event) → BeginWithPlaces (numbered_from event_row 1 xs)
+events_begin xs = begins event_row (λ id x. refl) xs
+
+pub games_begin : (s : ClubState) → BeginWithPlaces (tables s 10)
+games_begin s = begins (game_in s) (first_of_game draughts draughts s.events) s.games
+
+pub meta_begins : (s : ClubState) → BeginWithPlaces (tables s 0)
+meta_begins s zero within = refl
+meta_begins s (suc k) within = absurd (omega arith)
+
+pub terms_same : (events : List Event) (event : ℕ) (e : Event) (given : Terms) (s : ClubState) (named : ℕ) → place events event ≡ Some e → given ≡ e.terms → events ≡ s.events → event ≡ named → given ≡ terms_at (place s.events named)
+terms_same events event e given s named at given_is same event_is =
+    given_is ∙ (ap terms_at (sym at) ∙ (ap (λ es. terms_at (place es event)) same ∙ ap (λ n. terms_at (place s.events n)) event_is))
+
+-- the first of rows that are known
+pub first_is : {R : Type 0} (cells : R → Row) (rows : List R) (r : R) (z : Row) (zs : List Row) → slice_get rows 0 ≡ Some r → map cells rows ≡ z ∷ zs → cells r ≡ z
+first_is cells [] r z zs at same = cc
+first_is cells (q ∷ rows) r z zs at same =
+    let e : r ≡ q = cc in
+    let first : cells q ≡ z = cc in
+    ap cells e ∙ first

@@ -1,0 +1,93 @@
+-- The club as a machine, and what is decided of a request by rows of its tables.
+use Rattle.std.specs.Prelude.{◌≡◌, ◌≤◌, ℕ, List, [], ◌∷◌, map, Option, Some, None, IsTrue}
+use Rattle.std.specs.Option.{option_map}
+use Rattle.std.specs.List.{AllByRecursion}
+use Rattle.sqlite.specs.Order.{Row}
+use Rattle.sqlite_rules.specs.Lists.{Has}
+use Rattle.squares.specs.declared.draughts.moves.DMove.{DMove}
+use Rattle.club_rules.specs.Draughts as rules
+use Rattle.club_rules.specs.GameRules.{GameRules}
+use Rattle.club_core.specs.declared.requests.Who as given_who
+use Rattle.club_core.specs.declared.requests.Command as given_command
+use Rattle.club_core.specs.declared.requests.Caller.{Caller}
+use Rattle.club_core.specs.Limits.{last_moment, is_budget, is_increment}
+use Rattle.club_core.specs.Events.{Terms}
+use Rattle.club_core.specs.Game.{Game}
+use Rattle.club_core.specs.Legal.{IsLegalGame}
+use Rattle.club_core.specs.Outcome.{Outcome}
+use Rattle.club_core.specs.Answer.{answered, outcome_of, who_of, command_of}
+use Rattle.club_core.specs.State.{AnyGame, Command, Request, state_after, step, step_command, next}
+use Rattle.club_rows.specs.Shown.{FitsTables}
+use Rattle.club_rows.specs.Club.{ClubState, IsClub, tables}
+use Rattle.club_rows.specs.Tables.{number, game_row, row_of_game}
+use Rattle.store_tables.specs.Cells.{meta_cells, member_cells, event_cells, move_cells, game_cells}
+use Rattle.store_tables.specs.Contents.{Content}
+use Rattle.store_tables.specs.Tables.{club_schema}
+use Rattle.store_tables.specs.declared.rows.GameRecord.{GameRecord}
+use Rattle.store.specs.declared.changes.Changes.{Changes}
+use Rattle.store.specs.declared.command.Decided.{Decided}
+use Rattle.store.specs.Changed.{changed}
+
+-- ---- the machine
+
+abbrev pub request : given_who.Who → given_command.Command → ℕ → Request
+request who command moment = record { who = who_of who; command = command_of command; moment = moment }
+
+abbrev pub club_step : ClubState → Request → Outcome ClubState
+club_step = step rules.draughts rules.draughts
+
+abbrev pub club_next : ClubState → Request → ClubState
+club_next = next rules.draughts rules.draughts
+
+-- a caller's command, at the effective moment
+abbrev pub caller_step : ClubState → ℕ → Caller → Command → Outcome ClubState
+caller_step = step_command rules.draughts rules.draughts
+
+-- a request, at a moment that there is, leaves a legal club legal
+abbrev pub KeepsClub : Type 0
+KeepsClub = (s : ClubState) (r : Request) → r.moment ≤ last_moment → IsClub s → IsClub (club_next s r)
+
+-- the row of a game of the club
+abbrev pub game_in : ClubState → ℕ → AnyGame DMove DMove → Row
+game_in s = row_of_game rules.draughts rules.draughts s.events
+
+-- the row is that of this legal game, whose values fit the tables
+pub record IsRecordOf {P M E : Type 0} (laws : GameRules P M E) (terms : Terms) (id : ℕ) (record_is : GameRecord) (game : Game M) : Type 0 where
+  pub budget : IsTrue (is_budget terms.budget)
+  pub increment : IsTrue (is_increment terms.increment)
+  pub legal : IsLegalGame laws terms game
+  pub fits : FitsTables id game
+  pub row : game_cells record_is ≡ game_row laws terms id game
+
+-- ---- rows
+
+-- the same rows, in whatever order
+pub record HaveSame (one other : List Row) : Type 0 where
+  pub there : (row : Row) → Has one row → Has other row
+  pub back : (row : Row) → Has other row → Has one row
+
+-- each table has the same rows
+abbrev pub AreSame : Content → Content → Type 0
+AreSame one other = AllByRecursion (λ t. HaveSame (one t.tree) (other t.tree)) club_schema.tables
+
+-- Rows to put: the moment of the last accepted command, these, and no other.
+pub record ArePuts (changes : Changes) (moment : ℕ) (members events games moves : List Row) : Type 0 where
+  pub meta : option_map meta_cells changes.meta ≡ Some (number 1 ∷ number 1 ∷ number moment ∷ [])
+  pub members_are : map member_cells changes.members.items ≡ members
+  pub events_are : map event_cells changes.events.items ≡ events
+  pub challenges_are : changes.challenges.items ≡ []
+  pub games_are : map game_cells changes.games.items ≡ games
+  pub moves_are : map move_cells changes.moves.items ≡ moves
+  pub seen_are : changes.seen.items ≡ []
+  pub scores_are : changes.scores.items ≡ []
+
+abbrev pub changed_if : Option Changes → Content → Content
+changed_if None content = content
+changed_if (Some changes) content = changed changes content
+
+-- ---- what is decided
+
+-- The machine's outcome was found: its answer, and rows that make of the club's tables those of the state after it.
+pub record IsDecided (s : ClubState) (after : Outcome ClubState) (decided : Decided) : Type 0 where
+  pub answer : outcome_of decided.outcome ≡ answered after
+  pub rows : AreSame (changed_if decided.changes (tables s)) (tables (state_after s after))
