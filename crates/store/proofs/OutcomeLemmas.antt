@@ -29,7 +29,7 @@ use Rattle.sqlite.specs.Order.{Row}
 use Rattle.store.specs.declared.changes.Changes.{Changes}
 use Rattle.store.specs.declared.command.Decided.{Decided}
 use Rattle.club_rows.specs.Club.{ClubState, IsClub, tables}
-use Rattle.store.specs.Steps.{request, club_step, caller_step, game_in, AreSame, ArePuts, IsDecided, changed_if}
+use Rattle.store.specs.Steps.{request, club_step, caller_step, game_in, AreSame, PutsOnly, IsDecided, changed_if}
 use Rattle.store.proofs.PutSame.{same_itself}
 use Rattle.store.proofs.NextRows.{puts, member_next, event_next, seat_next}
 use Rattle.store.proofs.SameLemmas.{puts_changed}
@@ -52,7 +52,7 @@ none_decided s after d o is none answer not_accepted =
     }
 
 -- where a command is accepted, the rows that are put make the tables of the state after it
-pub put_decided : (s : ClubState) (after : Outcome ClubState) (new : ClubState) (o : given.Outcome) (c : Changes) (moment : ℕ) (members events games moves : List Row) → outcome_of o ≡ answered after → state_after s after ≡ new → ArePuts c moment members events games moves → AreSame (puts moment members events games moves (tables s)) (tables new)
+pub put_decided : (s : ClubState) (after : Outcome ClubState) (new : ClubState) (o : given.Outcome) (c : Changes) (moment : ℕ) (members events games moves : List Row) → outcome_of o ≡ answered after → state_after s after ≡ new → PutsOnly c moment members events games moves → AreSame (puts moment members events games moves (tables s)) (tables new)
     → IsDecided s after (record { outcome = o; changes = Some c })
 put_decided s after new o c moment members events games moves answer stands are same = record {
   answer = answer;
@@ -89,7 +89,7 @@ module _ {T : Type 0} (s : ClubState) (f : T → ClubState) where
 
 -- ---- members, events and games that are added
 
-pub member_decided : (s : ClubState) (moment : ℕ) (who : Caller) (name key : List ℕ) (o : given.Outcome) (c : Changes) → outcome_of o ≡ answered (by_officer who (member_step s.members name key)) → is_accepted (outcome_of o) ≡ true → ArePuts c moment (member_row (1 + length s.members) (record { name = name; key = key }) ∷ []) [] [] []
+pub member_decided : (s : ClubState) (moment : ℕ) (who : Caller) (name key : List ℕ) (o : given.Outcome) (c : Changes) → outcome_of o ≡ answered (by_officer who (member_step s.members name key)) → is_accepted (outcome_of o) ≡ true → PutsOnly c moment (member_row (1 + length s.members) (record { name = name; key = key }) ∷ []) [] [] []
     → IsDecided s (caller_step s moment who (add_member name key)) (record { outcome = o; changes = Some c })
 member_decided s moment who name key o c answer is_in are =
     let m : core_members.Member = record { name = name; key = key } in
@@ -100,7 +100,7 @@ member_decided s moment who name key o c answer is_in are =
     are
     (member_next rules.draughts rules.draughts s m moment)
 
-pub event_decided : (s : ClubState) (moment : ℕ) (who : Caller) (e : Event) (o : given.Outcome) (c : Changes) → IsClub s → outcome_of o ≡ answered (by_officer who (event_step s.events e)) → is_accepted (outcome_of o) ≡ true → ArePuts c moment [] (event_row (1 + length s.events) e ∷ []) [] []
+pub event_decided : (s : ClubState) (moment : ℕ) (who : Caller) (e : Event) (o : given.Outcome) (c : Changes) → IsClub s → outcome_of o ≡ answered (by_officer who (event_step s.events e)) → is_accepted (outcome_of o) ≡ true → PutsOnly c moment [] (event_row (1 + length s.events) e ∷ []) [] []
     → IsDecided s (caller_step s moment who (add_event e)) (record { outcome = o; changes = Some c })
 event_decided s moment who e o c club answer is_in are =
     let f = with_events s moment in
@@ -160,8 +160,14 @@ officer_id : (who : Caller) (event first second : Option ℕ) (under : Option Ke
 officer_id (Member m) event first second under games key p id is = cc
 officer_id Officer event first second under games key p id is = found_id event first second under games key p id is
 
+-- a seating by what the rows tell is that of the state
+pub seat_same : (seating : Outcome Pairing) (who : Caller) (key event first second : List ℕ) (members ms : List core_members.Member) (events es : List Event) (under u : Option KeyedGame) (games n : ℕ) → seating ≡ by_officer who (seat_step members events under games key event first second)
+    → members ≡ ms → events ≡ es → under ≡ u → games ≡ n → seating ≡ by_officer who (seat_step ms es u n key event first second)
+seat_same seating who key event first second members ms events es under u games n is m e k c =
+    is ∙ (λ i. by_officer who (seat_step (m i) (e i) (k i) (c i) key event first second))
+
 pub seat_decided : (s : ClubState) (moment : ℕ) (who : Caller) (key event first second : List ℕ) (p : Pairing) (id : ℕ) (c : Changes) → IsClub s → accepted p (game_seated id) ≡ by_officer who (seat_step s.members s.events (game_under s.games key) (length s.games) key event first second)
-    → ArePuts c moment [] [] (game_row rules.draughts (terms_at (place s.events p.event)) id (seated (Some key) p moment) ∷ []) []
+    → PutsOnly c moment [] [] (game_row rules.draughts (terms_at (place s.events p.event)) id (seated (Some key) p moment) ∷ []) []
     → IsDecided s (caller_step s moment who (seat key event first second)) (record { outcome = given_is.Accepted (answer_is.Game id); changes = Some c })
 seat_decided s moment who key event first second p id c club answer are =
     let f = with_new_game s moment key in
@@ -175,7 +181,7 @@ seat_decided s moment who key event first second p id c club answer are =
     put_decided s (caller_step s moment who (seat key event first second)) (f p) (given_is.Accepted (answer_is.Game id)) c moment [] [] (game_in s (1 + length s.games) (seated_as (kind_at (place s.events p.event)) (Some key) p moment) ∷ []) []
     (ap answered answer ∙ sym (answered_officer s f who step))
     (officer_stands s f who step p (game_seated id) answer)
-    (subst (λ r. ArePuts c moment [] [] (r ∷ []) []) row are)
+    (subst (λ r. PutsOnly c moment [] [] (r ∷ []) []) row are)
     (seat_next rules.draughts rules.draughts s key p moment)
 
 -- ---- who asks

@@ -49,7 +49,7 @@ use Rattle.store_tables.specs.declared.rows.GameRecord.{GameRecord}
 use Rattle.store.specs.declared.changes.Changes.{Changes}
 use Rattle.store.specs.declared.command.Decided.{Decided}
 use Rattle.club_rows.specs.Club.{ClubState, IsClub, tables}
-use Rattle.store.specs.Steps.{caller_step, AreSame, ArePuts, IsDecided}
+use Rattle.store.specs.Steps.{caller_step, AreSame, PutsOnly, IsDecided}
 use Rattle.store.proofs.NextRows.{puts, play_next}
 use Rattle.store.proofs.OutcomeLemmas.{none_decided, put_decided, answered_mapped}
 
@@ -197,7 +197,7 @@ module _ (s : ClubState) (id : ℕ) (g : Game DMove) (moment : ℕ) (who : Calle
   abbrev pub ArePlayed : GameRow DraughtsEnd → Moved → Changes → Type 0
   ArePlayed row mv c =
       (terms : Terms) (new : Game DMove) → row.left_first < 2 ^ 63 → row.left_second < 2 ^ 63 → mv.left < 2 ^ 63 → IsRowOf rules.draughts terms new row
-      → ArePuts c moment [] [] (game_row rules.draughts terms id new ∷ []) (made_row id (move_reply_of mv) moment ∷ [])
+      → PutsOnly c moment [] [] (game_row rules.draughts terms id new ∷ []) (made_row id (move_reply_of mv) moment ∷ [])
 
   pub move_decided : {R : Type 0} (row : GameRow DraughtsEnd) (made : Option (Made R Position DMove DraughtsEnd)) (mv : Moved) (c : Changes) → IsDecision rules.draughts terms_in g step_in (decision.Accepted row made (answer_is.Moved mv)) → ArePlayed row mv c
       → IsDecided s (caller_step s moment who (on_game id (move ply text))) (record { outcome = given_is.Accepted (answer_is.Moved mv); changes = Some c })
@@ -257,7 +257,7 @@ module _ (s : ClubState) (id : ℕ) (g : Game DMove) (moment : ℕ) (who : Calle
   given_refused why d was = refused_decided s id g moment who ply text is_club at R why d (subst decided_of was is)
 
   pub given_move : (row : GameRow DraughtsEnd) (made : Option (Made R Position DMove DraughtsEnd)) (answer : Answer) (mv : Moved) (c : Changes) → shown ≡ decision.Accepted row made answer → answer ≡ answer_is.Moved mv
-      → ((terms : Terms) (new : Game DMove) → row.left_first < 2 ^ 63 → row.left_second < 2 ^ 63 → mv.left < 2 ^ 63 → IsRowOf rules.draughts terms new row → ArePuts c moment [] [] (game_row rules.draughts terms id new ∷ []) (made_row id (move_reply_of mv) moment ∷ []))
+      → ((terms : Terms) (new : Game DMove) → row.left_first < 2 ^ 63 → row.left_second < 2 ^ 63 → mv.left < 2 ^ 63 → IsRowOf rules.draughts terms new row → PutsOnly c moment [] [] (game_row rules.draughts terms id new ∷ []) (made_row id (move_reply_of mv) moment ∷ []))
       → IsDecided s (caller_step s moment who (on_game id (move ply text))) (record { outcome = given_is.Accepted answer; changes = Some c })
   given_move row made answer mv c was moved_is are =
       subst (λ a. IsDecided s (caller_step s moment who (on_game id (move ply text))) (record { outcome = given_is.Accepted a; changes = Some c })) (sym moved_is)

@@ -13,7 +13,7 @@ use Rattle.store_tables.specs.Tables.{club_schema}
 use Rattle.store_tables.specs.declared.rows.MetaRow.{MetaRow}
 use Rattle.store.specs.declared.changes.Changes.{Changes}
 use Rattle.store.specs.Changed.{changed, put_maybe}
-use Rattle.store.specs.Steps.{HaveSame, AreSame, ArePuts}
+use Rattle.store.specs.Steps.{HaveSame, AreSame, PutsOnly}
 use Rattle.store.proofs.NextRows.{puts, meta_row}
 
 keeps_same : (table : Table) (db : Trees) (one other : List Row) → HaveSame one other → Keeps table db one → Keeps table db other
@@ -50,7 +50,7 @@ meta_put None row content is = cc
 meta_put (Some meta) row content is = let e : meta_cells meta ≡ row = cc in ap (λ r. put_in 0 (0 ∷ []) r content) e
 
 -- what rows to put make of a content
-pub puts_changed : (c : Changes) (moment : ℕ) (members events games moves : List Row) → ArePuts c moment members events games moves → (content : Content) → changed c content ≡ puts moment members events games moves content
+pub puts_changed : (c : Changes) (moment : ℕ) (members events games moves : List Row) → PutsOnly c moment members events games moves → (content : Content) → changed c content ≡ puts moment members events games moves content
 puts_changed c moment members events games moves are content =
     meta_put c.meta (meta_row moment) _ are.meta
     ∙ (λ i. put_in 0 (0 ∷ []) (meta_row moment)

@@ -52,12 +52,12 @@ abbrev pub game_in : ClubState → ℕ → AnyGame DMove DMove → Row
 game_in s = row_of_game rules.draughts rules.draughts s.events
 
 -- the row is that of this legal game, whose values fit the tables
-pub record IsRecordOf {P M E : Type 0} (laws : GameRules P M E) (terms : Terms) (id : ℕ) (record_is : GameRecord) (game : Game M) : Type 0 where
+pub record IsRecordOf {P M E : Type 0} (laws : GameRules P M E) (terms : Terms) (id : ℕ) (stored : GameRecord) (game : Game M) : Type 0 where
   pub budget : IsTrue (is_budget terms.budget)
   pub increment : IsTrue (is_increment terms.increment)
   pub legal : IsLegalGame laws terms game
   pub fits : FitsTables id game
-  pub row : game_cells record_is ≡ game_row laws terms id game
+  pub row : game_cells stored ≡ game_row laws terms id game
 
 -- ---- rows
 
@@ -70,8 +70,8 @@ pub record HaveSame (one other : List Row) : Type 0 where
 abbrev pub AreSame : Content → Content → Type 0
 AreSame one other = AllByRecursion (λ t. HaveSame (one t.tree) (other t.tree)) club_schema.tables
 
--- Rows to put: the moment of the last accepted command, these, and no other.
-pub record ArePuts (changes : Changes) (moment : ℕ) (members events games moves : List Row) : Type 0 where
+-- These rows are put, with the moment as that of the last accepted command, and no other.
+pub record PutsOnly (changes : Changes) (moment : ℕ) (members events games moves : List Row) : Type 0 where
   pub meta : option_map meta_cells changes.meta ≡ Some (number 1 ∷ number 1 ∷ number moment ∷ [])
   pub members_are : map member_cells changes.members.items ≡ members
   pub events_are : map event_cells changes.events.items ≡ events

@@ -120,7 +120,7 @@ impl<S: Alter> Club<S> {
     }
 
     /// Puts all of the rows in one transaction with one commit. After a fault every later call is refused with `Reopen`.
-    pub fn apply_changes(&mut self, changes: &Changes) -> Result<(), StoreFault>
+    pub(crate) fn apply_changes(&mut self, changes: &Changes) -> Result<(), StoreFault>
         ensures clean { doubt (state S.Store self.old.connection).is_clean ≤ doubt (state S.Store self.new.connection).is_clean }
         ensures shut { self.old.needs_reopening ≡ true → (result ≡ Err StoreFault.Reopen) × (self.new ≡ self.old) }
         ensures goes_on { OnOk result (self.new.needs_reopening ≡ false) }

@@ -1,13 +1,13 @@
 //! What a command does to the tables.
 
-ghost use Rattle.std.specs.Prelude.{◌≡◌, ◌≤◌, ◌<◌, ◌^◌, ℕ, List, [], ◌∷◌, map, pos, suc, Some, None, false, IfOk, OnOk, length, slice_get, string_bytes};
+ghost use Rattle.std.specs.Prelude.{◌≡◌, ◌≤◌, ◌<◌, ◌^◌, ℕ, List, [], ◌∷◌, map, pos, Some, None, false, IfOk, OnOk, length, slice_get, string_bytes};
 ghost use Rattle.std.specs.Option.{option_map};
 ghost use Rattle.sqlite.specs.State.{HasCleanDisk};
 ghost use Rattle.sqlite.specs.Held.{state};
 ghost use Rattle.sqlite_trees.specs.View.{doubt};
 ghost use Rattle.squares.specs.declared.draughts.moves.DMove.{DMove};
 ghost use Rattle.club_rules.specs.Draughts.{draughts};
-ghost use Rattle.club_core.specs.Answer.{outcome_of, members_of, event_of, events_of, added_event, keyed_of, pairing_of, command_of, move_reply_of, outcome_of};
+ghost use Rattle.club_core.specs.Answer.{outcome_of, members_of, event_of, events_of, added_event, keyed_of, pairing_of, command_of, move_reply_of};
 ghost use Rattle.club_core.specs.Events as core;
 ghost use Rattle.club_core.specs.Members as core_members;
 ghost use Rattle.club_core.specs.Game.{Game};
@@ -18,12 +18,11 @@ ghost use Rattle.club_core.specs.LegalState.{Each, IsLegalEvent};
 ghost use Rattle.club_core.specs.View.{IsSound, IsRowOf, IsDecision, Shows, ShowsPly, terms_of};
 ghost use Rattle.club_rows.specs.Made.{made_row};
 ghost use Rattle.club_rows.specs.Replay.{terms_given};
-ghost use Rattle.club_rows.specs.Shown.{AreRowsOf};
 ghost use Rattle.club_rows.specs.Tables.{number, kind_number, numbered_from, member_row, event_row, game_row, move_rows};
 ghost use Rattle.store_tables.specs.Cells.{meta_cells, member_cells, event_cells, game_cells, move_cells};
-ghost use Rattle.store_tables.specs.Contents.{IsExactly, Leaves, AreThose};
+ghost use Rattle.store_tables.specs.Contents.{IsExactly, Leaves};
 ghost use Rattle.club_rows.specs.Club.{ClubState, IsClub, tables};
-ghost use Rattle.store.specs.Steps.{request, club_step, caller_step, game_in, HaveSame, ArePuts, IsDecided, IsRecordOf};
+ghost use Rattle.store.specs.Steps.{request, club_step, caller_step, game_in, HaveSame, PutsOnly, IsDecided, IsRecordOf};
 ghost use Rattle.store.specs.Whole.{IsWhole};
 
 use crate::changes::Changes;
@@ -88,7 +87,7 @@ fn unchanged(outcome: Outcome) -> Decided
 
 // No rows but that of `meta`, at the moment of an accepted command.
 fn at(alloc: Global, moment: Moment) -> Changes
-    ensures { ArePuts result moment [] [] [] [] }
+    ensures { PutsOnly result moment [] [] [] [] }
 {
     Changes {
         members: Vec::new(alloc),
@@ -329,7 +328,7 @@ fn seated(
     moment: Moment,
 ) -> Result<Changes, StoreFault>
     ensures { IfOk result (λ changes. Each IsLegalEvent (events_of events.now) →
-        ArePuts changes moment [] [] (game_row draughts (terms_at (place (events_of events.now) new.pairing.event)) new.game (seated (Some key.now) (pairing_of new.pairing) moment) ∷ []) []) }
+        PutsOnly changes moment [] [] (game_row draughts (terms_at (place (events_of events.now) new.pairing.event)) new.game (seated (Some key.now) (pairing_of new.pairing) moment) ∷ []) []) }
 {
     let terms = terms_at(events, new.pairing.event)?;
     let row = seated_row::<Draughts>(alloc, key, new.pairing, terms.budget, moment)?;
@@ -389,7 +388,7 @@ fn moved_rows(
     // Seconds that 63 bits hold are stored as they are.
     ensures { IfOk result (λ changes. (terms : core.Terms) (new : Game DMove) → row.now.left_first < 2 ^ 63 → row.now.left_second < 2 ^ 63 → moved.now.left < 2 ^ 63 →
         IsRowOf draughts terms new row.now →
-        ArePuts changes moment [] [] (game_row draughts terms game new ∷ []) (made_row game (move_reply_of moved.now) moment ∷ [])) }
+        PutsOnly changes moment [] [] (game_row draughts terms game new ∷ []) (made_row game (move_reply_of moved.now) moment ∷ [])) }
 {
     let mut changes = at(alloc, moment);
     changes

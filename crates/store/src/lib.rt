@@ -17,7 +17,6 @@ mod select;
 #[cfg(test)]
 mod tests;
 
-pub use changes::Changes;
 pub use club::{Club, Unopened, adopt, create};
 pub use fault::{OpenFault, StoreFault};
 pub use reopen::holds_exactly;

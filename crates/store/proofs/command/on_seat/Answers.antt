@@ -6,14 +6,13 @@ use Rattle.club_core.specs.declared.answers.Outcome.TheVariants as given
 use Rattle.club_core.specs.declared.answers.Answer.TheVariants as answer
 use Rattle.club_core.specs.Answer.{answered, pairing_of}
 use Rattle.club_core.specs.LegalState.{Each, IsLegalEvent}
-use Rattle.club_core.specs.Outcome.{by_officer}
 use Rattle.club_core.specs.Seats.{seat_step}
 use Rattle.club_core.specs.State.{game_under, with_new_game, seated, place, terms_at}
 use Rattle.club_rows.specs.Tables.{game_row}
 use Rattle.club_rows.specs.Club.{tables}
-use Rattle.store.specs.Steps.{game_in, ArePuts}
+use Rattle.store.specs.Steps.{game_in, PutsOnly}
 use Rattle.store.proofs.PutSame.{numbered_length}
-use Rattle.store.proofs.OutcomeLemmas.{officer_none, seat_decided}
+use Rattle.store.proofs.OutcomeLemmas.{officer_none, seat_same, seat_decided}
 use Rattle.store.proofs.ReadRows.{games_begin}
 use Rattle.store.proofs.command.on_seat.Goals as goal
 
@@ -33,11 +32,11 @@ returns-in_ok-changes-in-Starts-clause-step g c clean s is_club ms es k =
     let under = c.in_ok-under_key.ensures.found looked s is_club k ∙ ap (game_under s.games) c.as_str.ensures.value in
     let count = (c.in_ok-count_games.ensures.count clean (tables s) (c.in_ok-under_key.ensures.kept looked (tables s) k) (games_begin s)).0 in
     let games : c.in-Ok.games ≡ length s.games = omega (arith, c.in-Ok.ensures, count, numbered_length (game_in s) 1 s.games) in
-    let same = c.in-Starts.ensures ∙ (λ i. by_officer who (seat_step (ms i) (es i) (under i) (games i) key event first second)) in
+    let same = seat_same _ who key event first second _ s.members _ s.events _ (game_under s.games key) _ (length s.games) c.in-Starts.ensures ms es under games in
     let p = pairing_of c.in-Starts.new.pairing in
     let legal = subst (Each IsLegalEvent) (sym es) is_club.legal.events in
-    let by_events = subst (λ e. ArePuts c.in_ok-changes-in-Starts.changes c.args.moment [] [] (game_row draughts (terms_at (place e p.event)) c.in-Starts.new.game (seated (Some c.as_str-in-Starts.result.now) p c.args.moment) ∷ []) []) es (c.in_ok-changes-in-Starts.ensures legal) in
-    let are = subst (λ n. ArePuts c.in_ok-changes-in-Starts.changes c.args.moment [] [] (game_row draughts (terms_at (place s.events p.event)) c.in-Starts.new.game (seated (Some n) p c.args.moment) ∷ []) []) c.as_str-in-Starts.ensures.value by_events in
+    let by_events = subst (λ e. PutsOnly c.in_ok-changes-in-Starts.changes c.args.moment [] [] (game_row draughts (terms_at (place e p.event)) c.in-Starts.new.game (seated (Some c.as_str-in-Starts.result.now) p c.args.moment) ∷ []) []) es (c.in_ok-changes-in-Starts.ensures legal) in
+    let are = subst (λ n. PutsOnly c.in_ok-changes-in-Starts.changes c.args.moment [] [] (game_row draughts (terms_at (place s.events p.event)) c.in-Starts.new.game (seated (Some n) p c.args.moment) ∷ []) []) c.as_str-in-Starts.ensures.value by_events in
     seat_decided s c.args.moment who key event first second p c.in-Starts.new.game c.in_ok-changes-in-Starts.changes is_club same are
 
 pub returns-in-Repeated-clause-step : goal.returns-in-Repeated-clause-step
@@ -52,7 +51,7 @@ returns-in-Repeated-clause-step g c clean s is_club ms es k =
     let count = (c.in_ok-count_games.ensures.count clean (tables s) (c.in_ok-under_key.ensures.kept looked (tables s) k) (games_begin s)).0 in
     let games : c.in-Ok.games ≡ length s.games = omega (arith, c.in-Ok.ensures, count, numbered_length (game_in s) 1 s.games) in
     let step = seat_step s.members s.events (game_under s.games key) (length s.games) key event first second in
-    let same = c.in-Repeated.ensures ∙ (λ i. by_officer who (seat_step (ms i) (es i) (under i) (games i) key event first second)) in
+    let same = seat_same _ who key event first second _ s.members _ s.events _ (game_under s.games key) _ (length s.games) c.in-Repeated.ensures ms es under games in
     officer_none s (with_new_game s c.args.moment key) who step c.unchanged.result (given.Repeated (answer.Game c.in-Repeated.game)) c.unchanged.ensures.outcome c.unchanged.ensures.none (ap answered same) refl
 
 pub returns-in-Refused-clause-step : goal.returns-in-Refused-clause-step
@@ -67,5 +66,5 @@ returns-in-Refused-clause-step g c clean s is_club ms es k =
     let count = (c.in_ok-count_games.ensures.count clean (tables s) (c.in_ok-under_key.ensures.kept looked (tables s) k) (games_begin s)).0 in
     let games : c.in-Ok.games ≡ length s.games = omega (arith, c.in-Ok.ensures, count, numbered_length (game_in s) 1 s.games) in
     let step = seat_step s.members s.events (game_under s.games key) (length s.games) key event first second in
-    let same = c.in-Refused.ensures ∙ (λ i. by_officer who (seat_step (ms i) (es i) (under i) (games i) key event first second)) in
+    let same = seat_same _ who key event first second _ s.members _ s.events _ (game_under s.games key) _ (length s.games) c.in-Refused.ensures ms es under games in
     officer_none s (with_new_game s c.args.moment key) who step c.unchanged-in-Refused.result (given.Refused c.in-Refused.refusal) c.unchanged-in-Refused.ensures.outcome c.unchanged-in-Refused.ensures.none (ap answered same) refl

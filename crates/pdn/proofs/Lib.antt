@@ -1,0 +1,17 @@
+pub mod BackLemmas
+pub mod BeginningLemmas
+pub mod ChoiceLemmas
+pub mod FenBackLemmas
+pub mod FenBoardLemmas
+pub mod FenFormLemmas
+pub mod FenLemmas
+pub mod FenOneLemmas
+pub mod FormLemmas
+pub mod LandingLemmas
+pub mod OneMoveLemmas
+pub mod PassingLemmas
+pub mod ReadingLemmas
+pub mod ReadingValueLemmas
+pub mod TextLemmas
+pub mod ValueLemmas
+pub mod WritingLemmas

@@ -1,0 +1,35 @@
+-- The one of some moves that fits, if there is one.
+use Rattle.std.specs.Prelude.{◌≡◌, ◌≢◌, ◌==◌, ◌&&◌, Bool, Option, Some, None, List}
+use Rattle.squares.specs.declared.draughts.moves.DMove.{DMove}
+use Rattle.squares.specs.DraughtsSets.{same_squares}
+use Rattle.squares.specs.In.{In}
+use Rattle.pdn.specs.declared.faults.PdnFault.{PdnFault}
+use Rattle.pdn.specs.declared.faults.PdnFault.TheVariants as fault
+
+abbrev pub same_move : DMove → DMove → Bool
+same_move a b = (a.from == b.from) && ((a.to == b.to) && same_squares a.taken b.taken)
+
+-- none fits, or this one and no other
+abbrev pub IsChoice : (DMove → Type 0) → List DMove → Option DMove → Type 0
+IsChoice F moves None = (n : DMove) → In n moves → F n → ⊥
+IsChoice F moves (Some m) = In m moves × F m × ((n : DMove) → In n moves → F n → n ≡ m)
+
+-- two different moves fit
+abbrev pub IsTie : (DMove → Type 0) → List DMove → Type 0
+IsTie F moves = (m : DMove) × (n : DMove) × In m moves × F m × In n moves × F n × (m ≢ n)
+
+-- why there is no choice
+abbrev pub IsChoiceFault : (DMove → Type 0) → List DMove → PdnFault → Type 0
+IsChoiceFault F moves fault.Memory = Unit {0}
+IsChoiceFault F moves (fault.BadText offset) = ⊥
+IsChoiceFault F moves (fault.Ambiguous ply) = (ply ≡ 1) × IsTie F moves
+IsChoiceFault F moves (fault.Illegal ply cause) = ⊥
+
+-- a move that fits beside the choice so far: it is the same or the first, or there are two
+abbrev pub Joins : Option DMove → DMove → DMove → Type 0
+Joins None n m = m ≡ n
+Joins (Some other) n m = (m ≡ n) × (m ≡ other)
+
+abbrev pub Parts : Option DMove → DMove → PdnFault → Type 0
+Parts None n e = ⊥
+Parts (Some other) n e = (e ≡ fault.Ambiguous 1) × (other ≢ n)

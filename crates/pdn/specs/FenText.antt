@@ -1,0 +1,43 @@
+-- A position of draughts as text (FEN): the side to move, then White's and Black's pieces by ascending squares, `K` before a king.
+use Rattle.std.specs.Prelude.{ℕ, List, ◌∷◌, ◌++◌, Bool, true, false, Option, Some, None, codes, if◌then◌else◌}
+use Rattle.std.specs.List.{filter_map, join_with_byte, range_with_len}
+use Rattle.std.specs.FinMap as map
+use Rattle.squares.specs.declared.sides.Side.{Side}
+use Rattle.squares.specs.declared.sides.Side.TheVariants.{First, Second}
+use Rattle.squares.specs.declared.draughts.piece.DPiece.{DPiece}
+use Rattle.squares.specs.Sides.{same_side}
+use Rattle.squares.specs.DraughtsBoard.{Board, Position}
+use Rattle.pdn.specs.SquareText.{square_text}
+
+abbrev pub side_letter : Side → List ℕ
+side_letter First = codes "W"
+side_letter Second = codes "B"
+
+-- a piece on a square
+abbrev pub piece_text : ℕ → DPiece → List ℕ
+piece_text square piece = if piece.king then 75 ∷ square_text square else square_text square
+
+-- a piece on a square, if it is that side's
+abbrev pub piece_of : Side → ℕ → Option DPiece → Option (List ℕ)
+piece_of side square None = None
+piece_of side square (Some piece) = if same_side piece.side side then Some (piece_text square piece) else None
+
+-- a piece's text in a list: after a comma, unless it is the first
+abbrev pub next_text : Bool → List ℕ → List ℕ
+next_text true item = item
+next_text false item = 44 ∷ item
+
+-- the pieces of a side on those squares, parted by commas
+unfoldable pub pieces_on : Side → Board → List ℕ → List ℕ
+pieces_on side board squares = join_with_byte 44 (filter_map (λ square. piece_of side square (map.get board square)) squares)
+
+-- the squares of the board, ascending
+unfoldable pub all_squares : List ℕ
+all_squares = range_with_len 1 50
+
+abbrev pub pieces_text : Side → Board → List ℕ
+pieces_text side board = pieces_on side board all_squares
+
+unfoldable pub fen_text : Position → List ℕ
+fen_text p =
+    side_letter p.turn ++ codes ":W" ++ pieces_text First p.board ++ codes ":B" ++ pieces_text Second p.board

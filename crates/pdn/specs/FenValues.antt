@@ -1,0 +1,6 @@
+-- The form that the reader of positions answers.
+use Rattle.pdn.specs.declared.fen_form.FenForm as answer
+use Rattle.pdn.specs.FenForm.{FenForm}
+
+abbrev pub form_value : answer.FenForm → FenForm
+form_value form = record { turn = form.turn; items = form.items.items }

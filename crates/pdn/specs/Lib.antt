@@ -1,0 +1,17 @@
+pub mod Beginnings
+pub mod Choice
+pub mod FenForm
+pub mod FenItems
+pub mod FenText
+pub mod FenValues
+pub mod Forms
+pub mod Laws
+pub mod MoveText
+pub mod MoveValue
+pub mod Passing
+pub mod Reaching
+pub mod ReadFen
+pub mod ReadForms
+pub mod ReadMove
+pub mod SquareText
+pub mod Subsequence

@@ -1,0 +1,84 @@
+-- The written text of a move, and the reading of one, as functions of the position.
+use Rattle.std.specs.Prelude.{ℕ, ◌==◌, ◌&&◌, ◌||◌, not, Bool, List, [], ◌∷◌, Option, Some, None, Result, Ok, Err, if◌then◌else◌}
+use Rattle.std.specs.List.{list_any, list_all, range_with_len}
+use Rattle.std.specs.Option.{option_map_or}
+use Rattle.std.specs.FinSet as set
+use Rattle.squares.specs.declared.draughts.moves.DMove.{DMove}
+use Rattle.squares.specs.DraughtsBoard.{Position}
+use Rattle.squares.specs.OrderedLists.{put_all}
+use Rattle.draughts_moves.specs.declared.checking.Illegal.{Illegal}
+use Rattle.draughts_moves.specs.declared.checking.Illegal.TheVariants.{NoSuchMove, NotLongest}
+use Rattle.draughts_moves.specs.Capture.{without}
+use Rattle.draughts_moves.specs.Search.{own_at, most}
+use Rattle.draughts_moves.specs.Listing.{moves, captures_at, step_to}
+use Rattle.draughts_moves.specs.Routes.{route_cmp, landings_of}
+use Rattle.draughts_moves.specs.Check.{Answer, check_of}
+use Rattle.pdn.specs.declared.faults.PdnFault.{PdnFault}
+use Rattle.pdn.specs.declared.faults.PdnFault.TheVariants as fault
+use Rattle.pdn.specs.Forms.{Form, FormReading, quiet, capture, read_form}
+use Rattle.pdn.specs.Passing.{passes}
+use Rattle.pdn.specs.Choice.{same_move}
+use Rattle.pdn.specs.MoveText.{is_like, quiet_text, capture_text}
+
+-- the legal moves, some of them perhaps twice
+unfoldable pub legal_moves : Position → List DMove
+legal_moves p = moves p (most p)
+
+-- the routes of a capture
+unfoldable pub routes_in : Position → DMove → List (List ℕ)
+routes_in p m = option_map_or (λ q. landings_of (without p.board m.from) q m.taken m.to (set.len m.taken) set.empty m.from) (own_at p m.from) []
+
+abbrev pub first_of : List (List ℕ) → List ℕ → List ℕ
+first_of [] none = none
+first_of (route ∷ routes) none = route
+
+-- the landing squares that the text of a capture names
+abbrev pub named : Position → DMove → List ℕ
+named p m = if list_any (is_like m) (legal_moves p) then first_of (put_all route_cmp (routes_in p m) []) (m.to ∷ []) else m.to ∷ []
+
+unfoldable pub move_text : Position → DMove → List ℕ
+move_text p m = if set.len m.taken == 0 then quiet_text m.from m.to else capture_text m.from (named p m)
+
+-- whether the text of a capture fits a move
+unfoldable pub does_fit : Position → ℕ → List ℕ → ℕ → DMove → Bool
+does_fit p from middle to m = (m.from == from) && ((m.to == to) && list_any (passes middle) (routes_in p m))
+
+abbrev pub Choosing : Type 0
+Choosing = Result (Option DMove) PdnFault
+
+-- the one of the moves that fits, if there is one
+abbrev pub choose : (DMove → Bool) → List DMove → Choosing
+choose fits [] = Ok None
+choose fits (m ∷ moves) =
+    if fits m then if list_all (λ n. not (fits n) || same_move m n) moves then Ok (Some m) else Err (fault.Ambiguous 1) else choose fits moves
+
+-- whether any capture fits
+unfoldable pub some_fit : Position → ℕ → List ℕ → ℕ → Bool
+some_fit p from middle to = list_any (λ n. list_any (does_fit p from middle to) (captures_at p n from)) (range_with_len 0 51)
+
+abbrev pub illegal : Illegal → PdnFault
+illegal cause = fault.Illegal 1 cause
+
+abbrev pub Reading : Type 0
+Reading = Result DMove PdnFault
+
+abbrev pub chosen : Bool → Choosing → Reading
+chosen some (Err e) = Err e
+chosen some (Ok (Some m)) = Ok m
+chosen some (Ok None) = Err (illegal (if some then NotLongest else NoSuchMove))
+
+abbrev pub checked : DMove → Answer → Reading
+checked m (Ok u) = Ok m
+checked m (Err cause) = Err (illegal cause)
+
+abbrev pub form_reading : Position → Form → Reading
+form_reading p (quiet from to) = checked (step_to from to) (check_of p (step_to from to))
+form_reading p (capture from middle to) = chosen (some_fit p from middle to) (choose (does_fit p from middle to) (legal_moves p))
+
+abbrev pub with_form : Position → FormReading → Reading
+with_form p (Err offset) = Err (fault.BadText offset)
+with_form p (Ok form) = form_reading p form
+
+-- the move that a text stands for, or what is wrong with the text
+unfoldable pub move_reading : Position → List ℕ → Reading
+move_reading p text = with_form p (read_form text)

@@ -1,0 +1,6 @@
+-- Whether a route passes squares before its last one.
+use Rattle.std.specs.Prelude.{ℕ, ◌-◌, ◌&&◌, nat_lt, List, length, take, Bool}
+use Rattle.pdn.specs.Subsequence.{is_subsequence}
+
+abbrev pub passes : List ℕ → List ℕ → Bool
+passes middle route = nat_lt 0 (length route) && is_subsequence middle (take (length route - 1) route)

@@ -1,0 +1,18 @@
+-- What the reader of forms answers.
+use Rattle.std.specs.Prelude.{◌≡◌, Err}
+use Rattle.pdn.specs.declared.faults.PdnFault.{PdnFault}
+use Rattle.pdn.specs.declared.faults.PdnFault.TheVariants as fault
+use Rattle.pdn.specs.declared.forms.Form as answer
+use Rattle.pdn.specs.declared.forms.Form.TheVariants as named
+use Rattle.pdn.specs.Forms.{Form, FormReading, quiet, capture}
+
+abbrev pub form_of : answer.Form → Form
+form_of (named.Quiet from to) = quiet from to
+form_of (named.Capture from middle to) = capture from middle.items to
+
+-- a fault of a text that has none of the forms
+abbrev pub IsBadForm : FormReading → PdnFault → Type 0
+IsBadForm reading fault.Memory = Unit {0}
+IsBadForm reading (fault.BadText offset) = reading ≡ Err offset
+IsBadForm reading (fault.Ambiguous ply) = ⊥
+IsBadForm reading (fault.Illegal ply cause) = ⊥

@@ -1,0 +1,87 @@
+//! Positions as text: FEN.
+
+ghost use Rattle.std.specs.Prelude.{◌≡◌, ◌++◌, OnOk, IfOk, string_bytes};
+ghost use Rattle.std.specs.Option.{option_map};
+ghost use Rattle.std.specs.FinMap as map;
+ghost use Rattle.pdn.specs.FenText.{side_letter, piece_text, piece_of, next_text, pieces_text, fen_text};
+
+use crate::squares_text::push_square;
+use draughts_moves::Memory;
+use squares::{DPiece, DPos, Dsq, Side};
+use std::alloc::Global;
+
+// Adds a piece on a square: `K` for a king, and the square's number.
+fn push_piece(text: &mut String, square: Dsq, piece: DPiece) -> Result<(), Memory>
+    ensures { OnOk result
+        (string_bytes text.new ≡ string_bytes text.old ++ piece_text square piece) }
+{
+    if piece.king {
+        text.push_str("K")?;
+    }
+    push_square(text, square)?;
+    Ok(())
+}
+
+// Adds a piece that is not the first after a comma.
+fn push_next(text: &mut String, is_first: bool, square: Dsq, piece: DPiece) -> Result<(), Memory>
+    ensures { OnOk result
+        (string_bytes text.new
+        ≡ string_bytes text.old ++ next_text is_first (piece_text square piece)) }
+{
+    if !is_first {
+        text.push_str(",")?;
+    }
+    push_piece(text, square, piece)?;
+    Ok(())
+}
+
+// Adds the pieces of a side, parted by commas.
+fn push_pieces(text: &mut String, position: &DPos, side: Side) -> Result<(), Memory>
+    ensures { OnOk result
+        (string_bytes text.new ≡ string_bytes text.old ++ pieces_text side position.now.board) }
+{
+    let mut is_first = true;
+    for square in &Dsq::all() {
+        match own_piece(position, side, *square) {
+            Some(piece) => {
+                push_next(text, is_first, *square, piece)?;
+                is_first = false;
+            }
+            None => {}
+        }
+    }
+    Ok(())
+}
+
+// The piece on a square, if it is that side's.
+fn own_piece(position: &DPos, side: Side, square: Dsq) -> Option<DPiece>
+    ensures { option_map (piece_text square) result ≡ piece_of side square (map.get position.now.board square) }
+{
+    match position.at(square) {
+        Some(piece) if piece.side == side => Some(piece),
+        _ => None,
+    }
+}
+
+/// The position as FEN: the side to move, then White's pieces and Black's, each by ascending squares: `W:W28,K46:B7,8`.
+#[tactic(auto, unfolding(crate::specs::FenText::fen_text))]
+pub fn write_fen(alloc: Global, position: &DPos) -> Result<String, Memory>
+    ensures { IfOk result (λ text. string_bytes text ≡ fen_text position.now) }
+{
+    let mut text = String::new(alloc);
+    text.push_str(letter(position.turn()))?;
+    text.push_str(":W")?;
+    push_pieces(&mut text, position, Side::First)?;
+    text.push_str(":B")?;
+    push_pieces(&mut text, position, Side::Second)?;
+    Ok(text)
+}
+
+fn letter(side: Side) -> &'static str
+    ensures { result.now ≡ side_letter side }
+{
+    match side {
+        Side::First => "W",
+        Side::Second => "B",
+    }
+}

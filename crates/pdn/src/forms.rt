@@ -1,0 +1,124 @@
+//! The forms of a move's text.
+ghost use Rattle.std.specs.Prelude.{◌≡◌, ◌-◌, ◌≤◌, IfOk, IfErr, MatchOption, Ok, Some, None, length};
+ghost use Rattle.pdn.specs.SquareText.{read_square};
+ghost use Rattle.pdn.specs.Forms.{past_hyphen, past_cross, read_landings, quiet_of, capture_of, read_form};
+ghost use Rattle.pdn.specs.ReadForms.{form_of, IsBadForm};
+
+use crate::faults::PdnFault;
+use crate::squares_text::read_square;
+use squares::Dsq;
+use std::alloc::Global;
+
+/// What the text of a move names.
+#[derive(Drop)]
+pub enum Form {
+    /// The two squares of a move that takes nothing.
+    Quiet {
+        from: Dsq,
+        to: Dsq,
+    },
+    /// The first square of a capture, landing squares on its way, and the last.
+    Capture {
+        from: Dsq,
+        middle: Vec<Dsq>,
+        to: Dsq,
+    },
+}
+
+// The second square of a quiet move, of a text of `total` bytes.
+fn read_quiet(from: Dsq, total: usize, text: &[u8]) -> Result<Form, PdnFault>
+    requires { length text.now ≤ total }
+    ensures form { IfOk result
+        (λ form. quiet_of from (total - length text.now) total (read_square text.now)
+        ≡ Ok (form_of form)) }
+    ensures fault { IfErr result
+        (λ fault. IsBadForm (quiet_of from (total - length text.now) total (read_square text.now)) fault) }
+{
+    let front = match read_square(text) {
+        Ok(front) => front,
+        Err(bytes) => return Err(PdnFault::BadText(total - text.len() + bytes)),
+    };
+    if front.rest.len() > 0 {
+        return Err(PdnFault::BadText(total - front.rest.len()));
+    }
+    Ok(Form::Quiet {
+        from,
+        to: front.square,
+    })
+}
+
+// What follows a hyphen, if the text begins with one.
+fn past_hyphen(text: &[u8]) -> Option<&[u8]>
+    ensures { MatchOption result
+        (past_hyphen text.now ≡ None) (λ rest. past_hyphen text.now ≡ Some rest.now) }
+{
+    match text {
+        [b'-', rest @ ..] => Some(rest),
+        _ => None,
+    }
+}
+
+// What follows an `x` or a `:`, if the text begins with one.
+fn past_cross(text: &[u8]) -> Option<&[u8]>
+    ensures { MatchOption result
+        (past_cross text.now ≡ None) (λ rest. past_cross text.now ≡ Some rest.now) }
+{
+    match text {
+        [b'x', rest @ ..] => Some(rest),
+        [b':', rest @ ..] => Some(rest),
+        _ => None,
+    }
+}
+
+// The landing squares of a capture, of a text of `total` bytes.
+fn read_capture(alloc: Global, from: Dsq, total: usize, text: &[u8]) -> Result<Form, PdnFault>
+    requires { length text.now ≤ total }
+    ensures form { IfOk result
+        (λ form. capture_of from (total - length text.now) (read_landings text.now)
+        ≡ Ok (form_of form)) }
+    ensures fault { IfErr result
+        (λ fault. IsBadForm (capture_of from (total - length text.now) (read_landings text.now)) fault) }
+{
+    let mut middle = Vec::new(alloc);
+    let mut rest = text;
+    loop {
+        let front = match read_square(rest) {
+            Ok(front) => front,
+            Err(bytes) => return Err(PdnFault::BadText(total - rest.len() + bytes)),
+        };
+        if front.rest.len() == 0 {
+            return Ok(Form::Capture {
+                from,
+                middle,
+                to: front.square,
+            });
+        }
+        match past_cross(front.rest) {
+            Some(more) => {
+                middle.push(front.square)?;
+                rest = more;
+            }
+            None => return Err(PdnFault::BadText(total - front.rest.len())),
+        }
+    }
+}
+
+/// The form of a text, or the fault that it has none.
+pub fn read_form(alloc: Global, text: &[u8]) -> Result<Form, PdnFault>
+    ensures form { IfOk result (λ form. read_form text.now ≡ Ok (form_of form)) }
+    ensures fault { IfErr result (λ fault. IsBadForm (read_form text.now) fault) }
+{
+    let total = text.len();
+    let front = match read_square(text) {
+        Ok(front) => front,
+        Err(bytes) => return Err(PdnFault::BadText(bytes)),
+    };
+    match past_hyphen(front.rest) {
+        Some(rest) => return read_quiet(front.square, total, rest),
+        None => {}
+    }
+    match past_cross(front.rest) {
+        Some(rest) => read_capture(alloc, front.square, total, rest),
+        None => Err(PdnFault::BadText(total - front.rest.len())),
+    }
+}

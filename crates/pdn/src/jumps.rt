@@ -1,0 +1,167 @@
+//! The jumps of a piece from a square.
+ghost use Rattle.std.specs.Prelude.{◌≡◌, ◌+◌, ◌<◌, ◌≤◌, [], ◌∷◌, ◌++◌, length, map, not};
+ghost use Rattle.draughts_moves.specs.Capture.{without};
+ghost use Rattle.squares.specs.DraughtsGeometry.{ray};
+ghost use Rattle.draughts_moves.specs.Search.{clear_front, is_prey, king_jumps, man_jumps, line_jumps, jumps};
+
+use crate::mover::Mover;
+use squares::{DPiece, DPos, Direction, Dsq, Ray};
+use std::marker::Model;
+
+/// Jumps, each by the square jumped over and the landing.
+#[derive(Drop)]
+pub struct Jumps {
+    jumps: [(Dsq, Dsq); 36],
+    len: usize,
+}
+
+impl Model for Jumps {
+    ghost use Rattle.std.specs.Prelude.{◌≡◌, ℕ, ◌≤◌, List, length, take};
+
+    ghost Value = { List (ℕ × ℕ) };
+
+    ghost view = { λ j. take j.len j.jumps };
+
+    ghost invariant = { λ j. (j.len ≤ 36) × (length j.jumps ≡ 36) };
+}
+
+impl Jumps {
+    fn new(at: Dsq) -> Jumps
+        ensures { result ≡ [] }
+    {
+        Jumps {
+            jumps: [(at, at); 36],
+            len: 0,
+        }
+    }
+
+    fn push(&mut self, over: Dsq, to: Dsq)
+        requires { length self.old < 36 }
+        ensures { self.new ≡ self.old ++ (over, to) ∷ [] }
+    {
+        self.jumps[self.len] = (over, to);
+        self.len += 1;
+    }
+
+    /// How many jumps there are.
+    pub fn len(&self) -> usize
+        ensures { result ≡ length self.now }
+    {
+        self.len
+    }
+
+    /// The jumps in the order in which they were found.
+    pub fn items(&self) -> &[(Dsq, Dsq)]
+        ensures { result.now ≡ self.now }
+    {
+        &self.jumps[..self.len]
+    }
+}
+
+// What stands on a square, once the piece on `origin` has left it.
+fn stands(position: &DPos, origin: Dsq, square: Dsq) -> Option<DPiece>
+    ensures { result ≡ without position.now.board origin square }
+{
+    if square == origin {
+        return None;
+    }
+    position.at(square)
+}
+
+// Whether an enemy stands there that is not taken.
+fn is_prey(position: &DPos, mover: &Mover, square: Dsq) -> bool
+    ensures { result
+        ≡ is_prey (without position.now.board mover.now.origin) mover.now.piece mover.now.taken square }
+{
+    match stands(position, mover.origin, square) {
+        Some(other) => mover.piece.side != other.side && !mover.taken.contains(square),
+        None => false,
+    }
+}
+
+// Adds the landings behind an enemy, the squares of the line up to the first piece.
+fn landings(position: &DPos, origin: Dsq, over: Dsq, line: &[Dsq], jumps: &mut Jumps)
+    requires room { length jumps.old + length line.now ≤ 36 }
+    ensures added { jumps.new ≡ jumps.old
+        ++ map (λ l. (over, l)) (clear_front (without position.now.board origin) line.now) }
+    ensures room { length jumps.new ≤ length jumps.old + length line.now }
+{
+    for square in line {
+        match stands(position, origin, *square) {
+            Some(_) => return,
+            None => jumps.push(over, *square),
+        }
+    }
+}
+
+// Adds a king's jumps along a line.
+fn king_jumps(position: &DPos, mover: &Mover, line: &[Dsq], jumps: &mut Jumps)
+    requires room { length jumps.old + length line.now ≤ 36 }
+    ensures added { jumps.new ≡ jumps.old
+        ++ king_jumps (without position.now.board mover.now.origin)
+        mover.now.piece mover.now.taken line.now }
+    ensures room { length jumps.new ≤ length jumps.old + length line.now }
+{
+    for (i, square) in line.iter().enumerate() {
+        match stands(position, mover.origin, *square) {
+            None => {}
+            Some(_) => {
+                if is_prey(position, mover, *square) {
+                    landings(position, mover.origin, *square, &line[i + 1..], jumps);
+                }
+                return;
+            }
+        }
+    }
+}
+
+// Adds a man's jump along a line, if it has one.
+fn man_jumps(position: &DPos, mover: &Mover, line: &[Dsq], jumps: &mut Jumps)
+    requires room { length jumps.old + length line.now ≤ 36 }
+    ensures added { jumps.new ≡ jumps.old
+        ++ man_jumps (without position.now.board mover.now.origin)
+        mover.now.piece mover.now.taken line.now }
+    ensures room { length jumps.new ≤ length jumps.old + length line.now }
+{
+    match line {
+        [over, to, ..] => {
+            if is_prey(position, mover, *over) {
+                match stands(position, mover.origin, *to) {
+                    None => jumps.push(*over, *to),
+                    Some(_) => {}
+                }
+            }
+        }
+        _ => {}
+    }
+}
+
+// Adds the jumps in a direction.
+fn jumps_along(position: &DPos, mover: &Mover, toward: Direction, jumps: &mut Jumps)
+    requires room { length jumps.old + 9 ≤ 36 }
+    ensures added { jumps.new ≡ jumps.old
+        ++ line_jumps (without position.now.board mover.now.origin)
+        mover.now.piece mover.now.taken (ray toward mover.now.at) }
+    ensures room { length jumps.new ≤ length jumps.old + 9 }
+{
+    let ray = Ray::new(mover.at, toward);
+    if mover.piece.king {
+        king_jumps(position, mover, ray.squares(), jumps);
+    } else {
+        man_jumps(position, mover, ray.squares(), jumps);
+    }
+}
+
+/// The jumps that a piece can make next.
+#[tactic(auto, unfolding(draughts_moves::specs::Search::jumps))]
+pub fn jumps_from(position: &DPos, mover: &Mover) -> Jumps
+    ensures { result ≡ jumps (without position.now.board mover.now.origin)
+        mover.now.piece mover.now.taken mover.now.at }
+{
+    let mut jumps = Jumps::new(mover.at);
+    jumps_along(position, mover, Direction::UpLeft, &mut jumps);
+    jumps_along(position, mover, Direction::UpRight, &mut jumps);
+    jumps_along(position, mover, Direction::DownLeft, &mut jumps);
+    jumps_along(position, mover, Direction::DownRight, &mut jumps);
+    jumps
+}

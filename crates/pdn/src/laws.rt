@@ -1,0 +1,39 @@
+//! What ties the writing and the reading of texts.
+ghost use Rattle.pdn.specs.Beginnings.{SaysLongestBeginning};
+ghost use Rattle.pdn.specs.Laws.{ReadsBack, ReadsOneMove, WritesOneText, ReadsByRules, ReadsOnePosition, ReadsPositionBack};
+
+/// What is written for a legal move is read as that move.
+pub fn reads_back()
+    ensures { ReadsBack }
+{}
+
+/// A text is read as one move at most, and a text that is read has no fault.
+pub fn reads_one_move()
+    ensures { ReadsOneMove }
+{}
+
+/// The function of position and move that gives the written text gives its only one.
+pub fn writes_one_text()
+    ensures { WritesOneText }
+{}
+
+/// The function of position and text that gives the reading answers as the rules say.
+pub fn reads_by_rules()
+    ensures { ReadsByRules }
+{}
+
+/// A text is read as one position at most, and a text that is read has no fault.
+pub fn reads_one_position()
+    ensures { ReadsOnePosition }
+{}
+
+/// What is written for a position is read as that position.
+pub fn reads_position_back()
+    ensures { ReadsPositionBack }
+{}
+
+/// Of a text that is no move's, the reader says how long its longest beginning is that begins a
+/// move's text.
+pub fn says_longest_beginning()
+    ensures { SaysLongestBeginning }
+{}

@@ -1,0 +1,27 @@
+//! The texts of international draughts in Portable Draughts Notation (PDN): positions as FEN, and moves.
+#![tactic(auto)]
+
+pub mod faults;
+pub mod fen;
+mod fen_form;
+mod forms;
+mod items;
+mod jumps;
+pub mod laws;
+mod mover;
+pub mod moves;
+mod passing;
+mod reaching;
+pub mod reading;
+pub mod reading_fen;
+mod squares_text;
+
+pub use draughts_moves::Memory;
+pub use faults::PdnFault;
+pub use fen::write_fen;
+pub use moves::write_move;
+pub use reading::read_move;
+pub use reading_fen::read_fen;
+
+#[cfg(test)]
+mod tests;

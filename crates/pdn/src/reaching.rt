@@ -1,0 +1,61 @@
+//! Whether any capture passes the squares that a text names.
+ghost use Rattle.std.specs.Prelude.{◌≡◌, ◌↔◌, [], IsTrue};
+ghost use Rattle.draughts_moves.specs.Capture.{without};
+ghost use Rattle.draughts_moves.specs.Search.{own_at};
+ghost use Rattle.pdn.specs.Reaching.{GoesTo};
+ghost use Rattle.pdn.specs.ReadMove.{SomeFits};
+
+use crate::jumps::jumps_from;
+use crate::mover::Mover;
+use crate::passing::past;
+use squares::{DPiece, DPos, Dsq};
+
+fn ends_here(middle: &[Dsq], to: Dsq, landing: Dsq) -> bool
+    ensures { IsTrue result ↔ ((middle.now ≡ []) × (landing ≡ to)) }
+{
+    middle.is_empty() && landing == to
+}
+
+// Whether more jumps lead to a square, with landings on the others before it in their order.
+fn goes_to(position: &DPos, mover: &Mover, middle: &[Dsq], to: Dsq) -> bool
+    ensures { IsTrue result
+        ↔ GoesTo (without position.now.board mover.now.origin) mover.now.piece
+        mover.now.taken mover.now.at middle.now to }
+{
+    let jumps = jumps_from(position, mover);
+    for (over, landing) in jumps.items() {
+        if ends_here(middle, to, *landing) {
+            return true;
+        }
+        let next = mover.jumped(*over, *landing);
+        if goes_to(position, &next, past(middle, *landing), to) {
+            return true;
+        }
+    }
+    false
+}
+
+// The piece on a square, if it is of the side to move.
+fn own_at(position: &DPos, square: Dsq) -> Option<DPiece>
+    ensures { result ≡ own_at position.now square }
+{
+    match position.at(square) {
+        Some(piece) => {
+            if piece.side == position.turn() {
+                return Some(piece);
+            }
+            None
+        }
+        None => None,
+    }
+}
+
+/// Whether the text of a capture fits any, be it legal or not.
+pub fn some_fits(position: &DPos, from: Dsq, middle: &[Dsq], to: Dsq) -> bool
+    ensures { IsTrue result ↔ SomeFits position.now from middle.now to }
+{
+    match own_at(position, from) {
+        Some(piece) => goes_to(position, &Mover::new(piece, from), middle, to),
+        None => false,
+    }
+}
