@@ -1,7 +1,7 @@
 ghost use Rattle.std.specs.Prelude.{◌≡◌, false};
 
-use crate::find::{count_games, game_with_id, game_with_key, moves_of};
 use crate::changes::Changes;
+use crate::find::{count_games, game_with_id, game_with_key, moves_of};
 use crate::{Club, OpenFault, StoreFault, Table, adopt, create};
 use clocks::Moment;
 use club_core::{AddMember, Answer, Command, Outcome, Who};
