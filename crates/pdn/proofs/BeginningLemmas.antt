@@ -1,9 +1,8 @@
 -- What was read of a text is read again whatever follows it.
-use Rattle.std.proofs.Common.{◌≡◌, ℕ, zero, suc, ◌+◌, ◌-◌, ◌*◌, ◌<◌, ◌≤◌, Bool, true, false, cond, nat_eq, nat_le, ◌&&◌, List, [], ◌∷◌, ◌++◌, length, take, Result, Ok, Err, refl, sym, ap, ◌∙◌, subst, append_assoc, append-nil, arith}
+use Rattle.std.proofs.Common.{◌≡◌, ℕ, zero, suc, ◌+◌, ◌-◌, ◌*◌, ◌<◌, ◌≤◌, Bool, true, false, cond, nat_eq, nat_le, ◌&&◌, List, [], ◌∷◌, ◌++◌, length, Result, Ok, Err, refl, sym, ap, ◌∙◌, subst, append_assoc, append-nil, arith}
 use Rattle.squares.specs.DraughtsMarks.{nat_eq_other}
 use Rattle.pdn.specs.SquareText.{FrontReading, is_digit, read_second, read_number, after_zero, read_square}
 use Rattle.pdn.specs.Forms.{quiet, capture, LandingsReading, is_cross, after_squares, at_cross, after_landing, read_landings, capture_of, quiet_of, at_mark, read_from, read_form}
-use Rattle.pdn.specs.Beginnings.{Begins, IsLongestBeginning}
 use Rattle.pdn.proofs.FormLemmas.{read_landings-step}
 use Rattle.pdn.proofs.TextLemmas.{EndsNumber, read_second-ends}
 
@@ -189,21 +188,21 @@ pub record Wrong {V : Type 0} (read : List ℕ → Result V ℕ) (text : List �
 square-or : (text : List ℕ) (r : FrontReading) → read_square text ≡ r → Outcome read_square text r
 square-or text r e = subst (Outcome read_square text) e (square-outcome text)
 
-landings-by : (text : List ℕ) (r : FrontReading) → read_square text ≡ r → read_landings text ≡ after_landing read_landings (length text) r
+pub landings-by : (text : List ℕ) (r : FrontReading) → read_square text ≡ r → read_landings text ≡ after_landing read_landings (length text) r
 landings-by text r e = read_landings-step text ∙ ap (after_landing read_landings (length text)) e
 
-lengths : (xs ys : List ℕ) → length (xs ++ ys) ≡ length xs + length ys
+pub lengths : (xs ys : List ℕ) → length (xs ++ ys) ≡ length xs + length ys
 lengths [] ys = omega arith
 lengths (x ∷ xs) ys = omega (arith, lengths xs ys)
 
-after_squares-err : (squares : List ℕ) (before k : ℕ) (r : LandingsReading) → after_squares squares before r ≡ Err k → (j : ℕ) × (r ≡ Err j) × (before + j ≡ k)
+pub after_squares-err : (squares : List ℕ) (before k : ℕ) (r : LandingsReading) → after_squares squares before r ≡ Err k → (j : ℕ) × (r ≡ Err j) × (before + j ≡ k)
 after_squares-err squares before k (Ok l) e = cc
 after_squares-err squares before k (Err j) e = (j, refl, cc)
 
-crossed : (n total m : ℕ) (more : List ℕ) → is_cross m ≡ true → at_cross read_landings total n (m ∷ more) ≡ after_squares (n ∷ []) (total - length more) (read_landings more)
+pub crossed : (n total m : ℕ) (more : List ℕ) → is_cross m ≡ true → at_cross read_landings total n (m ∷ more) ≡ after_squares (n ∷ []) (total - length more) (read_landings more)
 crossed n total m more e = ap (λ b. cond b (after_squares (n ∷ []) (total - length more) (read_landings more)) (Err (total - (length more + 1)))) e
 
-not_crossed : (n total m : ℕ) (more : List ℕ) → is_cross m ≡ false → at_cross read_landings total n (m ∷ more) ≡ Err (total - (length more + 1))
+pub not_crossed : (n total m : ℕ) (more : List ℕ) → is_cross m ≡ false → at_cross read_landings total n (m ∷ more) ≡ Err (total - (length more + 1))
 not_crossed n total m more e = ap (λ b. cond b (after_squares (n ∷ []) (total - length more) (read_landings more)) (Err (total - (length more + 1)))) e
 
 good-length : (text : List ℕ) (n m : ℕ) (more : List ℕ) (h : Good read_square text n (m ∷ more)) → length text ≡ length h.front + (1 + length more)
@@ -281,25 +280,25 @@ landings-wrong : (fuel : ℕ) (text : List ℕ) (k : ℕ) → length text ≤ fu
 landings-wrong zero text k fits e = step-wrong text k (λ t j h. absurd (omega arith)) (read_square text) (square-outcome text) (sym (read_landings-step text) ∙ e)
 landings-wrong (suc fuel) text k fits e = step-wrong text k (λ t j h. landings-wrong fuel t j (omega arith)) (read_square text) (square-outcome text) (sym (read_landings-step text) ∙ e)
 
-form-by : (text : List ℕ) (r : FrontReading) → read_square text ≡ r → read_form text ≡ read_from (length text) r
+pub form-by : (text : List ℕ) (r : FrontReading) → read_square text ≡ r → read_form text ≡ read_from (length text) r
 unfolding read_form
 form-by text r e = ap (read_from (length text)) e
 
-capture_of-err : (from before k : ℕ) (r : LandingsReading) → capture_of from before r ≡ Err k → (j : ℕ) × (r ≡ Err j) × (before + j ≡ k)
+pub capture_of-err : (from before k : ℕ) (r : LandingsReading) → capture_of from before r ≡ Err k → (j : ℕ) × (r ≡ Err j) × (before + j ≡ k)
 capture_of-err from before k (Ok l) e = cc
 capture_of-err from before k (Err j) e = (j, refl, cc)
 
-at_hyphen : (n total m : ℕ) (more : List ℕ) → nat_eq m 45 ≡ true → at_mark n total (m ∷ more) ≡ quiet_of n (total - length more) total (read_square more)
+pub at_hyphen : (n total m : ℕ) (more : List ℕ) → nat_eq m 45 ≡ true → at_mark n total (m ∷ more) ≡ quiet_of n (total - length more) total (read_square more)
 at_hyphen n total m more e = ap (λ b. cond b (quiet_of n (total - length more) total (read_square more)) (cond (is_cross m) (capture_of n (total - length more) (read_landings more)) (Err (total - (length more + 1))))) e
 
-at_capture : (n total m : ℕ) (more : List ℕ) → nat_eq m 45 ≡ false → is_cross m ≡ true → at_mark n total (m ∷ more) ≡ capture_of n (total - length more) (read_landings more)
+pub at_capture : (n total m : ℕ) (more : List ℕ) → nat_eq m 45 ≡ false → is_cross m ≡ true → at_mark n total (m ∷ more) ≡ capture_of n (total - length more) (read_landings more)
 at_capture n total m more e f = λ i. cond (e i) (quiet_of n (total - length more) total (read_square more)) (cond (f i) (capture_of n (total - length more) (read_landings more)) (Err (total - (length more + 1))))
 
-at_other : (n total m : ℕ) (more : List ℕ) → nat_eq m 45 ≡ false → is_cross m ≡ false → at_mark n total (m ∷ more) ≡ Err (total - (length more + 1))
+pub at_other : (n total m : ℕ) (more : List ℕ) → nat_eq m 45 ≡ false → is_cross m ≡ false → at_mark n total (m ∷ more) ≡ Err (total - (length more + 1))
 at_other n total m more e f = λ i. cond (e i) (quiet_of n (total - length more) total (read_square more)) (cond (f i) (capture_of n (total - length more) (read_landings more)) (Err (total - (length more + 1))))
 
 -- a quiet move's text that goes on
-over_err : (n before total t c : ℕ) (z : List ℕ) → quiet_of n before total (good t (c ∷ z)) ≡ Err (total - length (c ∷ z))
+pub over_err : (n before total t c : ℕ) (z : List ℕ) → quiet_of n before total (good t (c ∷ z)) ≡ Err (total - length (c ∷ z))
 over_err n before total t c z =
     let some : nat_eq (length (c ∷ z)) 0 ≡ false = nat_eq_other (length (c ∷ z)) 0 (λ e. omega arith) in
     ap (λ b. cond b (Ok (quiet n t)) (Err (total - length (c ∷ z)))) some
@@ -455,35 +454,5 @@ form-from text k (Ok front) h is = by_rest front.square front.rest h is
     by_rest n [] h is = let same : length text ≡ k = cc in subst (Wrong read_form text) same (form-stops text n h)
     by_rest n (m ∷ more) h is = after-mark text n m more h k is
 
-form-wrong : (text : List ℕ) (k : ℕ) → read_form text ≡ Err k → Wrong read_form text k
+pub form-wrong : (text : List ℕ) (k : ℕ) → read_form text ≡ Err k → Wrong read_form text k
 form-wrong text k e = form-from text k (read_square text) (square-outcome text) (sym (form-by text (read_square text) refl) ∙ e)
-
-take-front : (xs ys : List ℕ) → take (length xs) (xs ++ ys) ≡ xs
-take-front [] ys = refl
-take-front (x ∷ xs) ys = ap (λ r. x ∷ r) (take-front xs ys)
-
-take-past : (xs : List ℕ) (c : ℕ) (ys : List ℕ) (n : ℕ) → length xs < n → take n (xs ++ c ∷ ys) ≡ xs ++ c ∷ take (n - (length xs + 1)) ys
-take-past xs c ys zero h = absurd (omega arith)
-take-past [] c ys (suc n) h = ap (λ i. c ∷ take i ys) (omega arith)
-take-past (x ∷ xs) c ys (suc n) h = ap (λ r. x ∷ r) (take-past xs c ys n (omega arith)) ∙ ap (λ i. (x ∷ xs) ++ c ∷ take i ys) (omega arith)
-
-no-longer : (text : List ℕ) (k : ℕ) (w : Wrong read_form text k) (rest : List ℕ) → w.rest ≡ rest → (n : ℕ) → k < n → n ≤ length text → Begins (take n text) → ⊥
-no-longer text k w [] e n past within b = absurd (omega (arith, ap length w.split, lengths w.front w.rest, ap length e, w.size))
-no-longer text k w (c ∷ y) e n past within b =
-    let whole : text ≡ w.front ++ c ∷ y = w.split ∙ ap (λ t. w.front ++ t) e in
-    let cut = ap (take n) whole ∙ take-past w.front c y n (omega (arith, w.size)) in
-    let tail = take (n - (length w.front + 1)) y in
-    let joined : take n text ++ b.0 ≡ w.front ++ c ∷ (tail ++ b.0) = ap (λ t. t ++ b.0) cut ∙ append_assoc w.front (c ∷ tail) b.0 in
-    let bad = w.stable c y (tail ++ b.0) e in
-    let fine = ap read_form (sym joined) ∙ b.2 in
-    cc
-
-pub longest-beginning : (text : List ℕ) (k : ℕ) → read_form text ≡ Err k → IsLongestBeginning text k
-longest-beginning text k e =
-    let w = form-wrong text k e in
-    let cut : take k text ≡ w.front = ap (take k) w.split ∙ ap (λ n. take n (w.front ++ w.rest)) (sym w.size) ∙ take-front w.front w.rest in
-    record {
-      within = omega (arith, ap length w.split, lengths w.front w.rest, w.size);
-      begins = (w.goes_on, w.value, ap (λ t. read_form (t ++ w.goes_on)) cut ∙ w.viable);
-      longest = λ n past within b. no-longer text k w w.rest refl n past within b;
-    }

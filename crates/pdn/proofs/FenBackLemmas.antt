@@ -154,10 +154,10 @@ module _ (total : ℕ) (side : Side) (tail : List ℕ) (is_tail : IsTail tail) w
       let r = read_entries before e es on in
       record { items = r.items; are = r.are; read = some_items before (entries_text (e ∷ es) ++ tail) _ (starts e es on.0) r.read }
 
-colon-tail : (rest : List ℕ) → IsTail (58 ∷ rest)
+pub colon-tail : (rest : List ℕ) → IsTail (58 ∷ rest)
 colon-tail rest = record { number = refl; no_hyphen = refl; no_comma = refl; ends = refl }
 
-empty-tail : IsTail []
+pub empty-tail : IsTail []
 empty-tail = record { number = tt; no_hyphen = refl; no_comma = refl; ends = refl }
 
 -- the form of a written text

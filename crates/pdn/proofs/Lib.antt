@@ -4,10 +4,17 @@ pub mod ChoiceLemmas
 pub mod FenBackLemmas
 pub mod FenBoardLemmas
 pub mod FenFormLemmas
+pub mod FenGrammarLemmas
+pub mod FenItemStopLemmas
 pub mod FenLemmas
+pub mod FenListStopLemmas
 pub mod FenOneLemmas
+pub mod FenReadLemmas
+pub mod FenStopLemmas
 pub mod FormLemmas
+pub mod GrammarLemmas
 pub mod LandingLemmas
+pub mod OffsetLemmas
 pub mod OneMoveLemmas
 pub mod PassingLemmas
 pub mod ReadingLemmas

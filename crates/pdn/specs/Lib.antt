@@ -1,10 +1,13 @@
 pub mod Beginnings
 pub mod Choice
+pub mod FenBeginnings
 pub mod FenForm
+pub mod FenGrammar
 pub mod FenItems
 pub mod FenText
 pub mod FenValues
 pub mod Forms
+pub mod Grammar
 pub mod Laws
 pub mod MoveText
 pub mod MoveValue

@@ -1,5 +1,8 @@
 //! What ties the writing and the reading of texts.
-ghost use Rattle.pdn.specs.Beginnings.{SaysLongestBeginning};
+ghost use Rattle.pdn.specs.Beginnings.{OffsetsAreLongestBeginnings, SaysLongestBeginning};
+ghost use Rattle.pdn.specs.FenBeginnings.{FenOffsetsAreLongestBeginnings};
+ghost use Rattle.pdn.specs.FenGrammar.{FenFormsAreTexts};
+ghost use Rattle.pdn.specs.Grammar.{FormsAreTexts};
 ghost use Rattle.pdn.specs.Laws.{ReadsBack, ReadsOneMove, WritesOneText, ReadsByRules, ReadsOnePosition, ReadsPositionBack};
 
 /// What is written for a legal move is read as that move.
@@ -36,4 +39,26 @@ pub fn reads_position_back()
 /// move's text.
 pub fn says_longest_beginning()
     ensures { SaysLongestBeginning }
+{}
+
+/// The texts that are read as a form are those that the grammar of moves' texts gives it.
+pub fn forms_are_texts()
+    ensures { FormsAreTexts }
+{}
+
+/// A text is refused at an offset when it has no form, and so long is its longest beginning that
+/// begins a move's text.
+pub fn offsets_are_longest_beginnings()
+    ensures { OffsetsAreLongestBeginnings }
+{}
+
+/// The texts that are read as a position's form are those that the grammar gives it.
+pub fn fen_forms_are_texts()
+    ensures { FenFormsAreTexts }
+{}
+
+/// A text is refused as a position's at an offset when it has no such form, and so long is its
+/// longest beginning that begins a position's text.
+pub fn fen_offsets_are_longest_beginnings()
+    ensures { FenOffsetsAreLongestBeginnings }
 {}

@@ -1,4 +1,4 @@
-use Rattle.pdn.proofs.BeginningLemmas.{longest-beginning}
+use Rattle.pdn.proofs.OffsetLemmas.{longest-beginning}
 use Rattle.pdn.proofs.laws.says_longest_beginning.Goals as goal
 
 pub returns : goal.returns

@@ -1,0 +1,5 @@
+use Rattle.pdn.proofs.FenStopLemmas.{refused-offset, offset-refused}
+use Rattle.pdn.proofs.laws.fen_offsets_are_longest_beginnings.Goals as goal
+
+pub returns : goal.returns
+returns c = λ text bytes. (λ e. refused-offset text bytes e, λ h. offset-refused text bytes h.0 h.1)
