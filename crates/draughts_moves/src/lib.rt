@@ -2,13 +2,13 @@
 #![tactic(auto)]
 
 pub mod checking;
-mod jumps;
+pub mod jumps;
 pub mod laws;
 pub mod listing;
 mod longest;
 pub mod memory;
-mod most;
-mod mover;
+pub mod most;
+pub mod mover;
 mod ordering;
 pub mod playing;
 mod reaches;
@@ -16,8 +16,11 @@ pub mod routing;
 mod steps;
 
 pub use checking::{Illegal, check, has_move};
+pub use jumps::{Jumps, jumps_from};
 pub use listing::legal;
 pub use memory::Memory;
+pub use most::own_at;
+pub use mover::Mover;
 pub use playing::play;
 pub use routing::routes;
 

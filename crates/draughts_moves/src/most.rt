@@ -7,7 +7,7 @@ use crate::longest::longest;
 use crate::mover::Mover;
 use squares::{DPiece, DPos, Dsq};
 
-// The piece on a square, if it is of the side to move.
+/// The piece on a square, if it is of the side to move.
 pub fn own_at(position: &DPos, square: Dsq) -> Option<DPiece>
     ensures { result ≡ own_at position.now square }
 {

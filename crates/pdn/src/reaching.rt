@@ -1,14 +1,12 @@
 //! Whether any capture passes the squares that a text names.
 ghost use Rattle.std.specs.Prelude.{◌≡◌, ◌↔◌, [], IsTrue};
 ghost use Rattle.draughts_moves.specs.Capture.{without};
-ghost use Rattle.draughts_moves.specs.Search.{own_at};
 ghost use Rattle.pdn.specs.Reaching.{GoesTo};
 ghost use Rattle.pdn.specs.ReadMove.{SomeFits};
 
-use crate::jumps::jumps_from;
-use crate::mover::Mover;
 use crate::passing::past;
-use squares::{DPiece, DPos, Dsq};
+use draughts_moves::{Mover, jumps_from, own_at};
+use squares::{DPos, Dsq};
 
 fn ends_here(middle: &[Dsq], to: Dsq, landing: Dsq) -> bool
     ensures { IsTrue result ↔ ((middle.now ≡ []) × (landing ≡ to)) }
@@ -33,21 +31,6 @@ fn goes_to(position: &DPos, mover: &Mover, middle: &[Dsq], to: Dsq) -> bool
         }
     }
     false
-}
-
-// The piece on a square, if it is of the side to move.
-fn own_at(position: &DPos, square: Dsq) -> Option<DPiece>
-    ensures { result ≡ own_at position.now square }
-{
-    match position.at(square) {
-        Some(piece) => {
-            if piece.side == position.turn() {
-                return Some(piece);
-            }
-            None
-        }
-        None => None,
-    }
 }
 
 /// Whether the text of a capture fits any, be it legal or not.

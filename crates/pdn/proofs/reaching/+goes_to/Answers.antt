@@ -7,7 +7,7 @@ use Rattle.draughts_moves.specs.Capture.{without}
 use Rattle.draughts_moves.specs.Search.{jumps, prey_left}
 use Rattle.draughts_moves.proofs.JumpLemmas.{jumps-sound}
 use Rattle.draughts_moves.proofs.Prey.{prey_left-falls}
-use Rattle.pdn.specs.declared.mover.Mover.{Mover}
+use Rattle.draughts_moves.specs.declared.mover.Mover.{Mover}
 use Rattle.pdn.specs.Subsequence.{past}
 use Rattle.pdn.specs.Reaching.{GoesTo, StepsTo}
 use Rattle.pdn.proofs.PassingLemmas.{GoesTo-by, GoesTo-first}
