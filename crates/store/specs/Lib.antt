@@ -1,6 +1,7 @@
 pub mod Blames
 pub mod Changed
 pub mod Clubs
+pub mod Faults
 pub mod Places
 pub mod Steps
 pub mod Whole

@@ -154,6 +154,7 @@ impl<S: Alter> Club<S> {
         ensures shut { self.old.needs_reopening ≡ true → (result ≡ Err StoreFault.Reopen) × (self.new ≡ self.old) }
         ensures goes_on { OnOk result (self.new.needs_reopening ≡ false) }
         ensures ends { OnErr result (self.new.needs_reopening ≡ true) }
+        ensures named { IfErr result (λ fault. self.old.needs_reopening ≡ false → (fault ≡ StoreFault.Store) ⊎ (fault ≡ StoreFault.Memory)) }
         ensures clean { doubt (state S.Store self.old.connection).is_clean ≤ doubt (state S.Store self.new.connection).is_clean }
         ensures answer { HasCleanDisk (state S.Store self.new.connection) → IfOk result (λ outcome. (s : ClubState) → IsClub s → IsExactly (tables s) (state S.Store self.old.connection) →
             outcome_of outcome ≡ answered (club_step s (request who.now command.now moment))) }
@@ -170,7 +171,7 @@ impl<S: Alter> Club<S> {
             Ok(decided) => decided,
             Err(fault) => {
                 self.needs_reopening = true;
-                return Err(fault);
+                return Err(StoreFault::from(fault));
             }
         };
         let Decided { outcome, changes } = decided;

@@ -26,7 +26,7 @@ ghost use Rattle.store.specs.Steps.{request, club_step, caller_step, game_in, Ha
 ghost use Rattle.store.specs.Whole.{IsWhole};
 
 use crate::changes::Changes;
-use crate::fault::StoreFault;
+use crate::fault::CallFault;
 use crate::find;
 use clocks::Moment;
 use club_core::values::{MOST_EVENTS, MOST_MEMBERS};
@@ -49,21 +49,21 @@ pub(crate) struct Decided {
     pub changes: Option<Changes>,
 }
 
-impl From<Memory> for StoreFault {
-    fn from(_refused: Memory) -> StoreFault {
-        StoreFault::Memory
+impl From<Memory> for CallFault {
+    fn from(_refused: Memory) -> CallFault {
+        CallFault::Memory
     }
 }
 
-impl<T: Drop> From<std::alloc::AllocFailed<T>> for StoreFault {
-    fn from(_refused: std::alloc::AllocFailed<T>) -> StoreFault {
-        StoreFault::Memory
+impl<T: Drop> From<std::alloc::AllocFailed<T>> for CallFault {
+    fn from(_refused: std::alloc::AllocFailed<T>) -> CallFault {
+        CallFault::Memory
     }
 }
 
-impl From<std::alloc::AllocError> for StoreFault {
-    fn from(_refused: std::alloc::AllocError) -> StoreFault {
-        StoreFault::Memory
+impl From<std::alloc::AllocError> for CallFault {
+    fn from(_refused: std::alloc::AllocError) -> CallFault {
+        CallFault::Memory
     }
 }
 
@@ -117,12 +117,12 @@ fn is_accepted(outcome: &Outcome) -> bool
 }
 
 // The members of which these are the rows, by id.
-fn members_of(alloc: Global, rows: &[MemberRow]) -> Result<Vec<Member>, StoreFault>
+fn members_of(alloc: Global, rows: &[MemberRow]) -> Result<Vec<Member>, CallFault>
     ensures room { IfOk result (λ members. length members.items ≤ 200) }
     ensures values { IfOk result (λ members. (all : List core_members.Member) → map member_cells rows.now ≡ numbered_from member_row 1 all → members_of members.items ≡ all) }
 {
     if rows.len() > MOST_MEMBERS {
-        return Err(StoreFault::Store);
+        return Err(CallFault::Store);
     }
     let mut members = Vec::new(alloc);
     for row in rows {
@@ -135,16 +135,16 @@ fn members_of(alloc: Global, rows: &[MemberRow]) -> Result<Vec<Member>, StoreFau
 }
 
 // The event of which this is the row.
-fn event_of(row: &EventRow) -> Result<Event, StoreFault>
+fn event_of(row: &EventRow) -> Result<Event, CallFault>
     ensures { IfOk result (λ e. (id : ℕ) (event : core.Event) → event_cells row.now ≡ event_row id event → event_of e ≡ event) }
 {
     let game = match row.game {
         0 => GameKind::Draughts,
         1 => GameKind::Shogi,
-        _ => return Err(StoreFault::Store),
+        _ => return Err(CallFault::Store),
     };
     let (Some(budget), Some(increment)) = (counted(row.budget), counted(row.increment)) else {
-        return Err(StoreFault::Store);
+        return Err(CallFault::Store);
     };
     Ok(Event {
         name: row.name.clone()?,
@@ -155,12 +155,12 @@ fn event_of(row: &EventRow) -> Result<Event, StoreFault>
 }
 
 // The events of which these are the rows, by id.
-fn events_of(alloc: Global, rows: &[EventRow]) -> Result<Vec<Event>, StoreFault>
+fn events_of(alloc: Global, rows: &[EventRow]) -> Result<Vec<Event>, CallFault>
     ensures room { IfOk result (λ events. length events.items ≤ 50) }
     ensures values { IfOk result (λ events. (all : List core.Event) → map event_cells rows.now ≡ numbered_from event_row 1 all → events_of events.items ≡ all) }
 {
     if rows.len() > MOST_EVENTS {
-        return Err(StoreFault::Store);
+        return Err(CallFault::Store);
     }
     let mut events = Vec::new(alloc);
     for row in rows {
@@ -170,7 +170,7 @@ fn events_of(alloc: Global, rows: &[EventRow]) -> Result<Vec<Event>, StoreFault>
 }
 
 // The row of a member that is added.
-fn member_row(id: u32, command: &AddMember) -> Result<MemberRow, StoreFault>
+fn member_row(id: u32, command: &AddMember) -> Result<MemberRow, CallFault>
     ensures { IfOk result (λ row. member_cells row ≡ member_row id (record { name = string_bytes command.now.name; key = string_bytes command.now.key })) }
 {
     let name = command.name.clone()?;
@@ -189,7 +189,7 @@ fn on_member(
     caller: Caller,
     command: &AddMember,
     moment: Moment,
-) -> Result<Decided, StoreFault>
+) -> Result<Decided, CallFault>
     requires { length members.now ≤ 200 }
     ensures acts { IfOk result IsWhole }
     ensures step { IfOk result (λ d. (s : ClubState) → members_of members.now ≡ s.members →
@@ -220,7 +220,7 @@ fn kind_number(game: GameKind) -> i64
 }
 
 // The row of an event that is added.
-fn event_row(id: u32, command: &AddEvent) -> Result<EventRow, StoreFault>
+fn event_row(id: u32, command: &AddEvent) -> Result<EventRow, CallFault>
     // Seconds that 63 bits hold are stored as they are.
     ensures { IfOk result (λ row. command.now.budget < 2 ^ 63 → command.now.increment < 2 ^ 63 → event_cells row ≡ event_row id (added_event command.now)) }
 {
@@ -241,7 +241,7 @@ fn on_event(
     caller: Caller,
     command: &AddEvent,
     moment: Moment,
-) -> Result<Decided, StoreFault>
+) -> Result<Decided, CallFault>
     requires { length events.now ≤ 50 }
     ensures acts { IfOk result IsWhole }
     ensures step { IfOk result (λ d. (s : ClubState) → IsClub s → events_of events.now ≡ s.events →
@@ -262,7 +262,7 @@ fn on_event(
 }
 
 // The ids in the row of a game: its own, and those of its event and players.
-fn ids_in(row: &GameRecord) -> Result<KeyedGame, StoreFault>
+fn ids_in(row: &GameRecord) -> Result<KeyedGame, CallFault>
     ensures { IfOk result (λ k. (s : ClubState) (id : ℕ) (game : AnyGame DMove DMove) → game_cells row.now ≡ game_in s id game →
         Some (keyed_of k) ≡ keyed_game (Some game) id) }
 {
@@ -272,7 +272,7 @@ fn ids_in(row: &GameRecord) -> Result<KeyedGame, StoreFault>
         id(row.first),
         id(row.second),
     ) else {
-        return Err(StoreFault::Store);
+        return Err(CallFault::Store);
     };
     Ok(KeyedGame {
         game,
@@ -289,7 +289,7 @@ fn game_under<S: Alter>(
     alloc: Global,
     conn: &mut Connection<S>,
     key: &str,
-) -> Result<Option<KeyedGame>, StoreFault>
+) -> Result<Option<KeyedGame>, CallFault>
     ensures idle { conn.old.in_transaction ≡ false → conn.new.in_transaction ≡ false }
     ensures clean { doubt (state S.Store conn.old).is_clean ≤ doubt (state S.Store conn.new).is_clean }
     ensures kept { HasCleanDisk (state S.Store conn.new) → OnOk result ((content : _) → IsExactly content (state S.Store conn.old) → IsExactly content (state S.Store conn.new)) }
@@ -304,18 +304,18 @@ fn game_under<S: Alter>(
 }
 
 // The seconds that the event of this id gives.
-fn terms_at(events: &[Event], event: u32) -> Result<Terms, StoreFault>
+fn terms_at(events: &[Event], event: u32) -> Result<Terms, CallFault>
     ensures { IfOk result (λ terms. (e : core.Event) × (place (events_of events.now) event ≡ Some e) × (terms_given terms ≡ e.terms)) }
 {
     if event == 0 {
-        return Err(StoreFault::Store);
+        return Err(CallFault::Store);
     }
     match events.get(event as usize - 1) {
         Some(event) => Ok(Terms {
             budget: event.budget,
             increment: event.increment,
         }),
-        None => Err(StoreFault::Store),
+        None => Err(CallFault::Store),
     }
 }
 
@@ -326,7 +326,7 @@ fn seated(
     new: KeyedGame,
     key: &str,
     moment: Moment,
-) -> Result<Changes, StoreFault>
+) -> Result<Changes, CallFault>
     ensures { IfOk result (λ changes. Each IsLegalEvent (events_of events.now) →
         PutsOnly changes moment [] [] (game_row draughts (terms_at (place (events_of events.now) new.pairing.event)) new.game (seated (Some key.now) (pairing_of new.pairing) moment) ∷ []) []) }
 {
@@ -348,7 +348,7 @@ fn on_seat<S: Alter>(
     caller: Caller,
     command: &Seat,
     moment: Moment,
-) -> Result<Decided, StoreFault>
+) -> Result<Decided, CallFault>
     requires members { length members.now ≤ 200 }
     requires events { length events.now ≤ 50 }
     ensures idle { conn.old.in_transaction ≡ false → conn.new.in_transaction ≡ false }
@@ -362,7 +362,7 @@ fn on_seat<S: Alter>(
 {
     let under_key = game_under(alloc, conn, command.key.as_str())?;
     let Ok(games) = u32::try_from(find::count_games(conn)?) else {
-        return Err(StoreFault::Store);
+        return Err(CallFault::Store);
     };
     match seat(members, events, under_key, games, caller, command) {
         Seating::Starts(new) => {
@@ -384,7 +384,7 @@ fn moved_rows(
     row: &GameRow<DraughtsEnd>,
     moved: &Moved,
     moment: Moment,
-) -> Result<Changes, StoreFault>
+) -> Result<Changes, CallFault>
     // Seconds that 63 bits hold are stored as they are.
     ensures { IfOk result (λ changes. (terms : core.Terms) (new : Game DMove) → row.now.left_first < 2 ^ 63 → row.now.left_second < 2 ^ 63 → moved.now.left < 2 ^ 63 →
         IsRowOf draughts terms new row.now →
@@ -404,7 +404,7 @@ fn played(
     game: u32,
     shown: Decision<Draughts>,
     moment: Moment,
-) -> Result<Decided, StoreFault>
+) -> Result<Decided, CallFault>
     ensures acts { IfOk result IsWhole }
     ensures step { IfOk result (λ d. (s : ClubState) (old : Game DMove) (who : Caller) (ply : ℕ) (text : List ℕ) → IsClub s → place s.games game ≡ Some (club.draughts old) →
         IsDecision draughts (terms_at (place s.events old.event)) old (game_step draughts (terms_at (place s.events old.event)) old moment who (move ply text)) shown →
@@ -421,7 +421,7 @@ fn played(
     };
     let changes = match &answer {
         Answer::Moved(moved) => moved_rows(alloc, game, &row, moved, moment)?,
-        _ => return Err(StoreFault::Store),
+        _ => return Err(CallFault::Store),
     };
     Ok(Decided {
         outcome: Outcome::Accepted(answer),
@@ -436,7 +436,7 @@ fn asked_view(
     terms: Terms,
     moves: &[MoveRow],
     ply: u64,
-) -> Result<GameView<Draughts>, StoreFault>
+) -> Result<GameView<Draughts>, CallFault>
     ensures sound { IfOk result (λ view. IsSound draughts view) }
     ensures terms { IfOk result (λ view. terms_of view ≡ terms_given terms) }
     // The order and the number of the rows of the moves are found here, so that these may be any that are the game's.
@@ -445,7 +445,7 @@ fn asked_view(
 {
     match view_of::<Draughts>(alloc, row, terms, moves)? {
         Shown::Game(view) => Ok(ask(view, moves, ply)),
-        _ => Err(StoreFault::Store),
+        _ => Err(CallFault::Store),
     }
 }
 
@@ -457,7 +457,7 @@ fn on_game<S: Alter>(
     caller: Caller,
     command: &Move,
     moment: Moment,
-) -> Result<Decided, StoreFault>
+) -> Result<Decided, CallFault>
     ensures idle { conn.old.in_transaction ≡ false → conn.new.in_transaction ≡ false }
     ensures clean { doubt (state S.Store conn.old).is_clean ≤ doubt (state S.Store conn.new).is_clean }
     ensures kept { HasCleanDisk (state S.Store conn.new) → OnOk result ((content : _) → IsExactly content (state S.Store conn.old) → IsExactly content (state S.Store conn.new)) }
@@ -483,7 +483,7 @@ fn on_view(
     caller: Caller,
     command: &Move,
     moment: Moment,
-) -> Result<Decided, StoreFault>
+) -> Result<Decided, CallFault>
     requires { IsSound draughts view.now }
     ensures acts { IfOk result IsWhole }
     ensures step { IfOk result (λ d. (s : ClubState) (old : Game DMove) → IsClub s → s.last ≤ moment → place s.games game ≡ Some (club.draughts old) →
@@ -502,7 +502,7 @@ fn on_move<S: Alter>(
     caller: Caller,
     command: &Move,
     moment: Moment,
-) -> Result<Decided, StoreFault>
+) -> Result<Decided, CallFault>
     ensures idle { conn.old.in_transaction ≡ false → conn.new.in_transaction ≡ false }
     ensures clean { doubt (state S.Store conn.old).is_clean ≤ doubt (state S.Store conn.new).is_clean }
     ensures kept { HasCleanDisk (state S.Store conn.new) → OnOk result ((content : _) → IsExactly content (state S.Store conn.old) → IsExactly content (state S.Store conn.new)) }
@@ -528,7 +528,7 @@ fn on_command<S: Alter>(
     caller: Caller,
     command: &Command,
     moment: Moment,
-) -> Result<Decided, StoreFault>
+) -> Result<Decided, CallFault>
     requires { length members.now ≤ 200 }
     ensures idle { conn.old.in_transaction ≡ false → conn.new.in_transaction ≡ false }
     ensures clean { doubt (state S.Store conn.old).is_clean ≤ doubt (state S.Store conn.new).is_clean }
@@ -553,17 +553,17 @@ fn on_command<S: Alter>(
 }
 
 // The moment that the row of `meta` has.
-fn last_in(row: &MetaRow) -> Result<Moment, StoreFault>
+fn last_in(row: &MetaRow) -> Result<Moment, CallFault>
     ensures { IfOk result (λ last. (n : ℕ) → meta_cells row.now ≡ number 1 ∷ number 1 ∷ number n ∷ [] → last ≡ n) }
 {
     match moment_of(row.last) {
         Some(last) => Ok(last),
-        None => Err(StoreFault::Store),
+        None => Err(CallFault::Store),
     }
 }
 
 // The moment of the last accepted command.
-fn last_moment<S: Alter>(alloc: Global, conn: &mut Connection<S>) -> Result<Moment, StoreFault>
+fn last_moment<S: Alter>(alloc: Global, conn: &mut Connection<S>) -> Result<Moment, CallFault>
     ensures idle { conn.old.in_transaction ≡ false → conn.new.in_transaction ≡ false }
     ensures clean { doubt (state S.Store conn.old).is_clean ≤ doubt (state S.Store conn.new).is_clean }
     ensures kept { HasCleanDisk (state S.Store conn.new) → OnOk result ((content : _) → IsExactly content (state S.Store conn.old) → IsExactly content (state S.Store conn.new)) }
@@ -572,7 +572,7 @@ fn last_moment<S: Alter>(alloc: Global, conn: &mut Connection<S>) -> Result<Mome
 {
     match first(find::meta(alloc, conn)?) {
         Some(row) => Ok(last_in(&row)?),
-        None => Err(StoreFault::Store),
+        None => Err(CallFault::Store),
     }
 }
 
@@ -584,7 +584,7 @@ pub(crate) fn decide_request<S: Alter>(
     who: &Who,
     command: &Command,
     moment: Moment,
-) -> Result<Decided, StoreFault>
+) -> Result<Decided, CallFault>
     ensures idle { conn.old.in_transaction ≡ false → conn.new.in_transaction ≡ false }
     ensures clean { doubt (state S.Store conn.old).is_clean ≤ doubt (state S.Store conn.new).is_clean }
     ensures kept { HasCleanDisk (state S.Store conn.new) → OnOk result ((content : _) → IsExactly content (state S.Store conn.old) → IsExactly content (state S.Store conn.new)) }

@@ -17,6 +17,29 @@ pub enum StoreFault {
     Memory,
 }
 
+/// Why a call on the database of a club that is open failed.
+#[derive(Debug, Clone, Copy, PartialEq, Eq, Drop)]
+pub(crate) enum CallFault {
+    /// A call of the database failed.
+    Store,
+    /// The allocator refused.
+    Memory,
+}
+
+impl From<CallFault> for StoreFault {
+    ghost use Rattle.std.specs.Prelude.{◌≡◌};
+    ghost use Rattle.store.specs.Faults.{called};
+
+    ghost from_gives = { λ fault given. given ≡ called fault };
+
+    fn from(fault: CallFault) -> StoreFault {
+        match fault {
+            CallFault::Store => StoreFault::Store,
+            CallFault::Memory => StoreFault::Memory,
+        }
+    }
+}
+
 /// Why a database was not taken as a club's. It shows as the number and name of the fault.
 #[derive(Debug, Clone, Copy, PartialEq, Eq, Drop, Error)]
 pub enum OpenFault {

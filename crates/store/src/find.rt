@@ -1,6 +1,6 @@
 //! The rows that a command needs, by their keys.
 
-ghost use Rattle.std.specs.Prelude.{◌≡◌, ◌≤◌, ◌⊎◌, false, IfOk, IfErr, OnOk, [], ◌∷◌, map, length, string_bytes};
+ghost use Rattle.std.specs.Prelude.{◌≡◌, ◌≤◌, false, IfOk, OnOk, [], ◌∷◌, map, length, string_bytes};
 ghost use Rattle.std.specs.List.Sorted.{IsSorted};
 ghost use Rattle.sqlite.specs.State.{HasCleanDisk};
 ghost use Rattle.sqlite.specs.Held.{state};
@@ -11,7 +11,7 @@ ghost use Rattle.store_tables.specs.Contents.{IsExactly, Leaves, AreThose};
 ghost use Rattle.store_tables.specs.Reading.{by_ply};
 ghost use Rattle.store.specs.Places.{BeginWithPlaces};
 
-use crate::fault::StoreFault;
+use crate::fault::CallFault;
 use crate::select::{select_events, select_members, select_meta};
 use sqlite::{Alter, Connection, Error, Row, params};
 use std::alloc::Global;
@@ -31,14 +31,13 @@ const GAME_BY_KEY: &str =
     "SELECT id, key, event, first, second, start, since, plies, left1, left2, offer_side, offer_ply, end, result, position, track_a, track_b FROM games WHERE key = ?1";
 
 /// The rows of a table, from the values that it shows. Values of other types are no club's.
-fn parsed<T: TableRow>(alloc: Global, shown: &[Row]) -> Result<Vec<T>, StoreFault>
+fn parsed<T: TableRow>(alloc: Global, shown: &[Row]) -> Result<Vec<T>, CallFault>
     ensures rows { IfOk result (λ found. shown.now ≡ map T.cells found.items) }
-    ensures named { IfErr result (λ fault. (fault ≡ StoreFault.Store) ⊎ (fault ≡ StoreFault.Memory)) }
 {
     match parse_all(alloc, shown) {
         Ok(found) => Ok(found),
-        Err(Unread::Mistyped) => Err(StoreFault::Store),
-        Err(Unread::Memory) => Err(StoreFault::Memory),
+        Err(Unread::Mistyped) => Err(CallFault::Store),
+        Err(Unread::Memory) => Err(CallFault::Memory),
     }
 }
 
@@ -57,16 +56,15 @@ pub(crate) fn moves_of<S: Alter>(
     alloc: Global,
     conn: &mut Connection<S>,
     game: &i64,
-) -> Result<Vec<MoveRow>, StoreFault>
+) -> Result<Vec<MoveRow>, CallFault>
     ensures idle { conn.old.in_transaction ≡ false → conn.new.in_transaction ≡ false }
     ensures clean { doubt (state S.Store conn.old).is_clean ≤ doubt (state S.Store conn.new).is_clean }
     ensures rows { HasCleanDisk (state S.Store conn.new) → IfOk result (λ found. (content : _) → IsExactly content (state S.Store conn.old) → AreThose (0 ∷ []) (Int game.now ∷ []) (content 8) (map move_cells found.items) × IsSorted by_ply (map move_cells found.items) × IsExactly content (state S.Store conn.new)) }
-    ensures named { IfErr result (λ fault. (fault ≡ StoreFault.Store) ⊎ (fault ≡ StoreFault.Memory)) }
     ensures may { HasCleanDisk (state S.Store conn.new) → (content : _) → IsExactly content (state S.Store conn.old) → (db : _) → (state S.Store conn.new).may_leave db → Leaves content db }
 {
     match show_moves(conn, game) {
         Ok(shown) => parsed(alloc, &shown),
-        Err(_) => Err(StoreFault::Store),
+        Err(_) => Err(CallFault::Store),
     }
 }
 
@@ -85,16 +83,15 @@ pub(crate) fn game_with_id<S: Alter>(
     alloc: Global,
     conn: &mut Connection<S>,
     id: &i64,
-) -> Result<Vec<GameRecord>, StoreFault>
+) -> Result<Vec<GameRecord>, CallFault>
     ensures idle { conn.old.in_transaction ≡ false → conn.new.in_transaction ≡ false }
     ensures clean { doubt (state S.Store conn.old).is_clean ≤ doubt (state S.Store conn.new).is_clean }
     ensures rows { HasCleanDisk (state S.Store conn.new) → IfOk result (λ found. (content : _) → IsExactly content (state S.Store conn.old) → AreThose (0 ∷ []) (Int id.now ∷ []) (content 10) (map game_cells found.items) × IsExactly content (state S.Store conn.new)) }
-    ensures named { IfErr result (λ fault. (fault ≡ StoreFault.Store) ⊎ (fault ≡ StoreFault.Memory)) }
     ensures may { HasCleanDisk (state S.Store conn.new) → (content : _) → IsExactly content (state S.Store conn.old) → (db : _) → (state S.Store conn.new).may_leave db → Leaves content db }
 {
     match show_game(conn, id) {
         Ok(shown) => parsed(alloc, &shown),
-        Err(_) => Err(StoreFault::Store),
+        Err(_) => Err(CallFault::Store),
     }
 }
 
@@ -113,16 +110,15 @@ pub(crate) fn game_with_key<S: Alter>(
     alloc: Global,
     conn: &mut Connection<S>,
     key: &str,
-) -> Result<Vec<GameRecord>, StoreFault>
+) -> Result<Vec<GameRecord>, CallFault>
     ensures idle { conn.old.in_transaction ≡ false → conn.new.in_transaction ≡ false }
     ensures clean { doubt (state S.Store conn.old).is_clean ≤ doubt (state S.Store conn.new).is_clean }
     ensures rows { HasCleanDisk (state S.Store conn.new) → IfOk result (λ found. (content : _) → IsExactly content (state S.Store conn.old) → AreThose (1 ∷ []) (Null ∷ Text key.now ∷ []) (content 10) (map game_cells found.items) × IsExactly content (state S.Store conn.new)) }
-    ensures named { IfErr result (λ fault. (fault ≡ StoreFault.Store) ⊎ (fault ≡ StoreFault.Memory)) }
     ensures may { HasCleanDisk (state S.Store conn.new) → (content : _) → IsExactly content (state S.Store conn.old) → (db : _) → (state S.Store conn.new).may_leave db → Leaves content db }
 {
     match show_named_game(conn, key) {
         Ok(shown) => parsed(alloc, &shown),
-        Err(_) => Err(StoreFault::Store),
+        Err(_) => Err(CallFault::Store),
     }
 }
 
@@ -130,7 +126,7 @@ pub(crate) fn game_with_key<S: Alter>(
 pub(crate) fn members<S: Alter>(
     alloc: Global,
     conn: &mut Connection<S>,
-) -> Result<Vec<MemberRow>, StoreFault>
+) -> Result<Vec<MemberRow>, CallFault>
     ensures idle { conn.old.in_transaction ≡ false → conn.new.in_transaction ≡ false }
     ensures clean { doubt (state S.Store conn.old).is_clean ≤ doubt (state S.Store conn.new).is_clean }
     ensures rows { HasCleanDisk (state S.Store conn.new) → IfOk result (λ found. (content : _) → IsExactly content (state S.Store conn.old) → BeginWithPlaces (content 1) → map member_cells found.items ≡ content 1) }
@@ -139,7 +135,7 @@ pub(crate) fn members<S: Alter>(
 {
     match select_members(conn) {
         Ok(shown) => parsed(alloc, &shown),
-        Err(_) => Err(StoreFault::Store),
+        Err(_) => Err(CallFault::Store),
     }
 }
 
@@ -147,7 +143,7 @@ pub(crate) fn members<S: Alter>(
 pub(crate) fn events<S: Alter>(
     alloc: Global,
     conn: &mut Connection<S>,
-) -> Result<Vec<EventRow>, StoreFault>
+) -> Result<Vec<EventRow>, CallFault>
     ensures idle { conn.old.in_transaction ≡ false → conn.new.in_transaction ≡ false }
     ensures clean { doubt (state S.Store conn.old).is_clean ≤ doubt (state S.Store conn.new).is_clean }
     ensures rows { HasCleanDisk (state S.Store conn.new) → IfOk result (λ found. (content : _) → IsExactly content (state S.Store conn.old) → BeginWithPlaces (content 4) → map event_cells found.items ≡ content 4) }
@@ -156,7 +152,7 @@ pub(crate) fn events<S: Alter>(
 {
     match select_events(conn) {
         Ok(shown) => parsed(alloc, &shown),
-        Err(_) => Err(StoreFault::Store),
+        Err(_) => Err(CallFault::Store),
     }
 }
 
@@ -164,7 +160,7 @@ pub(crate) fn events<S: Alter>(
 pub(crate) fn meta<S: Alter>(
     alloc: Global,
     conn: &mut Connection<S>,
-) -> Result<Vec<MetaRow>, StoreFault>
+) -> Result<Vec<MetaRow>, CallFault>
     ensures idle { conn.old.in_transaction ≡ false → conn.new.in_transaction ≡ false }
     ensures clean { doubt (state S.Store conn.old).is_clean ≤ doubt (state S.Store conn.new).is_clean }
     ensures rows { HasCleanDisk (state S.Store conn.new) → IfOk result (λ found. (content : _) → IsExactly content (state S.Store conn.old) → BeginWithPlaces (content 0) → map meta_cells found.items ≡ content 0) }
@@ -173,21 +169,20 @@ pub(crate) fn meta<S: Alter>(
 {
     match select_meta(conn) {
         Ok(shown) => parsed(alloc, &shown),
-        Err(_) => Err(StoreFault::Store),
+        Err(_) => Err(CallFault::Store),
     }
 }
 
 /// How many games there are, where their ids are places.
-pub(crate) fn count_games<S: Alter>(conn: &mut Connection<S>) -> Result<usize, StoreFault>
+pub(crate) fn count_games<S: Alter>(conn: &mut Connection<S>) -> Result<usize, CallFault>
     ensures idle { conn.old.in_transaction ≡ false → conn.new.in_transaction ≡ false }
     ensures clean { doubt (state S.Store conn.old).is_clean ≤ doubt (state S.Store conn.new).is_clean }
     ensures count { HasCleanDisk (state S.Store conn.new) → IfOk result (λ n. (content : _) → IsExactly content (state S.Store conn.old) → BeginWithPlaces (content 10) → (n ≡ length (content 10)) × IsExactly content (state S.Store conn.new)) }
     ensures kept { HasCleanDisk (state S.Store conn.new) → OnOk result ((content : _) → IsExactly content (state S.Store conn.old) → IsExactly content (state S.Store conn.new)) }
-    ensures named { IfErr result (λ fault. fault ≡ StoreFault.Store) }
     ensures may { HasCleanDisk (state S.Store conn.new) → (content : _) → IsExactly content (state S.Store conn.old) → (db : _) → (state S.Store conn.new).may_leave db → Leaves content db }
 {
     match conn.query_all(GAME_IDS, &[]) {
         Ok(ids) => Ok(ids.len()),
-        Err(_) => Err(StoreFault::Store),
+        Err(_) => Err(CallFault::Store),
     }
 }
