@@ -1,17 +1,20 @@
 //! Counting lines of legal moves.
 
-use crate::words::Asked;
-use draughts_moves::{Memory, legal, play};
-use pdn::write_move;
-use squares::DPos;
+ghost use Rattle.std.specs.Prelude.{◌≡◌, ◌+◌, IfOk};
+ghost use Rattle.perft.specs.Lines.{HasLines};
+
+use crate::game::Game;
+use draughts_moves::Memory;
 use std::alloc::Global;
 use std::io::Write;
 
-/// Why the counts are not printed to their end.
+/// Why lines are not counted, or the counts not printed to their end.
 #[derive(Clone, Copy, Debug, PartialEq, Eq)]
 pub enum Fault {
     /// Memory was refused.
     Memory,
+    /// There are more lines than 64 bits count.
+    TooMany,
     /// The output failed.
     Output,
 }
@@ -28,32 +31,51 @@ impl From<std::io::Error> for Fault {
     }
 }
 
-/// How many lines of so many legal moves there are.
-pub fn leaves(alloc: Global, position: &DPos, depth: u32) -> Result<u64, Memory> {
+// The sum, if 64 bits hold it.
+fn plus(a: u64, b: u64) -> Result<u64, Fault>
+    ensures { IfOk result (λ sum. sum ≡ a + b) }
+{
+    match a.checked_add(b) {
+        Some(sum) => Ok(sum),
+        None => Err(Fault::TooMany),
+    }
+}
+
+/// How many lines of so many legal moves a position has.
+pub fn leaves<G: Game>(alloc: Global, position: &G::Position, depth: u32) -> Result<u64, Fault>
+    ensures { IfOk result (λ count. HasLines G.Legal G.order G.after depth position.now count) }
+{
     if depth == 0 {
         return Ok(1);
     }
-    let moves = legal(alloc, position)?;
+    let moves = G::legal(alloc, position)?;
     if depth == 1 {
-        return Ok(moves.len() as u64);
+        return Ok(moves.as_slice().len() as u64);
     }
     let mut count: u64 = 0;
     for played in &moves {
-        let next = play(position, played);
-        count = count.saturating_add(leaves(alloc, &next, depth - 1)?);
+        let next = G::play(position, played);
+        let under = leaves::<G>(alloc, &next, depth - 1)?;
+        count = plus(count, under)?;
     }
     Ok(count)
 }
 
-/// Prints the number of lines under each legal move, in the order of the list of legal moves, and then in all.
-pub fn print_counts<W: Write>(alloc: Global, asked: &Asked, out: &mut W) -> Result<(), Fault> {
-    let moves = legal(alloc, &asked.position)?;
+/// Prints the number of lines under each legal move, in the order of the list of legal moves, and then in all. The depth
+/// counts that move.
+pub fn print_counts<G: Game, W: Write>(
+    alloc: Global,
+    position: &G::Position,
+    depth: u32,
+    out: &mut W,
+) -> Result<(), Fault> {
+    let moves = G::legal(alloc, position)?;
     let mut total: u64 = 0;
     for played in &moves {
-        let text = write_move(alloc, &asked.position, played)?;
-        let next = play(&asked.position, played);
-        let count = leaves(alloc, &next, asked.depth.saturating_sub(1))?;
-        total = total.saturating_add(count);
+        let text = G::write_move(alloc, position, played)?;
+        let next = G::play(position, played);
+        let count = leaves::<G>(alloc, &next, depth.saturating_sub(1))?;
+        total = plus(total, count)?;
         writeln!(out, "{text} {count}")?;
     }
     writeln!(out, "total {total}")?;

@@ -2,10 +2,13 @@
 #![tactic(auto)]
 
 mod count;
+mod draughts;
+mod game;
 mod words;
 
 use crate::count::{Fault, print_counts};
-use crate::words::{BadWords, read_words};
+use crate::draughts::Draughts;
+use crate::words::{Asked, BadWords, Start, read_words};
 use std::alloc::AllocError;
 use std::io::Write;
 use std::process::ExitCode;
@@ -40,6 +43,15 @@ fn texts<'a>(rt: &HostRuntime, words: &'a [String]) -> Result<Vec<&'a str>, Allo
     words.iter().map(|word| word.as_str()).collect(rt.alloc())
 }
 
+// Prints what is asked for.
+fn print_asked<W: Write>(rt: &HostRuntime, asked: &Asked, out: &mut W) -> Result<(), Fault> {
+    match &asked.start {
+        Start::Draughts(position) => {
+            print_counts::<Draughts, W>(rt.alloc(), position, asked.depth, out)
+        }
+    }
+}
+
 // Reads the words and prints the counts that they ask for.
 fn status_of(rt: &HostRuntime, words: &[String]) -> u8 {
     let mut err = rt.stderr();
@@ -51,8 +63,9 @@ fn status_of(rt: &HostRuntime, words: &[String]) -> u8 {
         Err(BadWords::Usage) => return stop(&mut err, USAGE, BAD_WORDS),
         Err(BadWords::Memory) => return stop(&mut err, "out of memory", FAULT),
     };
-    match print_counts(rt.alloc(), &asked, &mut rt.stdout()) {
+    match print_asked(rt, &asked, &mut rt.stdout()) {
         Ok(()) => DONE,
+        Err(Fault::TooMany) => stop(&mut err, "too many lines", FAULT),
         Err(Fault::Memory) => stop(&mut err, "out of memory", FAULT),
         Err(Fault::Output) => stop(&mut err, "the output fails", FAULT),
     }

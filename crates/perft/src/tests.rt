@@ -1,5 +1,6 @@
 use crate::count::leaves;
-use crate::words::{BadWords, read_words};
+use crate::draughts::Draughts;
+use crate::words::{BadWords, Start, read_words};
 use squares::DPos;
 use std::alloc::Global;
 use std::test::Fail;
@@ -39,12 +40,19 @@ fn leaves_are_counted(rt: HostRuntime) -> Result<(), Fail> {
         (6, 167140),
         (7, 1049442),
     ] {
-        assert_eq!(rt; leaves(rt.alloc(), &DPos::opening(), depth)?, count);
+        assert_eq!(rt;
+            leaves::<Draughts>(rt.alloc(), &DPos::opening(), depth),
+            Ok(count)
+        );
     }
     let asked = match read_words(rt.alloc(), &["draughts", "1", "W:WK46:B21,22,37,42"]) {
         Ok(asked) => asked,
         Err(_) => return Err(Fail::new("no words")),
     };
-    assert_eq!(rt; leaves(rt.alloc(), &asked.position, asked.depth)?, 1);
+    let Start::Draughts(position) = &asked.start;
+    assert_eq!(rt;
+        leaves::<Draughts>(rt.alloc(), position, asked.depth),
+        Ok(1)
+    );
     Ok(())
 }

@@ -1,7 +1,5 @@
 //! The program's words: a game, a depth, and a position if it is not the opening.
 
-ghost use Rattle.std.specs.Prelude.{◌≤◌, IfOk};
-
 use pdn::{PdnFault, read_fen};
 use squares::DPos;
 use std::alloc::Global;
@@ -9,11 +7,17 @@ use std::alloc::Global;
 /// The greatest depth that is asked for.
 pub const MOST_DEPTH: u32 = 99;
 
+/// The position, of one of the games, whose lines are counted.
+#[derive(Drop)]
+pub enum Start {
+    Draughts(DPos),
+}
+
 /// What is to be counted: the lines of so many moves, at least one, from a position.
-#[derive(Clone, Copy, Debug)]
+#[derive(Drop)]
 pub struct Asked {
     pub depth: u32,
-    pub position: DPos,
+    pub start: Start,
 }
 
 /// Words that ask for nothing.
@@ -33,7 +37,7 @@ fn depth_of(word: &str) -> Option<u32> {
 }
 
 // The position that a word gives as FEN.
-fn position_of(alloc: Global, word: &str) -> Result<DPos, BadWords> {
+fn draughts_position(alloc: Global, word: &str) -> Result<DPos, BadWords> {
     match read_fen(alloc, word) {
         Ok(position) => Ok(position),
         Err(PdnFault::Memory) => Err(BadWords::Memory),
@@ -41,18 +45,25 @@ fn position_of(alloc: Global, word: &str) -> Result<DPos, BadWords> {
     }
 }
 
+// The position of a game that a word gives, or the opening.
+fn start_of(alloc: Global, game: &str, position: Option<&str>) -> Result<Start, BadWords> {
+    match (game, position) {
+        ("draughts", None) => Ok(Start::Draughts(DPos::opening())),
+        ("draughts", Some(text)) => Ok(Start::Draughts(draughts_position(alloc, text)?)),
+        _ => Err(BadWords::Usage),
+    }
+}
+
 /// What the words ask for: `draughts`, a depth of 1 to 99, and a position as FEN where it is not the opening.
 pub fn read_words(alloc: Global, words: &[&str]) -> Result<Asked, BadWords> {
     let (game, depth, position) = match words {
-        [game, depth] => (*game, *depth, DPos::opening()),
-        [game, depth, position] => (*game, *depth, position_of(alloc, position)?),
+        [game, depth] => (*game, *depth, None),
+        [game, depth, position] => (*game, *depth, Some(*position)),
         _ => return Err(BadWords::Usage),
     };
-    if game != "draughts" {
+    let Some(depth) = depth_of(depth) else {
         return Err(BadWords::Usage);
-    }
-    match depth_of(depth) {
-        Some(depth) => Ok(Asked { depth, position }),
-        None => Err(BadWords::Usage),
-    }
+    };
+    let start = start_of(alloc, game, position)?;
+    Ok(Asked { depth, start })
 }

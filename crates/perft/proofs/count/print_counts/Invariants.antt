@@ -1,8 +1,5 @@
-use Rattle.std.proofs.Common.{◌≡◌}
-use Rattle.std.specs.List.{Contains}
-use Rattle.squares.specs.declared.draughts.moves.DMove.{DMove}
-use Rattle.draughts_moves.specs.Legal.{Legal}
+use Rattle.perft.specs.Lines.{AreTheMoves}
 use Rattle.perft.proofs.count.print_counts.Given as goal
 
 abbrev pub invariant-loop-played : goal.invariant-loop-played
-invariant-loop-played g l = (m : DMove) → Contains l.played-items m → Legal l.asked.position m
+invariant-loop-played g l = AreTheMoves g.G.Game.Legal g.G.Game.order l.position l.played-items

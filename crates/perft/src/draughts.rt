@@ -1,0 +1,41 @@
+//! Lines of draughts.
+
+ghost use Rattle.std.specs.Prelude.{◌≡◌};
+
+use crate::game::Game;
+use draughts_moves::Memory;
+use squares::{DMove, DPos};
+use std::alloc::Global;
+
+/// International draughts.
+pub struct Draughts;
+
+impl Game for Draughts {
+    type Position = DPos;
+
+    type Move = DMove;
+
+    ghost use Rattle.draughts_moves.specs.Legal as rules;
+    ghost use Rattle.draughts_moves.specs.Listing as listing;
+    ghost use Rattle.pdn.specs.MoveText as texts;
+
+    ghost Legal = { rules.Legal };
+
+    ghost order = { listing.move_cmp };
+
+    ghost after = { rules.play };
+
+    ghost Writes = { texts.IsMoveText };
+
+    fn legal(alloc: Global, position: &DPos) -> Result<Vec<DMove>, Memory> {
+        draughts_moves::legal(alloc, position)
+    }
+
+    fn play(position: &DPos, played: &DMove) -> DPos {
+        draughts_moves::play(position, played)
+    }
+
+    fn write_move(alloc: Global, position: &DPos, played: &DMove) -> Result<String, Memory> {
+        pdn::write_move(alloc, position, played)
+    }
+}

@@ -1,0 +1,41 @@
+//! What a game is to the counting of its lines.
+
+ghost use Rattle.std.specs.Prelude.{◌≡◌, List, ℕ, IfOk, string_bytes};
+ghost use Rattle.std.specs.declared.cmp.Ordering.{Ordering};
+ghost use Rattle.perft.specs.Lines.{AreTheMoves};
+
+use draughts_moves::Memory;
+use std::alloc::Global;
+
+/// A game whose lines of moves are counted.
+pub trait Game {
+    type Position: Drop;
+
+    type Move: Drop;
+
+    ghost Legal: { Self.Position → Self.Move → Type 0 };
+
+    ghost order: { Self.Move → Self.Move → Ordering };
+
+    ghost after: { Self.Position → Self.Move → Self.Position };
+
+    ghost Writes: { Self.Position → Self.Move → List ℕ → Type 0 };
+
+    /// The legal moves, each once, in the order of the game.
+    fn legal(alloc: Global, position: &Self::Position) -> Result<Vec<Self::Move>, Memory>
+        ensures { IfOk result (λ moves. AreTheMoves Legal order position.now moves.items) };
+
+    /// The position after a legal move.
+    fn play(position: &Self::Position, played: &Self::Move) -> Self::Position
+        requires { Legal position.now played.now }
+        ensures { result ≡ after position.now played.now };
+
+    /// The text of a legal move.
+    fn write_move(
+        alloc: Global,
+        position: &Self::Position,
+        played: &Self::Move,
+    ) -> Result<String, Memory>
+        requires { Legal position.now played.now }
+        ensures { IfOk result (λ text. Writes position.now played.now (string_bytes text)) };
+}
