@@ -46,6 +46,13 @@ impl SBoard {
         self.cells[square.index()]
     }
 
+    /// Another board with the same pieces.
+    pub fn copied(&self) -> SBoard
+        ensures { result ≡ self.now }
+    {
+        SBoard { cells: self.cells }
+    }
+
     /// Puts a piece on a square, in place of what stood there.
     pub fn put(&mut self, square: Ssq, piece: SPiece)
         ensures { self.new ≡ map.insert self.old square piece }

@@ -55,6 +55,14 @@ impl SPos {
         Some(SPos { board, hands, turn })
     }
 
+    /// The position of a board on which each side has one king, with hands that keep to the sets.
+    pub fn of_parts(board: SBoard, hands: Hands, turn: Side) -> SPos
+        requires { IsShogiPosition board hands }
+        ensures { result ≡ record { board = board; hands = hands; turn = turn } }
+    {
+        SPos { board, hands, turn }
+    }
+
     /// The side to move.
     pub fn turn(&self) -> Side
         ensures { result ≡ self.now.turn }

@@ -1,0 +1,11 @@
+pub mod AttackLemmas
+pub mod CheckLemmas
+pub mod CountLemmas
+pub mod HeadingLemmas
+pub mod LineLemmas
+pub mod ListingLemmas
+pub mod MateLemmas
+pub mod PlayLemmas
+pub mod ReachLemmas
+pub mod RuleLemmas
+pub mod TruthLemmas

@@ -1,0 +1,12 @@
+use Rattle.std.proofs.Common.{◌∙◌}
+use Rattle.shogi_moves.specs.Search.{king_attacked}
+use Rattle.shogi_moves.proofs.AttackLemmas.{king_attacked-is}
+use Rattle.shogi_moves.proofs.TruthLemmas.{holds-as}
+use Rattle.shogi_moves.proofs.attacks.in_check.Goals as goal
+
+pub returns : goal.returns
+returns c =
+    let p = c.args.position.now in
+    holds-as c.is_king_attacked.result (king_attacked p.board p.turn)
+    (c.is_king_attacked.ensures ∙ (λ i. king_attacked (c.board.ensures.value i) (c.turn.ensures i)))
+    (king_attacked-is p.board p.turn)

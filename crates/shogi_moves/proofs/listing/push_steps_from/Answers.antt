@@ -1,0 +1,22 @@
+use Rattle.std.proofs.Common.{◌≡◌, ◌++◌, length, arith, sym, ap, ◌∙◌}
+use Rattle.shogi_moves.specs.Layouts.{position_of}
+use Rattle.shogi_moves.specs.Search.{all_squares}
+use Rattle.shogi_moves.specs.Listing.{steps_between, steps_from}
+use Rattle.shogi_moves.proofs.ListingLemmas.{added_more, added_all, length-all_squares}
+use Rattle.shogi_moves.proofs.listing.push_steps_from.Goals as goal
+
+pub loop-to-preserved : goal.loop-to-preserved
+loop-to-preserved c =
+    let f = steps_between (position_of c.args.layout.now) c.args.from in
+    let w = c.loop-to in
+    let many : length c.all_squares.result ≡ 81 = ap length c.all_squares.ensures ∙ length-all_squares in
+    added_more f c.all_squares.result w.to-index c.to-item.result c.args.moves.now.items w.moves.items c.push_steps_between.new.moves.items (omega arith) c.to-item.is w.invariant
+    (c.in_ok-push_steps_between.ensures ∙ ap (λ x. w.moves.items ++ f x) (sym c.to-item.is))
+
+pub returns : goal.returns
+unfolding steps_from
+returns c =
+    let f = steps_between (position_of c.args.layout.now) c.args.from in
+    let w = c.loop-to in
+    let many : length c.all_squares.result ≡ 81 = ap length c.all_squares.ensures ∙ length-all_squares in
+    added_all f c.all_squares.result all_squares w.to-index c.args.moves.now.items w.moves.items (omega (arith, c.loop-to-test.false)) c.all_squares.ensures w.invariant

@@ -1,0 +1,138 @@
+-- The tests of the rules, computed.
+use Rattle.std.specs.Prelude.{ℕ, Bool, true, false, not, ◌&&◌, ◌||◌, ◌==◌, nat_lt, is_none, Option, Some, None, Result, Ok, Err, List, [], ◌∷◌, if◌then◌else◌}
+use Rattle.std.specs.Option.{option_map_or}
+use Rattle.std.specs.List.{list_any}
+use Rattle.std.specs.FinMap as map
+use Rattle.squares.specs.declared.sides.Side.{Side}
+use Rattle.squares.specs.declared.shogi.piece.Role.{Role}
+use Rattle.squares.specs.declared.shogi.piece.Role.TheVariants as role
+use Rattle.squares.specs.declared.shogi.piece.HandKind.{HandKind}
+use Rattle.squares.specs.declared.shogi.piece.HandKind.TheVariants as in_hand
+use Rattle.squares.specs.declared.shogi.piece.SPiece.{SPiece}
+use Rattle.squares.specs.declared.shogi.moves.SMove.{SMove}
+use Rattle.squares.specs.declared.shogi.moves.SMove.TheVariants.{Step, Drop}
+use Rattle.squares.specs.Sides.{same_side}
+use Rattle.squares.specs.ShogiBoard.{ShogiBoard}
+use Rattle.squares.specs.ShogiSets.{ShogiPosition}
+use Rattle.squares.specs.ShogiGeometry.{file_of}
+use Rattle.shogi_moves.specs.declared.checking.Illegal.{Illegal}
+use Rattle.shogi_moves.specs.declared.checking.Illegal.TheVariants as illegal
+use Rattle.shogi_moves.specs.Search.{all_squares, piece_reaches, king_attacked}
+use Rattle.shogi_moves.specs.Rules.{may_promote, is_stuck, may_land, held, dropped_role, target, board_after, play, rules_in_order}
+
+-- whether the piece on `from` goes to `to`
+unfoldable pub goes : ShogiPosition → ℕ → ℕ → Bool → Bool
+goes p from to promote =
+    option_map_or (λ piece. same_side piece.side p.turn && may_land p.turn (map.get p.board to) && (not promote || may_promote piece from to) && piece_reaches p.board piece from to) (map.get p.board from) false
+
+-- whether the square is on the board, and empty
+unfoldable pub is_free : ShogiBoard → ℕ → Bool
+is_free board square = nat_lt square 81 && is_none (map.get board square)
+
+abbrev pub is_movement : ShogiPosition → SMove → Bool
+is_movement p (Step from to promote) = goes p from to promote
+is_movement p (Drop kind to) = is_free p.board to
+
+abbrev pub lacks : ShogiPosition → SMove → Bool
+lacks p (Step from to promote) = false
+lacks p (Drop kind to) = held p.hands p.turn kind == 0
+
+unfoldable pub stuck_after : ShogiPosition → ℕ → ℕ → Bool
+stuck_after p from to = option_map_or (λ piece. is_stuck piece.side piece.role to) (map.get p.board from) false
+
+abbrev pub stays : ShogiPosition → SMove → Bool
+stays p (Step from to promote) = not promote && stuck_after p from to
+stays p (Drop kind to) = false
+
+abbrev pub drops_dead : ShogiPosition → SMove → Bool
+drops_dead p (Step from to promote) = false
+drops_dead p (Drop kind to) = is_stuck p.turn (dropped_role kind) to
+
+abbrev pub is_pawn : Role → Bool
+is_pawn role.Pawn = true
+is_pawn _ = false
+
+-- whether the cell holds an unpromoted pawn of the side
+abbrev pub holds_pawn : Side → Option SPiece → Bool
+holds_pawn side None = false
+holds_pawn side (Some piece) = is_pawn piece.role && same_side piece.side side
+
+unfoldable pub pawn_on_file_at : ShogiBoard → Side → ℕ → ℕ → Bool
+pawn_on_file_at board side square there = holds_pawn side (map.get board there) && file_of there == file_of square
+
+unfoldable pub pawn_on_file : ShogiBoard → Side → ℕ → Bool
+pawn_on_file board side square = list_any (pawn_on_file_at board side square) all_squares
+
+abbrev pub drops_pawn : SMove → Bool
+drops_pawn (Step from to promote) = false
+drops_pawn (Drop in_hand.Pawn to) = true
+drops_pawn (Drop kind to) = false
+
+unfoldable pub drops_second_pawn : ShogiPosition → SMove → Bool
+drops_second_pawn p m = drops_pawn m && pawn_on_file p.board p.turn (target m)
+
+unfoldable pub is_pseudo : ShogiPosition → SMove → Bool
+is_pseudo p m = is_movement p m && not (lacks p m) && not (stays p m) && not (drops_dead p m) && not (drops_second_pawn p m)
+
+unfoldable pub leaves_king : ShogiPosition → SMove → Bool
+leaves_king p m = king_attacked (board_after p m) p.turn
+
+-- whether the move leaves the own king safe
+unfoldable pub escapes : ShogiPosition → SMove → Bool
+escapes p m = is_pseudo p m && not (leaves_king p m)
+
+abbrev pub all_kinds : List HandKind
+all_kinds = in_hand.Rook ∷ in_hand.Bishop ∷ in_hand.Gold ∷ in_hand.Silver ∷ in_hand.Knight ∷ in_hand.Lance ∷ in_hand.Pawn ∷ []
+
+-- whether some step or drop passes the test
+abbrev pub some_step_between : (SMove → Bool) → ℕ → ℕ → Bool
+some_step_between test from to = test (Step from to false) || test (Step from to true)
+
+abbrev pub some_step_from : (SMove → Bool) → ℕ → Bool
+some_step_from test from = list_any (some_step_between test from) all_squares
+
+abbrev pub some_step : (SMove → Bool) → Bool
+some_step test = list_any (some_step_from test) all_squares
+
+abbrev pub some_drop_of : (SMove → Bool) → HandKind → Bool
+some_drop_of test kind = list_any (λ to. test (Drop kind to)) all_squares
+
+abbrev pub some_drop : (SMove → Bool) → Bool
+some_drop test = list_any (some_drop_of test) all_kinds
+
+unfoldable pub some_move : (SMove → Bool) → Bool
+some_move test = some_step test || some_drop test
+
+unfoldable pub is_mate : ShogiPosition → Bool
+is_mate p = king_attacked p.board p.turn && not (some_move (escapes p))
+
+unfoldable pub mates_by_pawn : ShogiPosition → SMove → Bool
+mates_by_pawn p m = drops_pawn m && is_mate (play p m)
+
+unfoldable pub is_legal : ShogiPosition → SMove → Bool
+is_legal p m = escapes p m && not (mates_by_pawn p m)
+
+unfoldable pub has_move : ShogiPosition → Bool
+has_move p = some_move (is_legal p)
+
+-- whether the move breaks the rule
+abbrev pub broken : ShogiPosition → SMove → Illegal → Bool
+broken p m illegal.NoSuchMove = not (is_movement p m)
+broken p m illegal.NotInHand = lacks p m
+broken p m illegal.MustPromote = stays p m
+broken p m illegal.DeadDrop = drops_dead p m
+broken p m illegal.TwoPawns = drops_second_pawn p m
+broken p m illegal.KingAttacked = leaves_king p m
+broken p m illegal.DropMate = mates_by_pawn p m
+
+abbrev pub Answer : Type 0
+Answer = Result (Unit {0}) Illegal
+
+-- the first of the rules that fails the test
+abbrev pub first_of : (Illegal → Bool) → List Illegal → Answer
+first_of fails [] = Ok tt
+first_of fails (rule ∷ rules) = if fails rule then Err rule else first_of fails rules
+
+-- the answer of a check
+unfoldable pub check_of : ShogiPosition → SMove → Answer
+check_of p m = first_of (broken p m) rules_in_order

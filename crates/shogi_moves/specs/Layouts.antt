@@ -1,0 +1,6 @@
+-- A layout is what the rules look at: a board, hands and a turn, as in a position.
+use Rattle.squares.specs.ShogiSets.{ShogiPosition}
+use Rattle.shogi_moves.specs.declared.layout.Layout.{Layout}
+
+abbrev pub position_of : Layout → ShogiPosition
+position_of layout = record { board = layout.board; hands = layout.hands; turn = layout.turn }

@@ -1,0 +1,137 @@
+-- Which squares the pieces of shogi reach, and which squares are attacked.
+use Rattle.std.specs.Prelude.{◌≡◌, ℕ, ◌+◌, ◌-◌, nat_lt, nat_le, ◌&&◌, Option, Some, None, List, [], ◌∷◌, ◌++◌, if◌then◌else◌}
+use Rattle.std.specs.Option.{option_map_or}
+use Rattle.std.specs.FinMap as map
+use Rattle.std.proofs.Common.{zero, suc}
+use Rattle.squares.specs.declared.sides.Side.{Side}
+use Rattle.squares.specs.declared.sides.Side.TheVariants.{First, Second}
+use Rattle.squares.specs.declared.shogi.piece.Role.{Role}
+use Rattle.squares.specs.declared.shogi.piece.Role.TheVariants as role
+use Rattle.squares.specs.declared.shogi.piece.SPiece.{SPiece}
+use Rattle.squares.specs.Sides.{other}
+use Rattle.squares.specs.ShogiBoard.{ShogiBoard}
+use Rattle.squares.specs.ShogiGeometry.{file_of, rank_of, shogi_number}
+use Rattle.shogi_moves.specs.declared.heading.Heading.{Heading}
+use Rattle.shogi_moves.specs.declared.heading.Heading.TheVariants.{Forward, ForwardLeft, ForwardRight, Left, Right, Back, BackLeft, BackRight, JumpLeft, JumpRight}
+
+-- Files run from 1 at the right to 9 at the left, as First sees the board.
+abbrev pub next_file : Heading → ℕ → ℕ
+next_file ForwardLeft file = file + 1
+next_file Left file = file + 1
+next_file BackLeft file = file + 1
+next_file JumpLeft file = file + 1
+next_file ForwardRight file = file - 1
+next_file Right file = file - 1
+next_file BackRight file = file - 1
+next_file JumpRight file = file - 1
+next_file Forward file = file
+next_file Back file = file
+
+-- Ranks run from 1 at the top to 9 at the bottom. First's pieces go forward to the top, Second's to the bottom.
+abbrev pub ranks_forward : Side → ℕ → ℕ → ℕ
+ranks_forward First ranks rank = rank - ranks
+ranks_forward Second ranks rank = rank + ranks
+
+abbrev pub next_rank : Side → Heading → ℕ → ℕ
+next_rank side Forward rank = ranks_forward side 1 rank
+next_rank side ForwardLeft rank = ranks_forward side 1 rank
+next_rank side ForwardRight rank = ranks_forward side 1 rank
+next_rank side Left rank = rank
+next_rank side Right rank = rank
+next_rank side Back rank = ranks_forward (other side) 1 rank
+next_rank side BackLeft rank = ranks_forward (other side) 1 rank
+next_rank side BackRight rank = ranks_forward (other side) 1 rank
+next_rank side JumpLeft rank = ranks_forward side 2 rank
+next_rank side JumpRight rank = ranks_forward side 2 rank
+
+-- the square of a file and a rank, if they are on the board
+abbrev pub square_at : ℕ → ℕ → Option ℕ
+square_at file rank = if (nat_le 1 file && nat_le file 9) && (nat_le 1 rank && nat_le rank 9) then Some (shogi_number file rank) else None
+
+-- the next square for a piece of that side, if there is one; from a number that is no square there is none
+unfoldable pub step : Side → Heading → ℕ → Option ℕ
+step side heading n = if nat_lt n 81 then square_at (next_file heading (file_of n)) (next_rank side heading (rank_of n)) else None
+
+-- at most k squares from n on, the nearest first, up to the board's edge
+unfoldable pub line : ℕ → Side → Heading → ℕ → List ℕ
+line zero side heading n = []
+line (suc k) side heading n = option_map_or (λ m. m ∷ line k side heading m) (step side heading n) []
+
+abbrev pub straight : ℕ → Heading → ℕ
+straight k Forward = k
+straight k Left = k
+straight k Right = k
+straight k Back = k
+straight k _ = 0
+
+abbrev pub diagonal : ℕ → Heading → ℕ
+diagonal k ForwardLeft = k
+diagonal k ForwardRight = k
+diagonal k BackLeft = k
+diagonal k BackRight = k
+diagonal k _ = 0
+
+abbrev pub gold : Heading → ℕ
+gold ForwardLeft = 1
+gold ForwardRight = 1
+gold heading = straight 1 heading
+
+abbrev pub silver : Heading → ℕ
+silver Forward = 1
+silver heading = diagonal 1 heading
+
+abbrev pub knight : Heading → ℕ
+knight JumpLeft = 1
+knight JumpRight = 1
+knight _ = 0
+
+abbrev pub ahead : ℕ → Heading → ℕ
+ahead k Forward = k
+ahead k _ = 0
+
+-- how many squares a piece goes at most; eight is any distance
+abbrev pub range : Role → Heading → ℕ
+range role.King heading = straight 1 heading + diagonal 1 heading
+range role.Rook heading = straight 8 heading
+range role.Bishop heading = diagonal 8 heading
+range role.Gold heading = gold heading
+range role.Silver heading = silver heading
+range role.Knight heading = knight heading
+range role.Lance heading = ahead 8 heading
+range role.Pawn heading = ahead 1 heading
+range role.PromotedRook heading = straight 8 heading + diagonal 1 heading
+range role.PromotedBishop heading = diagonal 8 heading + straight 1 heading
+range role.PromotedSilver heading = gold heading
+range role.PromotedKnight heading = gold heading
+range role.PromotedLance heading = gold heading
+range role.PromotedPawn heading = gold heading
+
+-- no piece stands on any of the squares
+abbrev pub AllClear : ShogiBoard → List ℕ → Type 0
+AllClear board [] = Unit {0}
+AllClear board (n ∷ ns) = (map.get board n ≡ None) × AllClear board ns
+
+-- The piece on x goes in some heading, within its range and over empty squares, as far as y. Nothing is asked of y.
+pub record Reach (board : ShogiBoard) (piece : SPiece) (x y : ℕ) : Type 0 where
+  pub stands : map.get board x ≡ Some piece
+  pub heading : Heading
+  pub before : List ℕ
+  pub after : List ℕ
+  pub along : line (range piece.role heading) piece.side heading x ≡ before ++ y ∷ after
+  pub clear : AllClear board before
+
+-- some enemy of the side reaches the square
+pub record Attacked (board : ShogiBoard) (side : Side) (square : ℕ) : Type 0 where
+  pub from : ℕ
+  pub piece : SPiece
+  pub enemy : piece.side ≡ other side
+  pub reach : Reach board piece from square
+
+abbrev pub king : Side → SPiece
+king side = record { side = side; role = role.King }
+
+-- a king of the side stands on an attacked square
+pub record KingAttacked (board : ShogiBoard) (side : Side) : Type 0 where
+  pub square : ℕ
+  pub stands : map.get board square ≡ Some (king side)
+  pub attacked : Attacked board side square

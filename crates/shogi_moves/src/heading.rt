@@ -1,0 +1,167 @@
+//! The ways that pieces go, and how far.
+ghost use Rattle.std.specs.Prelude.{◌≡◌, ◌≤◌};
+ghost use Rattle.shogi_moves.specs.Reach.{next_file, ranks_forward, next_rank, straight, diagonal, gold, silver, knight, ahead, range, step};
+
+use squares::{Role, Side, Ssq};
+
+/// A way that a piece goes. Forward is towards the enemy; left and right are as First sees the
+/// board. A jump goes two ranks forward and one file aside.
+#[derive(Clone, Copy, Debug, PartialEq, Eq)]
+pub enum Heading {
+    Forward,
+    ForwardLeft,
+    ForwardRight,
+    Left,
+    Right,
+    Back,
+    BackLeft,
+    BackRight,
+    JumpLeft,
+    JumpRight,
+}
+
+impl Heading {
+    /// All headings.
+    pub const ALL: [Heading; 10] = [
+        Heading::Forward,
+        Heading::ForwardLeft,
+        Heading::ForwardRight,
+        Heading::Left,
+        Heading::Right,
+        Heading::Back,
+        Heading::BackLeft,
+        Heading::BackRight,
+        Heading::JumpLeft,
+        Heading::JumpRight,
+    ];
+}
+
+// The file of the next square, or 0 or 10 off the board.
+fn next_file(heading: Heading, file: u8) -> u8
+    requires { file ≤ 9 }
+    ensures { result ≡ next_file heading file }
+{
+    match heading {
+        Heading::ForwardLeft | Heading::Left | Heading::BackLeft | Heading::JumpLeft => file + 1,
+        Heading::ForwardRight | Heading::Right | Heading::BackRight | Heading::JumpRight => {
+            file.saturating_sub(1)
+        }
+        Heading::Forward | Heading::Back => file,
+    }
+}
+
+// The rank so many ranks nearer to the enemy, or 0 or above 9 off the board.
+fn ranks_forward(side: Side, ranks: u8, rank: u8) -> u8
+    requires rank { rank ≤ 9 }
+    requires ranks { ranks ≤ 2 }
+    ensures { result ≡ ranks_forward side ranks rank }
+{
+    match side {
+        Side::First => rank.saturating_sub(ranks),
+        Side::Second => rank + ranks,
+    }
+}
+
+// The rank of the next square.
+fn next_rank(side: Side, heading: Heading, rank: u8) -> u8
+    requires { rank ≤ 9 }
+    ensures { result ≡ next_rank side heading rank }
+{
+    match heading {
+        Heading::Forward | Heading::ForwardLeft | Heading::ForwardRight => {
+            ranks_forward(side, 1, rank)
+        }
+        Heading::Left | Heading::Right => rank,
+        Heading::Back | Heading::BackLeft | Heading::BackRight => {
+            ranks_forward(side.other(), 1, rank)
+        }
+        Heading::JumpLeft | Heading::JumpRight => ranks_forward(side, 2, rank),
+    }
+}
+
+/// The next square for a piece of that side, or None at the edge of the board.
+pub fn step(side: Side, heading: Heading, from: Ssq) -> Option<Ssq>
+    ensures { result ≡ step side heading from }
+{
+    Ssq::new(
+        next_file(heading, from.file()),
+        next_rank(side, heading, from.rank()),
+    )
+}
+
+fn straight(distance: u8, heading: Heading) -> u8
+    ensures { result ≡ straight distance heading }
+{
+    match heading {
+        Heading::Forward | Heading::Left | Heading::Right | Heading::Back => distance,
+        _ => 0,
+    }
+}
+
+fn diagonal(distance: u8, heading: Heading) -> u8
+    ensures { result ≡ diagonal distance heading }
+{
+    match heading {
+        Heading::ForwardLeft | Heading::ForwardRight | Heading::BackLeft | Heading::BackRight =>
+            distance,
+        _ => 0,
+    }
+}
+
+fn gold(heading: Heading) -> u8
+    ensures { result ≡ gold heading }
+{
+    match heading {
+        Heading::ForwardLeft | Heading::ForwardRight => 1,
+        _ => straight(1, heading),
+    }
+}
+
+fn silver(heading: Heading) -> u8
+    ensures { result ≡ silver heading }
+{
+    match heading {
+        Heading::Forward => 1,
+        _ => diagonal(1, heading),
+    }
+}
+
+fn knight(heading: Heading) -> u8
+    ensures { result ≡ knight heading }
+{
+    match heading {
+        Heading::JumpLeft | Heading::JumpRight => 1,
+        _ => 0,
+    }
+}
+
+fn ahead(distance: u8, heading: Heading) -> u8
+    ensures { result ≡ ahead distance heading }
+{
+    match heading {
+        Heading::Forward => distance,
+        _ => 0,
+    }
+}
+
+/// How many squares a piece goes at most. Eight is any distance.
+pub fn range(role: Role, heading: Heading) -> u8
+    ensures { result ≡ range role heading }
+{
+    match role {
+        Role::King => straight(1, heading) + diagonal(1, heading),
+        Role::Rook => straight(8, heading),
+        Role::Bishop => diagonal(8, heading),
+        Role::Silver => silver(heading),
+        Role::Knight => knight(heading),
+        Role::Lance => ahead(8, heading),
+        Role::Pawn => ahead(1, heading),
+        Role::PromotedRook => straight(8, heading) + diagonal(1, heading),
+        Role::PromotedBishop => diagonal(8, heading) + straight(1, heading),
+        Role::Gold
+        | Role::PromotedSilver
+        | Role::PromotedKnight
+        | Role::PromotedLance
+        | Role::PromotedPawn => gold(heading),
+    }
+}

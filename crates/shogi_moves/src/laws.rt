@@ -1,0 +1,23 @@
+//! What is proved of the rules as a whole.
+ghost use Rattle.shogi_moves.specs.Laws.{CheckIs, HasMoveIs, TurnPasses, LinesFollowCoordinates};
+
+/// The check of a move, as a function of position and move, passes the legal moves alone, and
+/// names the first rule that each other one breaks.
+pub fn check_is()
+    ensures { CheckIs }
+{}
+
+/// Whether there is a legal move, as a function of the position, is as the rules say.
+pub fn has_move_is()
+    ensures { HasMoveIs }
+{}
+
+/// A legal move passes the turn.
+pub fn turn_passes()
+    ensures { TurnPasses }
+{}
+
+/// A line of squares goes on by the files and ranks of its heading, up to the edge of the board.
+pub fn lines_follow_coordinates()
+    ensures { LinesFollowCoordinates }
+{}

@@ -1,0 +1,132 @@
+//! What the rules look at, and what a move makes of it.
+ghost use Rattle.std.specs.Prelude.{◌≡◌};
+ghost use Rattle.squares.specs.ShogiSets.{IsShogiPosition};
+ghost use Rattle.shogi_moves.specs.Layouts.{position_of};
+ghost use Rattle.shogi_moves.specs.Rules.{may_promote, held, with_held, dropped_role, arrived, board_after, hands_after, play};
+ghost use Rattle.squares.specs.declared.shogi.moves.SMove.TheVariants.{Step, Drop};
+
+use squares::{Hand, HandKind, Hands, Role, SBoard, SMove, SPiece, SPos, Side, Ssq};
+
+/// A board, hands and a turn, as in a position.
+#[derive(Drop)]
+pub struct Layout {
+    pub board: SBoard,
+    pub hands: Hands,
+    pub turn: Side,
+}
+
+impl Layout {
+    /// The layout of a position.
+    pub fn of(position: &SPos) -> Layout
+        ensures value { position_of result ≡ position.now }
+        ensures sound { IsShogiPosition position.now.board position.now.hands }
+    {
+        Layout {
+            board: position.board().copied(),
+            hands: position.hands(),
+            turn: position.turn(),
+        }
+    }
+
+    /// How many pieces of the kind the side to move holds.
+    pub fn held(&self, kind: HandKind) -> u8
+        ensures { result ≡ held self.now.hands self.now.turn kind }
+    {
+        self.hands.of(self.turn).count(kind)
+    }
+
+    /// The board after a step from a square to another.
+    pub fn board_after_step(&self, from: Ssq, to: Ssq, promote: bool) -> SBoard
+        ensures { result ≡ board_after (position_of self.now) (Step from to promote) }
+    {
+        let mut board = self.board.copied();
+        match self.board.at(from) {
+            None => board,
+            Some(piece) => {
+                board.clear(from);
+                board.put(to, arrived(piece, promote));
+                board
+            }
+        }
+    }
+
+    /// The board after a drop.
+    pub fn board_after_drop(&self, kind: HandKind, to: Ssq) -> SBoard
+        ensures { result ≡ board_after (position_of self.now) (Drop kind to) }
+    {
+        let mut board = self.board.copied();
+        board.put(
+            to,
+            SPiece {
+                side: self.turn,
+                role: dropped_role(kind),
+            },
+        );
+        board
+    }
+
+    /// The board after a move.
+    pub fn board_after(&self, played: &SMove) -> SBoard
+        ensures { result ≡ board_after (position_of self.now) played.now }
+    {
+        match played {
+            SMove::Step { from, to, promote } => self.board_after_step(*from, *to, *promote),
+            SMove::Drop { kind, to } => self.board_after_drop(*kind, *to),
+        }
+    }
+
+    /// The layout after a drop.
+    pub fn after_drop(&self, kind: HandKind, to: Ssq) -> Layout
+        ensures { position_of result ≡ play (position_of self.now) (Drop kind to) }
+    {
+        Layout {
+            board: self.board_after_drop(kind, to),
+            hands: with_held(
+                self.hands,
+                self.turn,
+                kind,
+                self.held(kind).saturating_sub(1),
+            ),
+            turn: self.turn.other(),
+        }
+    }
+}
+
+/// The hands where the side holds that many pieces of the kind.
+pub fn with_held(hands: Hands, side: Side, kind: HandKind, count: u8) -> Hands
+    ensures { result ≡ with_held hands side kind count }
+{
+    match side {
+        Side::First => Hands {
+            first: hands.first.with_count(kind, count),
+            second: hands.second,
+        },
+        Side::Second => Hands {
+            first: hands.first,
+            second: hands.second.with_count(kind, count),
+        },
+    }
+}
+
+/// The role of a piece that is dropped.
+pub fn dropped_role(kind: HandKind) -> Role
+    ensures { result ≡ dropped_role kind }
+{
+    kind.kind().role()
+}
+
+// What the moved piece is after the step.
+fn arrived(piece: SPiece, promote: bool) -> SPiece
+    ensures { result ≡ arrived piece promote }
+{
+    if !promote {
+        return piece;
+    }
+    match piece.role.kind().promoted_role() {
+        None => piece,
+        Some(role) => SPiece {
+            side: piece.side,
+            role,
+        },
+    }
+}

@@ -1,0 +1,26 @@
+//! The moves of shogi: which are legal, and what they leave.
+#![tactic(auto)]
+
+mod attacks;
+mod board_squares;
+mod checking;
+mod heading;
+pub mod laws;
+mod layout;
+mod listing;
+mod mating;
+mod memory;
+mod playing;
+mod pseudo;
+mod reaching;
+mod zones;
+
+pub use attacks::{attacked, in_check};
+pub use checking::{Illegal, check, has_move};
+pub use listing::legal;
+pub use mating::mated;
+pub use memory::Memory;
+pub use playing::play;
+
+#[cfg(test)]
+mod tests;

@@ -1,0 +1,157 @@
+//! Moves but for what they do to the kings.
+ghost use Rattle.std.specs.Prelude.{◌≡◌};
+ghost use Rattle.shogi_moves.specs.Layouts.{position_of};
+ghost use Rattle.shogi_moves.specs.Computed.{goes, is_free, is_movement, lacks, stuck_after, stays, drops_dead, holds_pawn, pawn_on_file_at, pawn_on_file, drops_pawn, drops_second_pawn, is_pseudo};
+
+use crate::board_squares::all_squares;
+use crate::layout::{Layout, dropped_role};
+use crate::reaching::piece_reaches;
+use crate::zones::{is_stuck, may_land, may_promote};
+use squares::{HandKind, Role, SBoard, SMove, SPiece, Side, Ssq};
+
+// Whether the piece on `from` goes to `to`.
+#[tactic(auto, unfolding(crate::specs::Computed::goes))]
+fn goes(layout: &Layout, from: Ssq, to: Ssq, promote: bool) -> bool
+    ensures { result ≡ goes (position_of layout.now) from to promote }
+{
+    match layout.board.at(from) {
+        None => false,
+        Some(piece) => {
+            piece.side == layout.turn
+                && may_land(layout.turn, layout.board.at(to))
+                && (!promote || may_promote(piece, from, to))
+                && piece_reaches(&layout.board, piece, from, to)
+        }
+    }
+}
+
+// Whether no piece stands on the square.
+fn is_free(board: &SBoard, square: Ssq) -> bool
+    ensures { result ≡ is_free board.now square }
+{
+    match board.at(square) {
+        None => true,
+        Some(_) => false,
+    }
+}
+
+/// Whether a piece goes so, or is dropped on an empty square.
+pub fn is_movement(layout: &Layout, played: &SMove) -> bool
+    ensures { result ≡ is_movement (position_of layout.now) played.now }
+{
+    match played {
+        SMove::Step { from, to, promote } => goes(layout, *from, *to, *promote),
+        SMove::Drop { kind: _, to } => is_free(&layout.board, *to),
+    }
+}
+
+/// Whether the move drops what the side does not hold.
+pub fn lacks(layout: &Layout, played: &SMove) -> bool
+    ensures { result ≡ lacks (position_of layout.now) played.now }
+{
+    match played {
+        SMove::Step { .. } => false,
+        SMove::Drop { kind, to: _ } => layout.held(*kind) == 0,
+    }
+}
+
+// Whether the piece on `from` could never move from `to`.
+#[tactic(auto, unfolding(crate::specs::Computed::stuck_after))]
+fn stuck_after(layout: &Layout, from: Ssq, to: Ssq) -> bool
+    ensures { result ≡ stuck_after (position_of layout.now) from to }
+{
+    match layout.board.at(from) {
+        None => false,
+        Some(piece) => is_stuck(piece.side, piece.role, to),
+    }
+}
+
+/// Whether the move is a step that must promote and does not.
+pub fn stays(layout: &Layout, played: &SMove) -> bool
+    ensures { result ≡ stays (position_of layout.now) played.now }
+{
+    match played {
+        SMove::Step { from, to, promote } => !*promote && stuck_after(layout, *from, *to),
+        SMove::Drop { .. } => false,
+    }
+}
+
+/// Whether the move drops a piece to where it could never move.
+pub fn drops_dead(layout: &Layout, played: &SMove) -> bool
+    ensures { result ≡ drops_dead (position_of layout.now) played.now }
+{
+    match played {
+        SMove::Step { .. } => false,
+        SMove::Drop { kind, to } => is_stuck(layout.turn, dropped_role(*kind), *to),
+    }
+}
+
+// Whether the cell holds an unpromoted pawn of the side.
+fn holds_pawn(cell: Option<SPiece>, side: Side) -> bool
+    ensures { result ≡ holds_pawn side cell }
+{
+    match cell {
+        None => false,
+        Some(piece) => match piece.role {
+            Role::Pawn => piece.side == side,
+            _ => false,
+        },
+    }
+}
+
+// Whether an unpromoted pawn of the side stands there, on the file of the square.
+#[tactic(auto, unfolding(crate::specs::Computed::pawn_on_file_at))]
+fn pawn_on_file_at(board: &SBoard, side: Side, square: Ssq, there: Ssq) -> bool
+    ensures { result ≡ pawn_on_file_at board.now side square there }
+{
+    holds_pawn(board.at(there), side) && there.file() == square.file()
+}
+
+// Whether an unpromoted pawn of the side stands on the file of the square.
+#[tactic(auto, unfolding(crate::specs::Computed::pawn_on_file))]
+fn pawn_on_file(board: &SBoard, side: Side, square: Ssq) -> bool
+    ensures { result ≡ pawn_on_file board.now side square }
+{
+    all_squares()
+        .iter()
+        .any(|there| pawn_on_file_at(board, side, square, *there))
+}
+
+/// Whether the move drops a pawn.
+pub fn drops_pawn(played: &SMove) -> bool
+    ensures { result ≡ drops_pawn played.now }
+{
+    match played {
+        SMove::Step { .. } => false,
+        SMove::Drop { kind, to: _ } => match kind {
+            HandKind::Pawn => true,
+            _ => false,
+        },
+    }
+}
+
+/// Whether the move drops a pawn on a file with an own unpromoted pawn.
+#[tactic(auto, unfolding(crate::specs::Computed::drops_second_pawn))]
+pub fn drops_second_pawn(layout: &Layout, played: &SMove) -> bool
+    ensures { result ≡ drops_second_pawn (position_of layout.now) played.now }
+{
+    if !drops_pawn(played) {
+        return false;
+    }
+    match played {
+        SMove::Step { .. } => false,
+        SMove::Drop { kind: _, to } => pawn_on_file(&layout.board, layout.turn, *to),
+    }
+}
+
+/// Whether the side to move may move so, but for what the move does to the kings.
+#[tactic(auto, unfolding(crate::specs::Computed::is_pseudo))]
+pub fn is_pseudo(layout: &Layout, played: &SMove) -> bool
+    ensures { result ≡ is_pseudo (position_of layout.now) played.now }
+{
+    is_movement(layout, played)
+        && !lacks(layout, played)
+        && !stays(layout, played)
+        && !drops_dead(layout, played)
+        && !drops_second_pawn(layout, played)
+}

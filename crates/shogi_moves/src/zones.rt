@@ -1,0 +1,70 @@
+//! Where pieces may promote, must promote and may land.
+ghost use Rattle.std.specs.Prelude.{◌≡◌, ◌≤◌};
+ghost use Rattle.squares.specs.ShogiSets.{is_king};
+ghost use Rattle.shogi_moves.specs.Rules.{far_rank, can_promote, may_promote, last_ranks, is_stuck, may_land};
+
+use squares::{Role, SPiece, Side, Ssq};
+
+// How far a square is from the enemy's edge, as the side sees it: 1 is the last rank.
+fn far_rank(side: Side, square: Ssq) -> u8
+    ensures { result ≡ far_rank side square }
+{
+    match side {
+        Side::First => square.rank(),
+        Side::Second => 10 - square.rank(),
+    }
+}
+
+fn can_promote(role: Role) -> bool
+    ensures { result ≡ can_promote role }
+{
+    match role {
+        Role::Rook | Role::Bishop | Role::Silver | Role::Knight | Role::Lance | Role::Pawn => true,
+        _ => false,
+    }
+}
+
+/// Whether a step of the piece from a square to another may promote it.
+pub fn may_promote(piece: SPiece, from: Ssq, to: Ssq) -> bool
+    ensures { result ≡ may_promote piece from to }
+{
+    can_promote(piece.role) && (far_rank(piece.side, from) <= 3 || far_rank(piece.side, to) <= 3)
+}
+
+// On how many of the last ranks the piece could never move again.
+fn last_ranks(role: Role) -> u8
+    ensures { result ≡ last_ranks role }
+{
+    match role {
+        Role::Pawn | Role::Lance => 1,
+        Role::Knight => 2,
+        _ => 0,
+    }
+}
+
+/// Whether a piece could never move from a square.
+pub fn is_stuck(side: Side, role: Role, square: Ssq) -> bool
+    ensures { result ≡ is_stuck side role square }
+{
+    far_rank(side, square) <= last_ranks(role)
+}
+
+/// Whether a step of the side may end on a square where this stands: on nothing, or on an enemy
+/// that is no king.
+pub fn may_land(side: Side, there: Option<SPiece>) -> bool
+    ensures { result ≡ may_land side there }
+{
+    match there {
+        None => true,
+        Some(piece) => !(piece.side == side) && !is_king(piece.role),
+    }
+}
+
+fn is_king(role: Role) -> bool
+    ensures { result ≡ is_king role }
+{
+    match role {
+        Role::King => true,
+        _ => false,
+    }
+}
