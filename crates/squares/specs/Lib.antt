@@ -16,5 +16,6 @@ pub mod ShogiGeometry
 pub mod ShogiHands
 pub mod ShogiLaws
 pub mod ShogiPieces
+pub mod ShogiSamePosition
 pub mod ShogiSets
 pub mod Sides

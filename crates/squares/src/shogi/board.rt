@@ -1,6 +1,6 @@
 //! The pieces on the squares.
 
-ghost use Rattle.std.specs.Prelude.{◌≡◌, ◌≤◌, count_by, length};
+ghost use Rattle.std.specs.Prelude.{◌≡◌, ◌≤◌, ℕ, None, count_by, length};
 ghost use Rattle.std.specs.FinMap as map;
 ghost use Rattle.squares.specs.ShogiSets.{count_on, holds_kind, holds_king, is_of};
 
@@ -53,6 +53,13 @@ impl SBoard {
         SBoard { cells: self.cells }
     }
 
+    /// A law: no piece stands anywhere but on the eighty-one squares.
+    pub fn keeps_to_its_squares(&self)
+        ensures { (n : ℕ) → 81 ≤ n → map.get self.now n ≡ None }
+    {
+        let _cells = &self.cells;
+    }
+
     /// Puts a piece on a square, in place of what stood there.
     pub fn put(&mut self, square: Ssq, piece: SPiece)
         ensures { self.new ≡ map.insert self.old square piece }
@@ -82,6 +89,24 @@ impl SBoard {
     {
         count_king_cells(&self.cells, side)
     }
+}
+
+impl PartialEq for SBoard {
+    ghost use Rattle.squares.specs.ShogiSamePosition.{same_shogi_board, same_shogi_board-partial};
+
+    ghost eq = { same_shogi_board };
+
+    ghost laws = { same_shogi_board-partial };
+
+    fn eq(&self, other: &SBoard) -> bool {
+        self.cells[..] == other.cells[..]
+    }
+}
+
+impl Eq for SBoard {
+    ghost use Rattle.squares.specs.ShogiSamePosition.{same_shogi_board-equivalence};
+
+    ghost laws = { same_shogi_board-equivalence };
 }
 
 // Whether a cell holds a piece of that kind, promoted or not.

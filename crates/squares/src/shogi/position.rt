@@ -1,6 +1,7 @@
 //! A position of shogi.
 
-ghost use Rattle.std.specs.Prelude.{◌≡◌, ◌↔◌, ◌≤◌, ◌+◌, IsTrue, IsSome, IfSome};
+ghost use Rattle.std.specs.Prelude.{◌≡◌, ◌↔◌, ◌≤◌, ◌+◌, ℕ, None, IsTrue, IsSome, IfSome};
+ghost use Rattle.std.specs.FinMap as map;
 ghost use Rattle.squares.specs.ShogiSets.{IsShogiPosition, KeepsSets, HasKings, holds_king, holds_kind, in_play, set_size};
 
 use crate::shogi::board::SBoard;
@@ -10,7 +11,8 @@ use crate::sides::Side;
 use std::marker::Model;
 
 /// A board, the hands and the side to move. Each side has one king, and the board and the hands together hold at most 18
-/// pawns, 4 each of lances, knights, silvers and golds, 2 bishops and 2 rooks.
+/// pawns, 4 each of lances, knights, silvers and golds, 2 bishops and 2 rooks. Two positions with the same pieces on the same
+/// squares, the same hands and the same turn are one position.
 #[derive(Drop)]
 pub struct SPos {
     board: SBoard,
@@ -63,6 +65,17 @@ impl SPos {
         SPos { board, hands, turn }
     }
 
+    /// Another position with the same pieces, hands and turn.
+    pub fn copied(&self) -> SPos
+        ensures { result ≡ self.now }
+    {
+        SPos {
+            board: self.board.copied(),
+            hands: self.hands,
+            turn: self.turn,
+        }
+    }
+
     /// The side to move.
     pub fn turn(&self) -> Side
         ensures { result ≡ self.now.turn }
@@ -81,9 +94,35 @@ impl SPos {
     pub fn board(&self) -> &SBoard
         ensures value { result.now ≡ self.now.board }
         ensures sound { IsShogiPosition self.now.board self.now.hands }
+        ensures squares { (n : ℕ) → 81 ≤ n → map.get self.now.board n ≡ None }
     {
+        self.board.keeps_to_its_squares();
         &self.board
     }
+}
+
+impl PartialEq for SPos {
+    ghost use Rattle.squares.specs.ShogiSamePosition.{same_shogi_position, same_shogi_position-partial};
+
+    ghost eq = { same_shogi_position };
+
+    ghost laws = { same_shogi_position-partial };
+
+    fn eq(&self, other: &SPos) -> bool {
+        if self.turn != other.turn {
+            return false;
+        }
+        if self.hands != other.hands {
+            return false;
+        }
+        self.board == other.board
+    }
+}
+
+impl Eq for SPos {
+    ghost use Rattle.squares.specs.ShogiSamePosition.{same_shogi_position-equivalence};
+
+    ghost laws = { same_shogi_position-equivalence };
 }
 
 // Whether each side has one king.

@@ -79,3 +79,24 @@ fn a_position_has_two_kings_and_one_set(rt: HostRuntime) -> Result<(), Fail> {
     assert!(rt; SPos::new(board, Hands::default(), Side::First).is_none());
     Ok(())
 }
+
+#[test]
+fn positions_are_the_same_by_board_hands_and_turn(rt: HostRuntime) -> Result<(), Fail> {
+    let position = kings_and_pawns(2)?.ok_or("two pawns")?;
+    let same = kings_and_pawns(2)?.ok_or("two pawns")?;
+    assert!(rt; position == same);
+    assert!(rt; position.copied() == position);
+    let fewer = kings_and_pawns(1)?.ok_or("one pawn")?;
+    assert!(rt; position != fewer);
+    let board = position.board().copied();
+    let passed = SPos::new(board, position.hands(), Side::Second).ok_or("two pawns")?;
+    assert!(rt; position != passed);
+    let mut moved = position.board().copied();
+    assert!(rt; moved == *position.board());
+    moved.clear(square(9, 9)?);
+    moved.put(square(9, 8)?, piece(Side::First, Role::King));
+    assert!(rt; moved != *position.board());
+    let elsewhere = SPos::new(moved, position.hands(), Side::First).ok_or("two pawns")?;
+    assert!(rt; position != elsewhere);
+    Ok(())
+}

@@ -1,0 +1,98 @@
+-- What bytes are as signs, and signs as bytes.
+use Rattle.std.proofs.Common.{◌≡◌, ℕ, ◌+◌, ◌-◌, ◌≤◌, Bool, true, false, cond, ◌&&◌, nat_eq, nat_le, Option, Some, None, refl, ap, ◌∙◌, arith}
+use Rattle.std.proofs.lemmas.Bool.Decides.{nat_tests}
+use Rattle.squares.specs.DraughtsMarks.{nat_eq-same}
+use Rattle.squares.specs.declared.sides.Side.{Side}
+use Rattle.squares.specs.declared.sides.Side.TheVariants.{First, Second}
+use Rattle.squares.specs.declared.shogi.piece.Kind.{Kind}
+use Rattle.squares.specs.declared.shogi.piece.Kind.TheVariants as kind
+use Rattle.sfen.specs.declared.signs.Sign.{Sign}
+use Rattle.sfen.specs.declared.signs.Sign.TheVariants.{Zero, Digit, Piece, White, Plus, Minus, Slash, Blank, Other}
+use Rattle.sfen.specs.Letters.{capital, letter}
+use Rattle.sfen.specs.Signs.{capital_kind, piece_sign, sign_of}
+
+-- the byte of a sign
+abbrev pub IsSign : Sign → ℕ → Type 0
+IsSign Zero c = c ≡ 48
+IsSign (Digit n) c = (c ≡ 48 + n) × ((1 ≤ n) × (n ≤ 9))
+IsSign (Piece side kind) c = c ≡ letter side kind
+IsSign White c = c ≡ 119
+IsSign Plus c = c ≡ 43
+IsSign Minus c = c ≡ 45
+IsSign Slash c = c ≡ 47
+IsSign Blank c = c ≡ 32
+IsSign Other c = Unit {0}
+
+by-test : {A : Type 0} (P : A → Type 0) (b : Bool) (x y : A) → (b ≡ true → P x) → (b ≡ false → P y) → P (cond b x y)
+by-test P true x y there other = there refl
+by-test P false x y there other = other refl
+
+abbrev IsCapital : ℕ → Option Kind → Type 0
+IsCapital c None = Unit {0}
+IsCapital c (Some own) = c ≡ capital own
+
+capital-is : (c : ℕ) → IsCapital c (capital_kind c)
+capital-is c =
+    let P = IsCapital c in
+    let is = nat_eq-same c in
+    by-test P (nat_eq c 75) _ _ (is 75) (λ _.
+    by-test P (nat_eq c 82) _ _ (is 82) (λ _.
+    by-test P (nat_eq c 66) _ _ (is 66) (λ _.
+    by-test P (nat_eq c 71) _ _ (is 71) (λ _.
+    by-test P (nat_eq c 83) _ _ (is 83) (λ _.
+    by-test P (nat_eq c 78) _ _ (is 78) (λ _.
+    by-test P (nat_eq c 76) _ _ (is 76) (λ _.
+    by-test P (nat_eq c 80) _ _ (is 80) (λ _. tt))))))))
+
+first-piece : (c : ℕ) (o : Option Kind) → IsCapital c o → IsSign (piece_sign First o) c
+first-piece c None h = tt
+first-piece c (Some own) h = h
+
+second-piece : (c : ℕ) (o : Option Kind) → 97 ≤ c → IsCapital (c - 32) o → IsSign (piece_sign Second o) c
+second-piece c None low h = tt
+second-piece c (Some own) low h = omega (arith, h)
+
+pub sign-is : (c : ℕ) → IsSign (sign_of c) c
+sign-is c =
+    let P = λ (s : Sign). IsSign s c in
+    let is = nat_eq-same c in
+    by-test P (nat_eq c 48) _ _ (is 48) (λ _.
+    by-test P (nat_le 49 c && nat_le c 57) _ _ (λ e. (grind (arith, nat_tests), (grind (arith, nat_tests), grind (arith, nat_tests)))) (λ _.
+    by-test P (nat_eq c 43) _ _ (is 43) (λ _.
+    by-test P (nat_eq c 45) _ _ (is 45) (λ _.
+    by-test P (nat_eq c 47) _ _ (is 47) (λ _.
+    by-test P (nat_eq c 32) _ _ (is 32) (λ _.
+    by-test P (nat_eq c 119) _ _ (is 119) (λ _.
+    by-test P (nat_le 65 c && nat_le c 90) _ _ (λ e. first-piece c (capital_kind c) (capital-is c)) (λ _.
+    by-test P (nat_le 97 c && nat_le c 122) _ _ (λ e. second-piece c (capital_kind (c - 32)) (grind (arith, nat_tests)) (capital-is (c - 32))) (λ _. tt)))))))))
+
+if-true : {A : Type 0} (b : Bool) (x y : A) → b ≡ true → cond b x y ≡ x
+if-true true x y e = refl
+if-true false x y e = cc
+
+if-false : {A : Type 0} (b : Bool) (x y : A) → b ≡ false → cond b x y ≡ y
+if-false true x y e = cc
+if-false false x y e = refl
+
+-- the sign of a byte
+pub sign-digit : (n : ℕ) → 1 ≤ n → n ≤ 9 → sign_of (48 + n) ≡ Digit n
+sign-digit n low high =
+    if-false (nat_eq (48 + n) 48) _ _ (grind (arith, nat_tests)) ∙ if-true (nat_le 49 (48 + n) && nat_le (48 + n) 57) _ _ (grind (arith, nat_tests)) ∙ ap Digit (omega arith)
+
+pub sign-letter : (side : Side) (kind : Kind) → sign_of (letter side kind) ≡ Piece side kind
+sign-letter First kind.King = refl
+sign-letter First kind.Rook = refl
+sign-letter First kind.Bishop = refl
+sign-letter First kind.Gold = refl
+sign-letter First kind.Silver = refl
+sign-letter First kind.Knight = refl
+sign-letter First kind.Lance = refl
+sign-letter First kind.Pawn = refl
+sign-letter Second kind.King = refl
+sign-letter Second kind.Rook = refl
+sign-letter Second kind.Bishop = refl
+sign-letter Second kind.Gold = refl
+sign-letter Second kind.Silver = refl
+sign-letter Second kind.Knight = refl
+sign-letter Second kind.Lance = refl
+sign-letter Second kind.Pawn = refl

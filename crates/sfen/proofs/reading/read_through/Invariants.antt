@@ -1,0 +1,11 @@
+use Rattle.std.proofs.Common.{◌≡◌, Some}
+use Rattle.std.proofs.Common.{take}
+use Rattle.sfen.specs.Places.{IsSane}
+use Rattle.sfen.specs.Reading.{run, take_byte, beginning}
+use Rattle.sfen.proofs.reading.read_through.Given as goal
+
+abbrev pub invariant-loop-i : goal.invariant-loop-i
+invariant-loop-i l = record {
+  sane : IsSane l.reading.place;
+  read : run take_byte beginning (take l.i l.bytes) ≡ Some l.reading;
+}

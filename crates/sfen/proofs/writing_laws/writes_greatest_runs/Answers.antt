@@ -1,0 +1,5 @@
+use Rattle.sfen.proofs.WrittenBoardLemmas.{greatest-runs}
+use Rattle.sfen.proofs.writing_laws.writes_greatest_runs.Goals as goal
+
+pub returns : goal.returns
+returns c = λ board rank. greatest-runs board rank

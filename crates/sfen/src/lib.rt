@@ -1,0 +1,28 @@
+//! The texts of shogi: positions (SFEN) and moves (USI).
+#![tactic(auto)]
+
+pub mod faults;
+mod letters;
+mod memory;
+mod places;
+pub mod reading;
+pub mod reading_laws;
+mod signs;
+mod usi_reading;
+mod usi_writing;
+mod writing;
+pub mod writing_laws;
+
+pub use faults::SfenFault;
+pub use memory::Memory;
+pub use reading::read;
+pub use usi_reading::read_usi;
+pub use usi_writing::write_usi;
+pub use writing::write;
+
+#[cfg(test)]
+mod reading_tests;
+#[cfg(test)]
+mod usi_tests;
+#[cfg(test)]
+mod writing_tests;

@@ -1,0 +1,276 @@
+//! Where a reader stands in a position's text, and how each byte leads it on.
+ghost use Rattle.std.specs.Prelude.{◌≡◌, ◌≤◌, IfSome};
+ghost use Rattle.sfen.specs.Signs.{IsSaneSign};
+ghost use Rattle.sfen.specs.Places as spec;
+
+use crate::signs::Sign;
+use squares::{HandKind, Kind, Role, SPiece, Side, Ssq};
+
+/// Where a reader stands.
+#[derive(Clone, Copy)]
+pub enum Place {
+    /// In a rank, 1 to 9, with so many of its files left.
+    Rank { rank: u8, left: u8 },
+    /// The same, after a `+`.
+    Promoted { rank: u8, left: u8 },
+    /// Before the letter of the side to move.
+    Turn,
+    /// After that letter.
+    AfterTurn,
+    /// Before the hands.
+    Hands,
+    /// After a piece in the hands.
+    Held,
+    /// After the first digit of a count, a zero.
+    AfterZero,
+    /// After the first digit of a count, not a zero.
+    OneDigit(u8),
+    /// After two digits of a count.
+    TwoDigits(u8),
+    /// After the `-` of empty hands.
+    NoHands,
+    /// Before the number.
+    Number,
+    /// After digits that give a number.
+    Digits(u16),
+}
+
+/// What a byte adds to the position.
+#[derive(Clone, Copy)]
+pub enum Action {
+    Pass,
+    Put(Ssq, SPiece),
+    Move(Side),
+    Hold(Side, HandKind, u8),
+}
+
+/// Where a byte leads, and what it adds.
+pub type Step = (Place, Action);
+
+// The square of a file and a rank, if the board has it.
+fn square_at(file: u8, rank: u8) -> Option<Ssq>
+    ensures value { result ≡ spec.square_at file rank }
+    ensures file { IfSome result (λ _. 1 ≤ file) }
+{
+    Ssq::new(file, rank)
+}
+
+// A piece on the next square of a rank.
+fn placed(rank: u8, left: u8, piece: SPiece) -> Option<Step>
+    ensures { result ≡ spec.placed rank left piece }
+{
+    match square_at(left, rank) {
+        None => None,
+        Some(square) => Some((
+            Place::Rank {
+                rank,
+                left: left - 1,
+            },
+            Action::Put(square, piece),
+        )),
+    }
+}
+
+fn in_rank(rank: u8, left: u8, sign: Sign) -> Option<Step>
+    ensures { result ≡ spec.in_rank rank left sign }
+{
+    match sign {
+        Sign::Digit(n) if n <= left => Some((
+            Place::Rank {
+                rank,
+                left: left - n,
+            },
+            Action::Pass,
+        )),
+        Sign::Piece(side, kind) => placed(
+            rank,
+            left,
+            SPiece {
+                side,
+                role: kind.role(),
+            },
+        ),
+        Sign::Plus if left > 0 => Some((Place::Promoted { rank, left }, Action::Pass)),
+        Sign::Slash if left == 0 && rank < 9 => Some((
+            Place::Rank {
+                rank: rank + 1,
+                left: 9,
+            },
+            Action::Pass,
+        )),
+        Sign::Blank if left == 0 && rank == 9 => Some((Place::Turn, Action::Pass)),
+        _ => None,
+    }
+}
+
+fn promoted(rank: u8, left: u8, side: Side, role: Option<Role>) -> Option<Step>
+    ensures { result ≡ spec.promoted rank left side role }
+{
+    match role {
+        None => None,
+        Some(role) => placed(rank, left, SPiece { side, role }),
+    }
+}
+
+fn after_plus(rank: u8, left: u8, sign: Sign) -> Option<Step>
+    ensures { result ≡ spec.after_plus rank left sign }
+{
+    match sign {
+        Sign::Piece(side, kind) => promoted(rank, left, side, kind.promoted_role()),
+        _ => None,
+    }
+}
+
+fn at_turn(sign: Sign) -> Option<Step>
+    ensures { result ≡ spec.at_turn sign }
+{
+    match sign {
+        Sign::Piece(Side::Second, Kind::Bishop) => {
+            Some((Place::AfterTurn, Action::Move(Side::First)))
+        }
+        Sign::White => Some((Place::AfterTurn, Action::Move(Side::Second))),
+        _ => None,
+    }
+}
+
+// A blank, and what stands after it.
+fn past_blank(next: Place, sign: Sign) -> Option<Step>
+    ensures { result ≡ spec.past_blank next sign }
+{
+    match sign {
+        Sign::Blank => Some((next, Action::Pass)),
+        _ => None,
+    }
+}
+
+fn hold(count: u8, side: Side, kind: Option<HandKind>) -> Option<Step>
+    ensures { result ≡ spec.hold count side kind }
+{
+    match kind {
+        None => None,
+        Some(kind) => Some((Place::Held, Action::Hold(side, kind, count))),
+    }
+}
+
+// The first byte of pieces in a hand.
+fn at_item(sign: Sign) -> Option<Step>
+    ensures { result ≡ spec.at_item sign }
+{
+    match sign {
+        Sign::Zero => Some((Place::AfterZero, Action::Pass)),
+        Sign::Digit(n) => Some((Place::OneDigit(n), Action::Pass)),
+        Sign::Piece(side, kind) => hold(1, side, kind.in_hand()),
+        _ => None,
+    }
+}
+
+fn at_hands(sign: Sign) -> Option<Step>
+    ensures { result ≡ spec.at_hands sign }
+{
+    match sign {
+        Sign::Minus => Some((Place::NoHands, Action::Pass)),
+        _ => at_item(sign),
+    }
+}
+
+fn at_held(sign: Sign) -> Option<Step>
+    ensures { result ≡ spec.at_held sign }
+{
+    match sign {
+        Sign::Blank => Some((Place::Number, Action::Pass)),
+        _ => at_item(sign),
+    }
+}
+
+fn after_zero(sign: Sign) -> Option<Step>
+    ensures { result ≡ spec.after_zero sign }
+{
+    match sign {
+        Sign::Digit(n) => Some((Place::TwoDigits(n), Action::Pass)),
+        _ => None,
+    }
+}
+
+fn one_digit(digit: u8, sign: Sign) -> Option<Step>
+    requires digit { digit ≤ 9 }
+    requires sign { IsSaneSign sign }
+    ensures { result ≡ spec.one_digit digit sign }
+{
+    match sign {
+        Sign::Zero => Some((Place::TwoDigits(10 * digit), Action::Pass)),
+        Sign::Digit(n) => Some((Place::TwoDigits(10 * digit + n), Action::Pass)),
+        Sign::Piece(side, kind) => hold(digit, side, kind.in_hand()),
+        _ => None,
+    }
+}
+
+fn two_digits(count: u8, sign: Sign) -> Option<Step>
+    ensures { result ≡ spec.two_digits count sign }
+{
+    match sign {
+        Sign::Piece(side, kind) => hold(count, side, kind.in_hand()),
+        _ => None,
+    }
+}
+
+fn at_number(sign: Sign) -> Option<Step>
+    ensures { result ≡ spec.at_number sign }
+{
+    match sign {
+        Sign::Digit(n) => Some((Place::Digits(u16::from(n)), Action::Pass)),
+        _ => None,
+    }
+}
+
+// One digit more of a number, which has four at most.
+fn one_more(number: u16, digit: u8) -> Option<Step>
+    ensures { result ≡ spec.one_more number digit }
+{
+    if number < 1000 {
+        return Some((Place::Digits(10 * number + u16::from(digit)), Action::Pass));
+    }
+    None
+}
+
+fn in_number(number: u16, sign: Sign) -> Option<Step>
+    ensures { result ≡ spec.in_number number sign }
+{
+    match sign {
+        Sign::Zero => one_more(number, 0),
+        Sign::Digit(n) => one_more(number, n),
+        _ => None,
+    }
+}
+
+/// Where a byte leads from a place, or none where no position's text goes on so.
+pub fn next(place: Place, sign: Sign) -> Option<Step>
+    requires place { spec.IsSane place }
+    requires sign { IsSaneSign sign }
+    ensures { result ≡ spec.next place sign }
+{
+    match place {
+        Place::Rank { rank, left } => in_rank(rank, left, sign),
+        Place::Promoted { rank, left } => after_plus(rank, left, sign),
+        Place::Turn => at_turn(sign),
+        Place::AfterTurn => past_blank(Place::Hands, sign),
+        Place::Hands => at_hands(sign),
+        Place::Held => at_held(sign),
+        Place::AfterZero => after_zero(sign),
+        Place::OneDigit(digit) => one_digit(digit, sign),
+        Place::TwoDigits(count) => two_digits(count, sign),
+        Place::NoHands => past_blank(Place::Number, sign),
+        Place::Number => at_number(sign),
+        Place::Digits(number) => in_number(number, sign),
+    }
+}
+
+/// The number of the next move, if a text may end here. It is 1 where it is left out.
+pub fn number_at_end(place: Place) -> Option<u16>
+    ensures { result ≡ spec.number_at_end place }
+{
+    match place {
+        Place::Held | Place::NoHands => Some(1),
+        Place::Digits(number) => Some(number),
+        _ => None,
+    }
+}

@@ -1,0 +1,146 @@
+//! Texts as positions.
+ghost use Rattle.std.specs.Prelude.{◌≡◌, ◌↔◌, ◌<◌, ◌+◌, IsTrue, IfOk, IfErr, Some, None, true, false};
+ghost use Rattle.sfen.specs.Places.{IsSane};
+ghost use Rattle.sfen.specs.Reading.{holding, act, take_byte, run, beginning, StopsAt, Takes};
+ghost use Rattle.squares.specs.ShogiSets.{count_on, holds_kind, in_play, set_size};
+ghost use Rattle.sfen.specs.SfenGrammar.{IsSfenText, IsRefused};
+
+use crate::faults::SfenFault;
+use crate::places::{Action, Place, next, number_at_end};
+use crate::signs::sign_of;
+use squares::{Hand, HandKind, Hands, SBoard, SPos, Side};
+
+// What a reader has when it has read a beginning of a text.
+#[derive(Drop)]
+struct Reading {
+    place: Place,
+    board: SBoard,
+    hands: Hands,
+    turn: Side,
+}
+
+// The hands with so many more of a kind. 255 stand for any greater number.
+fn holding(hands: Hands, side: Side, kind: HandKind, count: u8) -> Hands
+    ensures { result ≡ holding side kind count hands }
+{
+    let mut more = hands;
+    match side {
+        Side::First => {
+            let total = hands.first.count(kind).saturating_add(count);
+            more.first = hands.first.with_count(kind, total);
+        }
+        Side::Second => {
+            let total = hands.second.count(kind).saturating_add(count);
+            more.second = hands.second.with_count(kind, total);
+        }
+    }
+    more
+}
+
+impl Reading {
+    // Nothing is read yet.
+    fn new() -> Reading
+        ensures { result ≡ beginning }
+    {
+        Reading {
+            place: Place::Rank { rank: 1, left: 9 },
+            board: SBoard::empty(),
+            hands: Hands {
+                first: Hand::default(),
+                second: Hand::default(),
+            },
+            turn: Side::First,
+        }
+    }
+
+    // Adds what a byte says.
+    fn act(&mut self, action: Action)
+        ensures { self.new ≡ act action self.old }
+    {
+        match action {
+            Action::Pass => {}
+            Action::Put(square, piece) => self.board.put(square, piece),
+            Action::Move(side) => self.turn = side,
+            Action::Hold(side, kind, count) => {
+                self.hands = holding(self.hands, side, kind, count)
+            }
+        }
+    }
+
+    // Reads one byte more, if a text goes on so.
+    fn take(&mut self, byte: u8) -> bool
+        requires { IsSane self.old.place }
+        ensures { Takes result self.old byte self.new }
+    {
+        match next(self.place, sign_of(byte)) {
+            None => false,
+            Some((place, action)) => {
+                self.act(action);
+                self.place = place;
+                true
+            }
+        }
+    }
+}
+
+// What is read of a whole text, or how many bytes begin one.
+fn read_through(bytes: &[u8]) -> Result<Reading, usize>
+    ensures read { IfOk result (λ reading. run take_byte beginning bytes.now ≡ Some reading) }
+    ensures stopped { IfErr result (λ offset. StopsAt bytes.now offset) }
+{
+    let mut reading = Reading::new();
+    for (i, byte) in bytes.iter().enumerate() {
+        if !reading.take(*byte) {
+            return Err(i);
+        }
+    }
+    Ok(reading)
+}
+
+// Whether the board and the hands have more pieces of a kind than its set has.
+fn exceeds_set(board: &SBoard, hands: Hands, kind: HandKind) -> bool
+    ensures { IsTrue result ↔ (set_size kind < in_play kind board.now hands) }
+{
+    let size = match kind {
+        HandKind::Rook | HandKind::Bishop => 2,
+        HandKind::Gold | HandKind::Silver | HandKind::Knight | HandKind::Lance => 4,
+        HandKind::Pawn => 18,
+    };
+    let held = usize::from(hands.first.count(kind)) + usize::from(hands.second.count(kind));
+    size < board.count_kind(kind) + held
+}
+
+// Whether the board and the hands have more pieces of any kind than its set has.
+fn exceeds_sets(board: &SBoard, hands: Hands) -> bool
+    ensures { IsTrue result ↔ ((kind : HandKind) × (set_size kind < in_play kind board.now hands)) }
+{
+    for kind in HandKind::ALL {
+        if exceeds_set(board, hands, kind) {
+            return true;
+        }
+    }
+    false
+}
+
+/// The position of a text (SFEN), and the number of the next move, which is 1 where it is left out:
+/// `k8/9/9/9/9/9/9/9/K8 b 2P 1`. A hand may list its pieces in any order, and a kind more than once.
+pub fn read(text: &str) -> Result<(SPos, u16), SfenFault>
+    ensures read { IfOk result (λ made. IsSfenText text.now made.0 made.1) }
+    ensures fault { IfErr result (λ fault. IsRefused text.now fault) }
+{
+    let reading = match read_through(text.as_bytes()) {
+        Ok(reading) => reading,
+        Err(offset) => return Err(SfenFault::BadText(offset)),
+    };
+    let number = match number_at_end(reading.place) {
+        Some(number) => number,
+        None => return Err(SfenFault::BadText(text.len())),
+    };
+    if exceeds_sets(&reading.board, reading.hands) {
+        return Err(SfenFault::TooManyPieces);
+    }
+    match SPos::new(reading.board, reading.hands, reading.turn) {
+        Some(position) => Ok((position, number)),
+        None => Err(SfenFault::Kings),
+    }
+}

@@ -1,0 +1,147 @@
+//! USI texts as moves.
+ghost use Rattle.std.specs.Prelude.{◌≡◌, ◌≤◌, IfOk, IfErr, length};
+ghost use Rattle.sfen.specs.UsiText.{IsUsiText, IsUsiRefused};
+ghost use Rattle.sfen.specs.UsiReading.{square_reading, kind_reading, step_of, drop_of, usi_reading, fits, reach, step_places, drop_places, usi_reach};
+
+use crate::faults::SfenFault;
+use squares::{HandKind, SMove, Ssq};
+
+/// What stands in a place of a move's text.
+#[derive(Clone, Copy)]
+pub enum Place {
+    File,
+    Rank,
+    Plus,
+    Piece,
+    Star,
+}
+
+// The places of a step's text, the last of which may be left out.
+const STEP: [Place; 5] = [
+    Place::File,
+    Place::Rank,
+    Place::File,
+    Place::Rank,
+    Place::Plus,
+];
+
+// The places of a drop's text.
+const DROP: [Place; 4] = [Place::Piece, Place::Star, Place::File, Place::Rank];
+
+// The square of a file's digit and a rank's letter.
+fn square_of(file: u8, rank: u8) -> Option<Ssq>
+    ensures { result ≡ square_reading file rank }
+{
+    match (file, rank) {
+        (b'1'..=b'9', b'a'..=b'i') => Ssq::new(file - b'0', rank - b'a' + 1),
+        _ => None,
+    }
+}
+
+// The kind of a capital letter.
+fn kind_of(letter: u8) -> Option<HandKind>
+    ensures { result ≡ kind_reading letter }
+{
+    match letter {
+        b'R' => Some(HandKind::Rook),
+        b'B' => Some(HandKind::Bishop),
+        b'G' => Some(HandKind::Gold),
+        b'S' => Some(HandKind::Silver),
+        b'N' => Some(HandKind::Knight),
+        b'L' => Some(HandKind::Lance),
+        b'P' => Some(HandKind::Pawn),
+        _ => None,
+    }
+}
+
+// The step between two squares, if both are on the board.
+fn step_of(from: Option<Ssq>, to: Option<Ssq>, promote: bool) -> Option<SMove>
+    ensures { result ≡ step_of from to promote }
+{
+    Some(SMove::Step {
+        from: from?,
+        to: to?,
+        promote,
+    })
+}
+
+// The drop of a kind on a square, if both are there.
+fn drop_of(kind: Option<HandKind>, to: Option<Ssq>) -> Option<SMove>
+    ensures { result ≡ drop_of kind to }
+{
+    Some(SMove::Drop {
+        kind: kind?,
+        to: to?,
+    })
+}
+
+// The move of a text.
+fn move_of(text: &[u8]) -> Option<SMove>
+    ensures { result ≡ usi_reading text.now }
+{
+    match text {
+        [kind, b'*', file, rank] => drop_of(kind_of(*kind), square_of(*file, *rank)),
+        [file, rank, to_file, to_rank] => step_of(
+            square_of(*file, *rank),
+            square_of(*to_file, *to_rank),
+            false,
+        ),
+        [file, rank, to_file, to_rank, b'+'] => step_of(
+            square_of(*file, *rank),
+            square_of(*to_file, *to_rank),
+            true,
+        ),
+        _ => None,
+    }
+}
+
+// Whether a byte may stand in such a place.
+fn fits(place: Place, byte: u8) -> bool
+    ensures { result ≡ fits place byte }
+{
+    match place {
+        Place::File => (b'1'..=b'9').contains(&byte),
+        Place::Rank => (b'a'..=b'i').contains(&byte),
+        Place::Plus => byte == b'+',
+        Place::Piece => kind_of(byte).is_some(),
+        Place::Star => byte == b'*',
+    }
+}
+
+// How many bytes fit the places, from the first on.
+fn reach(places: &[Place], text: &[u8]) -> usize
+    ensures value { result ≡ reach places.now text.now }
+    ensures within { result ≤ length text.now }
+{
+    let mut rest = text;
+    for place in places {
+        match rest {
+            [byte, more @ ..] if fits(*place, *byte) => rest = more,
+            _ => break,
+        }
+    }
+    text.len() - rest.len()
+}
+
+// How many bytes go along with the texts of moves.
+fn usi_reach(text: &[u8]) -> usize
+    ensures { result ≡ usi_reach text.now }
+{
+    reach(&STEP, text).max(reach(&DROP, text))
+}
+
+/// The move of a text: `7g7f` for a step, `8h2b+` for one that promotes, `P*5e` for a drop. The move may
+/// be illegal.
+///
+/// A text that is no move's is refused as `BadText`, with the length of its longest beginning that begins
+/// a move's text.
+pub fn read_usi(text: &str) -> Result<SMove, SfenFault>
+    ensures played { IfOk result (λ played. IsUsiText text.now played) }
+    ensures fault { IfErr result (λ fault. IsUsiRefused text.now fault) }
+{
+    let bytes = text.as_bytes();
+    match move_of(bytes) {
+        Some(played) => Ok(played),
+        None => Err(SfenFault::BadText(usi_reach(bytes))),
+    }
+}

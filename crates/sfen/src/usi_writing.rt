@@ -1,0 +1,50 @@
+//! Moves as USI texts.
+ghost use Rattle.std.specs.Prelude.{◌≡◌, ◌++◌, OnOk, IfOk, string_bytes};
+ghost use Rattle.sfen.specs.UsiText.{square_text, promotion_text, usi_text};
+
+use crate::letters::capital;
+use crate::memory::Memory;
+use squares::{SMove, Ssq};
+use std::alloc::Global;
+
+// Adds a square: the digit of its file and the letter of its rank.
+fn push_square(text: &mut String, square: Ssq) -> Result<(), Memory>
+    ensures { OnOk result (string_bytes text.new ≡ string_bytes text.old ++ square_text square) }
+{
+    text.push((b'0' + square.file()) as char)?;
+    text.push((b'a' - 1 + square.rank()) as char)?;
+    Ok(())
+}
+
+// Adds a `+` where the piece promotes.
+fn push_promotion(text: &mut String, promote: bool) -> Result<(), Memory>
+    ensures { OnOk result (string_bytes text.new ≡ string_bytes text.old ++ promotion_text promote) }
+{
+    if promote {
+        text.push_str("+")?;
+    }
+    Ok(())
+}
+
+/// The text of a move: `7g7f` for a step, `8h2b+` for one that promotes, `P*5e` for a drop. The move may
+/// be illegal.
+///
+/// It fails where memory is refused, and then alone.
+pub fn write_usi(alloc: Global, played: &SMove) -> Result<String, Memory>
+    ensures { IfOk result (λ text. string_bytes text ≡ usi_text played.now) }
+{
+    let mut text = String::new(alloc);
+    match *played {
+        SMove::Step { from, to, promote } => {
+            push_square(&mut text, from)?;
+            push_square(&mut text, to)?;
+            push_promotion(&mut text, promote)?;
+        }
+        SMove::Drop { kind, to } => {
+            text.push(capital(kind.kind()) as char)?;
+            text.push_str("*")?;
+            push_square(&mut text, to)?;
+        }
+    }
+    Ok(text)
+}

@@ -1,0 +1,140 @@
+//! Positions as SFEN texts.
+ghost use Rattle.std.specs.Prelude.{◌≡◌, ◌++◌, ◌∷◌, ◌≤◌, OnOk, IfOk, string_bytes};
+ghost use Rattle.std.specs.Fmt.{decimal};
+ghost use Rattle.std.specs.FinMap as map;
+ghost use Rattle.squares.specs.ShogiGeometry.{OnShogiBoard, shogi_number};
+ghost use Rattle.sfen.specs.Letters.{piece_text};
+ghost use Rattle.sfen.specs.SfenGrammar.{IsSfenText};
+ghost use Rattle.sfen.specs.SfenText.{gap_text, rank_text, board_text, held_text, kinds_text, hand_kinds, hands_text, sfen_text};
+
+use crate::letters::{letter, turn_letter};
+use crate::memory::Memory;
+use squares::{Hand, HandKind, Hands, SBoard, SPiece, SPos, Side, Ssq};
+use std::alloc::Global;
+
+// Adds a piece on the board: a `+` if it is promoted, and the letter of its kind.
+fn push_piece(text: &mut String, piece: SPiece) -> Result<(), Memory>
+    ensures { OnOk result (string_bytes text.new ≡ string_bytes text.old ++ piece_text piece) }
+{
+    if piece.role.is_promoted() {
+        text.push_str("+")?;
+    }
+    text.push(letter(piece.side, piece.role.kind()) as char)?;
+    Ok(())
+}
+
+// Adds how many squares in a row are empty, if there are some.
+fn push_gap(text: &mut String, gap: u8) -> Result<(), Memory>
+    requires { gap ≤ 9 }
+    ensures { OnOk result (string_bytes text.new ≡ string_bytes text.old ++ gap_text gap) }
+{
+    if gap > 0 {
+        text.push((b'0' + gap) as char)?;
+    }
+    Ok(())
+}
+
+// What stands on a square.
+fn piece_at(board: &SBoard, file: u8, rank: u8) -> Option<SPiece>
+    requires { OnShogiBoard file rank }
+    ensures { result ≡ map.get board.now (shogi_number file rank) }
+{
+    match Ssq::new(file, rank) {
+        Some(square) => board.at(square),
+        None => unreachable!(),
+    }
+}
+
+// Adds a rank, from file 9 to file 1.
+fn push_rank(text: &mut String, board: &SBoard, rank: u8) -> Result<(), Memory>
+    requires low { 1 ≤ rank }
+    requires high { rank ≤ 9 }
+    ensures { OnOk result
+        (string_bytes text.new ≡ string_bytes text.old ++ rank_text board.now rank) }
+{
+    let mut gap = 0;
+    for past in 0..9 {
+        match piece_at(board, 9 - past, rank) {
+            Some(piece) => {
+                push_gap(text, gap)?;
+                push_piece(text, piece)?;
+                gap = 0;
+            }
+            None => gap += 1,
+        }
+    }
+    push_gap(text, gap)?;
+    Ok(())
+}
+
+// Adds the nine ranks, parted by `/`.
+fn push_board(text: &mut String, board: &SBoard) -> Result<(), Memory>
+    ensures { OnOk result (string_bytes text.new ≡ string_bytes text.old ++ board_text board.now) }
+{
+    push_rank(text, board, 1)?;
+    for rank in 2..10 {
+        text.push_str("/")?;
+        push_rank(text, board, rank)?;
+    }
+    Ok(())
+}
+
+// Adds the pieces of a kind in a side's hand: their count, if it is above 1, and the letter.
+fn push_held(text: &mut String, side: Side, kind: HandKind, count: u8) -> Result<(), Memory>
+    ensures { OnOk result
+        (string_bytes text.new ≡ string_bytes text.old ++ held_text side kind count) }
+{
+    if count == 0 {
+        return Ok(());
+    }
+    if count > 1 {
+        write!(text, "{count}")?;
+    }
+    text.push(letter(side, kind.kind()) as char)?;
+    Ok(())
+}
+
+// Adds the pieces in a side's hand.
+fn push_hand(text: &mut String, side: Side, hand: Hand) -> Result<(), Memory>
+    ensures { OnOk result
+        (string_bytes text.new ≡ string_bytes text.old ++ kinds_text side hand hand_kinds) }
+{
+    for kind in HandKind::ALL {
+        push_held(text, side, kind, hand.count(kind))?;
+    }
+    Ok(())
+}
+
+// Adds the pieces in both hands, or a `-` where there are none.
+fn push_hands(text: &mut String, hands: Hands) -> Result<(), Memory>
+    ensures { OnOk result (string_bytes text.new ≡ string_bytes text.old ++ hands_text hands) }
+{
+    let before = text.len();
+    push_hand(text, Side::First, hands.first)?;
+    push_hand(text, Side::Second, hands.second)?;
+    if text.len() == before {
+        text.push_str("-")?;
+    }
+    Ok(())
+}
+
+/// The text of a position (SFEN), where `number`, 1 to 9999, is that of the next move: the ranks from the
+/// first on, each from file 9 to file 1, the side to move, the pieces in the hands, and the number, as
+/// `lnsgkgsnl/1r5b1/ppppppppp/9/9/9/PPPPPPPPP/1B5R1/LNSGKGSNL b - 1`.
+///
+/// It fails where memory is refused, and then alone.
+pub fn write(alloc: Global, position: &SPos, number: u16) -> Result<String, Memory>
+    requires low { 1 ≤ number }
+    requires high { number ≤ 9999 }
+    ensures text { IfOk result (λ text. string_bytes text ≡ sfen_text position.now number) }
+    ensures stands_for { IfOk result (λ text. IsSfenText (string_bytes text) position.now number) }
+{
+    let mut text = String::new(alloc);
+    push_board(&mut text, position.board())?;
+    text.push_str(" ")?;
+    text.push(turn_letter(position.turn()) as char)?;
+    text.push_str(" ")?;
+    push_hands(&mut text, position.hands())?;
+    write!(text, " {number}")?;
+    Ok(text)
+}

@@ -1,0 +1,32 @@
+//! What ties the written texts to what they stand for.
+ghost use Rattle.sfen.specs.WritingLaws.{WritesPositions, WritesGreatestRuns, ReadsMovesBack, ReadsMoveTexts, HasOneMove, HasOneOffset};
+
+/// The text that is written for a position stands for that position and number.
+pub fn writes_positions()
+    ensures { WritesPositions }
+{}
+
+/// A rank is written by runs of empty squares that are as long as they can be.
+pub fn writes_greatest_runs()
+    ensures { WritesGreatestRuns }
+{}
+
+/// What is written for a move is read as that move.
+pub fn reads_moves_back()
+    ensures { ReadsMovesBack }
+{}
+
+/// The texts that are read as a move are those of that move.
+pub fn reads_move_texts()
+    ensures { ReadsMoveTexts }
+{}
+
+/// A text is that of one move at most.
+pub fn has_one_move()
+    ensures { HasOneMove }
+{}
+
+/// A text that no move has is refused at one offset, which is what the reader says.
+pub fn has_one_offset()
+    ensures { HasOneOffset }
+{}

@@ -1,0 +1,5 @@
+pub mod EndLemmas
+pub mod FaultLemmas
+pub mod LineLemmas
+pub mod PlaceLemmas
+pub mod RepeatLemmas

@@ -1,0 +1,5 @@
+pub mod Computed
+pub mod Ends
+pub mod Faults
+pub mod Laws
+pub mod Line

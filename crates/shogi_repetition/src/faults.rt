@@ -1,0 +1,40 @@
+//! What is wrong with a line of moves.
+
+use shogi_moves::Illegal;
+use std::alloc::AllocFailed;
+use std::error::Error;
+use std::fmt;
+
+/// Why a line of moves is not judged. Plies count from 1.
+#[derive(Clone, Copy, Debug, PartialEq, Eq)]
+pub enum Fault {
+    /// Memory was refused.
+    Memory,
+    /// The move of this ply is not legal, and why.
+    Illegal { ply: usize, cause: Illegal },
+    /// The game had ended before this ply.
+    AfterEnd { ply: usize },
+}
+
+impl fmt::Display for Fault {
+    fn fmt<W: fmt::Write>(&self, f: &mut fmt::Formatter<W>) -> fmt::Result {
+        match self {
+            Fault::Memory => f.write_str("out of memory"),
+            Fault::Illegal { ply, cause } => write!(f, "ply {ply}: {cause}"),
+            Fault::AfterEnd { ply } => write!(f, "ply {ply}: the game has ended"),
+        }
+    }
+}
+
+impl Error for Fault {}
+
+impl<T: Drop> From<AllocFailed<T>> for Fault {
+    ghost use Rattle.std.specs.Prelude.{◌≡◌};
+    ghost use Rattle.shogi_repetition.specs.declared.faults.Fault.TheVariants.{Memory};
+
+    ghost from_gives = { λ _ e. e ≡ Memory };
+
+    fn from(_e: AllocFailed<T>) -> Fault {
+        Fault::Memory
+    }
+}

@@ -1,0 +1,40 @@
+//! The judgement of a whole line of moves.
+ghost use Rattle.std.specs.Prelude.{IfOk, IfErr, length};
+ghost use Rattle.shogi_repetition.specs.Ends.{EndsSo};
+ghost use Rattle.shogi_repetition.specs.Faults.{IsPlayed, HasFault};
+
+use crate::ends::SEnd;
+use crate::faults::Fault;
+use crate::repeating::first_end;
+use shogi_moves::{check, play};
+use squares::{SMove, SPos};
+use std::alloc::Global;
+
+/// The end of a line of moves from a position, if its last ply ends it. An end of the position
+/// itself counts, where there are no moves. What counts are the positions of this line alone.
+///
+/// It fails at the first ply that is not played by the rules: there the game has ended before, or
+/// the move is not legal. Where both hold, the game has ended. It also fails where memory is
+/// refused, and then alone.
+pub fn judge(alloc: Global, start: &SPos, moves: &[SMove]) -> Result<Option<SEnd>, Fault>
+    ensures played { IfOk result (λ _. IsPlayed start.now moves.now (length moves.now)) }
+    ensures end { IfOk result (λ end. EndsSo start.now moves.now end) }
+    ensures fault { IfErr result (λ fault. HasFault start.now moves.now fault) }
+{
+    let mut last = start.copied();
+    let mut positions = Vec::new(alloc);
+    positions.push(last.copied())?;
+    for (i, played) in moves.iter().enumerate() {
+        match first_end(&last, positions.as_slice(), i) {
+            Some(_) => return Err(Fault::AfterEnd { ply: i + 1 }),
+            None => {}
+        }
+        match check(&last, played) {
+            Ok(()) => {}
+            Err(cause) => return Err(Fault::Illegal { ply: i + 1, cause }),
+        }
+        last = play(&last, played);
+        positions.push(last.copied())?;
+    }
+    Ok(first_end(&last, positions.as_slice(), moves.len()))
+}
