@@ -13,4 +13,5 @@ pub mod PlaceLemmas
 pub mod PlayedLemmas
 pub mod PutSame
 pub mod ReadRows
+pub mod RunLemmas
 pub mod SameLemmas

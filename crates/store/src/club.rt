@@ -16,6 +16,8 @@ ghost use Rattle.club_core.specs.State.{opening_state};
 ghost use Rattle.club_rows.specs.Club.{ClubState, IsClub, tables};
 ghost use Rattle.store.specs.Steps.{request, club_step, club_next};
 
+mod run;
+
 use crate::changes::{Changes, commit_changes};
 use crate::command::{Decided, decide_request};
 use crate::examine::examine;
@@ -24,6 +26,7 @@ use crate::make::create_tables;
 use crate::read::fault_of;
 use clocks::Moment;
 use club_core::{Command, Outcome, Who};
+pub use run::Run;
 use sqlite::{Alter, Connection};
 use std::alloc::Global;
 use std::marker::Model;

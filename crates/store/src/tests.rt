@@ -4,7 +4,7 @@ use crate::changes::Changes;
 use crate::find::{count_games, game_with_id, game_with_key, moves_of};
 use crate::{Club, OpenFault, StoreFault, Table, adopt, create};
 use clocks::Moment;
-use club_core::{AddMember, Answer, Command, Outcome, Who};
+use club_core::{AddMember, Answer, Command, Outcome, Refusal, Request, Who};
 use sqlite::{Connection, Error, MemStore};
 use std::alloc::Global;
 use std::test::Fail;
@@ -283,6 +283,9 @@ fn after_a_fault_a_club_is_shut(rt: HostRuntime) -> Result<(), Fail> {
         .push(member(rt.alloc(), 2, "anna", "keybert2")?)?;
     assert!(rt; club.apply_changes(&changes) == Err(StoreFault::Store));
     assert!(rt; club.apply_changes(&nothing(rt.alloc())) == Err(StoreFault::Reopen));
+    let run = club.run(rt.alloc(), &[]);
+    assert_eq!(rt; run.fault, Some(StoreFault::Reopen));
+    assert_eq!(rt; run.outcomes.len(), 0);
     let mut conn = adopted(rt.alloc(), club.into_connection())?.into_connection();
     assert_eq!(rt; conn.query_all("SELECT id FROM members", &[])?.len(), 0);
     Ok(())
@@ -339,5 +342,39 @@ fn a_command_acts_once(rt: HostRuntime) -> Result<(), Fail> {
     assert!(rt; matches!(second, Outcome::Repeated(Answer::Member(1))));
     let mut conn = adopted(rt.alloc(), club.into_connection())?.into_connection();
     assert_eq!(rt; conn.query_all("SELECT id FROM members", &[])?.len(), 1);
+    Ok(())
+}
+
+fn added(alloc: Global, name: &str, key: &str) -> Result<Request, Fail> {
+    let Some(moment) = Moment::new(1000) else {
+        return Err(Fail::new("no moment"));
+    };
+    Ok(Request {
+        who: Who::Officer,
+        command: Command::AddMember(AddMember {
+            name: text(alloc, name)?,
+            key: text(alloc, key)?,
+        }),
+        moment,
+    })
+}
+
+#[test]
+fn requests_are_served_in_turn(rt: HostRuntime) -> Result<(), Fail> {
+    let mut club = made(rt.alloc())?;
+    let mut requests = Vec::new(rt.alloc());
+    requests.push(added(rt.alloc(), "anna", "keyanna1")?)?;
+    requests.push(added(rt.alloc(), "anna", "keyanna1")?)?;
+    requests.push(added(rt.alloc(), "anna", "keybert2")?)?;
+    requests.push(added(rt.alloc(), "bert", "keybert2")?)?;
+    let run = club.run(rt.alloc(), &requests);
+    assert_eq!(rt; run.fault, None);
+    assert_eq!(rt; run.outcomes.len(), 4);
+    assert!(rt; matches!(&run.outcomes[0], Outcome::Accepted(Answer::Member(1))));
+    assert!(rt; matches!(&run.outcomes[1], Outcome::Repeated(Answer::Member(1))));
+    assert!(rt; matches!(&run.outcomes[2], Outcome::Refused(Refusal::NameTaken)));
+    assert!(rt; matches!(&run.outcomes[3], Outcome::Accepted(Answer::Member(2))));
+    let mut conn = adopted(rt.alloc(), club.into_connection())?.into_connection();
+    assert_eq!(rt; conn.query_all("SELECT id FROM members", &[])?.len(), 2);
     Ok(())
 }

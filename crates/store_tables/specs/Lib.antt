@@ -1,6 +1,7 @@
 pub mod Cells
 pub mod Content
 pub mod Contents
+pub mod Names
 pub mod Put
 pub mod Reading
 pub mod Rows

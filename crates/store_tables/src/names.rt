@@ -16,8 +16,13 @@ pub enum Table {
 }
 
 impl Table {
+    ghost use Rattle.std.specs.Prelude.{◌≡◌};
+    ghost use Rattle.store_tables.specs.Names.{table_name};
+
     /// The table's name.
-    pub fn name(self) -> &'static str {
+    pub fn name(self) -> &'static str
+        ensures { result.now ≡ table_name self }
+    {
         match self {
             Table::Members => "members",
             Table::Events => "events",
@@ -32,6 +37,11 @@ impl Table {
 }
 
 impl fmt::Display for Table {
+    ghost use Rattle.std.specs.Prelude.{Some};
+    ghost use Rattle.store_tables.specs.Names.{table_name};
+
+    ghost output = { λ table. Some (table_name table) };
+
     fn fmt<W: fmt::Write>(&self, f: &mut fmt::Formatter<W>) -> fmt::Result {
         f.write_str(self.name())
     }

@@ -1,0 +1,90 @@
+use Rattle.std.proofs.Common.{rules, arith, ◌≡◌, ◌≤◌, ◌+◌, false, length, map, take, refl, sym, ap, inr, ◌∙◌, subst}
+use Rattle.sqlite.specs.State.{HasCleanDisk}
+use Rattle.sqlite.specs.Held.{state}
+use Rattle.sqlite_trees.specs.View.{doubt}
+use Rattle.store_tables.specs.Contents.{IsExactly, Leaves}
+use Rattle.club_core.specs.Answer.{answered, outcome_of, request_of}
+use Rattle.club_rows.specs.Club.{ClubState, IsClub, tables}
+use Rattle.store.specs.Steps.{club_step, club_next}
+use Rattle.store.specs.Runs.{club_fold, club_outcomes}
+use Rattle.store.proofs.RunLemmas.{Served, count-more, first_of, served-none, served-next, served-outcomes, served-leaves, served-all}
+use Rattle.store.proofs.club.Club.run.Goals as goal
+
+pub loop-request-init : goal.loop-request-init
+loop-request-init g c = (
+  search rules,
+  omega arith,
+  ap length c.in-Ok.ensures.items,
+  λ clean s is_club k. served-none s c.args.requests.now c.in-Ok.outcomes.items (state g.S.Store c.args.self.now.connection) is_club k c.in-Ok.ensures.items,
+)
+
+pub returns-in-Err-serve-clause-named : goal.returns-in-Err-serve-clause-named
+returns-in-Err-serve-clause-named g c usable = c.in-Err-serve.ensures.named c.loop-request.invariant.0
+
+pub returns-in-Err-serve-clause-clean : goal.returns-in-Err-serve-clause-clean
+returns-in-Err-serve-clause-clean g c = omega (arith, c.serve.ensures.clean, c.loop-request.invariant.1)
+
+pub returns-in-Err-serve-clause-within : goal.returns-in-Err-serve-clause-within
+returns-in-Err-serve-clause-within g c = omega (arith, c.loop-request.invariant.2, c.loop-request-test.true)
+
+pub returns-in-Err-serve-clause-outcomes : goal.returns-in-Err-serve-clause-outcomes
+returns-in-Err-serve-clause-outcomes g c clean s is_club k =
+    let before : HasCleanDisk (state g.S.Store c.loop-request.self.connection) = omega (arith, c.serve.ensures.clean, clean) in
+    served-outcomes s c.args.requests.now c.loop-request.request-index c.loop-request.outcomes.items _ c.loop-request.invariant.2 (c.loop-request.invariant.3 before s is_club k)
+
+pub returns-in-Err-serve-clause-fault : goal.returns-in-Err-serve-clause-fault
+returns-in-Err-serve-clause-fault g c clean failed usable s is_club k db left =
+    let before : HasCleanDisk (state g.S.Store c.loop-request.self.connection) = omega (arith, c.serve.ensures.clean, clean) in
+    let served = c.loop-request.invariant.3 before s is_club k in
+    let now = club_fold s (first_of c.args.requests.now c.loop-request.request-index) in
+    served-leaves s c.args.requests.now c.loop-request.request-index (length c.loop-request.outcomes.items) c.request-item.result db c.loop-request.invariant.2 c.loop-request-test.true c.request-item.is
+    (c.in-Err-serve.ensures.fault clean c.loop-request.invariant.0 now served.is_club served.exactly db left)
+
+pub loop-request-preserved : goal.loop-request-preserved
+loop-request-preserved g c = (
+  c.in-Ok-serve.ensures.goes_on,
+  omega (arith, c.serve.ensures.clean, c.loop-request.invariant.1),
+  count-more c.loop-request.outcomes.items c.push.new.self.items c.in-Ok-serve.outcome c.loop-request.request-index c.in-Ok-push.ensures.items c.loop-request.invariant.2,
+  λ clean s is_club k.
+      let before : HasCleanDisk (state g.S.Store c.loop-request.self.connection) = omega (arith, c.serve.ensures.clean, clean) in
+      let served = c.loop-request.invariant.3 before s is_club k in
+      let now = club_fold s (first_of c.args.requests.now c.loop-request.request-index) in
+      served-next s c.args.requests.now c.loop-request.request-index c.request-item.result c.loop-request.outcomes.items c.push.new.self.items c.in-Ok-serve.outcome
+      (state g.S.Store c.loop-request.self.connection) (state g.S.Store c.serve.new.self.connection)
+      c.loop-request-test.true c.request-item.is c.in-Ok-push.ensures.items served
+      (c.serve.ensures.legal now served.is_club)
+      (c.in-Ok-serve.ensures.step clean now served.is_club served.exactly)
+      (c.in-Ok-serve.ensures.answer clean now served.is_club served.exactly),
+)
+
+pub returns-clause-goes_on : goal.returns-clause-goes_on
+returns-clause-goes_on g c none = c.loop-request.invariant.0
+
+pub returns-clause-clean : goal.returns-clause-clean
+returns-clause-clean g c = c.loop-request.invariant.1
+
+pub returns-clause-within : goal.returns-clause-within
+returns-clause-within g c = omega (arith, c.loop-request.invariant.2, c.loop-request.auto.request-index-end)
+
+pub returns-clause-whole : goal.returns-clause-whole
+returns-clause-whole g c none = omega (arith, c.loop-request.invariant.2, c.loop-request-test.false)
+
+pub returns-clause-outcomes : goal.returns-clause-outcomes
+returns-clause-outcomes g c clean s is_club k =
+    served-outcomes s c.args.requests.now c.loop-request.request-index c.loop-request.outcomes.items _ c.loop-request.invariant.2 (c.loop-request.invariant.3 clean s is_club k)
+
+pub returns-clause-stored : goal.returns-clause-stored
+returns-clause-stored g c clean none s is_club k =
+    served-all s c.args.requests.now c.loop-request.request-index c.loop-request.outcomes.items _ (omega (arith, c.loop-request-test.false)) (c.loop-request.invariant.3 clean s is_club k)
+
+pub returns-in-Err-push-clause-fault : goal.returns-in-Err-push-clause-fault
+returns-in-Err-push-clause-fault g c clean failed usable s is_club k db left =
+    let after : HasCleanDisk (state g.S.Store c.serve.new.self.connection) = search rules in
+    let before : HasCleanDisk (state g.S.Store c.loop-request.self.connection) = omega (arith, c.serve.ensures.clean, after) in
+    let served = c.loop-request.invariant.3 before s is_club k in
+    let now = club_fold s (first_of c.args.requests.now c.loop-request.request-index) in
+    let next = tables (club_next now (request_of c.request-item.result)) in
+    let stored : IsExactly next (state g.S.Store c.serve.new.self.connection) = c.in-Ok-serve.ensures.step after now served.is_club served.exactly in
+    let inside : IsExactly next (state g.S.Store c.self-in-loop-request.inside.connection) = search rules in
+    served-leaves s c.args.requests.now c.loop-request.request-index (length c.push.new.self.items) c.request-item.result db (ap length c.in-Err-push.ensures.items ∙ c.loop-request.invariant.2) c.loop-request-test.true c.request-item.is
+    (inr (inside.may_leave db left))

@@ -1,0 +1,113 @@
+//! Requests in turn.
+
+ghost use Rattle.std.specs.Prelude.{◌≡◌, ◌≤◌, ◌⊎◌, ◌+◌, true, false, None, Some, IsSome, IfSome, Err, IfOk, IfErr, OnOk, OnErr, [], map, length, take};
+ghost use Rattle.sqlite.specs.State.{HasCleanDisk};
+ghost use Rattle.sqlite.specs.Held.{state};
+ghost use Rattle.sqlite_trees.specs.View.{doubt};
+ghost use Rattle.store_tables.specs.Contents.{IsExactly, Leaves};
+ghost use Rattle.club_core.specs.Answer.{answered, outcome_of, request_of};
+ghost use Rattle.club_rows.specs.Club.{ClubState, IsClub, tables};
+ghost use Rattle.store.specs.Steps.{club_step, club_next};
+ghost use Rattle.store.specs.Runs.{club_fold, club_outcomes};
+
+use super::Club;
+use crate::fault::StoreFault;
+use club_core::{Outcome, Request};
+use sqlite::Alter;
+use std::alloc::Global;
+
+/// The outcomes of the requests that were served, in their order, and the fault that ended the run, if one did.
+#[derive(Drop)]
+pub struct Run {
+    pub outcomes: Vec<Outcome>,
+    pub fault: Option<StoreFault>,
+}
+
+impl Run {
+    // A run that ended before the first request.
+    fn ended(alloc: Global, fault: StoreFault) -> Run
+        ensures fault { result.fault ≡ Some fault }
+        ensures none { result.outcomes.items ≡ [] }
+    {
+        Run {
+            outcomes: Vec::new(alloc),
+            fault: Some(fault),
+        }
+    }
+}
+
+impl<S: Alter> Club<S> {
+    // Gives the club a request. It leaves a legal club legal, since its moment is one that there is.
+    fn serve(&mut self, alloc: Global, request: &Request) -> Result<Outcome, StoreFault>
+        ensures goes_on { OnOk result (self.new.needs_reopening ≡ false) }
+        ensures ends { OnErr result (self.new.needs_reopening ≡ true) }
+        ensures named { IfErr result (λ fault. self.old.needs_reopening ≡ false → (fault ≡ StoreFault.Store) ⊎ (fault ≡ StoreFault.Memory)) }
+        ensures clean { doubt (state S.Store self.old.connection).is_clean ≤ doubt (state S.Store self.new.connection).is_clean }
+        ensures legal { (s : ClubState) → IsClub s → IsClub (club_next s (request_of request.now)) }
+        ensures answer { HasCleanDisk (state S.Store self.new.connection) → IfOk result (λ outcome. (s : ClubState) → IsClub s → IsExactly (tables s) (state S.Store self.old.connection) →
+            outcome_of outcome ≡ answered (club_step s (request_of request.now))) }
+        ensures step { HasCleanDisk (state S.Store self.new.connection) → OnOk result ((s : ClubState) → IsClub s → IsExactly (tables s) (state S.Store self.old.connection) →
+            IsExactly (tables (club_next s (request_of request.now))) (state S.Store self.new.connection)) }
+        ensures fault { HasCleanDisk (state S.Store self.new.connection) → OnErr result (self.old.needs_reopening ≡ false → (s : ClubState) → IsClub s → IsExactly (tables s) (state S.Store self.old.connection) →
+            (db : _) → (state S.Store self.new.connection).may_leave db → Leaves (tables s) db ⊎ Leaves (tables (club_next s (request_of request.now))) db) }
+    {
+        let _within = request.moment.seconds();
+        self.apply(alloc, &request.who, &request.command, request.moment)
+    }
+
+    /// Gives the club the requests in turn, up to the first fault. The outcomes are those of the machine. Without a fault
+    /// all requests are answered, and the tables are those of the state after all of them, now and after a stop. With one, a
+    /// stop leaves the tables of the state after the answered requests, or after one more, whole; and every later call is
+    /// refused with `Reopen`.
+    pub fn run(&mut self, alloc: Global, requests: &[Request]) -> Run
+        ensures shut { self.old.needs_reopening ≡ true → (result.fault ≡ Some StoreFault.Reopen) × (result.outcomes.items ≡ []) × (self.new ≡ self.old) }
+        ensures named { self.old.needs_reopening ≡ false → IfSome result.fault (λ fault. (fault ≡ StoreFault.Store) ⊎ (fault ≡ StoreFault.Memory)) }
+        ensures goes_on { result.fault ≡ None → self.new.needs_reopening ≡ false }
+        ensures ends { IsSome result.fault → self.new.needs_reopening ≡ true }
+        ensures clean { doubt (state S.Store self.old.connection).is_clean ≤ doubt (state S.Store self.new.connection).is_clean }
+        ensures within { length result.outcomes.items ≤ length requests.now }
+        ensures whole { result.fault ≡ None → length result.outcomes.items ≡ length requests.now }
+        ensures outcomes { HasCleanDisk (state S.Store self.new.connection) → (s : ClubState) → IsClub s → IsExactly (tables s) (state S.Store self.old.connection) →
+            map outcome_of result.outcomes.items ≡ map answered (club_outcomes s (map request_of (take (length result.outcomes.items) requests.now))) }
+        ensures stored { HasCleanDisk (state S.Store self.new.connection) → result.fault ≡ None → (s : ClubState) → IsClub s → IsExactly (tables s) (state S.Store self.old.connection) →
+            IsExactly (tables (club_fold s (map request_of requests.now))) (state S.Store self.new.connection) }
+        ensures fault { HasCleanDisk (state S.Store self.new.connection) → IsSome result.fault → self.old.needs_reopening ≡ false → (s : ClubState) → IsClub s → IsExactly (tables s) (state S.Store self.old.connection) →
+            (db : _) → (state S.Store self.new.connection).may_leave db →
+            Leaves (tables (club_fold s (map request_of (take (length result.outcomes.items) requests.now)))) db
+            ⊎ Leaves (tables (club_fold s (map request_of (take (length result.outcomes.items + 1) requests.now)))) db }
+    {
+        if self.needs_reopening {
+            return Run::ended(alloc, StoreFault::Reopen);
+        }
+        // Room for all outcomes comes first, so that none is lost for want of it.
+        let mut outcomes = match Vec::with_capacity(alloc, requests.len()) {
+            Ok(outcomes) => outcomes,
+            Err(_) => {
+                self.needs_reopening = true;
+                return Run::ended(alloc, StoreFault::Memory);
+            }
+        };
+        for request in requests {
+            match self.serve(alloc, request) {
+                Ok(outcome) => match outcomes.push(outcome) {
+                    Ok(()) => {}
+                    Err(_) => {
+                        self.needs_reopening = true;
+                        return Run {
+                            outcomes,
+                            fault: Some(StoreFault::Memory),
+                        };
+                    }
+                },
+                Err(fault) => return Run {
+                    outcomes,
+                    fault: Some(fault),
+                },
+            }
+        }
+        Run {
+            outcomes,
+            fault: None,
+        }
+    }
+}
