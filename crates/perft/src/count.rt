@@ -3,33 +3,10 @@
 ghost use Rattle.std.specs.Prelude.{◌≡◌, ◌+◌, IfOk};
 ghost use Rattle.perft.specs.Lines.{HasLines};
 
+use crate::fault::Fault;
 use crate::game::Game;
-use draughts_moves::Memory;
 use std::alloc::Global;
 use std::io::Write;
-
-/// Why lines are not counted, or the counts not printed to their end.
-#[derive(Clone, Copy, Debug, PartialEq, Eq)]
-pub enum Fault {
-    /// Memory was refused.
-    Memory,
-    /// There are more lines than 64 bits count.
-    TooMany,
-    /// The output failed.
-    Output,
-}
-
-impl From<Memory> for Fault {
-    fn from(_refused: Memory) -> Fault {
-        Fault::Memory
-    }
-}
-
-impl From<std::io::Error> for Fault {
-    fn from(_failed: std::io::Error) -> Fault {
-        Fault::Output
-    }
-}
 
 // The sum, if 64 bits hold it.
 fn plus(a: u64, b: u64) -> Result<u64, Fault>

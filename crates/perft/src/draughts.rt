@@ -1,9 +1,7 @@
 //! Lines of draughts.
 
-ghost use Rattle.std.specs.Prelude.{◌≡◌};
-
+use crate::fault::Fault;
 use crate::game::Game;
-use draughts_moves::Memory;
 use squares::{DMove, DPos};
 use std::alloc::Global;
 
@@ -27,15 +25,15 @@ impl Game for Draughts {
 
     ghost Writes = { texts.IsMoveText };
 
-    fn legal(alloc: Global, position: &DPos) -> Result<Vec<DMove>, Memory> {
-        draughts_moves::legal(alloc, position)
+    fn legal(alloc: Global, position: &DPos) -> Result<Vec<DMove>, Fault> {
+        Ok(draughts_moves::legal(alloc, position)?)
     }
 
     fn play(position: &DPos, played: &DMove) -> DPos {
         draughts_moves::play(position, played)
     }
 
-    fn write_move(alloc: Global, position: &DPos, played: &DMove) -> Result<String, Memory> {
-        pdn::write_move(alloc, position, played)
+    fn write_move(alloc: Global, position: &DPos, played: &DMove) -> Result<String, Fault> {
+        Ok(pdn::write_move(alloc, position, played)?)
     }
 }

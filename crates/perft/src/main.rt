@@ -3,17 +3,21 @@
 
 mod count;
 mod draughts;
+mod fault;
 mod game;
+mod shogi;
 mod words;
 
-use crate::count::{Fault, print_counts};
+use crate::count::print_counts;
 use crate::draughts::Draughts;
+use crate::fault::Fault;
+use crate::shogi::Shogi;
 use crate::words::{Asked, BadWords, Start, read_words};
 use std::alloc::AllocError;
 use std::io::Write;
 use std::process::ExitCode;
 
-const USAGE: &str = "usage: perft draughts DEPTH [POSITION]";
+const USAGE: &str = "usage: perft draughts|shogi DEPTH [POSITION]";
 
 const DONE: u8 = 0;
 
@@ -49,6 +53,7 @@ fn print_asked<W: Write>(rt: &HostRuntime, asked: &Asked, out: &mut W) -> Result
         Start::Draughts(position) => {
             print_counts::<Draughts, W>(rt.alloc(), position, asked.depth, out)
         }
+        Start::Shogi(position) => print_counts::<Shogi, W>(rt.alloc(), position, asked.depth, out),
     }
 }
 

@@ -1,7 +1,8 @@
 //! The program's words: a game, a depth, and a position if it is not the opening.
 
+use crate::shogi::OPENING;
 use pdn::{PdnFault, read_fen};
-use squares::DPos;
+use squares::{DPos, SPos};
 use std::alloc::Global;
 
 /// The greatest depth that is asked for.
@@ -11,6 +12,7 @@ pub const MOST_DEPTH: u32 = 99;
 #[derive(Drop)]
 pub enum Start {
     Draughts(DPos),
+    Shogi(SPos),
 }
 
 /// What is to be counted: the lines of so many moves, at least one, from a position.
@@ -45,16 +47,27 @@ fn draughts_position(alloc: Global, word: &str) -> Result<DPos, BadWords> {
     }
 }
 
+// The position that a word gives as SFEN. The number of the next move counts for nothing.
+fn shogi_position(word: &str) -> Result<SPos, BadWords> {
+    match sfen::read(word) {
+        Ok((position, _)) => Ok(position),
+        Err(_) => Err(BadWords::Usage),
+    }
+}
+
 // The position of a game that a word gives, or the opening.
 fn start_of(alloc: Global, game: &str, position: Option<&str>) -> Result<Start, BadWords> {
     match (game, position) {
         ("draughts", None) => Ok(Start::Draughts(DPos::opening())),
         ("draughts", Some(text)) => Ok(Start::Draughts(draughts_position(alloc, text)?)),
+        ("shogi", None) => Ok(Start::Shogi(shogi_position(OPENING)?)),
+        ("shogi", Some(text)) => Ok(Start::Shogi(shogi_position(text)?)),
         _ => Err(BadWords::Usage),
     }
 }
 
-/// What the words ask for: `draughts`, a depth of 1 to 99, and a position as FEN where it is not the opening.
+/// What the words ask for: `draughts` or `shogi`, a depth of 1 to 99, and a position, as FEN or SFEN, where it is not the
+/// opening.
 pub fn read_words(alloc: Global, words: &[&str]) -> Result<Asked, BadWords> {
     let (game, depth, position) = match words {
         [game, depth] => (*game, *depth, None),
