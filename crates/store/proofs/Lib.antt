@@ -7,6 +7,7 @@ pub mod OpeningLemmas
 pub mod MoveOrderLemmas
 pub mod GameRows
 pub mod LegalLemmas
+pub mod LifeLemmas
 pub mod NextRows
 pub mod OutcomeLemmas
 pub mod PlaceLemmas

@@ -11,6 +11,7 @@ use Rattle.club_core.specs.State.{Request}
 use Rattle.club_rows.specs.Club.{ClubState, IsClub, tables}
 use Rattle.store.specs.Steps.{club_step, club_next}
 use Rattle.store.specs.Runs.{club_fold, club_outcomes}
+use Rattle.store.specs.Lives.{IsAfter}
 
 pub fold-more : (s : ClubState) (rs : List Request) (r : Request) → club_fold s (rs ++ r ∷ []) ≡ club_next (club_fold s rs) r
 fold-more s [] r = refl
@@ -87,3 +88,18 @@ served-leaves s rs k n r db count within is left =
 -- all of the requests were served
 pub served-all : (s : ClubState) (rs : List given_request.Request) (k : ℕ) (outcomes : List given_outcome.Outcome) (now : State) → length rs ≤ k → Served s rs k outcomes now → IsExactly (tables (club_fold s (map request_of rs))) now
 served-all s rs k outcomes now all served = subst (λ xs. IsExactly (tables (club_fold s (map request_of xs))) now) (take_all k rs all) served.exactly
+
+pub legal-all : (s : ClubState) (rs : List given_request.Request) (k : ℕ) (outcomes : List given_outcome.Outcome) (now : State) → length rs ≤ k → Served s rs k outcomes now → IsClub (club_fold s (map request_of rs))
+legal-all s rs k outcomes now all served = subst (λ xs. IsClub (club_fold s (map request_of xs))) (take_all k rs all) served.is_club
+
+-- what a stop leaves of so many served requests is of a legal state
+pub after-served : (s : ClubState) (rs : List given_request.Request) (k n : ℕ) (db : Trees) → n ≡ k → IsClub (club_fold s (first_of rs k)) → Leaves (tables (club_fold s (first_of rs k))) db → IsAfter s rs n db
+after-served s rs k n db count legal leaves = subst (λ m. IsAfter s rs m db) (sym count) (record { legal = legal; leaves = leaves })
+
+-- so is it of one request more
+pub after-next : (s : ClubState) (rs : List given_request.Request) (k n : ℕ) (r : given_request.Request) (db : Trees) → n ≡ k → k < length rs → r ≡ get_or rs k r →
+    IsClub (club_next (club_fold s (first_of rs k)) (request_of r)) → Leaves (tables (club_next (club_fold s (first_of rs k)) (request_of r))) db → IsAfter s rs (n + 1) db
+after-next s rs k n r db count within is legal leaves =
+    let same : club_fold s (first_of rs (k + 1)) ≡ club_next (club_fold s (first_of rs k)) (request_of r) = next-state s rs k r within is in
+    subst (λ m. IsAfter s rs (m + 1) db) (sym count)
+    (record { legal = subst IsClub (sym same) legal; leaves = subst (λ (u : ClubState). Leaves (tables u) db) (sym same) leaves })

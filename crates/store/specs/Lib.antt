@@ -2,6 +2,7 @@ pub mod Blames
 pub mod Changed
 pub mod Clubs
 pub mod Faults
+pub mod Lives
 pub mod Places
 pub mod Runs
 pub mod Steps

@@ -1,6 +1,6 @@
 //! An open club.
 
-ghost use Rattle.std.specs.Prelude.{◌≡◌, ◌≢◌, ◌≤◌, ◌⊎◌, false, true, Err, IfOk, IfErr, OnOk, OnErr};
+ghost use Rattle.std.specs.Prelude.{◌≡◌, ◌≢◌, ◌≤◌, ◌⊎◌, [], false, true, Err, IfOk, IfErr, OnOk, OnErr};
 ghost use Rattle.sqlite.specs.State.{HasCleanDisk, IsUnchanged};
 ghost use Rattle.sqlite.specs.Held.{state};
 ghost use Rattle.sqlite_trees.specs.View.{doubt};
@@ -8,6 +8,7 @@ ghost use Rattle.store_tables.specs.Contents.{IsExactly, IsExactlyEmpty, IsEmpty
 ghost use Rattle.store_tables.specs.Reading.{KeepsMay};
 ghost use Rattle.store_tables.specs.Tables.{club_schema};
 ghost use Rattle.store.specs.Blames.{NamesTable, NamesSchema};
+ghost use Rattle.store.specs.Lives.{IsLed, Stands};
 ghost use Rattle.store.specs.Changed.{changed};
 ghost use Rattle.store.specs.Whole.{IsAccepted};
 ghost use Rattle.store.specs.Places.{NamesRows};
@@ -16,6 +17,7 @@ ghost use Rattle.club_core.specs.State.{opening_state};
 ghost use Rattle.club_rows.specs.Club.{ClubState, IsClub, tables};
 ghost use Rattle.store.specs.Steps.{request, club_step, club_next};
 
+mod life;
 mod run;
 
 use crate::changes::{Changes, commit_changes};
@@ -26,6 +28,7 @@ use crate::make::create_tables;
 use crate::read::fault_of;
 use clocks::Moment;
 use club_core::{Command, Outcome, Who};
+pub use life::resume;
 pub use run::Run;
 use sqlite::{Alter, Connection};
 use std::alloc::Global;
@@ -69,6 +72,8 @@ pub fn create<S: Alter>(_alloc: Global, conn: Connection<S>) -> Result<Club<S>, 
     ensures idle { IfErr result (λ u. u.conn.in_transaction ≡ false) }
     ensures named { IfErr result (λ u. (u.fault ≡ OpenFault.Foreign) ⊎ (u.fault ≡ OpenFault.Store)) }
     ensures fault { IfErr result (λ u. HasCleanDisk (state S.Store u.conn) → IsExactlyEmpty (state S.Store conn) → (db : _) → (state S.Store u.conn).may_leave db → IsEmpty db ⊎ Leaves (tables opening_state) db) }
+    ensures begins { IfOk result (λ club. HasCleanDisk (state S.Store club.connection) → IsExactlyEmpty (state S.Store conn) → Stands [] (state S.Store club.connection)) }
+    ensures cut_off { IfErr result (λ u. HasCleanDisk (state S.Store u.conn) → IsExactlyEmpty (state S.Store conn) → (db : _) → (state S.Store u.conn).may_leave db → IsEmpty db ⊎ IsLed [] db) }
     ensures stays { IfErr result (λ u. HasCleanDisk (state S.Store u.conn) → (state S.Store conn).now.schema ≡ club_schema → KeepsMay (state S.Store conn) (state S.Store u.conn)) }
     ensures known { IfErr result (λ u. doubt (state S.Store conn).is_clean ≤ doubt (state S.Store u.conn).is_clean) }
 {

@@ -17,7 +17,7 @@ mod select;
 #[cfg(test)]
 mod tests;
 
-pub use club::{Club, Run, Unopened, adopt, create};
+pub use club::{Club, Run, Unopened, adopt, create, resume};
 pub use fault::{OpenFault, StoreFault};
-pub use reopen::holds_exactly;
+pub use reopen::{holds_exactly, holds_what_sessions_left, leaves_what_sessions_left};
 pub use store_tables::Table;

@@ -2,7 +2,7 @@ ghost use Rattle.std.specs.Prelude.{◌≡◌, false};
 
 use crate::changes::Changes;
 use crate::find::{count_games, game_with_id, game_with_key, moves_of};
-use crate::{Club, OpenFault, StoreFault, Table, adopt, create};
+use crate::{Club, OpenFault, StoreFault, Table, adopt, create, resume};
 use clocks::Moment;
 use club_core::{AddMember, Answer, Command, Outcome, Refusal, Request, Who};
 use sqlite::{Connection, Error, MemStore};
@@ -374,6 +374,28 @@ fn requests_are_served_in_turn(rt: HostRuntime) -> Result<(), Fail> {
     assert!(rt; matches!(&run.outcomes[1], Outcome::Repeated(Answer::Member(1))));
     assert!(rt; matches!(&run.outcomes[2], Outcome::Refused(Refusal::NameTaken)));
     assert!(rt; matches!(&run.outcomes[3], Outcome::Accepted(Answer::Member(2))));
+    let mut conn = adopted(rt.alloc(), club.into_connection())?.into_connection();
+    assert_eq!(rt; conn.query_all("SELECT id FROM members", &[])?.len(), 2);
+    Ok(())
+}
+
+#[test]
+fn a_session_follows_another(rt: HostRuntime) -> Result<(), Fail> {
+    let mut club = made(rt.alloc())?;
+    let mut first = Vec::new(rt.alloc());
+    first.push(added(rt.alloc(), "anna", "keyanna1")?)?;
+    assert_eq!(rt; club.session(rt.alloc(), &first).outcomes.len(), 1);
+    let mut second = Vec::new(rt.alloc());
+    second.push(added(rt.alloc(), "anna", "keyanna1")?)?;
+    second.push(added(rt.alloc(), "bert", "keybert2")?)?;
+    let (run, club) = match resume(rt.alloc(), club.into_connection(), &second) {
+        Ok(resumed) => resumed,
+        Err(_) => return Err(Fail::new("not taken over")),
+    };
+    assert_eq!(rt; run.fault, None);
+    assert_eq!(rt; run.outcomes.len(), 2);
+    assert!(rt; matches!(&run.outcomes[0], Outcome::Repeated(Answer::Member(1))));
+    assert!(rt; matches!(&run.outcomes[1], Outcome::Accepted(Answer::Member(2))));
     let mut conn = adopted(rt.alloc(), club.into_connection())?.into_connection();
     assert_eq!(rt; conn.query_all("SELECT id FROM members", &[])?.len(), 2);
     Ok(())

@@ -9,6 +9,7 @@ ghost use Rattle.club_core.specs.Answer.{answered, outcome_of, request_of};
 ghost use Rattle.club_rows.specs.Club.{ClubState, IsClub, tables};
 ghost use Rattle.store.specs.Steps.{club_step, club_next};
 ghost use Rattle.store.specs.Runs.{club_fold, club_outcomes};
+ghost use Rattle.store.specs.Lives.{IsAfter};
 
 use super::Club;
 use crate::fault::StoreFault;
@@ -71,10 +72,15 @@ impl<S: Alter> Club<S> {
             map outcome_of result.outcomes.items ≡ map answered (club_outcomes s (map request_of (take (length result.outcomes.items) requests.now))) }
         ensures stored { HasCleanDisk (state S.Store self.new.connection) → result.fault ≡ None → (s : ClubState) → IsClub s → IsExactly (tables s) (state S.Store self.old.connection) →
             IsExactly (tables (club_fold s (map request_of requests.now))) (state S.Store self.new.connection) }
+        ensures legal { HasCleanDisk (state S.Store self.new.connection) → result.fault ≡ None → (s : ClubState) → IsClub s → IsExactly (tables s) (state S.Store self.old.connection) →
+            IsClub (club_fold s (map request_of requests.now)) }
         ensures fault { HasCleanDisk (state S.Store self.new.connection) → IsSome result.fault → self.old.needs_reopening ≡ false → (s : ClubState) → IsClub s → IsExactly (tables s) (state S.Store self.old.connection) →
             (db : _) → (state S.Store self.new.connection).may_leave db →
             Leaves (tables (club_fold s (map request_of (take (length result.outcomes.items) requests.now)))) db
             ⊎ Leaves (tables (club_fold s (map request_of (take (length result.outcomes.items + 1) requests.now)))) db }
+        ensures left { HasCleanDisk (state S.Store self.new.connection) → self.old.needs_reopening ≡ false → (s : ClubState) → IsClub s → IsExactly (tables s) (state S.Store self.old.connection) →
+            (db : _) → (state S.Store self.new.connection).may_leave db →
+            IsAfter s requests.now (length result.outcomes.items) db ⊎ (IsSome result.fault × IsAfter s requests.now (length result.outcomes.items + 1) db) }
     {
         if self.needs_reopening {
             return Run::ended(alloc, StoreFault::Reopen);

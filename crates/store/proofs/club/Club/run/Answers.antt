@@ -1,4 +1,4 @@
-use Rattle.std.proofs.Common.{rules, arith, ◌≡◌, ◌≤◌, ◌+◌, false, length, map, take, refl, sym, ap, inr, ◌∙◌, subst}
+use Rattle.std.proofs.Common.{rules, arith, ◌≡◌, ◌≤◌, ◌+◌, false, length, map, take, refl, sym, ap, inl, inr, ◌∙◌, subst}
 use Rattle.sqlite.specs.State.{HasCleanDisk}
 use Rattle.sqlite.specs.Held.{state}
 use Rattle.sqlite_trees.specs.View.{doubt}
@@ -7,7 +7,7 @@ use Rattle.club_core.specs.Answer.{answered, outcome_of, request_of}
 use Rattle.club_rows.specs.Club.{ClubState, IsClub, tables}
 use Rattle.store.specs.Steps.{club_step, club_next}
 use Rattle.store.specs.Runs.{club_fold, club_outcomes}
-use Rattle.store.proofs.RunLemmas.{Served, count-more, first_of, served-none, served-next, served-outcomes, served-leaves, served-all}
+use Rattle.store.proofs.RunLemmas.{Served, count-more, first_of, served-none, served-next, served-outcomes, served-leaves, served-all, legal-all, after-served, after-next}
 use Rattle.store.proofs.club.Club.run.Goals as goal
 
 pub loop-request-init : goal.loop-request-init
@@ -88,3 +88,41 @@ returns-in-Err-push-clause-fault g c clean failed usable s is_club k db left =
     let inside : IsExactly next (state g.S.Store c.self-in-loop-request.inside.connection) = search rules in
     served-leaves s c.args.requests.now c.loop-request.request-index (length c.push.new.self.items) c.request-item.result db (ap length c.in-Err-push.ensures.items ∙ c.loop-request.invariant.2) c.loop-request-test.true c.request-item.is
     (inr (inside.may_leave db left))
+
+pub returns-clause-legal : goal.returns-clause-legal
+returns-clause-legal g c clean none s is_club k =
+    legal-all s c.args.requests.now c.loop-request.request-index c.loop-request.outcomes.items _ (omega (arith, c.loop-request-test.false)) (c.loop-request.invariant.3 clean s is_club k)
+
+pub returns-clause-left : goal.returns-clause-left
+returns-clause-left g c clean usable s is_club k db left =
+    let served = c.loop-request.invariant.3 clean s is_club k in
+    inl (after-served s c.args.requests.now c.loop-request.request-index (length c.loop-request.outcomes.items) db c.loop-request.invariant.2 served.is_club (served.exactly.may_leave db left))
+
+pub returns-in-Err-serve-clause-left : goal.returns-in-Err-serve-clause-left
+returns-in-Err-serve-clause-left g c clean usable s is_club k db left =
+    let before : HasCleanDisk (state g.S.Store c.loop-request.self.connection) = omega (arith, c.serve.ensures.clean, clean) in
+    let served = c.loop-request.invariant.3 before s is_club k in
+    let now = club_fold s (first_of c.args.requests.now c.loop-request.request-index) in
+    elim (c.in-Err-serve.ensures.fault clean c.loop-request.invariant.0 now served.is_club served.exactly db left) [
+      | inl kept ↦ inl (after-served s c.args.requests.now c.loop-request.request-index (length c.loop-request.outcomes.items) db c.loop-request.invariant.2 served.is_club kept)
+      | inr later ↦ inr (
+        search rules,
+        after-next s c.args.requests.now c.loop-request.request-index (length c.loop-request.outcomes.items) c.request-item.result db c.loop-request.invariant.2 c.loop-request-test.true c.request-item.is
+            (c.serve.ensures.legal now served.is_club) later,
+      )
+    ]
+
+pub returns-in-Err-push-clause-left : goal.returns-in-Err-push-clause-left
+returns-in-Err-push-clause-left g c clean usable s is_club k db left =
+    let after : HasCleanDisk (state g.S.Store c.serve.new.self.connection) = search rules in
+    let before : HasCleanDisk (state g.S.Store c.loop-request.self.connection) = omega (arith, c.serve.ensures.clean, after) in
+    let served = c.loop-request.invariant.3 before s is_club k in
+    let now = club_fold s (first_of c.args.requests.now c.loop-request.request-index) in
+    let next = tables (club_next now (request_of c.request-item.result)) in
+    let stored : IsExactly next (state g.S.Store c.serve.new.self.connection) = c.in-Ok-serve.ensures.step after now served.is_club served.exactly in
+    let inside : IsExactly next (state g.S.Store c.self-in-loop-request.inside.connection) = search rules in
+    inr (
+      search rules,
+      after-next s c.args.requests.now c.loop-request.request-index (length c.push.new.self.items) c.request-item.result db (ap length c.in-Err-push.ensures.items ∙ c.loop-request.invariant.2) c.loop-request-test.true c.request-item.is
+          (c.serve.ensures.legal now served.is_club) (inside.may_leave db left),
+    )

@@ -1,0 +1,180 @@
+-- What sessions of a club lead to, counted by the requests that are accepted.
+use Rattle.std.proofs.Common.{◌≡◌, ◌⊎◌, ℕ, zero, suc, ◌+◌, ◌≤◌, Bool, true, false, List, [], ◌∷◌, ◌++◌, map, length, take, Option, Some, None, IsSome, IsTrue, is_none, refl, sym, ap, subst, ◌∙◌, inl, inr, arith}
+use Rattle.std.specs.Prelude.{if◌then◌else◌}
+use Rattle.std.specs.List.{count_by}
+use Rattle.std.proofs.lemmas.List.{take-map, take_all}
+use Rattle.std.proofs.lemmas.List.Recursion.{is_count_by}
+use Rattle.std.proofs.lemmas.Bool.{cases_Bool}
+use Rattle.sqlite.specs.Tree.{Trees}
+use Rattle.sqlite.specs.State.{State, Opens, IsLive}
+use Rattle.club_rules.specs.Draughts as rules
+use Rattle.club_core.specs.declared.requests.Request as given_request
+use Rattle.club_core.specs.declared.answers.Outcome as given_outcome
+use Rattle.club_core.specs.Answer.{answered, outcome_of, request_of}
+use Rattle.club_core.specs.Outcome.{Outcome, accepted, repeated, refused}
+use Rattle.club_core.specs.State.{Request, opening_state, is_accepted}
+use Rattle.club_core.proofs.Folds.{folds-accepted}
+use Rattle.club_rows.specs.Club.{ClubState, IsClub, tables}
+use Rattle.store_tables.specs.Contents.{Content, IsExactly, Leaves}
+use Rattle.store.specs.declared.club.run.Run.{Run}
+use Rattle.store.specs.declared.fault.StoreFault.{StoreFault}
+use Rattle.store.specs.Steps.{club_step, club_next}
+use Rattle.store.specs.Runs.{club_fold, club_outcomes, club_accepted}
+use Rattle.store.proofs.OpenLemmas.{opens_exactly}
+use Rattle.store.specs.Lives.{Session, LeadsOn, Leads, IsLed, Stands, IsAfter, is_taken, session_of}
+
+-- those of the first requests are the first of those
+first_accepted : (s : ClubState) (rs : List Request) (j : ℕ) → take (length (club_accepted s (take j rs))) (club_accepted s rs) ≡ club_accepted s (take j rs)
+first_accepted s [] zero = refl
+first_accepted s [] (suc j) = refl
+first_accepted s (r ∷ rs) zero = refl
+first_accepted s (r ∷ rs) (suc j) = elim (cases_Bool (is_accepted (club_step s r))) [
+  | inl took ↦ rw took (ap (λ l. r ∷ l) (first_accepted (club_next s r) rs j))
+  | inr left ↦ rw left (first_accepted (club_next s r) rs j)
+]
+
+abbrev Counted : ClubState → List Request → ℕ → ℕ
+Counted s rs j = length (club_accepted s (take j rs))
+
+one_more : (s : ClubState) (rs : List Request) (j n : ℕ) → n ≡ j + 1 → (Counted s rs j ≤ Counted s rs n) × (Counted s rs n ≤ Counted s rs j + 1)
+one_more s rs j zero e = absurd (omega arith)
+one_more s [] zero (suc n) e = (omega arith, omega arith)
+one_more s [] (suc j) (suc n) e = (omega arith, omega arith)
+one_more s (r ∷ rs) zero (suc zero) e = elim (cases_Bool (is_accepted (club_step s r))) [ inl took ↦ rw took (omega arith, omega arith) | inr left ↦ rw left (omega arith, omega arith) ]
+one_more s (r ∷ rs) zero (suc (suc n)) e = absurd (omega arith)
+one_more s (r ∷ rs) (suc j) (suc n) e =
+    let more = one_more (club_next s r) rs j n (omega arith) in
+    elim (cases_Bool (is_accepted (club_step s r))) [ inl took ↦ rw took (omega (arith, more.0), omega (arith, more.1)) | inr left ↦ rw left more ]
+
+after : (s : ClubState) (rs : List Request) (j : ℕ) → club_fold s (take j rs) ≡ club_fold s (take (Counted s rs j) (club_accepted s rs))
+after s rs j = sym (folds-accepted rules.draughts rules.draughts s (take j rs)) ∙ ap (club_fold s) (sym (first_accepted s rs j))
+
+-- where so many were answered as accepted, the state after these, or after one more, is one that the session leads to
+leads_on : (s : ClubState) (rs : List Request) (j a : ℕ) (whole : Bool) → a ≡ Counted s rs j → LeadsOn s (record { requests = rs; returned = a; is_whole = whole }) (club_fold s (take j rs))
+leads_on s rs j a whole is = record { k = a; least = omega arith; most = omega arith; whole = λ _. refl; is = after s rs j ∙ ap (λ n. club_fold s (take n (club_accepted s rs))) (sym is) }
+
+leads_further : (s : ClubState) (rs : List Request) (j a : ℕ) (whole : Bool) → whole ≡ false → a ≡ Counted s rs j → LeadsOn s (record { requests = rs; returned = a; is_whole = whole }) (club_fold s (take (j + 1) rs))
+leads_further s rs j a true stopped is = absurd (let x = stopped in cc)
+leads_further s rs j a false stopped is =
+    let more = one_more s rs j (j + 1) refl in
+    record { k = Counted s rs (j + 1); least = omega (arith, more.0, is); most = omega (arith, more.1, is); whole = λ e. absurd (let x = e in cc); is = after s rs (j + 1) }
+
+leads_then : (s t u : ClubState) (xs : List Session) (x : Session) → Leads s xs t → LeadsOn t x u → Leads s (xs ++ x ∷ []) u
+leads_then s t u [] x led one = (u, subst (λ v. LeadsOn v x u) led one, refl)
+leads_then s t u (y ∷ xs) x led one = (led.0, led.1, leads_then led.0 t u xs x led.2 one)
+
+-- ---- what was answered
+
+told_same : {S : Type 0} (o : Outcome S) → is_accepted (answered o) ≡ is_accepted o
+told_same (accepted new reply) = refl
+told_same (repeated reply) = refl
+told_same (refused refusal) = refl
+
+abbrev count : List (Outcome (Unit {0})) → ℕ
+count [] = 0
+count (o ∷ os) = if is_accepted o then 1 + count os else count os
+
+count_outcomes : (os : List given_outcome.Outcome) → count (map outcome_of os) ≡ count_by is_taken os
+count_outcomes os = is_count_by (λ xs. count (map outcome_of xs)) is_taken refl (λ o xs. refl) os
+
+count_machine : (s : ClubState) (rs : List Request) → count (map answered (club_outcomes s rs)) ≡ length (club_accepted s rs)
+count_machine s [] = refl
+count_machine s (r ∷ rs) = elim (cases_Bool (is_accepted (club_step s r))) [
+  | inl took ↦ rw (told_same (club_step s r)) (rw took (let rest = count_machine (club_next s r) rs in omega (arith, rest)))
+  | inr left ↦ rw (told_same (club_step s r)) (rw left (count_machine (club_next s r) rs))
+]
+
+-- as many were answered as accepted as the machine accepts of the answered requests
+returned_is : (s : ClubState) (rs : List given_request.Request) (os : List given_outcome.Outcome) (n : ℕ) → map outcome_of os ≡ map answered (club_outcomes s (map request_of (take n rs))) → count_by is_taken os ≡ Counted s (map request_of rs) n
+returned_is s rs os n told =
+    sym (count_outcomes os)
+    ∙ (ap count told
+    ∙ (count_machine s (map request_of (take n rs))
+    ∙ ap (λ xs. length (club_accepted s xs)) (sym (take-map request_of n rs))))
+
+is_stopped : (fault : Option StoreFault) → IsSome fault → is_none fault ≡ false
+is_stopped None failed = absurd (let x = failed in cc)
+is_stopped (Some fault) failed = refl
+
+-- ---- a run as a session
+
+-- the outcomes of a run are those of the machine
+abbrev pub Told : ClubState → List given_request.Request → Run → Type 0
+Told s rs run = map outcome_of run.outcomes.items ≡ map answered (club_outcomes s (map request_of (take (length run.outcomes.items) rs)))
+
+-- the state after the answered requests is one that the session leads to
+run_leads : (s : ClubState) (rs : List given_request.Request) (run : Run) → Told s rs run → LeadsOn s (session_of rs run) (club_fold s (map request_of (take (length run.outcomes.items) rs)))
+run_leads s rs run told =
+    subst (λ xs. LeadsOn s (session_of rs run) (club_fold s xs)) (take-map request_of (length run.outcomes.items) rs)
+    (leads_on s (map request_of rs) (length run.outcomes.items) _ (is_none run.fault) (returned_is s rs run.outcomes.items (length run.outcomes.items) told))
+
+-- with a fault, so is the state after one more
+run_leads_further : (s : ClubState) (rs : List given_request.Request) (run : Run) → IsSome run.fault → Told s rs run → LeadsOn s (session_of rs run) (club_fold s (map request_of (take (length run.outcomes.items + 1) rs)))
+run_leads_further s rs run failed told =
+    subst (λ xs. LeadsOn s (session_of rs run) (club_fold s xs)) (take-map request_of (length run.outcomes.items + 1) rs)
+    (leads_further s (map request_of rs) (length run.outcomes.items) _ (is_none run.fault) (is_stopped run.fault failed) (returned_is s rs run.outcomes.items (length run.outcomes.items) told))
+
+-- what a stop leaves is led to with this session added
+pub session_leads : (s : ClubState) (sessions : List Session) (rs : List given_request.Request) (run : Run) (db : Trees) → Leads opening_state sessions s → Told s rs run →
+    IsAfter s rs (length run.outcomes.items) db ⊎ (IsSome run.fault × IsAfter s rs (length run.outcomes.items + 1) db) → IsLed (sessions ++ session_of rs run ∷ []) db
+session_leads s sessions rs run db led told left = elim left [
+  | inl here ↦ record {
+    after = club_fold s (map request_of (take (length run.outcomes.items) rs));
+    legal = here.legal;
+    leads = leads_then opening_state s _ sessions (session_of rs run) led (run_leads s rs run told);
+    leaves = here.leaves;
+  }
+  | inr later ↦ record {
+    after = club_fold s (map request_of (take (length run.outcomes.items + 1) rs));
+    legal = later.1.legal;
+    leads = leads_then opening_state s _ sessions (session_of rs run) led (run_leads_further s rs run later.0 told);
+    leaves = later.1.leaves;
+  }
+]
+
+-- without a fault, the tables are led to with this session added
+pub session_stands : (s : ClubState) (sessions : List Session) (rs : List given_request.Request) (run : Run) (now : State) → Leads opening_state sessions s → Told s rs run → length run.outcomes.items ≡ length rs →
+    IsClub (club_fold s (map request_of rs)) → IsExactly (tables (club_fold s (map request_of rs))) now → Stands (sessions ++ session_of rs run ∷ []) now
+session_stands s sessions rs run now led told whole legal exactly = record {
+  after = club_fold s (map request_of rs);
+  legal = legal;
+  leads = leads_then opening_state s _ sessions (session_of rs run) led
+      (subst (λ xs. LeadsOn s (session_of rs run) (club_fold s (map request_of xs))) (take_all (length run.outcomes.items) rs (omega (arith, whole))) (run_leads s rs run told));
+  exactly = exactly;
+}
+
+-- ---- openings
+
+opening_legal : IsClub opening_state
+opening_legal = record {
+  legal = record {
+    last = omega arith;
+    members = λ n x at. absurd (let h = at in cc);
+    member_count = omega arith;
+    member_names = λ i j x y at. absurd (let h = at in cc);
+    member_keys = λ i j x y at. absurd (let h = at in cc);
+    events = λ n x at. absurd (let h = at in cc);
+    event_count = omega arith;
+    event_names = λ i j x y at. absurd (let h = at in cc);
+    games = λ n x at. absurd (let h = at in cc);
+    game_count = omega arith;
+    game_keys = λ i j x y b at. absurd (let h = at in cc);
+  };
+  kinds = λ n x at. absurd (let h = at in cc);
+}
+
+pub opening_led : (trees : Trees) → Leaves (tables opening_state) trees → IsLed [] trees
+opening_led trees left = record { after = opening_state; legal = opening_legal; leads = refl; leaves = left }
+
+pub opening_stands : (now : State) → IsExactly (tables opening_state) now → Stands [] now
+opening_stands now exactly = record { after = opening_state; legal = opening_legal; leads = refl; exactly = exactly }
+
+pub stops_led : (sessions : List Session) (now : State) → Stands sessions now → (trees : Trees) → now.may_leave trees → IsLed sessions trees
+stops_led sessions now at trees left = record { after = at.after; legal = at.legal; leads = at.leads; leaves = at.exactly.may_leave trees left }
+
+pub opens_led : (sessions : List Session) (s : State) → Opens s → IsLive s → ((db : Trees) → IsTrue s.is_open → s.may_leave db → db ≡ s.committed.trees) → IsLed sessions s.committed.trees → Stands sessions s
+opens_led sessions s opens live settled led = record { after = led.after; legal = led.legal; leads = led.leads; exactly = opens_exactly (tables led.after) s opens live settled led.leaves }
+
+-- what keeps the tables keeps where they stand
+pub still_stands : (sessions : List Session) (old new : State) → ((content : Content) → IsExactly content old → IsExactly content new) → Stands sessions old → Stands sessions new
+still_stands sessions old new same at = record { after = at.after; legal = at.legal; leads = at.leads; exactly = same (tables at.after) at.exactly }

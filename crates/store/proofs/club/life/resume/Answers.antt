@@ -1,0 +1,39 @@
+use Rattle.std.proofs.Common.{arith, ◌≡◌}
+use Rattle.sqlite.specs.State.{HasCleanDisk}
+use Rattle.sqlite.specs.Held.{state}
+use Rattle.store_tables.specs.Contents.{IsExactly}
+use Rattle.club_rows.specs.Club.{tables}
+use Rattle.store.specs.Lives.{Stands}
+use Rattle.store.proofs.OpenLemmas.{opens_exactly}
+use Rattle.store.proofs.LifeLemmas.{opens_led, still_stands}
+use Rattle.store.proofs.club.life.resume.Goals as goal
+
+pub returns-clause-life : goal.returns-clause-life
+returns-clause-life g c clean opens live sessions led db left =
+    let was = state g.S.Store c.args.conn in
+    let now = state g.S.Store c.in-Ok.club.connection in
+    let before : HasCleanDisk now = omega (arith, c.session-run.ensures.clean, clean) in
+    let found : Stands sessions was = opens_led sessions was opens live (λ d shown stays. g.met.S.Store.settled c.args.conn.store d shown stays) led in
+    c.session-run.ensures.life clean c.in-Ok.ensures.ready sessions (still_stands sessions was now (c.in-Ok.ensures.same before) found) db left
+
+pub returns-clause-stands : goal.returns-clause-stands
+returns-clause-stands g c clean opens live none sessions led =
+    let was = state g.S.Store c.args.conn in
+    let now = state g.S.Store c.in-Ok.club.connection in
+    let before : HasCleanDisk now = omega (arith, c.session-run.ensures.clean, clean) in
+    let found : Stands sessions was = opens_led sessions was opens live (λ d shown stays. g.met.S.Store.settled c.args.conn.store d shown stays) led in
+    c.session-run.ensures.stands clean none sessions (still_stands sessions was now (c.in-Ok.ensures.same before) found)
+
+pub returns-clause-outcomes : goal.returns-clause-outcomes
+returns-clause-outcomes g c clean opens live s is_club left =
+    let was = state g.S.Store c.args.conn in
+    let now = state g.S.Store c.in-Ok.club.connection in
+    let before : HasCleanDisk now = omega (arith, c.session-run.ensures.clean, clean) in
+    let found : IsExactly (tables s) was = opens_exactly (tables s) was opens live (λ d shown stays. g.met.S.Store.settled c.args.conn.store d shown stays) left in
+    c.session-run.ensures.outcomes clean s is_club (c.in-Ok.ensures.same before (tables s) found)
+
+pub returns-in-Err-clause-good : goal.returns-in-Err-clause-good
+returns-in-Err-clause-good g c clean opens live s is_club left =
+    let was = state g.S.Store c.args.conn in
+    let found : IsExactly (tables s) was = opens_exactly (tables s) was opens live (λ d shown stays. g.met.S.Store.settled c.args.conn.store d shown stays) left in
+    c.in-Err.ensures.good clean s is_club found
