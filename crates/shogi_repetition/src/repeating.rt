@@ -96,7 +96,7 @@ fn end_by_checks(first: bool, second: bool) -> SEnd
 
 // The end by a position that stands for the fourth time.
 #[tactic(auto, unfolding(crate::specs::Computed::repetition))]
-fn repetition(last: &SPos, positions: &[SPos]) -> SEnd
+pub(crate) fn repetition(last: &SPos, positions: &[SPos]) -> SEnd
     ensures { result ≡ repetition last.now positions.now }
 {
     let since = since_first(last, positions);

@@ -1,3 +1,4 @@
+use crate::repeating::repetition;
 use crate::{Fault, SEnd, judge};
 use shogi_moves::Illegal;
 use squares::{HandKind, Hands, Role, SBoard, SMove, SPiece, SPos, Score, Side, Ssq};
@@ -94,6 +95,45 @@ fn the_fourth_time_is_a_draw(rt: HostRuntime) -> Result<(), Fail> {
         Err(Fault::AfterEnd { ply: 13 })
     );
     assert_eq!(rt; SEnd::Fourfold.outcome(Side::First), Score::Draw);
+    Ok(())
+}
+
+// Both kings are attacked, or Second's alone is not, and the turn goes to and fro. No move leads from one of these positions to
+// the other: what is shown is how checks of both sides are weighed.
+fn attacked_in_turn(alloc: Global, both: bool) -> Result<Vec<SPos>, Fail> {
+    let mut positions = Vec::new(alloc);
+    for turn in [0, 1, 0, 1, 0, 1, 0] {
+        let mut board = SBoard::empty();
+        put(&mut board, Side::First, Role::King, 5, 9)?;
+        put(&mut board, Side::Second, Role::Rook, 5, 5)?;
+        put(&mut board, Side::Second, Role::King, 1, 1)?;
+        put(
+            &mut board,
+            Side::First,
+            Role::Rook,
+            if both { 1 } else { 2 },
+            5,
+        )?;
+        let side = if turn == 0 { Side::First } else { Side::Second };
+        positions.push(with_turn(board, side)?)?;
+    }
+    Ok(positions)
+}
+
+// The end by repetition of the first of the positions.
+fn ended(positions: &[SPos]) -> Result<SEnd, Fail> {
+    match positions.first() {
+        Some(position) => Ok(repetition(position, positions)),
+        None => Err(Fail::new("no position")),
+    }
+}
+
+#[test]
+fn checks_of_both_sides_throughout_are_a_draw(rt: HostRuntime) -> Result<(), Fail> {
+    let both = attacked_in_turn(rt.alloc(), true)?;
+    assert_eq!(rt; ended(both.as_slice())?, SEnd::Fourfold);
+    let one = attacked_in_turn(rt.alloc(), false)?;
+    assert_eq!(rt; ended(one.as_slice())?, SEnd::PerpetualCheck(Side::Second));
     Ok(())
 }
 
