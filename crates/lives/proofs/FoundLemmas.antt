@@ -1,0 +1,28 @@
+-- What an opening finds of what a stop left.
+use Rattle.std.proofs.Common.{rules, ◌≡◌, ◌≤◌, ℕ, IsTrue, sym, subst}
+use Rattle.std.proofs.Math.Logic.{∥∥₁_map}
+use Rattle.sqlite_wal.specs.Recovery.{Image}
+use Rattle.sqlite.specs.Tree.{Trees}
+use Rattle.sqlite_trees.specs.View.{IsQuiet}
+use Rattle.sqlite_store.specs.declared.store.FileStore.{FileStore}
+use Rattle.sqlite_store.specs.FileStore.{state as store_state, view, faults, recovers, is_shielded}
+use Rattle.sqlite_disk.specs.declared.Disk.{Ghosts}
+use Rattle.sqlite.specs.Held.{Held, AreDatabases}
+use Rattle.sqlite.specs.Files.{file_state}
+use Rattle.sqlite.proofs.Theorems.{opens_again}
+use Rattle.lives.specs.Finds.{Finds}
+
+-- Where the files hold what a stop left, an opening finds a member of what the connection may leave.
+pub next_finds : {D : Type 0} {g : Ghosts D} (old : Held (FileStore D g)) (last : FileStore D g) → IsTrue (view last).is_numbered → AreDatabases (recovers last) → IsQuiet view faults recovers is_shielded old.store last
+    → (left : Image) → (store_state last).may_leave left → (found : Trees) → Finds left found → ∥ (file_state old).may_leave found ∥₁
+next_finds old last numbered sound quiet left may found finds =
+    let back : recovers last found → (file_state old).may_leave found = quiet.outcomes found in
+    ∥∥₁_map (opens_again last numbered sound left may) (λ held. back (subst (recovers last) (sym (finds held.0 held.2)) held.1))
+
+-- Where every member of what a stop may leave has this, so has what an opening finds.
+pub found_has : (P : Trees → Type 0) (may_leave : Trees → Type 0) (found : Trees) → ((db : Trees) → may_leave db → P db) → ∥ may_leave found ∥₁ → ∥ P found ∥₁
+found_has P may_leave found each member = ∥∥₁_map member (each found)
+
+-- a disk that is clean in the end was clean
+pub was_clean : (before after : ℕ) → before ≤ after → after ≡ 0 → before ≡ 0
+was_clean before after rises clean = search rules

@@ -1,0 +1,11 @@
+use Rattle.std.proofs.Math.Logic.{∥∥₁_elim}
+use Rattle.lives.proofs.FoundLemmas.{was_clean}
+use Rattle.lives.proofs.live.Goals as goal
+
+pub returns-in-Ok-clause-outcomes : goal.returns-in-Ok-clause-outcomes
+returns-in-Ok-clause-outcomes g c clean = c.in-Ok.ensures.outcomes (was_clean _ _ c.end.ensures.clean clean)
+
+pub returns-in-Ok-clause-life : goal.returns-in-Ok-clause-life
+returns-in-Ok-clause-life g c clean opens live sessions led left may found finds =
+    let served = c.in-Ok.ensures.life (was_clean _ _ c.end.ensures.clean clean) opens live sessions in
+    ∥∥₁_elim led squash₁ (λ before. c.end.ensures.life clean _ (served before) left may found finds)

@@ -1,0 +1,66 @@
+//! From one session of a club to the next, over files.
+#![tactic(auto)]
+
+ghost use Rattle.std.specs.Prelude.{◌≡◌, ◌≤◌, ◌⊎◌, ◌++◌, ◌∷◌, [], false, None, IfOk, IfErr, map, length, take};
+ghost use Rattle.sqlite.specs.State.{HasCleanDisk, Opens, IsLive};
+ghost use Rattle.sqlite.specs.Files.{file_state};
+ghost use Rattle.sqlite_store.specs.FileStore.{state as store_state, view as store_view};
+ghost use Rattle.sqlite_trees.specs.View.{IsClean, doubt};
+ghost use Rattle.store_tables.specs.Contents.{Leaves};
+ghost use Rattle.club_core.specs.Answer.{answered, outcome_of, request_of};
+ghost use Rattle.club_rows.specs.Club.{ClubState, IsClub, tables};
+ghost use Rattle.store.specs.Runs.{club_outcomes};
+ghost use Rattle.store.specs.Lives.{IsLed, session_of};
+ghost use Rattle.lives.specs.Finds.{Finds};
+
+use club_core::Request;
+use sqlite::{Connection, FileStore};
+use sqlite_disk::Disk;
+use std::alloc::Global;
+use store::{Club, OpenFault, Run, Unopened, resume};
+
+/// Ends a session over files, whether it was served to its end or stopped by a fault, and gives the store back. Where the
+/// files hold what a stop leaves of it then, an opening finds one of the databases that a stop could leave of the club;
+/// so if sessions led to all of those, they led to what the opening finds.
+pub fn end<D: Disk + Drop>(club: Club<FileStore<D>>) -> FileStore<D>
+    ensures clean { doubt (file_state club.connection).is_clean ≤ doubt (store_view result).is_clean }
+    ensures member { IsClean (store_view result) → (left : _) → (store_state result).may_leave left → (found : _) → Finds left found →
+        ∥ (file_state club.connection).may_leave found ∥₁ }
+    ensures life { IsClean (store_view result) → (sessions : _) → ((db : _) → (file_state club.connection).may_leave db → IsLed sessions db) →
+        (left : _) → (store_state result).may_leave left → (found : _) → Finds left found → ∥ IsLed sessions found ∥₁ }
+{
+    club.into_connection().into_store()
+}
+
+/// A session on a connection that was just opened over files: takes the club, serves the requests in turn up to the first
+/// fault, and gives the store back. Where sessions led to what the opening found, then those and this one lead to what the
+/// next opening finds, of whatever a stop leaves. A connection over other tables, or a fault while they are examined, comes
+/// back as from `adopt`.
+pub fn live<D: Disk + Drop>(
+    alloc: Global,
+    conn: Connection<FileStore<D>>,
+    requests: &[Request],
+) -> Result<(Run, FileStore<D>), Unopened<FileStore<D>>>
+    requires { conn.in_transaction ≡ false }
+    ensures within { IfOk result (λ lived. length lived.0.outcomes.items ≤ length requests.now) }
+    ensures whole { IfOk result (λ lived. lived.0.fault ≡ None → length lived.0.outcomes.items ≡ length requests.now) }
+    ensures outcomes { IfOk result (λ lived. IsClean (store_view lived.1) → Opens (file_state conn) → IsLive (file_state conn) →
+        (s : ClubState) → IsClub s → Leaves (tables s) (file_state conn).committed.trees →
+        map outcome_of lived.0.outcomes.items ≡ map answered (club_outcomes s (map request_of (take (length lived.0.outcomes.items) requests.now)))) }
+    ensures life { IfOk result (λ lived. IsClean (store_view lived.1) → Opens (file_state conn) → IsLive (file_state conn) →
+        (sessions : _) → ∥ IsLed sessions (file_state conn).committed.trees ∥₁ →
+        (left : _) → (store_state lived.1).may_leave left → (found : _) → Finds left found →
+        ∥ IsLed (sessions ++ session_of requests.now lived.0 ∷ []) found ∥₁) }
+    ensures idle { IfErr result (λ unopened. unopened.conn.in_transaction ≡ false) }
+    ensures known { IfErr result (λ unopened. doubt (file_state conn).is_clean ≤ doubt (file_state unopened.conn).is_clean) }
+    ensures good { IfErr result (λ unopened. HasCleanDisk (file_state unopened.conn) → Opens (file_state conn) → IsLive (file_state conn) →
+        (s : ClubState) → IsClub s → Leaves (tables s) (file_state conn).committed.trees → (unopened.fault ≡ OpenFault.Store) ⊎ (unopened.fault ≡ OpenFault.Memory)) }
+{
+    match resume(alloc, conn, requests) {
+        Ok((run, club)) => Ok((run, end(club))),
+        Err(unopened) => Err(unopened),
+    }
+}
+
+#[cfg(test)]
+mod tests;
