@@ -29,7 +29,8 @@ pub fn end<D: Disk + Drop>(club: Club<FileStore<D>>) -> FileStore<D>
     ensures life { IsClean (store_view result) → (sessions : _) → ((db : _) → (file_state club.connection).may_leave db → IsLed sessions db) →
         (left : _) → (store_state result).may_leave left → (found : _) → Finds left found → ∥ IsLed sessions found ∥₁ }
 {
-    club.into_connection().into_store()
+    let conn = club.into_connection();
+    conn.into_store()
 }
 
 /// A session on a connection that was just opened over files: takes the club, serves the requests in turn up to the first
