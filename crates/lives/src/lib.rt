@@ -36,7 +36,7 @@ pub fn end<D: Disk + Drop>(club: Club<FileStore<D>>) -> FileStore<D>
 /// A session on a connection that was just opened over files: takes the club, serves the requests in turn up to the first
 /// fault, and gives the store back. Where sessions led to what the opening found, then those and this one lead to what the
 /// next opening finds, of whatever a stop leaves. A connection over other tables, or a fault while they are examined, comes
-/// back as from `adopt`.
+/// back.
 pub fn live<D: Disk + Drop>(
     alloc: Global,
     conn: Connection<FileStore<D>>,
