@@ -19,10 +19,6 @@ next_finds old last numbered sound quiet left may found finds =
     let back : recovers last found → (file_state old).may_leave found = quiet.outcomes found in
     ∥∥₁_map (opens_again last numbered sound left may) (λ held. back (subst (recovers last) (sym (finds held.0 held.2)) held.1))
 
--- Where every member of what a stop may leave has this, so has what an opening finds.
-pub found_has : (P : Trees → Type 0) (may_leave : Trees → Type 0) (found : Trees) → ((db : Trees) → may_leave db → P db) → ∥ may_leave found ∥₁ → ∥ P found ∥₁
-found_has P may_leave found each member = ∥∥₁_map member (each found)
-
 -- a disk that is clean in the end was clean
 pub was_clean : (before after : ℕ) → before ≤ after → after ≡ 0 → before ≡ 0
 was_clean before after rises clean = search rules

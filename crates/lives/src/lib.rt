@@ -19,6 +19,16 @@ use sqlite_disk::Disk;
 use std::alloc::Global;
 use store::{Club, OpenFault, Run, Unopened, resume};
 
+/// Closes a connection, and gives the store back. Where the files hold what a stop leaves then, an opening finds one of the
+/// databases that a stop could leave of the connection.
+pub fn close<D: Disk + Drop>(conn: Connection<FileStore<D>>) -> FileStore<D>
+    ensures clean { doubt (file_state conn).is_clean ≤ doubt (store_view result).is_clean }
+    ensures member { IsClean (store_view result) → (left : _) → (store_state result).may_leave left → (found : _) → Finds left found →
+        ∥ (file_state conn).may_leave found ∥₁ }
+{
+    conn.into_store()
+}
+
 /// Ends a session over files, whether it was served to its end or stopped by a fault, and gives the store back. Where the
 /// files hold what a stop leaves of it then, an opening finds one of the databases that a stop could leave of the club;
 /// so if sessions led to all of those, they led to what the opening finds.
@@ -30,19 +40,20 @@ pub fn end<D: Disk + Drop>(club: Club<FileStore<D>>) -> FileStore<D>
         (left : _) → (store_state result).may_leave left → (found : _) → Finds left found → ∥ IsLed sessions found ∥₁ }
 {
     let conn = club.into_connection();
-    conn.into_store()
+    close(conn)
 }
 
 /// A session on a connection that was just opened over files: takes the club, serves the requests in turn up to the first
 /// fault, and gives the store back. Where sessions led to what the opening found, then those and this one lead to what the
 /// next opening finds, of whatever a stop leaves. A connection over other tables, or a fault while they are examined, comes
-/// back.
+/// back; a stop then, or `close`, leaves what the earlier sessions led to.
 pub fn live<D: Disk + Drop>(
     alloc: Global,
     conn: Connection<FileStore<D>>,
     requests: &[Request],
 ) -> Result<(Run, FileStore<D>), Unopened<FileStore<D>>>
     requires { conn.in_transaction ≡ false }
+    ensures clean { IfOk result (λ lived. doubt (file_state conn).is_clean ≤ doubt (store_view lived.1).is_clean) }
     ensures within { IfOk result (λ lived. length lived.0.outcomes.items ≤ length requests.now) }
     ensures whole { IfOk result (λ lived. lived.0.fault ≡ None → length lived.0.outcomes.items ≡ length requests.now) }
     ensures outcomes { IfOk result (λ lived. IsClean (store_view lived.1) → Opens (file_state conn) → IsLive (file_state conn) →
@@ -56,6 +67,9 @@ pub fn live<D: Disk + Drop>(
     ensures known { IfErr result (λ unopened. doubt (file_state conn).is_clean ≤ doubt (file_state unopened.conn).is_clean) }
     ensures good { IfErr result (λ unopened. HasCleanDisk (file_state unopened.conn) → Opens (file_state conn) → IsLive (file_state conn) →
         (s : ClubState) → IsClub s → Leaves (tables s) (file_state conn).committed.trees → (unopened.fault ≡ OpenFault.Store) ⊎ (unopened.fault ≡ OpenFault.Memory)) }
+    ensures kept { IfErr result (λ unopened. HasCleanDisk (file_state unopened.conn) → Opens (file_state conn) → IsLive (file_state conn) →
+        (sessions : _) → ∥ IsLed sessions (file_state conn).committed.trees ∥₁ →
+        (db : _) → (file_state unopened.conn).may_leave db → ∥ IsLed sessions db ∥₁) }
 {
     match resume(alloc, conn, requests) {
         Ok((run, club)) => Ok((run, end(club))),

@@ -1,4 +1,4 @@
-use Rattle.std.proofs.Math.Logic.{∥∥₁_elim}
+use Rattle.std.proofs.Math.Logic.{∥∥₁_elim, ∥∥₁_map}
 use Rattle.lives.proofs.FoundLemmas.{was_clean}
 use Rattle.lives.proofs.live.Goals as goal
 
@@ -9,3 +9,7 @@ pub returns-in-Ok-clause-life : goal.returns-in-Ok-clause-life
 returns-in-Ok-clause-life g c clean opens live sessions led left may found finds =
     let served = c.in-Ok.ensures.life (was_clean _ _ c.end.ensures.clean clean) opens live sessions in
     ∥∥₁_elim led squash₁ (λ before. c.end.ensures.life clean _ (served before) left may found finds)
+
+pub returns-in-Err-clause-kept : goal.returns-in-Err-clause-kept
+returns-in-Err-clause-kept g c clean opens live sessions led db left =
+    ∥∥₁_map led (λ before. c.in-Err.ensures.kept clean opens live sessions before db left)

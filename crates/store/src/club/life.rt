@@ -42,7 +42,7 @@ impl<S: Alter> Club<S> {
 
 /// Takes a connection that was just opened over what earlier sessions left, after a stop or an end, and serves a session on
 /// it. What a stop may leave then is led to by the earlier sessions and this one. A connection over other tables, or a
-/// fault while they are examined, comes back as from `adopt`.
+/// fault while they are examined, comes back as from `adopt`; what a stop may leave then is led to by the earlier sessions.
 pub fn resume<S: Alter>(
     alloc: Global,
     conn: Connection<S>,
@@ -67,6 +67,9 @@ pub fn resume<S: Alter>(
     ensures known { IfErr result (λ unopened. doubt (state S.Store conn).is_clean ≤ doubt (state S.Store unopened.conn).is_clean) }
     ensures good { IfErr result (λ unopened. HasCleanDisk (state S.Store unopened.conn) → Opens (state S.Store conn) → IsLive (state S.Store conn) →
         (s : ClubState) → IsClub s → Leaves (tables s) (state S.Store conn).committed.trees → (unopened.fault ≡ OpenFault.Store) ⊎ (unopened.fault ≡ OpenFault.Memory)) }
+    ensures kept { IfErr result (λ unopened. HasCleanDisk (state S.Store unopened.conn) → Opens (state S.Store conn) → IsLive (state S.Store conn) →
+        (sessions : _) → IsLed sessions (state S.Store conn).committed.trees →
+        (db : _) → (state S.Store unopened.conn).may_leave db → IsLed sessions db) }
 {
     let mut club = match adopt(alloc, conn) {
         Ok(club) => club,

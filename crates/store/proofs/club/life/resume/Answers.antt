@@ -5,7 +5,7 @@ use Rattle.store_tables.specs.Contents.{IsExactly}
 use Rattle.club_rows.specs.Club.{tables}
 use Rattle.store.specs.Lives.{Stands}
 use Rattle.store.proofs.OpenLemmas.{opens_exactly}
-use Rattle.store.proofs.LifeLemmas.{opens_led, still_stands}
+use Rattle.store.proofs.LifeLemmas.{opens_led, still_stands, stops_led}
 use Rattle.store.proofs.club.life.resume.Goals as goal
 
 pub returns-clause-life : goal.returns-clause-life
@@ -37,3 +37,9 @@ returns-in-Err-clause-good g c clean opens live s is_club left =
     let was = state g.S.Store c.args.conn in
     let found : IsExactly (tables s) was = opens_exactly (tables s) was opens live (λ d shown stays. g.met.S.Store.settled c.args.conn.store d shown stays) left in
     c.in-Err.ensures.good clean s is_club found
+
+pub returns-in-Err-clause-kept : goal.returns-in-Err-clause-kept
+returns-in-Err-clause-kept g c clean opens live sessions led db left =
+    let was = state g.S.Store c.args.conn in
+    let found : Stands sessions was = opens_led sessions was opens live (λ d shown stays. g.met.S.Store.settled c.args.conn.store d shown stays) led in
+    stops_led sessions was found db (c.in-Err.ensures.kept clean found.exactly.now.schema db left)
