@@ -6,7 +6,8 @@ usage: mutual_checks.py [DX DY]
 The kings stand still in such a line (docs/DECISIONS.md), so one way from First's king to Second's, DX files and DY ranks
 further (to the right and down, as in a diagram), is one problem; with no DX and DY all 147 ways are gone through. The board
 is a plane around the kings: a square counts where it and the kings lie within nine files and nine ranks, each piece may
-promote on any move, and none is stuck on its last ranks. So what cannot be here can be nowhere on the board.
+promote on any move, and none is stuck on its last ranks. So what cannot be here can be nowhere on the board. No
+side has two pawns on a file, as in every position that comes up from the opening.
 
 What comes back goes on for ever. So in it a piece that comes to a square leaves it some time, and one that leaves came there
 (`Comings`); and each kind that one side drops both sides drop and take, as the hands come back too. For each way, by a solver
@@ -15,6 +16,7 @@ of clauses (`cadical`):
    followed, before so many plies and with no drop between, by a drop of Second;
 2. for each such gap, no line has enough plies before and after it.
 The line of a step is any that could be part of a longer one, whatever was before and whatever comes after it.
+First moves first in it: turned half around with the sides changed, the board has the same way from king to king.
 """
 import itertools
 import subprocess
