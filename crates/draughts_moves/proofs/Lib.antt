@@ -11,3 +11,4 @@ pub mod Prey
 pub mod RouteLemmas
 pub mod RoutingLemmas
 pub mod StepLemmas
+pub mod WalkLemmas

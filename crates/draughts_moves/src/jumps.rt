@@ -115,24 +115,27 @@ fn king_jumps(position: &DPos, mover: &Mover, line: &[Dsq], jumps: &mut Jumps)
     }
 }
 
-// Adds a man's jump along a line, if it has one.
-fn man_jumps(position: &DPos, mover: &Mover, line: &[Dsq], jumps: &mut Jumps)
-    requires room { length jumps.old + length line.now ≤ 36 }
+// Adds a man's jump in a direction, if it has one.
+fn man_jumps(position: &DPos, mover: &Mover, toward: Direction, jumps: &mut Jumps)
+    requires room { length jumps.old + 9 ≤ 36 }
     ensures added { jumps.new ≡ jumps.old
         ++ man_jumps (without position.now.board mover.now.origin)
-        mover.now.piece mover.now.taken line.now }
-    ensures room { length jumps.new ≤ length jumps.old + length line.now }
+        mover.now.piece mover.now.taken (ray toward mover.now.at) }
+    ensures room { length jumps.new ≤ length jumps.old + 9 }
 {
-    match line {
-        [over, to, ..] => {
-            if is_prey(position, mover, *over) {
-                match stands(position, mover.origin, *to) {
-                    None => jumps.push(*over, *to),
-                    Some(_) => {}
+    match mover.at.step(toward) {
+        None => {}
+        Some(over) => {
+            if is_prey(position, mover, over) {
+                match over.step(toward) {
+                    None => {}
+                    Some(to) => match stands(position, mover.origin, to) {
+                        None => jumps.push(over, to),
+                        Some(_) => {}
+                    },
                 }
             }
         }
-        _ => {}
     }
 }
 
@@ -144,11 +147,11 @@ fn jumps_along(position: &DPos, mover: &Mover, toward: Direction, jumps: &mut Ju
         mover.now.piece mover.now.taken (ray toward mover.now.at) }
     ensures room { length jumps.new ≤ length jumps.old + 9 }
 {
-    let ray = Ray::new(mover.at, toward);
     if mover.piece.king {
+        let ray = Ray::new(mover.at, toward);
         king_jumps(position, mover, ray.squares(), jumps);
     } else {
-        man_jumps(position, mover, ray.squares(), jumps);
+        man_jumps(position, mover, toward, jumps);
     }
 }
 

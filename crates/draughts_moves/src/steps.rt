@@ -5,7 +5,7 @@ ghost use Rattle.std.specs.List.{list_any};
 ghost use Rattle.draughts_moves.specs.Legal.{is_forward};
 ghost use Rattle.draughts_moves.specs.Search.{clear_front, reach, steps_along, steps};
 
-use squares::{DPiece, DPos, Direction, Dsq, Ray, Side};
+use squares::{DPiece, DPos, Direction, Dsq, Side};
 use std::marker::Model;
 
 /// Squares that a piece goes to without taking.
@@ -76,8 +76,9 @@ fn is_forward(side: Side, toward: Direction) -> bool
 }
 
 // How many squares a piece goes at most.
-fn reach(piece: DPiece, toward: Direction) -> usize
-    ensures { result ≡ reach piece toward }
+fn reach(piece: DPiece, toward: Direction) -> u8
+    ensures value { result ≡ reach piece toward }
+    ensures few { result ≤ 9 }
 {
     if piece.king {
         return 9;
@@ -88,20 +89,6 @@ fn reach(piece: DPiece, toward: Direction) -> usize
     0
 }
 
-// Adds the squares of the line up to the first piece.
-fn clear_front(position: &DPos, line: &[Dsq], steps: &mut Steps)
-    requires room { length steps.old + length line.now ≤ 36 }
-    ensures added { steps.new ≡ steps.old ++ clear_front (map.get position.now.board) line.now }
-    ensures room { length steps.new ≤ length steps.old + length line.now }
-{
-    for square in line {
-        match position.at(*square) {
-            Some(_) => return,
-            None => steps.push(*square),
-        }
-    }
-}
-
 // Adds the squares that a piece goes to in a direction.
 fn steps_along(position: &DPos, piece: DPiece, from: Dsq, toward: Direction, steps: &mut Steps)
     requires room { length steps.old + 9 ≤ 36 }
@@ -109,10 +96,19 @@ fn steps_along(position: &DPos, piece: DPiece, from: Dsq, toward: Direction, ste
         ++ steps_along (map.get position.now.board) piece toward from }
     ensures room { length steps.new ≤ length steps.old + 9 }
 {
-    let ray = Ray::new(from, toward);
-    let line = ray.squares();
-    let near = reach(piece, toward).min(line.len());
-    clear_front(position, &line[..near], steps);
+    let mut at = from;
+    for _ in 0..reach(piece, toward) {
+        match at.step(toward) {
+            None => return,
+            Some(next) => {
+                if position.at(next).is_some() {
+                    return;
+                }
+                steps.push(next);
+                at = next;
+            }
+        }
+    }
 }
 
 /// Where a piece goes from a square without taking.

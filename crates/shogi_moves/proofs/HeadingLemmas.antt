@@ -75,7 +75,7 @@ module _ (board : ShogiBoard) (to : ℕ) (k : ℕ) (side : Side) (heading : Head
   walk-end e = ap (comes_to board to) (line-nothing k side heading n e)
 
   module _ (j m : ℕ) (next : step side heading n ≡ Some m) (more : k ≡ j + 1) where
-    walk_first : comes_to board to (line k side heading n) ≡ (nat_eq m to || (is_none (map.get board m) && comes_to board to (line j side heading m)))
+    pub walk_first : comes_to board to (line k side heading n) ≡ (nat_eq m to || (is_none (map.get board m) && comes_to board to (line j side heading m)))
     walk_first = ap (comes_to board to) (line-step k j side heading n m next more)
 
     pub walk-here : nat_eq m to ≡ true → comes_to board to (line k side heading n) ≡ true

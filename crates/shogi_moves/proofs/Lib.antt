@@ -1,11 +1,14 @@
 pub mod AttackLemmas
 pub mod CheckLemmas
 pub mod CountLemmas
+pub mod FacingLemmas
 pub mod HeadingLemmas
+pub mod KingLemmas
 pub mod LineLemmas
 pub mod ListingLemmas
 pub mod MateLemmas
 pub mod PlayLemmas
 pub mod ReachLemmas
+pub mod ReachedLemmas
 pub mod RuleLemmas
 pub mod TruthLemmas

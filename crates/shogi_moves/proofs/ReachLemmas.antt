@@ -15,7 +15,7 @@ use Rattle.shogi_moves.specs.Search.{all_headings, comes_to, piece_reaches}
 use Rattle.shogi_moves.proofs.HeadingLemmas.{is_on, is_on-on}
 use Rattle.shogi_moves.proofs.TruthLemmas.{and_true, nat_eq-same, same-nat_eq, nat_lt-less}
 
-In-all_headings : (heading : Heading) → In heading all_headings
+pub In-all_headings : (heading : Heading) → In heading all_headings
 In-all_headings Forward = inl refl
 In-all_headings ForwardLeft = inr (inl refl)
 In-all_headings ForwardRight = inr (inr (inl refl))

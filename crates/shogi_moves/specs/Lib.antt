@@ -1,4 +1,6 @@
 pub mod Computed
+pub mod Facing
+pub mod Kings
 pub mod Laws
 pub mod Layouts
 pub mod Listing
@@ -6,3 +8,4 @@ pub mod Reach
 pub mod RuleTexts
 pub mod Rules
 pub mod Search
+pub mod Steps

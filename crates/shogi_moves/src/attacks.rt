@@ -1,11 +1,13 @@
 //! Which squares are attacked, and whether a king is.
-ghost use Rattle.std.specs.Prelude.{◌≡◌, ◌↔◌, IsTrue};
+ghost use Rattle.std.specs.Prelude.{◌≡◌, ◌↔◌, ◌&&◌, not, nat_lt, IsTrue};
+ghost use Rattle.squares.specs.Sides.{same_side};
 ghost use Rattle.squares.specs.ShogiSets.{holds_king};
-ghost use Rattle.shogi_moves.specs.Reach.{Attacked, KingAttacked};
+ghost use Rattle.shogi_moves.specs.Reach.{Attacked, KingAttacked, range};
+ghost use Rattle.shogi_moves.specs.Facing.{farthest, facing, faced_along, seen};
 ghost use Rattle.shogi_moves.specs.Search.{attacked, king_attacked_at, king_attacked};
 
 use crate::board_squares::all_squares;
-use crate::reaching::side_reaches;
+use crate::heading::{Heading, range, step};
 use squares::{Role, SBoard, SPiece, SPos, Side, Ssq};
 
 /// Whether some enemy of the side reaches the square. It takes no memory.
@@ -22,19 +24,78 @@ pub fn in_check(position: &SPos) -> bool
     is_king_attacked(position.board(), position.turn())
 }
 
-// Whether some enemy of the side reaches the square.
-#[tactic(auto, unfolding(crate::specs::Search::attacked))]
-fn is_attacked(board: &SBoard, side: Side, square: Ssq) -> bool
-    ensures { result ≡ attacked board.now side square }
+// How far along a heading a piece may come from.
+fn farthest(heading: Heading) -> u8
+    ensures { result ≡ farthest heading }
 {
-    let enemy = side.other();
-    all_squares()
-        .iter()
-        .any(|from| side_reaches(board, enemy, square, *from))
+    match heading {
+        Heading::JumpLeft | Heading::JumpRight => 1,
+        _ => 8,
+    }
 }
 
-// Whether the cell holds the king of the side.
-fn holds_king(cell: Option<SPiece>, side: Side) -> bool
+// The heading of an enemy that comes from where a heading leads.
+fn facing(heading: Heading) -> Heading
+    ensures { result ≡ facing heading }
+{
+    match heading {
+        Heading::Forward => Heading::Forward,
+        Heading::ForwardLeft => Heading::ForwardRight,
+        Heading::ForwardRight => Heading::ForwardLeft,
+        Heading::Left => Heading::Right,
+        Heading::Right => Heading::Left,
+        Heading::Back => Heading::Back,
+        Heading::BackLeft => Heading::BackRight,
+        Heading::BackRight => Heading::BackLeft,
+        Heading::JumpLeft => Heading::JumpRight,
+        Heading::JumpRight => Heading::JumpLeft,
+    }
+}
+
+// Whether the piece, so many squares behind the first along a heading, is an enemy that comes so far.
+fn comes_here(piece: SPiece, side: Side, distance: u8, heading: Heading) -> bool
+    ensures { result ≡ (not (same_side piece.side side)
+        && nat_lt distance (range piece.role (facing heading))) }
+{
+    !(piece.side == side) && distance < range(piece.role, facing(heading))
+}
+
+// Whether the first piece along a heading is an enemy that comes as far as the square.
+fn is_faced(board: &SBoard, side: Side, heading: Heading, square: Ssq) -> bool
+    ensures { result ≡ faced_along board.now side square heading }
+{
+    let mut at = square;
+    for distance in 0..farthest(heading) {
+        match step(side, heading, at) {
+            None => return false,
+            Some(next) => match board.at(next) {
+                Some(piece) => return comes_here(piece, side, distance, heading),
+                None => at = next,
+            },
+        }
+    }
+    false
+}
+
+// Whether a look outward from the square meets an enemy that comes so far.
+#[tactic(auto, unfolding(crate::specs::Facing::seen))]
+fn is_seen(board: &SBoard, side: Side, square: Ssq) -> bool
+    ensures { result ≡ seen board.now side square }
+{
+    Heading::ALL
+        .iter()
+        .any(|heading| is_faced(board, side, *heading, square))
+}
+
+/// Whether some enemy of the side reaches the square.
+pub fn is_attacked(board: &SBoard, side: Side, square: Ssq) -> bool
+    ensures { result ≡ attacked board.now side square }
+{
+    is_seen(board, side, square)
+}
+
+/// Whether the cell holds the king of the side.
+pub fn holds_king(cell: Option<SPiece>, side: Side) -> bool
     ensures { result ≡ holds_king side cell }
 {
     match cell {

@@ -1,10 +1,13 @@
 //! What the rules look at, and what a move makes of it.
 ghost use Rattle.std.specs.Prelude.{◌≡◌};
 ghost use Rattle.squares.specs.ShogiSets.{IsShogiPosition};
-ghost use Rattle.shogi_moves.specs.Layouts.{position_of};
+ghost use Rattle.shogi_moves.specs.Kings.{AreKings};
 ghost use Rattle.shogi_moves.specs.Rules.{may_promote, held, with_held, dropped_role, arrived, board_after, hands_after, play};
 ghost use Rattle.squares.specs.declared.shogi.moves.SMove.TheVariants.{Step, Drop};
+ghost use Rattle.shogi_moves.specs.Search.{king_attacked};
 
+use crate::kings::{kings_moved, kings_of, some_attacked};
+use masks::Word81;
 use squares::{Hand, HandKind, Hands, Role, SBoard, SMove, SPiece, SPos, Side, Ssq};
 
 /// A board, hands and a turn, as in a position.
@@ -13,18 +16,26 @@ pub struct Layout {
     pub board: SBoard,
     pub hands: Hands,
     pub turn: Side,
+    kings: Word81,
+    ghost are_kings: { AreKings board turn kings },
 }
 
 impl Layout {
+    ghost use Rattle.shogi_moves.specs.Layouts.{position_of};
+
     /// The layout of a position.
     pub fn of(position: &SPos) -> Layout
         ensures value { position_of result ≡ position.now }
         ensures sound { IsShogiPosition position.now.board position.now.hands }
     {
+        let board = position.board().copied();
+        let turn = position.turn();
+        let kings = kings_of(&board, turn);
         Layout {
-            board: position.board().copied(),
+            board,
             hands: position.hands(),
-            turn: position.turn(),
+            turn,
+            kings,
         }
     }
 
@@ -75,19 +86,70 @@ impl Layout {
         }
     }
 
+    // The squares of the kings after a step.
+    fn kings_after_step(&self, from: Ssq, to: Ssq, promote: bool) -> Word81
+        ensures { AreKings (board_after (position_of self.now) (Step from to promote)) self.now.turn result }
+    {
+        match self.board.at(from) {
+            None => self.kings,
+            Some(piece) => kings_moved(self.kings, self.turn, arrived(piece, promote), from, to),
+        }
+    }
+
+    // The squares of the kings after a drop.
+    fn kings_after_drop(&self, kind: HandKind, to: Ssq) -> Word81
+        ensures { AreKings (board_after (position_of self.now) (Drop kind to)) self.now.turn result }
+    {
+        kings_moved(
+            self.kings,
+            self.turn,
+            SPiece {
+                side: self.turn,
+                role: dropped_role(kind),
+            },
+            to,
+            to,
+        )
+    }
+
+    // The squares of the kings after a move.
+    fn kings_after(&self, played: &SMove) -> Word81
+        ensures { AreKings (board_after (position_of self.now) played.now) self.now.turn result }
+    {
+        match played {
+            SMove::Step { from, to, promote } => self.kings_after_step(*from, *to, *promote),
+            SMove::Drop { kind, to } => self.kings_after_drop(*kind, *to),
+        }
+    }
+
+    /// Whether the king of the side to move is attacked.
+    pub fn is_checked(&self) -> bool
+        ensures { result ≡ king_attacked self.now.board self.now.turn }
+    {
+        some_attacked(&self.board, self.turn, self.kings)
+    }
+
+    /// Whether the king of the side to move is attacked after a move.
+    pub fn is_checked_after(&self, played: &SMove) -> bool
+        ensures { result ≡ king_attacked (board_after (position_of self.now) played.now) self.now.turn }
+    {
+        let board = self.board_after(played);
+        some_attacked(&board, self.turn, self.kings_after(played))
+    }
+
     /// The layout after a drop.
     pub fn after_drop(&self, kind: HandKind, to: Ssq) -> Layout
         ensures { position_of result ≡ play (position_of self.now) (Drop kind to) }
     {
+        let board = self.board_after_drop(kind, to);
+        let turn = self.turn.other();
+        let kings = kings_of(&board, turn);
+        let count = self.held(kind).saturating_sub(1);
         Layout {
-            board: self.board_after_drop(kind, to),
-            hands: with_held(
-                self.hands,
-                self.turn,
-                kind,
-                self.held(kind).saturating_sub(1),
-            ),
-            turn: self.turn.other(),
+            board,
+            hands: with_held(self.hands, self.turn, kind, count),
+            turn,
+            kings,
         }
     }
 }

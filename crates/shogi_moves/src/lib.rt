@@ -5,6 +5,7 @@ mod attacks;
 mod board_squares;
 mod checking;
 mod heading;
+mod kings;
 pub mod laws;
 mod layout;
 mod listing;

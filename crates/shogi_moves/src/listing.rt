@@ -1,16 +1,25 @@
 //! The legal moves in order.
-ghost use Rattle.std.specs.Prelude.{◌≡◌, ◌↔◌, ◌++◌, OnOk, IfOk, Contains};
+ghost use Rattle.std.specs.Prelude.{◌≡◌, ◌↔◌, ◌++◌, true, Some, OnOk, IfOk, Contains};
+ghost use Rattle.std.specs.FinMap as map;
 ghost use Rattle.std.specs.List.Sorted.{IsStrictlySortedBy};
 ghost use Rattle.squares.specs.declared.shogi.moves.SMove.{SMove};
+ghost use Rattle.squares.specs.Sides.{same_side};
 ghost use Rattle.shogi_moves.specs.Layouts.{position_of};
-ghost use Rattle.shogi_moves.specs.Rules.{Legal};
+ghost use Rattle.squares.specs.declared.shogi.moves.SMove.TheVariants.{Step};
+ghost use Rattle.shogi_moves.specs.Rules.{Legal, may_land};
+ghost use Rattle.shogi_moves.specs.Computed.{is_legal};
+ghost use Rattle.shogi_moves.specs.Search.{piece_reaches};
+ghost use Rattle.shogi_moves.specs.Steps.{step_passes};
 ghost use Rattle.shogi_moves.specs.Listing.{move_cmp, if_legal, steps_between, steps_from, all_steps, drops_on, drops_of, all_drops};
 
 use crate::board_squares::all_squares;
 use crate::checking::is_legal;
 use crate::layout::Layout;
+use crate::mating::leaves_king;
 use crate::memory::Memory;
-use squares::{HandKind, SMove, SPos, Ssq};
+use crate::reaching::reached;
+use crate::zones::{is_stuck, may_land, may_promote};
+use squares::{HandKind, SMove, SPiece, SPos, Side, Ssq};
 use std::alloc::{AllocError, Global};
 
 // Adds the move, if it is legal.
@@ -25,30 +34,101 @@ fn push_if_legal(layout: &Layout, played: SMove, moves: &mut Vec<SMove>) -> Resu
     Ok(())
 }
 
-// Adds the legal steps from a square to another.
+// Whether a step that promotes may do so, or one that does not leaves the piece where it can move again.
+fn passes(piece: SPiece, from: Ssq, to: Ssq, promote: bool) -> bool
+    ensures { result ≡ step_passes piece from to promote }
+{
+    if promote {
+        may_promote(piece, from, to)
+    } else {
+        !is_stuck(piece.side, piece.role, to)
+    }
+}
+
+// Whether a piece's step to a square that it reaches is legal.
+fn is_legal_step(layout: &Layout, piece: SPiece, from: Ssq, to: Ssq, promote: bool) -> bool
+    requires stands { map.get layout.now.board from ≡ Some piece }
+    requires own { piece.side ≡ layout.now.turn }
+    requires reaches { piece_reaches layout.now.board piece from to ≡ true }
+    requires lands { may_land layout.now.turn (map.get layout.now.board to) ≡ true }
+    ensures { result ≡ is_legal (position_of layout.now) (Step from to promote) }
+{
+    if !passes(piece, from, to, promote) {
+        return false;
+    }
+    !leaves_king(layout, &SMove::Step { from, to, promote })
+}
+
+// Adds a piece's step to a square that it reaches and where it may land, if the step is legal.
+#[tactic(auto, unfolding(crate::specs::Listing::if_legal))]
+fn push_step(
+    layout: &Layout,
+    piece: SPiece,
+    from: Ssq,
+    to: Ssq,
+    promote: bool,
+    moves: &mut Vec<SMove>,
+) -> Result<(), AllocError>
+    requires stands { map.get layout.now.board from ≡ Some piece }
+    requires own { piece.side ≡ layout.now.turn }
+    requires reaches { piece_reaches layout.now.board piece from to ≡ true }
+    requires lands { may_land layout.now.turn (map.get layout.now.board to) ≡ true }
+    ensures { OnOk result (moves.new.items
+        ≡ moves.old.items ++ if_legal (position_of layout.now) (Step from to promote)) }
+{
+    if is_legal_step(layout, piece, from, to, promote) {
+        moves.push(SMove::Step { from, to, promote })?;
+    }
+    Ok(())
+}
+
+// Adds the legal steps of a piece to a square that it reaches.
 #[tactic(auto, unfolding(crate::specs::Listing::steps_between))]
 fn push_steps_between(
     layout: &Layout,
+    piece: SPiece,
     from: Ssq,
     to: Ssq,
     moves: &mut Vec<SMove>,
 ) -> Result<(), AllocError>
+    requires stands { map.get layout.now.board from ≡ Some piece }
+    requires own { piece.side ≡ layout.now.turn }
+    requires reaches { piece_reaches layout.now.board piece from to ≡ true }
     ensures { OnOk result (moves.new.items
         ≡ moves.old.items ++ steps_between (position_of layout.now) from to) }
 {
-    let stays = SMove::Step {
-        from,
-        to,
-        promote: false,
-    };
-    let promotes = SMove::Step {
-        from,
-        to,
-        promote: true,
-    };
-    push_if_legal(layout, stays, moves)?;
-    push_if_legal(layout, promotes, moves)?;
+    if !may_land(layout.turn, layout.board.at(to)) {
+        return Ok(());
+    }
+    push_step(layout, piece, from, to, false, moves)?;
+    push_step(layout, piece, from, to, true, moves)?;
     Ok(())
+}
+
+// Adds the legal steps of a piece.
+fn push_steps_of(
+    layout: &Layout,
+    piece: SPiece,
+    from: Ssq,
+    moves: &mut Vec<SMove>,
+) -> Result<(), AllocError>
+    requires stands { map.get layout.now.board from ≡ Some piece }
+    requires own { piece.side ≡ layout.now.turn }
+    ensures { OnOk result (moves.new.items
+        ≡ moves.old.items ++ steps_from (position_of layout.now) from) }
+{
+    let mut rest = reached(&layout.board, piece, from);
+    while let Some(to) = rest.pop() {
+        push_steps_between(layout, piece, from, Ssq::of_number(to), moves)?;
+    }
+    Ok(())
+}
+
+// Whether the piece is of the side.
+fn is_own(piece: SPiece, side: Side) -> bool
+    ensures { result ≡ same_side piece.side side }
+{
+    piece.side == side
 }
 
 // Adds the legal steps from a square.
@@ -56,10 +136,16 @@ fn push_steps_from(layout: &Layout, from: Ssq, moves: &mut Vec<SMove>) -> Result
     ensures { OnOk result (moves.new.items
         ≡ moves.old.items ++ steps_from (position_of layout.now) from) }
 {
-    for to in &all_squares() {
-        push_steps_between(layout, from, *to, moves)?;
+    match layout.board.at(from) {
+        None => Ok(()),
+        Some(piece) => {
+            if !is_own(piece, layout.turn) {
+                return Ok(());
+            }
+            push_steps_of(layout, piece, from, moves)?;
+            Ok(())
+        }
     }
-    Ok(())
 }
 
 // Adds the legal steps.
@@ -93,6 +179,9 @@ fn push_drops_of(layout: &Layout, kind: HandKind, moves: &mut Vec<SMove>) -> Res
     ensures { OnOk result (moves.new.items
         ≡ moves.old.items ++ drops_of (position_of layout.now) kind) }
 {
+    if layout.held(kind) == 0 {
+        return Ok(());
+    }
     for to in &all_squares() {
         push_drop_on(layout, kind, *to, moves)?;
     }

@@ -5,7 +5,6 @@ ghost use Rattle.shogi_moves.specs.Layouts.{position_of};
 ghost use Rattle.shogi_moves.specs.Rules.{Mate};
 ghost use Rattle.shogi_moves.specs.Computed.{leaves_king, escapes, some_step_between, some_step_from, some_step, some_drop_of, some_drop, some_move, is_mate, mates_by_pawn};
 
-use crate::attacks::is_king_attacked;
 use crate::board_squares::all_squares;
 use crate::layout::Layout;
 use crate::pseudo::{drops_pawn, is_pseudo};
@@ -24,7 +23,7 @@ pub fn mated(position: &SPos) -> bool
 pub fn leaves_king(layout: &Layout, played: &SMove) -> bool
     ensures { result ≡ leaves_king (position_of layout.now) played.now }
 {
-    is_king_attacked(&layout.board_after(played), layout.turn)
+    layout.is_checked_after(played)
 }
 
 /// Whether the side to move may move so, and its king is safe then.
@@ -96,7 +95,7 @@ fn escapes_by_drop(layout: &Layout) -> bool
 pub fn is_mate(layout: &Layout) -> bool
     ensures { result ≡ is_mate (position_of layout.now) }
 {
-    if !is_king_attacked(&layout.board, layout.turn) {
+    if !layout.is_checked() {
         return false;
     }
     !(escapes_by_step(layout) || escapes_by_drop(layout))

@@ -1,5 +1,9 @@
 //! Moves but for what they do to the kings.
-ghost use Rattle.std.specs.Prelude.{◌≡◌};
+ghost use Rattle.std.specs.Prelude.{◌≡◌, ◌&&◌, ◌||◌, not};
+ghost use Rattle.std.specs.FinMap as map;
+ghost use Rattle.squares.specs.Sides.{same_side};
+ghost use Rattle.shogi_moves.specs.Rules.{may_land, may_promote};
+ghost use Rattle.shogi_moves.specs.Search.{piece_reaches};
 ghost use Rattle.shogi_moves.specs.Layouts.{position_of};
 ghost use Rattle.shogi_moves.specs.Computed.{goes, is_free, is_movement, lacks, stuck_after, stays, drops_dead, holds_pawn, pawn_on_file_at, pawn_on_file, drops_pawn, drops_second_pawn, is_pseudo};
 
@@ -9,6 +13,17 @@ use crate::reaching::piece_reaches;
 use crate::zones::{is_stuck, may_land, may_promote};
 use squares::{HandKind, Role, SBoard, SMove, SPiece, Side, Ssq};
 
+// Whether the piece, standing on `from`, is of the side and goes to `to`.
+fn piece_goes(board: &SBoard, turn: Side, piece: SPiece, from: Ssq, to: Ssq, promote: bool) -> bool
+    ensures { result ≡ (same_side piece.side turn && may_land turn (map.get board.now to)
+        && (not promote || may_promote piece from to) && piece_reaches board.now piece from to) }
+{
+    piece.side == turn
+        && may_land(turn, board.at(to))
+        && (!promote || may_promote(piece, from, to))
+        && piece_reaches(board, piece, from, to)
+}
+
 // Whether the piece on `from` goes to `to`.
 #[tactic(auto, unfolding(crate::specs::Computed::goes))]
 fn goes(layout: &Layout, from: Ssq, to: Ssq, promote: bool) -> bool
@@ -16,12 +31,7 @@ fn goes(layout: &Layout, from: Ssq, to: Ssq, promote: bool) -> bool
 {
     match layout.board.at(from) {
         None => false,
-        Some(piece) => {
-            piece.side == layout.turn
-                && may_land(layout.turn, layout.board.at(to))
-                && (!promote || may_promote(piece, from, to))
-                && piece_reaches(&layout.board, piece, from, to)
-        }
+        Some(piece) => piece_goes(&layout.board, layout.turn, piece, from, to, promote),
     }
 }
 

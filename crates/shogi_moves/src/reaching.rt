@@ -1,9 +1,11 @@
 //! Which squares a piece reaches.
-ghost use Rattle.std.specs.Prelude.{◌≡◌};
+ghost use Rattle.std.specs.Prelude.{◌≡◌, ◌||◌, ℕ};
+ghost use Rattle.std.specs.FinSet as set;
 ghost use Rattle.shogi_moves.specs.Reach.{line, range};
 ghost use Rattle.shogi_moves.specs.Search.{comes_to, piece_reaches, side_reaches};
 
 use crate::heading::{Heading, range, step};
+use masks::Word81;
 use squares::{SBoard, SPiece, Side, Ssq};
 
 // Whether a piece of that side goes so far over empty squares as to come to a square.
@@ -54,4 +56,59 @@ pub fn side_reaches(board: &SBoard, side: Side, to: Ssq, from: Ssq) -> bool
         None => false,
         Some(piece) => piece.side == side && piece_reaches(board, piece, from, to),
     }
+}
+
+// The squares and those that a piece of that side comes to along a heading.
+fn with_line(
+    board: &SBoard,
+    side: Side,
+    heading: Heading,
+    distance: u8,
+    from: Ssq,
+    squares: Word81,
+) -> Word81
+    ensures { (to : ℕ) → set.contains result to
+        ≡ (set.contains squares to || comes_to board.now to (line distance side heading from)) }
+{
+    let mut found = squares;
+    let mut at = from;
+    for _ in 0..distance {
+        match step(side, heading, at) {
+            None => return found,
+            Some(next) => {
+                found = found.with(next.number());
+                if board.at(next).is_some() {
+                    return found;
+                }
+                at = next;
+            }
+        }
+    }
+    found
+}
+
+// The squares and those that the piece, standing on `from`, reaches in a heading.
+fn with_heading(
+    board: &SBoard,
+    piece: SPiece,
+    heading: Heading,
+    from: Ssq,
+    squares: Word81,
+) -> Word81
+    ensures { (to : ℕ) → set.contains result to
+        ≡ (set.contains squares to || comes_to board.now to (line (range piece.role heading) piece.side heading from)) }
+{
+    let distance = range(piece.role, heading);
+    with_line(board, piece.side, heading, distance, from, squares)
+}
+
+/// The squares that the piece, standing on `from`, reaches.
+pub fn reached(board: &SBoard, piece: SPiece, from: Ssq) -> Word81
+    ensures { (to : ℕ) → set.contains result to ≡ piece_reaches board.now piece from to }
+{
+    let mut found = Word81::new();
+    for heading in &Heading::ALL {
+        found = with_heading(board, piece, *heading, from, found);
+    }
+    found
 }

@@ -11,7 +11,8 @@ use Rattle.std.proofs.lemmas.Bool.Decides.{nat_tests}
 use Rattle.std.proofs.lemmas.Grind.{common_steps}
 use Rattle.std.proofs.lemmas.List.{get_or-set_same, get_or-set_other}
 use Rattle.squares.specs.declared.draughts.piece.DPiece.{DPiece}
-use Rattle.squares.specs.DraughtsBoard.{board_of}
+use Rattle.std.specs.Ordering.{nat_cmp}
+use Rattle.squares.specs.DraughtsBoard.{Board, board_of}
 use Rattle.squares.specs.DraughtsSets.{Squares, squares_of}
 use Rattle.squares.specs.DraughtsCells.{get-board_of, get-board_of-zero}
 use Rattle.squares.specs.DraughtsMarks.{contains-squares_of, squares_of-no_zero}
@@ -91,3 +92,10 @@ module _ (marks : List Bool) (old : List (Option DPiece)) where
   pub board_of-cleared : (cells : List (Option DPiece)) (i : ℕ) → length marks ≤ i → IsCleared marks old i cells → board_of cells ≡ map.retain_keys (board_of old) (λ n. not (set.contains (squares_of marks) n))
   board_of-cleared cells i h so_far =
       map.same_map nat_cmp_total nat_cmp-IsAntisymmetric _ _ (λ q. board_of-cleared_at cells i q h so_far ∙ sym (kept_at (squares_of marks) q))
+
+-- to clear no square leaves the board
+pub nothing_cleared : (board : Board) (s : Squares) → s ≡ set.empty → board ≡ map.retain_keys board (λ n. not (set.contains s n))
+nothing_cleared board s e =
+    let kept : (q : ℕ) → not (set.contains s q) ≡ true = λ q. ap not (ap (λ t. set.contains t q) e ∙ set.contains-empty nat_cmp q) in
+    map.same_map nat_cmp_total nat_cmp-IsAntisymmetric board (map.retain_keys board (λ n. not (set.contains s n)))
+    (λ q. sym (map.get-retain_keys board (λ n. not (set.contains s n)) q (λ x _. kept x ∙ sym (kept q)) ∙ ap (λ b. cond b (map.get board q) None) (kept q)))

@@ -8,6 +8,7 @@ pub mod DraughtsOpening
 pub mod DraughtsSamePosition
 pub mod DraughtsSameSquares
 pub mod DraughtsSets
+pub mod DraughtsTable
 pub mod In
 pub mod OrderedLists
 pub mod PutLemmas

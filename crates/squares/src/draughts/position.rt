@@ -115,6 +115,9 @@ impl DPos {
           board = map.retain_keys self.old.board (λ n. not (set.contains squares n));
         } }
     {
+        if squares.is_empty() {
+            return;
+        }
         let marks = squares.marks();
         for i in 0..50 {
             if marks[i] {

@@ -1,5 +1,6 @@
 //! A set of squares.
-ghost use Rattle.std.specs.Prelude.{◌≡◌, ◌↔◌, IsTrue, count_by, length};
+ghost use Rattle.std.specs.Prelude.{◌≡◌, ◌↔◌, ◌+◌, ℕ, IsTrue, length};
+ghost use Rattle.masks.specs.Words.{has_bit};
 ghost use Rattle.std.specs.FinSet as set;
 ghost use Rattle.squares.specs.DraughtsSets.{squares_of, ascending};
 ghost use Rattle.std.specs.Ordering.{nat_cmp};
@@ -7,34 +8,28 @@ ghost use Rattle.std.specs.Cmp.Lexicographic.{slice_cmp};
 
 use crate::draughts::numbers::Numbers;
 use crate::draughts::square::Dsq;
+use masks::Word50;
 use std::cmp::Ordering;
 use std::marker::Model;
 
 /// A set of squares.
 #[derive(Clone, Copy, Debug)]
 pub struct DSet {
-    marks: [bool; 50],
+    squares: Word50,
 }
 
 impl Model for DSet {
-    ghost use Rattle.std.specs.Prelude.{◌≡◌, length, map, ◌+◌};
-    ghost use Rattle.std.specs.List.{range_with_len};
     ghost use Rattle.std.specs.Coded.{coded_ℕ};
     ghost use Rattle.std.specs.FinSet as set;
-    ghost use Rattle.squares.specs.DraughtsSets.{Squares, squares_of};
-    ghost use Rattle.squares.specs.DraughtsMarks.{marks_back};
+    ghost use Rattle.squares.specs.DraughtsSets.{Squares};
 
     ghost Value = { Squares };
 
     ghost coded = { set.code coded_ℕ };
 
-    ghost view = { λ a. squares_of a.marks };
+    ghost view = { λ a. a.squares };
 
-    ghost invariant = { λ a. length a.marks ≡ 50 };
-
-    ghost inverse = { λ s. record { marks = map (λ n. set.contains s n) (range_with_len 1 50) } };
-
-    ghost inverse_ok = { λ a h i. record { marks = marks_back a.marks h i } };
+    ghost inverse = { λ s. record { squares = s } };
 }
 
 impl DSet {
@@ -42,30 +37,39 @@ impl DSet {
     pub fn new() -> DSet
         ensures { result ≡ set.empty }
     {
-        DSet { marks: [false; 50] }
+        DSet {
+            squares: Word50::new(),
+        }
     }
 
     /// Whether the set has a square.
     pub fn contains(self, square: Dsq) -> bool
         ensures { result ≡ set.contains self square }
     {
-        self.marks[usize::from(square.number()) - 1]
+        self.squares.contains(square.number())
     }
 
     /// Whether the set has no square.
     pub fn is_empty(self) -> bool
         ensures { IsTrue result ↔ (self ≡ set.empty) }
     {
-        self.len() == 0
+        self.squares.is_empty()
     }
 
     /// The set with this square too; the same set, where it has the square.
     pub fn with(self, square: Dsq) -> DSet
         ensures { result ≡ set.insert self square }
     {
-        let mut marks = self.marks;
-        marks[usize::from(square.number()) - 1] = true;
-        DSet { marks }
+        DSet {
+            squares: self.squares.with(square.number()),
+        }
+    }
+
+    /// The word of the set: bit `n - 1` is set exactly for the squares `n` of the set.
+    pub fn word(&self) -> u64
+        ensures { (n : ℕ) → has_bit result n ≡ set.contains self.now (n + 1) }
+    {
+        self.squares.word()
     }
 
     /// Compares the two by their ascending squares.
@@ -81,14 +85,20 @@ impl DSet {
         ensures marks { self ≡ squares_of result }
         ensures len { length result ≡ 50 }
     {
-        self.marks
+        let squares = self.squares;
+        squares.keeps_to_its_squares();
+        let mut marks = [false; 50];
+        for i in 0..50 {
+            marks[i] = squares.contains(i as u8 + 1);
+        }
+        marks
     }
 
     /// How many squares the set has.
     pub fn len(self) -> usize
         ensures { result ≡ set.len self }
     {
-        count_of(&self.marks)
+        self.squares.len() as usize
     }
 }
 
@@ -101,7 +111,7 @@ impl PartialEq for DSet {
     ghost laws = { same_squares-partial };
 
     fn eq(&self, other: &DSet) -> bool {
-        self.marks == other.marks
+        self.squares.is_same(other.squares)
     }
 }
 
@@ -109,11 +119,4 @@ impl Eq for DSet {
     ghost use Rattle.squares.specs.DraughtsSameSquares.{same_squares-equivalence};
 
     ghost laws = { same_squares-equivalence };
-}
-
-// How many are marked.
-fn count_of(marks: &[bool]) -> usize
-    ensures { result ≡ count_by (λ b. b) marks.now }
-{
-    marks.iter().filter(|mark| **mark).count()
 }

@@ -1,7 +1,8 @@
 //! A square by its number.
 ghost use Rattle.std.specs.Prelude.{◌≡◌, ◌↔◌, ◌+◌, ◌%◌, ◌<◌, ◌≤◌, IsSome, IfSome, ℕ};
-ghost use Rattle.std.specs.List.{range_with_len};
+ghost use Rattle.std.specs.List.{range_with_len, slice_index};
 ghost use Rattle.squares.specs.DraughtsGeometry.{row_of, column_of, number_at, IsDark, neighbor, step};
+ghost use Rattle.squares.specs.DraughtsTable.{place_of};
 
 use crate::draughts::direction::Direction;
 use std::marker::Model;
@@ -105,38 +106,48 @@ impl Dsq {
         self.neighbor(toward)
     }
 
-    #[tactic(auto, unfolding(crate::specs::DraughtsGeometry::neighbor))]
     fn neighbor(self, toward: Direction) -> Option<Dsq>
         ensures value { result ≡ neighbor toward self }
         ensures range { (1 ≤ self) × (self ≤ 50) }
     {
-        let row = self.row();
-        let column = self.column();
-        match toward {
-            Direction::UpLeft => {
-                if row == 0 || column == 0 {
-                    return None;
-                }
-                Some(Dsq::on(row - 1, column - 1))
-            }
-            Direction::UpRight => {
-                if row == 0 || column == 9 {
-                    return None;
-                }
-                Some(Dsq::on(row - 1, column + 1))
-            }
-            Direction::DownLeft => {
-                if row == 9 || column == 0 {
-                    return None;
-                }
-                Some(Dsq::on(row + 1, column - 1))
-            }
-            Direction::DownRight => {
-                if row == 9 || column == 9 {
-                    return None;
-                }
-                Some(Dsq::on(row + 1, column + 1))
-            }
+        let number = entry(place_of(toward) + usize::from(self.number));
+        if number == 0 {
+            return None;
         }
+        Some(Dsq { number })
+    }
+}
+
+// The next squares of the fifty squares, 0 where there is none: fifty numbers for each direction, after one that stands for no
+// square.
+static NEIGHBORS: [u8; 201] = [
+    0, //
+    0, 0, 0, 0, 0, 0, 1, 2, 3, 4, 6, 7, 8, 9, 10, 0, 11, 12, 13, 14, 16, 17, 18, 19, 20, 0, 21, 22,
+    23, 24, 26, 27, 28, 29, 30, 0, 31, 32, 33, 34, 36, 37, 38, 39, 40, 0, 41, 42, 43, 44, 0, 0, 0,
+    0, 0, 1, 2, 3, 4, 5, 7, 8, 9, 10, 0, 11, 12, 13, 14, 15, 17, 18, 19, 20, 0, 21, 22, 23, 24, 25,
+    27, 28, 29, 30, 0, 31, 32, 33, 34, 35, 37, 38, 39, 40, 0, 41, 42, 43, 44, 45, 6, 7, 8, 9, 10,
+    0, 11, 12, 13, 14, 16, 17, 18, 19, 20, 0, 21, 22, 23, 24, 26, 27, 28, 29, 30, 0, 31, 32, 33,
+    34, 36, 37, 38, 39, 40, 0, 41, 42, 43, 44, 46, 47, 48, 49, 50, 0, 0, 0, 0, 0, 7, 8, 9, 10, 0,
+    11, 12, 13, 14, 15, 17, 18, 19, 20, 0, 21, 22, 23, 24, 25, 27, 28, 29, 30, 0, 31, 32, 33, 34,
+    35, 37, 38, 39, 40, 0, 41, 42, 43, 44, 45, 47, 48, 49, 50, 0, 0, 0, 0, 0, 0,
+];
+
+// An entry of the table.
+fn entry(place: usize) -> u8
+    requires { place < 201 }
+    ensures { result ≡ slice_index NEIGHBORS place }
+{
+    NEIGHBORS[place]
+}
+
+// Where the numbers of a direction begin, less one.
+fn place_of(toward: Direction) -> usize
+    ensures { result ≡ place_of toward }
+{
+    match toward {
+        Direction::UpLeft => 0,
+        Direction::UpRight => 50,
+        Direction::DownLeft => 100,
+        Direction::DownRight => 150,
     }
 }

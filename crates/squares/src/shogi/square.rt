@@ -66,6 +66,22 @@ impl Ssq {
         usize::from(self.number)
     }
 
+    /// The square of a number in the order of squares.
+    pub fn of_number(number: u8) -> Ssq
+        requires { number < 81 }
+        ensures { result ≡ number }
+    {
+        Ssq { number }
+    }
+
+    /// The place in the order of squares, by file, then rank: 0 to 80.
+    pub fn number(self) -> u8
+        ensures value { result ≡ self }
+        ensures range { result < 81 }
+    {
+        self.number
+    }
+
     /// All squares, in order.
     pub fn all() -> [Ssq; 81]
         ensures { result ≡ range_with_len 0 81 }

@@ -3,7 +3,13 @@ use Rattle.shogi_moves.specs.Layouts.{position_of}
 use Rattle.shogi_moves.specs.Search.{all_squares}
 use Rattle.shogi_moves.specs.Listing.{drops_on, drops_of}
 use Rattle.shogi_moves.proofs.ListingLemmas.{added_more, added_all, length-all_squares}
+use Rattle.shogi_moves.proofs.ReachedLemmas.{drops-none, nothing_added}
 use Rattle.shogi_moves.proofs.listing.push_drops_of.Goals as goal
+
+pub returns-then-held-eq0 : goal.returns-then-held-eq0
+returns-then-held-eq0 c =
+    let p = position_of c.args.layout.now in
+    nothing_added c.args.moves.now.items (drops_of p c.args.kind) (drops-none p c.args.kind (sym c.held.ensures ∙ c.if-held-eq0.true))
 
 pub loop-to-preserved : goal.loop-to-preserved
 loop-to-preserved c =

@@ -1,22 +1,18 @@
-use Rattle.std.proofs.Common.{◌≡◌, ◌++◌, length, arith, sym, ap, ◌∙◌}
+use Rattle.std.proofs.Common.{◌∙◌, sym}
 use Rattle.shogi_moves.specs.Layouts.{position_of}
-use Rattle.shogi_moves.specs.Search.{all_squares}
-use Rattle.shogi_moves.specs.Listing.{steps_between, steps_from}
-use Rattle.shogi_moves.proofs.ListingLemmas.{added_more, added_all, length-all_squares}
+use Rattle.shogi_moves.specs.Listing.{steps_from}
+use Rattle.shogi_moves.proofs.ReachedLemmas.{steps-empty, steps-enemy, nothing_added}
 use Rattle.shogi_moves.proofs.listing.push_steps_from.Goals as goal
 
-pub loop-to-preserved : goal.loop-to-preserved
-loop-to-preserved c =
-    let f = steps_between (position_of c.args.layout.now) c.args.from in
-    let w = c.loop-to in
-    let many : length c.all_squares.result ≡ 81 = ap length c.all_squares.ensures ∙ length-all_squares in
-    added_more f c.all_squares.result w.to-index c.to-item.result c.args.moves.now.items w.moves.items c.push_steps_between.new.moves.items (omega arith) c.to-item.is w.invariant
-    (c.in_ok-push_steps_between.ensures ∙ ap (λ x. w.moves.items ++ f x) (sym c.to-item.is))
+pub returns-then-not-is_own : goal.returns-then-not-is_own
+returns-then-not-is_own c =
+    let a = c.args in
+    let p = position_of a.layout.now in
+    nothing_added a.moves.now.items (steps_from p a.from)
+    (steps-enemy p c.in-Some.piece a.from (sym c.at.ensures ∙ c.in-Some.is) (sym c.is_own.ensures ∙ c.if-not-is_own.true))
 
-pub returns : goal.returns
-unfolding steps_from
-returns c =
-    let f = steps_between (position_of c.args.layout.now) c.args.from in
-    let w = c.loop-to in
-    let many : length c.all_squares.result ≡ 81 = ap length c.all_squares.ensures ∙ length-all_squares in
-    added_all f c.all_squares.result all_squares w.to-index c.args.moves.now.items w.moves.items (omega (arith, c.loop-to-test.false)) c.all_squares.ensures w.invariant
+pub returns-in-None : goal.returns-in-None
+returns-in-None c =
+    let a = c.args in
+    let p = position_of a.layout.now in
+    nothing_added a.moves.now.items (steps_from p a.from) (steps-empty p a.from (sym c.at.ensures ∙ c.in-None.is))

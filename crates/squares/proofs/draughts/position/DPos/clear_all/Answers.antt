@@ -6,9 +6,15 @@ use Rattle.std.specs.FinSet.{contains}
 use Rattle.squares.specs.declared.draughts.position.DPos.TheInside.{Inside}
 use Rattle.squares.specs.DraughtsBoard.{Position, board_of}
 use Rattle.squares.specs.DraughtsSets.{Squares}
-use Rattle.squares.proofs.DraughtsCleared.{IsCleared, none_cleared, cleared_more, cleared_same, board_of-cleared}
+use Rattle.squares.proofs.DraughtsCleared.{IsCleared, nothing_cleared, none_cleared, cleared_more, cleared_same, board_of-cleared}
 use Rattle.squares.proofs.draughts.position.DPos.clear_all.Goals as goal
 use Rattle.squares.proofs.draughts.position.DPos.clear_all.Goals.{then-marks-i, else-marks-i}
+
+pub returns-then-is_empty : goal.returns-then-is_empty
+returns-then-is_empty c =
+    let p = c.args.self.now in
+    let none = nothing_cleared p.board c.args.squares (c.is_empty.ensures.0 c.if-is_empty.true) in
+    λ i. record { board = none i; turn = p.turn }
 
 pub loop-i-init : goal.loop-i-init
 loop-i-init c = record { room = c.self.invariant; turn = refl; cleared = none_cleared c.marks-marks.result c.self.inside.cells }

@@ -1,4 +1,4 @@
-use Rattle.std.proofs.Common.{◌≡◌, ◌≤◌, ℕ, None, arith, subst, sym, ◌∙◌}
+use Rattle.std.proofs.Common.{◌≡◌, None, arith, subst, ◌∙◌}
 use Rattle.std.specs.FinMap.{get}
 use Rattle.squares.specs.ShogiBoard.{ShogiBoard}
 use Rattle.squares.proofs.ShogiCells.{get-shogi_board_of}

@@ -1,0 +1,142 @@
+//! A set of squares of the board of fifty.
+ghost use Rattle.std.specs.Prelude.{◌≡◌, ◌↔◌, ◌+◌, ◌≤◌, ℕ, false, ◌⊎◌, ◌<◌, IsTrue};
+ghost use Rattle.std.specs.FinSet as set;
+ghost use Rattle.masks.specs.Words.{Pops, has_bit};
+
+use std::marker::Model;
+
+/// A set of squares, each named by its number, 1 to 50. Bit `n - 1` of the word stands for square `n`.
+#[derive(Clone, Copy, Debug)]
+pub struct Word50 {
+    bits: u64,
+}
+
+impl Model for Word50 {
+    ghost use Rattle.std.specs.Prelude.{◌<◌, ◌^◌};
+    ghost use Rattle.std.specs.Coded.{coded_ℕ};
+    ghost use Rattle.std.specs.FinSet as sets;
+    ghost use Rattle.masks.specs.Words.{Numbers, set_of_word, word_of, word_back};
+
+    ghost Value = { Numbers };
+
+    ghost coded = { sets.code coded_ℕ };
+
+    ghost view = { λ a. set_of_word 1 50 a.bits };
+
+    ghost invariant = { λ a. a.bits < 2 ^ 50 };
+
+    ghost inverse = { λ s. record { bits = word_of 1 50 s } };
+
+    ghost inverse_ok = { λ a h i. record { bits = word_back 1 50 a.bits h i } };
+}
+
+impl Word50 {
+    /// The set with no square.
+    pub fn new() -> Word50
+        ensures { result ≡ set.empty }
+    {
+        Word50 { bits: 0 }
+    }
+
+    /// The word: bit `n` is set exactly where the square `n + 1` is in the set.
+    pub fn word(self) -> u64
+        ensures { (n : ℕ) → has_bit result n ≡ set.contains self (n + 1) }
+    {
+        self.bits
+    }
+
+    /// Whether the set has a square.
+    pub fn contains(self, square: u8) -> bool
+        requires { (1 ≤ square) × (square ≤ 50) }
+        ensures { result ≡ set.contains self square }
+    {
+        (self.bits >> u32::from(square - 1)) & 1 == 1
+    }
+
+    /// Whether the set has no square.
+    pub fn is_empty(self) -> bool
+        ensures { IsTrue result ↔ (self ≡ set.empty) }
+    {
+        self.bits == 0
+    }
+
+    /// The set with this square too.
+    pub fn with(self, square: u8) -> Word50
+        requires { (1 ≤ square) × (square ≤ 50) }
+        ensures { result ≡ set.insert self square }
+    {
+        Word50 {
+            bits: self.bits | (1 << u32::from(square - 1)),
+        }
+    }
+
+    /// The set without this square.
+    pub fn without(self, square: u8) -> Word50
+        requires { (1 ≤ square) × (square ≤ 50) }
+        ensures { result ≡ set.remove self square }
+    {
+        Word50 {
+            bits: self.bits & !(1 << u32::from(square - 1)),
+        }
+    }
+
+    /// The squares of either set.
+    pub fn union(self, other: Word50) -> Word50
+        ensures { result ≡ set.union self other }
+    {
+        Word50 {
+            bits: self.bits | other.bits,
+        }
+    }
+
+    /// The squares of both sets.
+    pub fn intersection(self, other: Word50) -> Word50
+        ensures { result ≡ set.intersection self other }
+    {
+        Word50 {
+            bits: self.bits & other.bits,
+        }
+    }
+
+    /// The squares of this set that the other has not.
+    pub fn difference(self, other: Word50) -> Word50
+        ensures { result ≡ set.difference self other }
+    {
+        Word50 {
+            bits: self.bits & !other.bits,
+        }
+    }
+
+    /// Whether two sets have the same squares.
+    pub fn is_same(self, other: Word50) -> bool
+        ensures { IsTrue result ↔ (self ≡ other) }
+    {
+        self.bits == other.bits
+    }
+
+    /// A law: the set has no number that is no square.
+    pub fn keeps_to_its_squares(self)
+        ensures { (q : ℕ) → (q < 1) ⊎ (50 < q) → set.contains self q ≡ false }
+    {
+        let _bits = self.bits;
+    }
+
+    /// How many squares the set has.
+    pub fn len(self) -> u32
+        ensures { result ≡ set.len self }
+    {
+        self.bits.count_ones()
+    }
+
+    /// Takes the least square out of the set, or answers None where there is none.
+    pub fn pop(&mut self) -> Option<u8>
+        ensures { Pops 1 50 self.old result self.new }
+    {
+        if self.bits == 0 {
+            return None;
+        }
+        let least = self.bits.trailing_zeros() as u8 + 1;
+        self.bits &= self.bits - 1;
+        Some(least)
+    }
+}

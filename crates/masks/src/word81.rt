@@ -1,0 +1,142 @@
+//! A set of squares of the board of eighty-one.
+ghost use Rattle.std.specs.Prelude.{◌≡◌, ◌↔◌, ◌<◌, ◌≤◌, ℕ, false, IsTrue};
+ghost use Rattle.std.specs.FinSet as set;
+ghost use Rattle.masks.specs.Words.{Pops, has_bit};
+
+use std::marker::Model;
+
+/// A set of squares, each named by its number, 0 to 80. Bit `n` of the word stands for square `n`.
+#[derive(Clone, Copy, Debug)]
+pub struct Word81 {
+    bits: u128,
+}
+
+impl Model for Word81 {
+    ghost use Rattle.std.specs.Prelude.{◌<◌, ◌^◌};
+    ghost use Rattle.std.specs.Coded.{coded_ℕ};
+    ghost use Rattle.std.specs.FinSet as sets;
+    ghost use Rattle.masks.specs.Words.{Numbers, set_of_word, word_of, word_back};
+
+    ghost Value = { Numbers };
+
+    ghost coded = { sets.code coded_ℕ };
+
+    ghost view = { λ a. set_of_word 0 81 a.bits };
+
+    ghost invariant = { λ a. a.bits < 2 ^ 81 };
+
+    ghost inverse = { λ s. record { bits = word_of 0 81 s } };
+
+    ghost inverse_ok = { λ a h i. record { bits = word_back 0 81 a.bits h i } };
+}
+
+impl Word81 {
+    /// The set with no square.
+    pub fn new() -> Word81
+        ensures { result ≡ set.empty }
+    {
+        Word81 { bits: 0 }
+    }
+
+    /// The word: bit `n` is set exactly for the squares `n` of the set.
+    pub fn word(self) -> u128
+        ensures { (n : ℕ) → has_bit result n ≡ set.contains self n }
+    {
+        self.bits
+    }
+
+    /// Whether the set has a square.
+    pub fn contains(self, square: u8) -> bool
+        requires { square < 81 }
+        ensures { result ≡ set.contains self square }
+    {
+        (self.bits >> u32::from(square)) & 1 == 1
+    }
+
+    /// Whether the set has no square.
+    pub fn is_empty(self) -> bool
+        ensures { IsTrue result ↔ (self ≡ set.empty) }
+    {
+        self.bits == 0
+    }
+
+    /// The set with this square too.
+    pub fn with(self, square: u8) -> Word81
+        requires { square < 81 }
+        ensures { result ≡ set.insert self square }
+    {
+        Word81 {
+            bits: self.bits | (1 << u32::from(square)),
+        }
+    }
+
+    /// The set without this square.
+    pub fn without(self, square: u8) -> Word81
+        requires { square < 81 }
+        ensures { result ≡ set.remove self square }
+    {
+        Word81 {
+            bits: self.bits & !(1 << u32::from(square)),
+        }
+    }
+
+    /// The squares of either set.
+    pub fn union(self, other: Word81) -> Word81
+        ensures { result ≡ set.union self other }
+    {
+        Word81 {
+            bits: self.bits | other.bits,
+        }
+    }
+
+    /// The squares of both sets.
+    pub fn intersection(self, other: Word81) -> Word81
+        ensures { result ≡ set.intersection self other }
+    {
+        Word81 {
+            bits: self.bits & other.bits,
+        }
+    }
+
+    /// The squares of this set that the other has not.
+    pub fn difference(self, other: Word81) -> Word81
+        ensures { result ≡ set.difference self other }
+    {
+        Word81 {
+            bits: self.bits & !other.bits,
+        }
+    }
+
+    /// Whether two sets have the same squares.
+    pub fn is_same(self, other: Word81) -> bool
+        ensures { IsTrue result ↔ (self ≡ other) }
+    {
+        self.bits == other.bits
+    }
+
+    /// A law: the set has no number that is no square.
+    pub fn keeps_to_its_squares(self)
+        ensures { (q : ℕ) → 81 ≤ q → set.contains self q ≡ false }
+    {
+        let _bits = self.bits;
+    }
+
+    /// How many squares the set has.
+    pub fn len(self) -> u32
+        ensures { result ≡ set.len self }
+    {
+        self.bits.count_ones()
+    }
+
+    /// Takes the least square out of the set, or answers None where there is none.
+    pub fn pop(&mut self) -> Option<u8>
+        ensures { Pops 0 81 self.old result self.new }
+    {
+        if self.bits == 0 {
+            return None;
+        }
+        let least = self.bits.trailing_zeros() as u8;
+        self.bits &= self.bits - 1;
+        Some(least)
+    }
+}

@@ -1,0 +1,47 @@
+-- What attacks a square, looked for from the square outward.
+use Rattle.std.specs.Prelude.{ℕ, ◌+◌, Bool, false, not, ◌&&◌, nat_lt, Option, Some, None, List, [], ◌∷◌}
+use Rattle.std.specs.List.{list_any}
+use Rattle.std.specs.FinMap as map
+use Rattle.squares.specs.declared.sides.Side.{Side}
+use Rattle.squares.specs.declared.shogi.piece.SPiece.{SPiece}
+use Rattle.squares.specs.Sides.{same_side}
+use Rattle.squares.specs.ShogiBoard.{ShogiBoard}
+use Rattle.shogi_moves.specs.declared.heading.Heading.{Heading}
+use Rattle.shogi_moves.specs.declared.heading.Heading.TheVariants.{Forward, ForwardLeft, ForwardRight, Left, Right, Back, BackLeft, BackRight, JumpLeft, JumpRight}
+use Rattle.shogi_moves.specs.Reach.{line, range}
+use Rattle.shogi_moves.specs.Search.{all_headings}
+
+-- how far along a heading a piece may come from
+abbrev pub farthest : Heading → ℕ
+farthest JumpLeft = 1
+farthest JumpRight = 1
+farthest _ = 8
+
+-- the heading of an enemy that comes from where a heading leads: forward is forward for both, and left for one is right for the other
+abbrev pub facing : Heading → Heading
+facing Forward = Forward
+facing ForwardLeft = ForwardRight
+facing ForwardRight = ForwardLeft
+facing Left = Right
+facing Right = Left
+facing Back = Back
+facing BackLeft = BackRight
+facing BackRight = BackLeft
+facing JumpLeft = JumpRight
+facing JumpRight = JumpLeft
+
+-- whether the piece there, so many squares behind the first, is an enemy that comes so far, or else the rest is so
+abbrev pub faced_by : Side → Heading → ℕ → Bool → Option SPiece → Bool
+faced_by side heading distance rest None = rest
+faced_by side heading distance rest (Some piece) = not (same_side piece.side side) && nat_lt distance (range piece.role (facing heading))
+
+-- whether the first piece on the squares is an enemy that comes so far
+abbrev pub faced : ShogiBoard → Side → Heading → ℕ → List ℕ → Bool
+faced board side heading distance [] = false
+faced board side heading distance (n ∷ ns) = faced_by side heading distance (faced board side heading (distance + 1) ns) (map.get board n)
+
+unfoldable pub faced_along : ShogiBoard → Side → ℕ → Heading → Bool
+faced_along board side square heading = faced board side heading 0 (line (farthest heading) side heading square)
+
+unfoldable pub seen : ShogiBoard → Side → ℕ → Bool
+seen board side square = list_any (faced_along board side square) all_headings
