@@ -2,3 +2,4 @@ pub mod Ends
 pub mod FaultText
 pub mod Faults
 pub mod Line
+pub mod Tails

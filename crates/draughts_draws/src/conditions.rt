@@ -9,7 +9,7 @@ use draughts_moves::has_move;
 use squares::{DMove, DPiece, DPos};
 
 /// So often may a position stand before it ends the game.
-const STANDS: usize = 3;
+pub(crate) const STANDS: usize = 3;
 
 /// The plies of kings without a capture that end the game.
 const KING_MOVES: usize = 50;
@@ -21,7 +21,7 @@ const THREE_TO_ONE: usize = 33;
 const TWO_TO_ONE: usize = 11;
 
 /// The plies after which every game ends.
-const PLY_LIMIT: usize = 600;
+pub(crate) const PLY_LIMIT: usize = 600;
 
 // Whether the last position stands for the third time.
 #[tactic(auto, unfolding(crate::specs::Ends::stands_thrice))]
@@ -44,7 +44,7 @@ fn is_king(piece: Option<DPiece>) -> bool
     }
 }
 
-fn is_king_move(position: &DPos, played: &DMove) -> bool
+pub(crate) fn is_king_move(position: &DPos, played: &DMove) -> bool
     ensures { result ≡ is_king_move position.now played.now }
 {
     played.taken.len() == 0 && is_king(position.at(played.from))

@@ -6,10 +6,13 @@ mod conditions;
 pub mod ends;
 pub mod faults;
 pub mod judging;
+pub mod laws;
+pub mod tails;
 
 pub use ends::DEnd;
 pub use faults::Fault;
 pub use judging::judge;
+pub use tails::{Class, Tail};
 
 #[cfg(test)]
 mod tests;

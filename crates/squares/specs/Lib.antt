@@ -12,6 +12,7 @@ pub mod DraughtsTable
 pub mod In
 pub mod OrderedLists
 pub mod PutLemmas
+pub mod RunLemmas
 pub mod ShogiBoard
 pub mod ShogiGeometry
 pub mod ShogiHands

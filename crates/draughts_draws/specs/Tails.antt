@@ -1,0 +1,101 @@
+-- Two numbers of a line, by which its last ply is judged without the plies before it.
+use Rattle.std.specs.Prelude.{◌≡◌, ℕ, ◌+◌, ◌==◌, ◌&&◌, ◌++◌, nat_le, not, if◌then◌else◌, Bool, Option, Some, None, List, [], ◌∷◌, length, count_by}
+use Rattle.std.specs.List.{suffix_len, zip}
+use Rattle.squares.specs.declared.draughts.moves.DMove.{DMove}
+use Rattle.squares.specs.DraughtsBoard.{Position}
+use Rattle.squares.specs.DraughtsSamePosition.{same_position}
+use Rattle.draughts_moves.specs.Legal.{play}
+use Rattle.draughts_moves.specs.Search.{has_move}
+use Rattle.draughts_draws.specs.declared.ends.DEnd.{DEnd}
+use Rattle.draughts_draws.specs.declared.ends.DEnd.TheVariants.{NoMove, Repetition, KingMoves, ThreeToOne, TwoToOne, PlyLimit}
+use Rattle.draughts_draws.specs.declared.tails.Class.{Class}
+use Rattle.draughts_draws.specs.declared.tails.Class.TheVariants as class
+use Rattle.draughts_draws.specs.declared.tails.Tail.{Tail}
+use Rattle.draughts_draws.specs.Line.{last_position, positions}
+use Rattle.draughts_draws.specs.Ends.{is_king_move, is_three_to_one, is_two_to_one, end_of}
+
+abbrev pub in_class : Class → Position → Bool
+in_class class.ThreeToOne p = is_three_to_one p
+in_class class.TwoToOne p = is_two_to_one p
+
+abbrev pub class_of : Position → Option Class
+class_of p = if is_three_to_one p then Some class.ThreeToOne else if is_two_to_one p then Some class.TwoToOne else None
+
+-- how many of the last positions, in a row, are in the class
+abbrev pub run_in : Option Class → List Position → ℕ
+run_in None ps = 0
+run_in (Some c) ps = suffix_len (in_class c) ps
+
+-- The plies in a row, up to the last, that kings made without taking (each move stands beside the position in which it was
+-- made), and the positions in a row, up to the last and with it, in the last one's class.
+unfoldable pub tail_of : Position → List DMove → Tail
+tail_of start ms =
+    record {
+      king_plies = suffix_len (λ e. is_king_move e.0 e.1) (zip (positions start ms) ms);
+      class_positions = run_in (class_of (last_position start ms)) (positions start ms);
+    }
+
+-- ---- what the tail of a line is, one ply after another
+
+abbrev pub first_count : Option Class → ℕ
+first_count None = 0
+first_count (Some c) = 1
+
+abbrev pub first_tail : Position → Tail
+first_tail p = record { king_plies = 0; class_positions = first_count (class_of p) }
+
+abbrev pub count_on : Position → ℕ → Option Class → ℕ
+count_on before count None = 0
+count_on before count (Some c) = if in_class c before then count + 1 else 1
+
+abbrev pub class_count : Position → Position → ℕ → ℕ
+class_count before after count = count_on before count (class_of after)
+
+abbrev pub next_tail : Tail → Position → DMove → Position → Tail
+next_tail tail before m after =
+    record {
+      king_plies = if is_king_move before m then tail.king_plies + 1 else 0;
+      class_positions = class_count before after tail.class_positions;
+    }
+
+-- the end by a class of positions
+abbrev pub class_end : Tail → Position → Option DEnd
+class_end tail last =
+    if is_three_to_one last && nat_le 33 tail.class_positions
+    then Some ThreeToOne
+    else if is_two_to_one last && nat_le 11 tail.class_positions then Some TwoToOne else None
+
+-- the first of two ends, if there is one
+abbrev pub end_or : Option DEnd → Option DEnd → Option DEnd
+end_or (Some end) later = Some end
+end_or None later = later
+
+-- the end of a line with this tail and this last position, which stood so often, after so many plies
+unfoldable pub end_by : Tail → Position → ℕ → ℕ → Option DEnd
+end_by tail last plies times =
+    if not (has_move last)
+    then Some NoMove
+    else if nat_le 3 times
+    then Some Repetition
+    else if nat_le 50 tail.king_plies then Some KingMoves else end_or (class_end tail last) (if plies == 600 then Some PlyLimit else None)
+
+-- ---- laws
+
+-- the tail of a line without a move, and with one more
+abbrev pub TailsBegin : Type 0
+TailsBegin = (start : Position) → tail_of start [] ≡ first_tail start
+
+abbrev pub TailsGoOn : Type 0
+TailsGoOn =
+    (start : Position) (ms : List DMove) (m : DMove) →
+    tail_of start (ms ++ m ∷ []) ≡ next_tail (tail_of start ms) (last_position start ms) m (play (last_position start ms) m)
+
+-- how often the last position of a line stood in it
+abbrev pub times_stood : Position → List DMove → ℕ
+times_stood start ms = count_by (λ p. same_position p (last_position start ms)) (positions start ms)
+
+-- by its tail a line ends as by all its positions and moves
+abbrev pub TailsTellEnds : Type 0
+TailsTellEnds =
+    (start : Position) (ms : List DMove) →
+    end_by (tail_of start ms) (last_position start ms) (length ms) (times_stood start ms) ≡ end_of start ms

@@ -1,0 +1,147 @@
+//! Two numbers of a line by which its last ply is judged, without the plies before it.
+ghost use Rattle.std.specs.Prelude.{◌≡◌, ◌<◌, ◌^◌};
+ghost use Rattle.draughts_draws.specs.Ends.{is_king_move, is_three_to_one, is_two_to_one};
+ghost use Rattle.draughts_draws.specs.Tails.{in_class, class_of, class_count, first_tail, next_tail, class_end, end_by};
+
+use crate::classes::{is_three_to_one, is_two_to_one};
+use crate::conditions::{PLY_LIMIT, STANDS, is_king_move};
+use crate::ends::DEnd;
+use draughts_moves::has_move;
+use squares::{DMove, DPos};
+
+/// The classes of positions in which a lone king stands against few pieces. No position is in both.
+#[derive(Clone, Copy, Debug, PartialEq, Eq)]
+pub enum Class {
+    /// Three pieces, at least one of them a king, against a lone king.
+    ThreeToOne,
+    /// A king, or two pieces with at least one king, against a lone king.
+    TwoToOne,
+}
+
+/// What tells the end of a line's last ply, beside the last position, the number of plies and how often the position stood.
+#[derive(Clone, Copy, Debug, PartialEq, Eq)]
+pub struct Tail {
+    /// The plies in a row, up to the last, that kings made without taking.
+    pub king_plies: u32,
+    /// The positions in a row, up to the last and with it, that are in the last one's class; 0 where it is in none.
+    pub class_positions: u32,
+}
+
+/// The plies of kings without a capture that end the game.
+const KING_PLIES: u32 = 50;
+
+/// The positions of three pieces against a lone king that end the game.
+const THREE_TO_ONE: u32 = 33;
+
+/// The positions of one or two pieces against a lone king that end the game.
+const TWO_TO_ONE: u32 = 11;
+
+// Whether the position is in the class.
+fn in_class(class: Class, position: &DPos) -> bool
+    ensures { result ≡ in_class class position.now }
+{
+    match class {
+        Class::ThreeToOne => is_three_to_one(position),
+        Class::TwoToOne => is_two_to_one(position),
+    }
+}
+
+// The class that the position is in, if there is one.
+fn class_of(position: &DPos) -> Option<Class>
+    ensures { result ≡ class_of position.now }
+{
+    if is_three_to_one(position) {
+        return Some(Class::ThreeToOne);
+    }
+    if is_two_to_one(position) {
+        return Some(Class::TwoToOne);
+    }
+    None
+}
+
+// The positions in a row in the class of the second of two positions, where there were so many up to the first.
+fn class_count(before: &DPos, after: &DPos, count: u32) -> u32
+    requires { count < 4294967295 }
+    ensures { result ≡ class_count before.now after.now count }
+{
+    match class_of(after) {
+        None => 0,
+        Some(class) => {
+            if in_class(class, before) {
+                count + 1
+            } else {
+                1
+            }
+        }
+    }
+}
+
+impl Tail {
+    /// The tail of a line without a move.
+    pub fn start(position: &DPos) -> Tail
+        ensures { result ≡ first_tail position.now }
+    {
+        let class_positions = match class_of(position) {
+            None => 0,
+            Some(_) => 1,
+        };
+        Tail {
+            king_plies: 0,
+            class_positions,
+        }
+    }
+
+    /// The tail of the line with one move more, made in the line's last position and leading to the one after it.
+    pub fn next(self, before: &DPos, played: &DMove, after: &DPos) -> Tail
+        requires king_plies { self.king_plies < 4294967295 }
+        requires class_positions { self.class_positions < 4294967295 }
+        ensures { result ≡ next_tail self before.now played.now after.now }
+    {
+        let king_plies = if is_king_move(before, played) {
+            self.king_plies + 1
+        } else {
+            0
+        };
+        Tail {
+            king_plies,
+            class_positions: class_count(before, after, self.class_positions),
+        }
+    }
+
+    /// The end that the rules give the line with this tail, whose last position stood so often after so many plies.
+    #[tactic(auto, unfolding(crate::specs::Tails::end_by))]
+    pub fn end(self, position: &DPos, plies: usize, times: usize) -> Option<DEnd>
+        ensures { result ≡ end_by self position.now plies times }
+    {
+        if !has_move(position) {
+            return Some(DEnd::NoMove);
+        }
+        if times >= STANDS {
+            return Some(DEnd::Repetition);
+        }
+        if self.king_plies >= KING_PLIES {
+            return Some(DEnd::KingMoves);
+        }
+        match self.class_end(position) {
+            Some(end) => return Some(end),
+            None => {}
+        }
+        if plies == PLY_LIMIT {
+            return Some(DEnd::PlyLimit);
+        }
+        None
+    }
+
+    // The end by a class of positions, if there is one.
+    fn class_end(self, position: &DPos) -> Option<DEnd>
+        ensures { result ≡ class_end self position.now }
+    {
+        if is_three_to_one(position) && self.class_positions >= THREE_TO_ONE {
+            return Some(DEnd::ThreeToOne);
+        }
+        if is_two_to_one(position) && self.class_positions >= TWO_TO_ONE {
+            return Some(DEnd::TwoToOne);
+        }
+        None
+    }
+}
