@@ -5,3 +5,4 @@ pub mod DraughtsTables
 pub mod DraughtsWords
 pub mod ShogiCells
 pub mod ShogiCounts
+pub mod ShogiOrdered

@@ -17,6 +17,8 @@ pub mod ShogiBoard
 pub mod ShogiGeometry
 pub mod ShogiHands
 pub mod ShogiLaws
+pub mod ShogiOrder
+pub mod ShogiOrderLaws
 pub mod ShogiPieces
 pub mod ShogiSamePosition
 pub mod ShogiSets

@@ -7,6 +7,7 @@ ghost use Rattle.squares.specs.ShogiSets.{count_on, holds_kind, holds_king, is_o
 use crate::shogi::piece::{HandKind, Role, SPiece};
 use crate::shogi::square::Ssq;
 use crate::sides::Side;
+use std::cmp::Ordering;
 use std::marker::Model;
 
 /// A shogi board. Contracts see it as a finite map from squares to pieces.
@@ -107,6 +108,38 @@ impl Eq for SBoard {
     ghost use Rattle.squares.specs.ShogiSamePosition.{same_shogi_board-equivalence};
 
     ghost laws = { same_shogi_board-equivalence };
+}
+
+impl PartialOrd for SBoard {
+    ghost use Rattle.std.specs.Ordering.{as_partial_cmp};
+    ghost use Rattle.squares.specs.ShogiOrder.{board_cmp};
+    ghost use Rattle.squares.specs.ShogiOrderLaws.{board_cmp-partial};
+
+    ghost partial_cmp = { as_partial_cmp board_cmp };
+
+    ghost laws = { board_cmp-partial };
+
+    fn partial_cmp(&self, other: &SBoard) -> Option<Ordering> {
+        Some(self.cmp(other))
+    }
+}
+
+impl Ord for SBoard {
+    ghost use Rattle.std.specs.Prelude.{refl};
+    ghost use Rattle.squares.specs.ShogiOrder.{board_cmp};
+    ghost use Rattle.squares.specs.ShogiOrderLaws.{board_cmp-total, board_cmp-tied};
+
+    ghost cmp = { board_cmp };
+
+    ghost total = { board_cmp-total };
+
+    ghost matches_partial_cmp = { λ a b. refl };
+
+    ghost matches_eq = { board_cmp-tied };
+
+    fn cmp(&self, other: &SBoard) -> Ordering {
+        self.cells[..].cmp(&other.cells[..])
+    }
 }
 
 // Whether a cell holds a piece of that kind, promoted or not.

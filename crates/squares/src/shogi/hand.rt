@@ -7,7 +7,7 @@ use crate::shogi::piece::HandKind;
 use crate::sides::Side;
 
 /// How many of each kind a side holds.
-#[derive(Clone, Copy, Debug, Default, PartialEq, Eq, Hash)]
+#[derive(Clone, Copy, Debug, Default, PartialEq, Eq, PartialOrd, Ord, Hash)]
 pub struct Hand {
     pub rook: u8,
     pub bishop: u8,
@@ -19,7 +19,7 @@ pub struct Hand {
 }
 
 /// The hands of both sides.
-#[derive(Clone, Copy, Debug, Default, PartialEq, Eq, Hash)]
+#[derive(Clone, Copy, Debug, Default, PartialEq, Eq, PartialOrd, Ord, Hash)]
 pub struct Hands {
     pub first: Hand,
     pub second: Hand,

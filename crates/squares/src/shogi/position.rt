@@ -8,6 +8,7 @@ use crate::shogi::board::SBoard;
 use crate::shogi::hand::Hands;
 use crate::shogi::piece::HandKind;
 use crate::sides::Side;
+use std::cmp::Ordering;
 use std::marker::Model;
 
 /// A board, the hands and the side to move. Each side has one king, and the board and the hands together hold at most 18
@@ -123,6 +124,46 @@ impl Eq for SPos {
     ghost use Rattle.squares.specs.ShogiSamePosition.{same_shogi_position-equivalence};
 
     ghost laws = { same_shogi_position-equivalence };
+}
+
+impl PartialOrd for SPos {
+    ghost use Rattle.std.specs.Ordering.{as_partial_cmp};
+    ghost use Rattle.squares.specs.ShogiOrder.{position_cmp};
+    ghost use Rattle.squares.specs.ShogiOrderLaws.{position_cmp-partial};
+
+    ghost partial_cmp = { as_partial_cmp position_cmp };
+
+    ghost laws = { position_cmp-partial };
+
+    fn partial_cmp(&self, other: &SPos) -> Option<Ordering> {
+        Some(self.cmp(other))
+    }
+}
+
+impl Ord for SPos {
+    ghost use Rattle.std.specs.Prelude.{refl};
+    ghost use Rattle.squares.specs.ShogiOrder.{position_cmp};
+    ghost use Rattle.squares.specs.ShogiOrderLaws.{position_cmp-total, position_cmp-tied};
+
+    ghost cmp = { position_cmp };
+
+    ghost total = { position_cmp-total };
+
+    ghost matches_partial_cmp = { λ a b. refl };
+
+    ghost matches_eq = { position_cmp-tied };
+
+    fn cmp(&self, other: &SPos) -> Ordering {
+        match self
+            .turn
+            .cmp(&other.turn)
+            .then(self.hands.cmp(&other.hands))
+        {
+            Ordering::Less => Ordering::Less,
+            Ordering::Equal => self.board.cmp(&other.board),
+            Ordering::Greater => Ordering::Greater,
+        }
+    }
 }
 
 // Whether each side has one king.

@@ -66,7 +66,19 @@ impl Ssq {
         usize::from(self.number)
     }
 
-    /// The square of a number in the order of squares.
+    /// The square of a number in the order of squares, or none where the number is above 80.
+    pub fn from_number(number: u8) -> Option<Ssq>
+        ensures some { IsSome result ↔ (number < 81) }
+        ensures value { IfSome result (λ square. square ≡ number) }
+    {
+        if number < 81 {
+            Some(Ssq { number })
+        } else {
+            None
+        }
+    }
+
+    /// The square of a number that is known to be 0 to 80, in the order of squares.
     pub fn of_number(number: u8) -> Ssq
         requires { number < 81 }
         ensures { result ≡ number }
