@@ -1,5 +1,6 @@
 pub mod DraughtsAscending
 pub mod DraughtsCleared
+pub mod DraughtsHashed
 pub mod DraughtsRays
 pub mod DraughtsTables
 pub mod DraughtsWords

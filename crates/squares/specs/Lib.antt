@@ -1,6 +1,7 @@
 pub mod DraughtsBoard
 pub mod DraughtsCells
 pub mod DraughtsGeometry
+pub mod DraughtsHash
 pub mod DraughtsLaws
 pub mod DraughtsMarks
 pub mod DraughtsOnBoard

@@ -1,5 +1,5 @@
 //! A position: a board and a turn.
-ghost use Rattle.std.specs.Prelude.{◌≡◌, ◌+◌, ◌<◌, ◌≤◌, ℕ, List, Option, length, not, IsTrue, ◌↔◌};
+ghost use Rattle.std.specs.Prelude.{◌≡◌, ◌+◌, ◌<◌, ◌≤◌, ℕ, List, Option, length, not, IsTrue, ◌↔◌, ◌⊎◌, None};
 ghost use Rattle.std.specs.FinMap as map;
 ghost use Rattle.std.specs.FinSet as set;
 ghost use Rattle.squares.specs.DraughtsGeometry.{OnBoard};
@@ -11,6 +11,7 @@ use crate::draughts::piece::DPiece;
 use crate::draughts::set::DSet;
 use crate::draughts::square::Dsq;
 use crate::sides::Side;
+use std::hash::{Hash, Hasher};
 use std::marker::Model;
 
 /// A board, with at most one piece on each square, and the side to move. Two positions with the
@@ -126,6 +127,13 @@ impl DPos {
         }
     }
 
+    /// A law: no piece stands anywhere but on the fifty squares.
+    pub fn keeps_to_its_squares(&self)
+        ensures { (n : ℕ) → (n < 1) ⊎ (50 < n) → map.get self.now.board n ≡ None }
+    {
+        let _cells = &self.cells;
+    }
+
     /// Passes the turn to the other side.
     pub fn pass(&mut self)
         ensures { self.new ≡ record self.old { turn = other self.old.turn } }
@@ -153,6 +161,24 @@ impl Eq for DPos {
     ghost use Rattle.squares.specs.DraughtsSamePosition.{same_position-equivalence};
 
     ghost laws = { same_position-equivalence };
+}
+
+// A hash reads what stands on each square, in the order of the squares, and then the turn.
+impl Hash for DPos {
+    ghost use Rattle.squares.specs.DraughtsSamePosition.{same_position-same};
+    ghost use Rattle.squares.specs.DraughtsHash.{hash_writes};
+    ghost use Rattle.std.proofs.Common.{ap};
+
+    ghost hash_input = { hash_writes ⟦<Option<DPiece> as Hash>⟧.hash_input ⟦<Side as Hash>⟧.hash_input };
+
+    ghost respects_eq = { λ p q same. ap
+        (hash_writes ⟦<Option<DPiece> as Hash>⟧.hash_input ⟦<Side as Hash>⟧.hash_input)
+        (same_position-same p q same) };
+
+    fn hash<H: Hasher>(&self, state: &mut H) {
+        self.cells.hash(state);
+        self.turn.hash(state);
+    }
 }
 
 // Whether the same stands on each of the fifty squares.

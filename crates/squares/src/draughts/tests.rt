@@ -1,4 +1,5 @@
 use crate::{DMove, DPiece, DPos, DSet, Direction, Dsq, Numbers, Ray, Side};
+use std::hash::{DefaultHasher, Hash, Hasher};
 use std::test::Fail;
 
 fn man(side: Side) -> DPiece {
@@ -83,6 +84,33 @@ fn a_position_changes_square_by_square(rt: HostRuntime) -> Result<(), Fail> {
     assert_eq!(rt; position.at(far), Some(man(Side::Second)));
     position.clear_all(DSet::new().with(far));
     assert_eq!(rt; position.at(far), None);
+    Ok(())
+}
+
+fn hash_of(position: &DPos) -> u64 {
+    let mut state = DefaultHasher::new();
+    position.hash(&mut state);
+    state.finish()
+}
+
+#[test]
+fn positions_are_hashed_by_what_stands_on_them(rt: HostRuntime) -> Result<(), Fail> {
+    let near = Dsq::new(7).ok_or("no square")?;
+    let far = Dsq::new(44).ok_or("no square")?;
+    let mut one = DPos::new(Side::First);
+    one.put(near, man(Side::First));
+    one.put(far, man(Side::Second));
+    one.keeps_to_its_squares();
+    let mut same = DPos::new(Side::First);
+    same.put(far, man(Side::Second));
+    same.put(near, man(Side::First));
+    let mut passed = one;
+    passed.pass();
+    let mut moved = one;
+    moved.clear(near);
+    assert_eq!(rt; hash_of(&one), hash_of(&same));
+    assert!(rt; hash_of(&one) != hash_of(&passed));
+    assert!(rt; hash_of(&one) != hash_of(&moved));
     Ok(())
 }
 
