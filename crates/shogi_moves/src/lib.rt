@@ -10,7 +10,6 @@ pub mod laws;
 mod layout;
 mod listing;
 mod mating;
-mod memory;
 mod playing;
 mod pseudo;
 mod reaching;
@@ -20,8 +19,8 @@ pub use attacks::{attacked, in_check};
 pub use checking::{Illegal, check, has_move};
 pub use listing::legal;
 pub use mating::mated;
-pub use memory::Memory;
 pub use playing::play;
+pub use squares::Memory;
 
 #[cfg(test)]
 mod tests;

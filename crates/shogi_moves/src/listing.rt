@@ -16,10 +16,9 @@ use crate::board_squares::all_squares;
 use crate::checking::is_legal;
 use crate::layout::Layout;
 use crate::mating::leaves_king;
-use crate::memory::Memory;
 use crate::reaching::reached;
 use crate::zones::{is_stuck, may_land, may_promote};
-use squares::{HandKind, SMove, SPiece, SPos, Side, Ssq};
+use squares::{HandKind, Memory, SMove, SPiece, SPos, Side, Ssq};
 use std::alloc::{AllocError, Global};
 
 // Adds the move, if it is legal.

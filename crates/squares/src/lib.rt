@@ -2,6 +2,7 @@
 #![tactic(auto)]
 
 pub mod draughts;
+pub mod memory;
 pub mod shogi;
 pub mod sides;
 
@@ -13,6 +14,7 @@ pub use draughts::position::DPos;
 pub use draughts::ray::Ray;
 pub use draughts::set::DSet;
 pub use draughts::square::Dsq;
+pub use memory::Memory;
 pub use shogi::board::SBoard;
 pub use shogi::hand::{Hand, Hands};
 pub use shogi::moves::SMove;
