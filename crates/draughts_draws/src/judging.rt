@@ -3,10 +3,9 @@ ghost use Rattle.std.specs.Prelude.{◌≡◌, IfOk, IfErr, length};
 ghost use Rattle.draughts_draws.specs.Ends.{end_of};
 ghost use Rattle.draughts_draws.specs.Faults.{IsPlayed, HasFault};
 
-use crate::conditions::first_end;
+use crate::counts::Counts;
 use crate::ends::DEnd;
 use crate::faults::Fault;
-use draughts_moves::{check, play};
 use squares::{DMove, DPos};
 use std::alloc::Global;
 
@@ -21,20 +20,9 @@ pub fn judge(alloc: Global, start: &DPos, moves: &[DMove]) -> Result<Option<DEnd
     ensures end { IfOk result (λ end. end ≡ end_of start.now moves.now) }
     ensures fault { IfErr result (λ fault. HasFault start.now moves.now fault) }
 {
-    let mut last = *start;
-    let mut positions = Vec::new(alloc);
-    positions.push(last)?;
-    for (i, played) in moves.iter().enumerate() {
-        match first_end(&last, positions.as_slice(), &moves[..i]) {
-            Some(_) => return Err(Fault::AfterEnd { ply: i + 1 }),
-            None => {}
-        }
-        match check(&last, played) {
-            Ok(()) => {}
-            Err(cause) => return Err(Fault::Illegal { ply: i + 1, cause }),
-        }
-        last = play(&last, played);
-        positions.push(last)?;
+    let mut counts = Counts::start(alloc, start)?;
+    for played in moves {
+        counts.push(played)?;
     }
-    Ok(first_end(&last, positions.as_slice(), moves))
+    Ok(counts.end())
 }

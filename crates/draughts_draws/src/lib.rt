@@ -2,13 +2,15 @@
 #![tactic(auto)]
 
 mod classes;
-mod conditions;
+pub mod counts;
 pub mod ends;
 pub mod faults;
 pub mod judging;
+mod king_moves;
 pub mod laws;
 pub mod tails;
 
+pub use counts::Counts;
 pub use ends::DEnd;
 pub use faults::Fault;
 pub use judging::judge;

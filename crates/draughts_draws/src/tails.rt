@@ -4,8 +4,8 @@ ghost use Rattle.draughts_draws.specs.Ends.{is_king_move, is_three_to_one, is_tw
 ghost use Rattle.draughts_draws.specs.Tails.{in_class, class_of, class_count, first_tail, next_tail, class_end, end_by};
 
 use crate::classes::{is_three_to_one, is_two_to_one};
-use crate::conditions::{PLY_LIMIT, STANDS, is_king_move};
 use crate::ends::DEnd;
+use crate::king_moves::is_king_move;
 use draughts_moves::has_move;
 use squares::{DMove, DPos};
 
@@ -26,6 +26,12 @@ pub struct Tail {
     /// The positions in a row, up to the last and with it, that are in the last one's class; 0 where it is in none.
     pub class_positions: u32,
 }
+
+/// So often may a position stand before it ends the game.
+const STANDS: usize = 3;
+
+/// The plies after which every game ends.
+const PLY_LIMIT: usize = 600;
 
 /// The plies of kings without a capture that end the game.
 const KING_PLIES: u32 = 50;

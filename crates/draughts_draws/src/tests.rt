@@ -1,7 +1,8 @@
-use crate::{DEnd, Fault, judge};
+use crate::{Counts, DEnd, Fault, judge};
 use draughts_moves::Illegal;
 use squares::{DMove, DPiece, DPos, DSet, Dsq, Score, Side};
-use std::alloc::Global;
+use std::alloc::{AllocGlobal, Global};
+use std::process::Abort;
 use std::test::Fail;
 
 fn place(position: &mut DPos, side: Side, king: bool, numbers: &[u8]) {
@@ -37,6 +38,30 @@ fn front(moves: &Vec<DMove>, count: usize) -> &[DMove] {
     &moves.as_slice()[..count.min(moves.len())]
 }
 
+// Plays a line move by move: it goes on up to its last move, which has this end, and no move follows.
+fn ends_so<R: Abort + AllocGlobal>(
+    rt: &R,
+    start: &DPos,
+    moves: &[DMove],
+    end: DEnd,
+) -> Result<(), Fail> {
+    let mut counts = Counts::start(rt.alloc(), start)?;
+    for (i, played) in moves.iter().enumerate() {
+        assert_eq!(rt; counts.end(), None, "after {i} plies");
+        counts.push(played)?;
+    }
+    assert_eq!(rt; counts.end(), Some(end));
+    let last = moves.last().ok_or("a move")?;
+    assert_eq!(rt;
+        counts.push(last),
+        Err(Fault::AfterEnd {
+            ply: moves.len().saturating_add(1)
+        })
+    );
+    assert_eq!(rt; counts.end(), Some(end));
+    Ok(())
+}
+
 // From W:WK47:BK4.
 #[test]
 fn the_third_time_is_a_draw(rt: HostRuntime) -> Result<(), Fail> {
@@ -62,7 +87,7 @@ fn the_third_time_is_a_draw(rt: HostRuntime) -> Result<(), Fail> {
         judge(rt.alloc(), &start, moves.as_slice()),
         Err(Fault::AfterEnd { ply: 9 })
     );
-    Ok(())
+    ends_so(&rt, &start, front(&moves, 8), DEnd::Repetition)
 }
 
 // From W:WK47:BK4.
@@ -87,7 +112,7 @@ fn eleven_positions_of_king_against_king_are_a_draw(rt: HostRuntime) -> Result<(
         judge(rt.alloc(), &start, moves.as_slice()),
         Ok(Some(DEnd::TwoToOne))
     );
-    Ok(())
+    ends_so(&rt, &start, moves.as_slice(), DEnd::TwoToOne)
 }
 
 // W:W11:B7,8 and the capture 11x13, which leaves B:W13:B.
@@ -122,7 +147,7 @@ fn a_side_without_a_move_has_lost(rt: HostRuntime) -> Result<(), Fail> {
         judge(rt.alloc(), &ended, &[played]),
         Err(Fault::AfterEnd { ply: 1 })
     );
-    Ok(())
+    ends_so(&rt, &start, &[played], DEnd::NoMove)
 }
 
 #[test]
@@ -145,6 +170,24 @@ fn an_illegal_move_has_its_ply_and_its_cause(rt: HostRuntime) -> Result<(), Fail
             cause: Illegal::NoSuchMove
         })
     );
+    // A move that is refused changes nothing: the third ply can still be played.
+    let mut counts = Counts::start(rt.alloc(), &start)?;
+    for played in front(&moves, 2) {
+        counts.push(played)?;
+    }
+    let refused = moves.last().ok_or("three moves")?;
+    let fault = Fault::Illegal {
+        ply: 3,
+        cause: Illegal::MustCapture,
+    };
+    assert_eq!(rt; counts.push(refused), Err(fault));
+    let capture = DMove {
+        from: Dsq::new(28).ok_or("no square")?,
+        to: Dsq::new(19).ok_or("no square")?,
+        taken: DSet::new().with(Dsq::new(23).ok_or("no square")?),
+    };
+    assert_eq!(rt; counts.push(&capture), Ok(()));
+    assert_eq!(rt; counts.end(), None);
     Ok(())
 }
 
@@ -176,7 +219,7 @@ fn three_pieces_have_thirty_two_plies(rt: HostRuntime) -> Result<(), Fail> {
         judge(rt.alloc(), &start, moves.as_slice()),
         Ok(Some(DEnd::ThreeToOne))
     );
-    Ok(())
+    ends_so(&rt, &start, moves.as_slice(), DEnd::ThreeToOne)
 }
 
 #[test]
@@ -188,7 +231,7 @@ fn fifty_plies_of_kings_are_a_draw(rt: HostRuntime) -> Result<(), Fail> {
         judge(rt.alloc(), &start, moves.as_slice()),
         Ok(Some(DEnd::KingMoves))
     );
-    Ok(())
+    ends_so(&rt, &start, moves.as_slice(), DEnd::KingMoves)
 }
 
 #[test]
