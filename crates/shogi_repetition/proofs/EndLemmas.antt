@@ -50,13 +50,13 @@ step-is Second First b h = (λ _ e. cc, λ _. refl)
 step-is Second Second b h = (λ e _. h.0 e, λ f. h.1 (f refl))
 
 module _ (start : ShogiPosition) (ms : List SMove) where
-  abbrev last : ShogiPosition
+  abbrev pub last : ShogiPosition
   last = last_position start ms
 
-  abbrev all : List ShogiPosition
+  abbrev pub all : List ShogiPosition
   all = positions start ms
 
-  abbrev is_last : ShogiPosition → Bool
+  abbrev pub is_last : ShogiPosition → Bool
   is_last p = same_shogi_position p last
 
   abbrev Passes : ℕ → Type 0
@@ -124,10 +124,10 @@ module _ (start : ShogiPosition) (ms : List SMove) where
   unfolding stands_four_times
   four-is = (λ e. found-four (four (count_by is_last all) e), λ s. at_least_four (count_by is_last all) (four-found s))
 
-  place : FirstPlace is_last last all (length ms)
+  pub place : FirstPlace is_last last all (length ms)
   place = let at_n : length ms ≤ length ms = omega arith in first is_last last all (length ms) (within (length ms) at_n) (passes (length ms) at_n stands-last)
 
-  first-stands : FirstStands start ms place.place
+  pub first-stands : FirstStands start ms place.place
   first-stands =
       let no_later = place.no_later in
       record {
@@ -136,7 +136,7 @@ module _ (start : ShogiPosition) (ms : List SMove) where
         earliest = λ k h s. place.earliest k h (passes k (omega (arith, h, no_later)) s);
       }
 
-  since_first-is : since_first last all ≡ drop place.place all
+  pub since_first-is : since_first last all ≡ drop place.place all
   unfolding since_first
   since_first-is =
       let below_all : nat_lt place.place (length all) ≡ true = less place.place (length all) (within place.place place.no_later) in
@@ -184,7 +184,7 @@ module _ (start : ShogiPosition) (ms : List SMove) where
     )
 
   -- the last position stood first at one place
-  one-first : (f g : ℕ) → FirstStands start ms f → FirstStands start ms g → f ≡ g
+  pub one-first : (f g : ℕ) → FirstStands start ms f → FirstStands start ms g → f ≡ g
   one-first f g a b =
       let no_less : f < g → ⊥ = λ h. b.earliest f h a.stands in
       let no_more : g < f → ⊥ = λ h. a.earliest g h b.stands in
@@ -278,9 +278,3 @@ module _ (start : ShogiPosition) (ms : List SMove) where
   one-end (Some PlyLimit) (Some (PerpetualCheck b)) x y = absurd (x.1 y.1)
   one-end (Some PlyLimit) (Some Fourfold) x y = absurd (x.1 y.1)
   one-end (Some PlyLimit) (Some PlyLimit) x y = refl
-
--- the first end that is found from the last position and all positions of a line is the line's
-pub end-found : (start : ShogiPosition) (ms : List SMove) (last : ShogiPosition) (ps : List ShogiPosition) (plies : ℕ) (found end : Option SEnd) → last ≡ last_position start ms → ps ≡ positions start ms → plies ≡ length ms → found ≡ first_end last ps plies → found ≡ end → EndsSo start ms end
-unfolding end_of
-end-found start ms final ps plies found end last_is all many first is =
-    subst (λ e. EndsSo start ms e) ((λ i. first_end (sym last_is i) (sym all i) (sym many i)) ∙ sym first ∙ is) (end_of-is start ms)

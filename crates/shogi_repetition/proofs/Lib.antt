@@ -1,5 +1,5 @@
 pub mod EndLemmas
-pub mod FaultLemmas
 pub mod LineLemmas
+pub mod MarkLemmas
 pub mod PlaceLemmas
-pub mod RepeatLemmas
+pub mod TailLemmas

@@ -19,23 +19,10 @@ get-positions p [] (suc k) d h = absurd (omega (arith, h))
 get-positions p (m ∷ ms) zero d h = refl
 get-positions p (m ∷ ms) (suc k) d h = get-positions (play p m) ms k d (omega (arith, h))
 
-last_position-append : (p : ShogiPosition) (ms : List SMove) (m : SMove) → last_position p (ms ++ m ∷ []) ≡ play (last_position p ms) m
+pub last_position-append : (p : ShogiPosition) (ms : List SMove) (m : SMove) → last_position p (ms ++ m ∷ []) ≡ play (last_position p ms) m
 last_position-append p [] m = refl
 last_position-append p (n ∷ ms) m = last_position-append (play p n) ms m
 
-positions-append : (p : ShogiPosition) (ms : List SMove) (m : SMove) → positions p (ms ++ m ∷ []) ≡ positions p ms ++ play (last_position p ms) m ∷ []
+pub positions-append : (p : ShogiPosition) (ms : List SMove) (m : SMove) → positions p (ms ++ m ∷ []) ≡ positions p ms ++ play (last_position p ms) m ∷ []
 positions-append p [] m = refl
 positions-append p (n ∷ ms) m = ap (λ ps. p ∷ ps) (positions-append (play p n) ms m)
-
-module _ (p : ShogiPosition) (ms : List SMove) (k : ℕ) (m : SMove) (within : k < length ms) (is : m ≡ get_or ms k m) where
-  more : take (k + 1) ms ≡ take k ms ++ m ∷ []
-  more = take_more ms k m within ∙ ap (λ n. take k ms ++ n ∷ []) (sym is)
-
-  pub last_position-more : last_position p (take (k + 1) ms) ≡ play (last_position p (take k ms)) m
-  last_position-more = ap (last_position p) more ∙ last_position-append p (take k ms) m
-
-  pub positions-more : positions p (take (k + 1) ms) ≡ positions p (take k ms) ++ play (last_position p (take k ms)) m ∷ []
-  positions-more = ap (positions p) more ∙ positions-append p (take k ms) m
-
-  pub read-move : slice_get ms k ≡ Some m
-  read-move = slice_get_read ms (length ms) k m refl within is

@@ -5,8 +5,7 @@ ghost use Rattle.shogi_repetition.specs.Faults.{IsPlayed, HasFault};
 
 use crate::ends::SEnd;
 use crate::faults::Fault;
-use crate::repeating::first_end;
-use shogi_moves::{check, play};
+use crate::marks::Marks;
 use squares::{SMove, SPos};
 use std::alloc::Global;
 
@@ -21,20 +20,9 @@ pub fn judge(alloc: Global, start: &SPos, moves: &[SMove]) -> Result<Option<SEnd
     ensures end { IfOk result (λ end. EndsSo start.now moves.now end) }
     ensures fault { IfErr result (λ fault. HasFault start.now moves.now fault) }
 {
-    let mut last = start.copied();
-    let mut positions = Vec::new(alloc);
-    positions.push(last.copied())?;
-    for (i, played) in moves.iter().enumerate() {
-        match first_end(&last, positions.as_slice(), i) {
-            Some(_) => return Err(Fault::AfterEnd { ply: i + 1 }),
-            None => {}
-        }
-        match check(&last, played) {
-            Ok(()) => {}
-            Err(cause) => return Err(Fault::Illegal { ply: i + 1, cause }),
-        }
-        last = play(&last, played);
-        positions.push(last.copied())?;
+    let mut marks = Marks::start(alloc, start)?;
+    for played in moves {
+        marks.push(played)?;
     }
-    Ok(first_end(&last, positions.as_slice(), moves.len()))
+    Ok(marks.end())
 }

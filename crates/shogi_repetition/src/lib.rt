@@ -5,11 +5,15 @@ pub mod ends;
 pub mod faults;
 pub mod judging;
 pub mod laws;
+pub mod marks;
 mod repeating;
+pub mod tails;
 
 pub use ends::SEnd;
 pub use faults::Fault;
 pub use judging::judge;
+pub use marks::{Marks, Stood};
+pub use tails::Tail;
 
 #[cfg(test)]
 mod tests;

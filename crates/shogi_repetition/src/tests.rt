@@ -1,8 +1,8 @@
-use crate::repeating::repetition;
-use crate::{Fault, SEnd, judge};
+use crate::{Fault, Marks, SEnd, Tail, judge};
 use shogi_moves::Illegal;
 use squares::{HandKind, Hands, Role, SBoard, SMove, SPiece, SPos, Score, Side, Ssq};
-use std::alloc::Global;
+use std::alloc::{AllocGlobal, Global};
+use std::process::Abort;
 use std::test::Fail;
 
 fn square(file: u8, rank: u8) -> Result<Ssq, Fail> {
@@ -75,6 +75,30 @@ fn opening() -> Result<SPos, Fail> {
     with_turn(board, Side::First)
 }
 
+// Plays a line move by move: it goes on up to its last move, which has this end, and no move follows.
+fn ends_so<R: Abort + AllocGlobal>(
+    rt: &R,
+    start: &SPos,
+    moves: &[SMove],
+    end: SEnd,
+) -> Result<(), Fail> {
+    let mut marks = Marks::start(rt.alloc(), start)?;
+    for (i, played) in moves.iter().enumerate() {
+        assert_eq!(rt; marks.end(), None, "after {i} plies");
+        marks.push(played)?;
+    }
+    assert_eq!(rt; marks.end(), Some(end));
+    let last = moves.last().ok_or("a move")?;
+    assert_eq!(rt;
+        marks.push(last),
+        Err(Fault::AfterEnd {
+            ply: moves.len().saturating_add(1)
+        })
+    );
+    assert_eq!(rt; marks.end(), Some(end));
+    Ok(())
+}
+
 #[test]
 fn the_fourth_time_is_a_draw(rt: HostRuntime) -> Result<(), Fail> {
     let start = opening()?;
@@ -95,45 +119,28 @@ fn the_fourth_time_is_a_draw(rt: HostRuntime) -> Result<(), Fail> {
         Err(Fault::AfterEnd { ply: 13 })
     );
     assert_eq!(rt; SEnd::Fourfold.outcome(Side::First), Score::Draw);
-    Ok(())
+    ends_so(&rt, &start, front(&moves, 12), SEnd::Fourfold)
 }
 
-// Both kings are attacked, or Second's alone is not, and the turn goes to and fro. No move leads from one of these positions to
-// the other: what is shown is how checks of both sides are weighed.
-fn attacked_in_turn(alloc: Global, both: bool) -> Result<Vec<SPos>, Fail> {
-    let mut positions = Vec::new(alloc);
-    for turn in [0, 1, 0, 1, 0, 1, 0] {
-        let mut board = SBoard::empty();
-        put(&mut board, Side::First, Role::King, 5, 9)?;
-        put(&mut board, Side::Second, Role::Rook, 5, 5)?;
-        put(&mut board, Side::Second, Role::King, 1, 1)?;
-        put(
-            &mut board,
-            Side::First,
-            Role::Rook,
-            if both { 1 } else { 2 },
-            5,
-        )?;
-        let side = if turn == 0 { Side::First } else { Side::Second };
-        positions.push(with_turn(board, side)?)?;
-    }
-    Ok(positions)
-}
-
-// The end by repetition of the first of the positions.
-fn ended(positions: &[SPos]) -> Result<SEnd, Fail> {
-    match positions.first() {
-        Some(position) => Ok(repetition(position, positions)),
-        None => Err(Fail::new("no position")),
-    }
-}
-
+// Six plies after a position stood first, each side has made three moves. No line of moves in which both sides check throughout
+// comes back to a position: what is shown is how checks of both sides are weighed.
 #[test]
 fn checks_of_both_sides_throughout_are_a_draw(rt: HostRuntime) -> Result<(), Fail> {
-    let both = attacked_in_turn(rt.alloc(), true)?;
-    assert_eq!(rt; ended(both.as_slice())?, SEnd::Fourfold);
-    let one = attacked_in_turn(rt.alloc(), false)?;
-    assert_eq!(rt; ended(one.as_slice())?, SEnd::PerpetualCheck(Side::Second));
+    let position = opening()?;
+    let both = Tail {
+        first_checks: 3,
+        second_checks: 4,
+    };
+    assert_eq!(rt; both.end(&position, 8, 4, 2), Some(SEnd::Fourfold));
+    let one = Tail {
+        first_checks: 2,
+        second_checks: 3,
+    };
+    assert_eq!(rt;
+        one.end(&position, 8, 4, 2),
+        Some(SEnd::PerpetualCheck(Side::Second))
+    );
+    assert_eq!(rt; one.end(&position, 8, 3, 2), None);
     Ok(())
 }
 
@@ -162,7 +169,7 @@ fn a_side_that_checks_perpetually_loses(rt: HostRuntime) -> Result<(), Fail> {
     assert_eq!(rt; judge(rt.alloc(), &start, moves.as_slice()), Ok(Some(end)));
     assert_eq!(rt; end.outcome(Side::First), Score::SecondWins);
     assert_eq!(rt; end.outcome(Side::Second), Score::SecondWins);
-    Ok(())
+    ends_so(&rt, &start, moves.as_slice(), end)
 }
 
 // The same with the sides exchanged and the board turned.
@@ -183,7 +190,7 @@ fn second_may_check_perpetually_too(rt: HostRuntime) -> Result<(), Fail> {
     let end = SEnd::PerpetualCheck(Side::Second);
     assert_eq!(rt; judge(rt.alloc(), &start, moves.as_slice()), Ok(Some(end)));
     assert_eq!(rt; end.outcome(Side::Second), Score::FirstWins);
-    Ok(())
+    ends_so(&rt, &start, moves.as_slice(), end)
 }
 
 // What was played before the position stood first does not count.

@@ -1,0 +1,79 @@
+-- Two numbers of a line, by which its last ply is judged without the plies before it.
+use Rattle.std.specs.Prelude.{◌≡◌, ℕ, ◌+◌, ◌-◌, ◌*◌, ◌==◌, ◌++◌, nat_le, not, if◌then◌else◌, Bool, Option, Some, None, List, [], ◌∷◌, length, count_by, drop, filter}
+use Rattle.std.specs.List.{suffix_len}
+use Rattle.squares.specs.declared.sides.Side.{Side}
+use Rattle.squares.specs.declared.sides.Side.TheVariants.{First, Second}
+use Rattle.squares.specs.declared.shogi.moves.SMove.{SMove}
+use Rattle.squares.specs.Sides.{other, same_side}
+use Rattle.squares.specs.ShogiSets.{ShogiPosition}
+use Rattle.squares.specs.ShogiSamePosition.{same_shogi_position}
+use Rattle.shogi_moves.specs.Rules.{play}
+use Rattle.shogi_moves.specs.Computed.{has_move}
+use Rattle.shogi_repetition.specs.declared.ends.SEnd.{SEnd}
+use Rattle.shogi_repetition.specs.declared.ends.SEnd.TheVariants.{NoMove, PlyLimit}
+use Rattle.shogi_repetition.specs.declared.tails.Tail.{Tail}
+use Rattle.shogi_repetition.specs.Line.{last_position, positions}
+use Rattle.shogi_repetition.specs.Ends.{FirstStands}
+use Rattle.shogi_repetition.specs.Computed.{is_in_check, end_by_checks, end_of}
+
+-- the positions to which the moves of a side led, among all positions of a line
+abbrev pub led_to : Side → List ShogiPosition → List ShogiPosition
+led_to side ps = filter (λ p. same_side p.turn (other side)) (drop 1 ps)
+
+-- how many of the last moves of a side, in a row, gave check
+abbrev pub checks_in_a_row : Side → List ShogiPosition → ℕ
+checks_in_a_row side ps = suffix_len is_in_check (led_to side ps)
+
+unfoldable pub tail_of : ShogiPosition → List SMove → Tail
+tail_of start ms =
+    record {
+      first_checks = checks_in_a_row First (positions start ms);
+      second_checks = checks_in_a_row Second (positions start ms);
+    }
+
+-- ---- what the tail of a line is, one ply after another
+
+abbrev pub no_checks : Tail
+no_checks = record { first_checks = 0; second_checks = 0 }
+
+abbrev pub count_on : ℕ → Bool → ℕ
+count_on checks gives_check = if gives_check then checks + 1 else 0
+
+-- after a move the other side has the turn
+abbrev pub tail_after : Tail → Bool → Side → Tail
+tail_after tail gives_check First = record { first_checks = tail.first_checks; second_checks = count_on tail.second_checks gives_check }
+tail_after tail gives_check Second = record { first_checks = count_on tail.first_checks gives_check; second_checks = tail.second_checks }
+
+abbrev pub next_tail : Tail → ShogiPosition → Tail
+next_tail tail after = tail_after tail (is_in_check after) after.turn
+
+-- A side made half of the moves since the position stood first. It checked throughout where so many of its moves, in a row,
+-- gave check.
+abbrev pub repetition_by : Tail → ℕ → SEnd
+repetition_by tail plies = end_by_checks (nat_le plies (2 * tail.first_checks)) (nat_le plies (2 * tail.second_checks))
+
+-- the end of a line with this tail and this last position, which stood so often, and first after that ply, after so many plies
+unfoldable pub end_by : Tail → ShogiPosition → ℕ → ℕ → ℕ → Option SEnd
+end_by tail last plies times first =
+    if not (has_move last)
+    then Some NoMove
+    else if nat_le 4 times then Some (repetition_by tail (plies - first)) else if plies == 600 then Some PlyLimit else None
+
+-- ---- laws
+
+-- the tail of a line without a move, and with one more
+abbrev pub TailsBegin : Type 0
+TailsBegin = (start : ShogiPosition) → tail_of start [] ≡ no_checks
+
+abbrev pub TailsGoOn : Type 0
+TailsGoOn = (start : ShogiPosition) (ms : List SMove) (m : SMove) → tail_of start (ms ++ m ∷ []) ≡ next_tail (tail_of start ms) (play (last_position start ms) m)
+
+-- how often the last position of a line stood in it
+abbrev pub times_stood : ShogiPosition → List SMove → ℕ
+times_stood start ms = count_by (λ p. same_shogi_position p (last_position start ms)) (positions start ms)
+
+-- by its tail a line ends as by all its positions
+abbrev pub TailsTellEnds : Type 0
+TailsTellEnds =
+    (start : ShogiPosition) (ms : List SMove) (first : ℕ) → FirstStands start ms first →
+    end_by (tail_of start ms) (last_position start ms) (length ms) (times_stood start ms) first ≡ end_of start ms

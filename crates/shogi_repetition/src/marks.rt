@@ -1,0 +1,121 @@
+//! A line that is judged ply by ply.
+ghost use Rattle.std.specs.Prelude.{◌≡◌, ◌≤◌, ◌+◌, [], IfOk, IfErr, OnOk, OnErr};
+ghost use Rattle.std.specs.BTreeMap.{get};
+ghost use Rattle.squares.specs.ShogiOrder.{position_cmp};
+
+use crate::ends::SEnd;
+use crate::faults::Fault;
+use crate::tails::Tail;
+use shogi_moves::{check, play};
+use squares::{SMove, SPos};
+use std::alloc::Global;
+use std::collections::BTreeMap;
+
+/// How often a position stood, and after which ply first.
+#[derive(Clone, Copy, Debug, PartialEq, Eq, Drop)]
+pub struct Stood {
+    pub times: u32,
+    pub first: usize,
+}
+
+/// What a line of moves comes to, ply by ply: a push looks at no earlier ply.
+#[derive(Drop)]
+pub struct Marks {
+    last: SPos,
+    plies: usize,
+    /// How often the last position stood, and when first.
+    stood: Stood,
+    tail: Tail,
+    /// How often each position stood, and when first.
+    seen: BTreeMap<SPos, Stood>,
+    ghost within: { plies ≤ 600 },
+    ghost few_first_checks: { tail.first_checks ≤ plies },
+    ghost few_second_checks: { tail.second_checks ≤ plies },
+}
+
+impl Marks {
+    ghost use Rattle.shogi_repetition.specs.Counting.{Follows, GrowsBy, IsRefused, StaysSo, TellsEnd, stood_again};
+    ghost use Rattle.shogi_repetition.specs.Tails.{end_by};
+
+    /// The line without a move from a position.
+    pub fn start(alloc: Global, position: &SPos) -> Result<Marks, Fault>
+        ensures follows { IfOk result (Follows position.now []) }
+        ensures fault { IfErr result (λ fault. fault ≡ Fault.Memory) }
+    {
+        let stood = Stood { times: 1, first: 0 };
+        let mut seen = BTreeMap::new(alloc);
+        seen.insert(position.copied(), stood)?;
+        Ok(Marks {
+            last: position.copied(),
+            plies: 0,
+            stood,
+            tail: Tail::start(),
+            seen,
+        })
+    }
+
+    /// The line with one move more. It fails where the game has ended, or where the move is not legal, with the fault that
+    /// `judge` has of that ply, or where memory is refused; then the line stays as it was.
+    pub fn push(&mut self, played: &SMove) -> Result<(), Fault>
+        ensures follows { OnOk result (GrowsBy played.now self.old self.new) }
+        ensures fault { IfErr result (IsRefused played.now self.old) }
+        ensures kept { OnErr result (StaysSo self.old self.new) }
+    {
+        match self.end_by_tail() {
+            Some(_) => return Err(Fault::AfterEnd {
+                ply: self.plies + 1,
+            }),
+            None => {}
+        }
+        match check(&self.last, played) {
+            Ok(()) => {}
+            Err(cause) => return Err(Fault::Illegal {
+                ply: self.plies + 1,
+                cause,
+            }),
+        }
+        let next = play(&self.last, played);
+        let stood = self.stood_again(&next);
+        self.seen.insert(next.copied(), stood)?;
+        self.tail = self.tail.next(&next);
+        self.stood = stood;
+        self.last = next;
+        self.plies += 1;
+        Ok(())
+    }
+
+    // How often a position will have stood after the next ply, and when first.
+    fn stood_again(&self, position: &SPos) -> Stood
+        ensures { result ≡ stood_again (self.now.plies + 1) (get position_cmp self.now.seen position.now) }
+    {
+        match self.seen.get(position).copied() {
+            Some(stood) => Stood {
+                times: stood.times.saturating_add(1),
+                first: stood.first,
+            },
+            None => Stood {
+                times: 1,
+                first: self.plies + 1,
+            },
+        }
+    }
+
+    // The end by the tail.
+    fn end_by_tail(&self) -> Option<SEnd>
+        ensures { result ≡ end_by self.now.tail self.now.last self.now.plies self.now.stood.times self.now.stood.first }
+    {
+        self.tail.end(
+            &self.last,
+            self.plies,
+            self.stood.times as usize,
+            self.stood.first,
+        )
+    }
+
+    /// The end that the rules give the line, if its last ply ends it.
+    pub fn end(&self) -> Option<SEnd>
+        ensures { TellsEnd self.now result }
+    {
+        self.end_by_tail()
+    }
+}

@@ -1,0 +1,94 @@
+//! Two numbers of a line by which its last ply is judged, without the plies before it.
+ghost use Rattle.std.specs.Prelude.{◌≡◌, ◌<◌, IsTrue, ◌↔◌};
+ghost use Rattle.squares.specs.Sides.{other};
+ghost use Rattle.shogi_repetition.specs.Computed.{is_in_check, end_by_checks};
+ghost use Rattle.shogi_repetition.specs.Tails.{no_checks, count_on, next_tail, repetition_by, end_by};
+
+use crate::ends::SEnd;
+use crate::repeating::{can_move, end_by_checks, is_in_check};
+use squares::{SPos, Side};
+
+/// What tells the end of a line's last ply, beside the last position, the number of plies, and how often and after which ply
+/// first that position stood.
+#[derive(Clone, Copy, Debug, PartialEq, Eq)]
+pub struct Tail {
+    /// The last moves of First, in a row, that gave check.
+    pub first_checks: u32,
+    /// The last moves of Second, in a row, that gave check.
+    pub second_checks: u32,
+}
+
+/// So often may a position stand before it ends the game.
+const STANDS: usize = 4;
+
+/// The plies after which every game ends.
+const PLY_LIMIT: usize = 600;
+
+// The checks in a row after one move more.
+fn count_on(checks: u32, gives_check: bool) -> u32
+    requires { checks < 4294967295 }
+    ensures { result ≡ count_on checks gives_check }
+{
+    if gives_check {
+        return checks + 1;
+    }
+    0
+}
+
+impl Tail {
+    /// The tail of a line without a move.
+    pub fn start() -> Tail
+        ensures { result ≡ no_checks }
+    {
+        Tail {
+            first_checks: 0,
+            second_checks: 0,
+        }
+    }
+
+    /// The tail of the line with one move more, which led to this position.
+    pub fn next(self, after: &SPos) -> Tail
+        requires first_checks { self.first_checks < 4294967295 }
+        requires second_checks { self.second_checks < 4294967295 }
+        ensures { result ≡ next_tail self after.now }
+    {
+        match after.turn() {
+            Side::First => Tail {
+                first_checks: self.first_checks,
+                second_checks: count_on(self.second_checks, is_in_check(after)),
+            },
+            Side::Second => Tail {
+                first_checks: count_on(self.first_checks, is_in_check(after)),
+                second_checks: self.second_checks,
+            },
+        }
+    }
+
+    // The end of a fourth repetition, where so many plies were played since the position stood first.
+    fn repetition(self, plies: usize) -> SEnd
+        ensures { result ≡ repetition_by self plies }
+    {
+        end_by_checks(
+            plies as u64 <= 2 * u64::from(self.first_checks),
+            plies as u64 <= 2 * u64::from(self.second_checks),
+        )
+    }
+
+    /// The end that the rules give the line with this tail, whose last position stood so often after so many plies, and first
+    /// after the ply `first`.
+    #[tactic(auto, unfolding(crate::specs::Tails::end_by))]
+    pub fn end(self, position: &SPos, plies: usize, times: usize, first: usize) -> Option<SEnd>
+        ensures { result ≡ end_by self position.now plies times first }
+    {
+        if !can_move(position) {
+            return Some(SEnd::NoMove);
+        }
+        if times >= STANDS {
+            return Some(self.repetition(plies.saturating_sub(first)));
+        }
+        if plies == PLY_LIMIT {
+            return Some(SEnd::PlyLimit);
+        }
+        None
+    }
+}
