@@ -119,26 +119,42 @@ fn number_of(matches: &ArgMatches<'_>, name: &str) -> u64 {
     matches.get_one::<u64>(name).unwrap_or(0)
 }
 
-fn game_of(matches: &ArgMatches<'_>) -> GameKind {
+// The game of a word that the parser has passed.
+fn game_of(matches: &ArgMatches<'_>) -> Option<GameKind> {
     match matches.get_str("GAME") {
-        Some("shogi") => GameKind::Shogi,
-        _ => GameKind::Draughts,
+        Some("draughts") => Some(GameKind::Draughts),
+        Some("shogi") => Some(GameKind::Shogi),
+        _ => None,
     }
 }
 
-// The command that the words of a subcommand give.
-fn task_of(alloc: Global, name: &str, words: &ArgMatches<'_>) -> Result<Task, AllocError> {
+// Words that the parser passed and that are no order: it is not to be, and it does nothing.
+fn unknown(alloc: Global, name: &str) -> Result<BadWords, AllocError> {
+    Ok(BadWords::Text(format!(in alloc; "error: unknown word '{name}'\n")?))
+}
+
+// The event that the words name.
+fn event_of(alloc: Global, words: &ArgMatches<'_>) -> Result<AddEvent, BadWords> {
+    let Some(game) = game_of(words) else {
+        return Err(unknown(alloc, "GAME")?);
+    };
+    Ok(AddEvent {
+        name: text(alloc, words, "NAME")?,
+        game,
+        budget: number_of(words, "BUDGET"),
+        increment: number_of(words, "INCREMENT"),
+    })
+}
+
+// What the words of a subcommand ask for.
+fn task_of(alloc: Global, name: &str, words: &ArgMatches<'_>) -> Result<Task, BadWords> {
     let command = match name {
+        "init" => return Ok(Task::Init),
         "member" => Command::AddMember(AddMember {
             name: text(alloc, words, "NAME")?,
             key: text(alloc, words, "KEY")?,
         }),
-        "event" => Command::AddEvent(AddEvent {
-            name: text(alloc, words, "NAME")?,
-            game: game_of(words),
-            budget: number_of(words, "BUDGET"),
-            increment: number_of(words, "INCREMENT"),
-        }),
+        "event" => Command::AddEvent(event_of(alloc, words)?),
         "seat" => Command::Seat(Seat {
             key: text(alloc, words, "KEY")?,
             event: text(alloc, words, "EVENT")?,
@@ -150,7 +166,7 @@ fn task_of(alloc: Global, name: &str, words: &ArgMatches<'_>) -> Result<Task, Al
             ply: number_of(words, "PLY"),
             text: text(alloc, words, "TEXT")?,
         }),
-        _ => return Ok(Task::Init),
+        _ => return Err(unknown(alloc, name)?),
     };
     Ok(Task::Request(command))
 }
@@ -175,7 +191,7 @@ pub fn read_words(alloc: Global, words: &[&str]) -> Result<Order, BadWords> {
     };
     let task = match matches.subcommand() {
         Some((name, words)) => task_of(alloc, name, words)?,
-        None => Task::Init,
+        None => return Err(unknown(alloc, "")?),
     };
     let now = match matches.get_one::<u64>("SECONDS") {
         Some(seconds) => Moment::new(seconds),

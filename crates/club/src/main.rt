@@ -1,14 +1,11 @@
 //! The program `club`: an officer's words over one file.
 #![tactic(auto)]
 
-mod act;
-mod words;
-
-use crate::act::{BAD_WORDS, act, fault};
-use crate::words::{BadWords, Order, read_words};
 use clocks::Moment;
+use club_words::{BAD_WORDS, BadWords, Order, act, fault, read_words};
 use sqlite::Connection;
 use std::alloc::AllocError;
+use std::io::ErrorKind;
 use std::process::ExitCode;
 use std::time::{SystemTime, UNIX_EPOCH};
 
@@ -25,20 +22,27 @@ fn clock(rt: &HostRuntime) -> Option<Moment> {
 }
 
 // The program's words, the first being its own name.
-fn given_words(rt: &HostRuntime) -> Option<Vec<String>> {
+fn given_words(rt: &HostRuntime) -> Result<Vec<String>, BadWords> {
     let words = match std::env::args(rt) {
         Ok(words) => words,
-        Err(_) => return None,
+        Err(error) if error.kind() == ErrorKind::OutOfMemory => return Err(BadWords::Memory),
+        Err(_) => {
+            let text = String::from_str(rt.alloc(), "error: a word is not UTF-8\n")?;
+            return Err(BadWords::Text(text));
+        }
     };
-    match words.collect(rt.alloc()) {
-        Ok(words) => Some(words),
-        Err(_) => None,
-    }
+    Ok(words.collect(rt.alloc())?)
 }
 
 // The words as texts.
 fn texts<'a>(rt: &HostRuntime, words: &'a [String]) -> Result<Vec<&'a str>, AllocError> {
     words.iter().map(|word| word.as_str()).collect(rt.alloc())
+}
+
+// What the words order.
+fn order_of(rt: &HostRuntime, words: &[String]) -> Result<Order, BadWords> {
+    let words = texts(rt, words)?;
+    read_words(rt.alloc(), words.as_slice())
 }
 
 // Does what is ordered over the file.
@@ -61,29 +65,29 @@ fn run(rt: &HostRuntime, order: &Order) -> u8 {
     status
 }
 
-// Reads the words and does what they order.
-fn status_of(rt: &HostRuntime, words: &[String]) -> u8 {
-    let mut err = rt.stderr();
-    let Ok(words) = texts(rt, words) else {
-        return fault(&mut err, "75 Memory");
-    };
-    match read_words(rt.alloc(), words.as_slice()) {
-        Ok(order) => run(rt, &order),
-        Err(BadWords::Text(text)) => {
+// Says why the words are no order.
+fn refuse_words(rt: &HostRuntime, bad: BadWords) -> u8 {
+    match bad {
+        BadWords::Text(text) => {
             let _ = rt.eprint(text);
             BAD_WORDS
         }
-        Err(BadWords::Memory) => fault(&mut err, "75 Memory"),
+        BadWords::Memory => fault(&mut rt.stderr(), "75 Memory"),
+    }
+}
+
+// Reads the words and does what they order.
+fn status_of(rt: &HostRuntime) -> u8 {
+    let words = match given_words(rt) {
+        Ok(words) => words,
+        Err(bad) => return refuse_words(rt, bad),
+    };
+    match order_of(rt, words.as_slice()) {
+        Ok(order) => run(rt, &order),
+        Err(bad) => refuse_words(rt, bad),
     }
 }
 
 fn main(rt: HostRuntime) -> ExitCode {
-    let status = match given_words(&rt) {
-        Some(words) => status_of(&rt, &words),
-        None => fault(&mut rt.stderr(), "75 Memory"),
-    };
-    ExitCode::from(status)
+    ExitCode::from(status_of(&rt))
 }
-
-#[cfg(test)]
-mod tests;

@@ -1,7 +1,6 @@
 ghost use Rattle.std.specs.Prelude.{◌≡◌, false, IfOk};
 
-use crate::act::{DONE, FAULT, REFUSED, act};
-use crate::words::{BadWords, read_words};
+use crate::{BadWords, DONE, FAULT, REFUSED, act, read_words};
 use sqlite::{Connection, MemStore};
 use std::alloc::Global;
 use std::collections::VecDeque;
