@@ -7,3 +7,6 @@ pub mod DraughtsWords
 pub mod ShogiCells
 pub mod ShogiCounts
 pub mod ShogiOrdered
+pub mod ShogiTracks
+pub mod ShogiKept
+pub mod ShogiOpened

@@ -1,5 +1,5 @@
 -- Cells compared in turn order the boards that they keep.
-use Rattle.std.proofs.Common.{◌≡◌, ℕ, suc, ◌<◌, ◌≤◌, Bool, true, false, ◌&&◌, T, List, [], ◌∷◌, length, refl, sym, ap, ◌∙◌, subst, arith, Option, Some, None}
+use Rattle.std.proofs.Common.{◌≡◌, ℕ, suc, ◌<◌, Bool, true, ◌&&◌, T, List, [], ◌∷◌, length, refl, sym, ap, ◌∙◌, subst, arith, Option, Some, None}
 use Rattle.std.specs.Ordering.{nat_cmp, is_lt, ordering_then}
 use Rattle.std.specs.Cmp.{nat_cmp_total}
 use Rattle.std.specs.Cmp.Lexicographic.{slice_cmp}
@@ -8,10 +8,9 @@ use Rattle.std.specs.FinMap as map
 use Rattle.std.specs.FinMap.{nat_cmp-IsAntisymmetric}
 use Rattle.std.specs.FinMap.Entries.{below_all, is_sorted}
 use Rattle.std.proofs.lemmas.Grind.{common_steps}
-use Rattle.std.specs.declared.cmp.Ordering.{Ordering}
 use Rattle.std.specs.declared.cmp.Ordering.TheVariants.{Less, Equal, Greater}
 use Rattle.squares.specs.declared.shogi.piece.SPiece.{SPiece}
-use Rattle.squares.specs.ShogiBoard.{ShogiBoard, occupied_cells, shogi_board_of}
+use Rattle.squares.specs.ShogiBoard.{occupied_cells, shogi_board_of}
 use Rattle.squares.specs.ShogiOrder.{piece_cmp, entry_cmp, board_cmp}
 
 nat_less : (a b : ℕ) → a < b → nat_cmp a b ≡ Less

@@ -18,9 +18,11 @@ pub mod ShogiBoard
 pub mod ShogiGeometry
 pub mod ShogiHands
 pub mod ShogiLaws
+pub mod ShogiOpening
 pub mod ShogiOrder
 pub mod ShogiOrderLaws
 pub mod ShogiPieces
 pub mod ShogiSamePosition
 pub mod ShogiSets
+pub mod ShogiWords
 pub mod Sides

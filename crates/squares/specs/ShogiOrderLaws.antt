@@ -2,7 +2,7 @@
 use Rattle.std.proofs.Common.{◌≡◌, ℕ, Bool, true, false, ◌&&◌, List, [], ◌∷◌, ◌∙◌, refl, sym, ap, subst}
 use Rattle.std.specs.Cmp.{IsTotalOrder, IsPartialOrder, both_ways, unsigned_tied, partial_order_from_agreeing_total}
 use Rattle.std.specs.Cmp.Lexicographic.{slice_cmp}
-use Rattle.std.specs.Ordering.{nat_cmp, on, then_cmp, flip_args, is_eq, eq_by_cmp, ordering_then, as_partial_cmp}
+use Rattle.std.specs.Ordering.{nat_cmp, is_eq, eq_by_cmp, ordering_then, as_partial_cmp}
 use Rattle.std.specs.FinMap as map
 use Rattle.std.specs.declared.cmp.Ordering.{Ordering}
 use Rattle.std.specs.declared.cmp.Ordering.TheVariants.{Less, Equal, Greater}
@@ -18,7 +18,7 @@ use Rattle.squares.specs.declared.shogi.hand.Hands.{Hands}
 use Rattle.squares.specs.declared.shogi.piece.SPiece.{SPiece}
 use Rattle.squares.specs.ShogiBoard.{ShogiBoard}
 use Rattle.squares.specs.ShogiSets.{ShogiPosition}
-use Rattle.squares.specs.ShogiSamePosition.{same_shogi_board, same_shogi_board-same, same_shogi_board-itself, same_shogi_position, same_shogi_position-itself, same_shogi_position-same, same_hand, same_hands, same_hands-same}
+use Rattle.squares.specs.ShogiSamePosition.{same_shogi_board, same_shogi_board-same, same_shogi_board-itself, same_shogi_position, same_shogi_position-itself, same_shogi_position-same, same_hand, same_hands-same}
 use Rattle.squares.specs.DraughtsMarks.{nat_eq-same}
 use Rattle.squares.specs.ShogiOrder.{side_cmp, hands_cmp, piece_cmp, entry_cmp, board_cmp, position_cmp}
 

@@ -52,10 +52,10 @@ and_true : (a b : Bool) → (a && b) ≡ true → (a ≡ true) × (b ≡ true)
 and_true true b e = (refl, e)
 and_true false b e = cc
 
-same_role-same : (a b : Role) → same_role a b ≡ true → a ≡ b
+pub same_role-same : (a b : Role) → same_role a b ≡ true → a ≡ b
 same_role-same a b e = same_true the_type tt a b e
 
-same_role-itself : (a : Role) → same_role a a ≡ true
+pub same_role-itself : (a : Role) → same_role a a ≡ true
 same_role-itself a = true_same the_type a a refl
 
 pub same_shogi_piece-same : (a b : SPiece) → same_shogi_piece a b ≡ true → a ≡ b

@@ -4,8 +4,10 @@ pub mod board;
 pub mod hand;
 pub mod laws;
 pub mod moves;
+mod opening;
 pub mod piece;
 pub mod position;
 pub mod square;
 #[cfg(test)]
 mod tests;
+mod words;

@@ -2,26 +2,33 @@
 
 ghost use Rattle.std.specs.Prelude.{◌≡◌, ◌≤◌, ℕ, None, count_by, length};
 ghost use Rattle.std.specs.FinMap as map;
+ghost use Rattle.std.specs.FinSet as set;
 ghost use Rattle.squares.specs.ShogiSets.{count_on, holds_kind, holds_king, is_of};
+ghost use Rattle.squares.specs.ShogiWords.{is_side, holds};
 
 use crate::shogi::piece::{HandKind, Role, SPiece};
 use crate::shogi::square::Ssq;
+use crate::shogi::words::{add_to, role_place, side_place, squares_at, take_from};
 use crate::sides::Side;
+use masks::Word81;
 use std::cmp::Ordering;
 use std::marker::Model;
 
-/// A shogi board. Contracts see it as a finite map from squares to pieces.
+/// A shogi board. Contracts see it as a finite map from squares to pieces. Beside the cells it keeps the squares of each side
+/// and of each role as words of bits.
 #[derive(Drop)]
 pub struct SBoard {
     cells: [Option<SPiece>; 81],
+    sides: [Word81; 2],
+    roles: [Word81; 14],
 }
 
 impl Model for SBoard {
-    ghost use Rattle.std.specs.Prelude.{◌≡◌, length};
     ghost use Rattle.std.specs.Coded.{coded_ℕ};
     ghost use Rattle.std.specs.FinMap as finite_map;
     ghost use Rattle.squares.specs.contracts.shogi.piece.SPiece as piece_type;
     ghost use Rattle.squares.specs.ShogiBoard.{ShogiBoard, shogi_board_of};
+    ghost use Rattle.squares.specs.ShogiWords.{KeepsBoard};
 
     ghost Value = { ShogiBoard };
 
@@ -29,7 +36,7 @@ impl Model for SBoard {
 
     ghost view = { λ b. shogi_board_of b.cells };
 
-    ghost invariant = { λ b. length b.cells ≡ 81 };
+    ghost invariant = { λ b. KeepsBoard b.cells b.sides b.roles };
 }
 
 impl SBoard {
@@ -37,7 +44,11 @@ impl SBoard {
     pub fn empty() -> SBoard
         ensures { result ≡ map.empty }
     {
-        SBoard { cells: [None; 81] }
+        SBoard {
+            cells: [None; 81],
+            sides: [Word81::new(); 2],
+            roles: [Word81::new(); 14],
+        }
     }
 
     /// The piece on a square.
@@ -51,7 +62,11 @@ impl SBoard {
     pub fn copied(&self) -> SBoard
         ensures { result ≡ self.now }
     {
-        SBoard { cells: self.cells }
+        SBoard {
+            cells: self.cells,
+            sides: self.sides,
+            roles: self.roles,
+        }
     }
 
     /// A law: no piece stands anywhere but on the eighty-one squares.
@@ -65,6 +80,9 @@ impl SBoard {
     pub fn put(&mut self, square: Ssq, piece: SPiece)
         ensures { self.new ≡ map.insert self.old square piece }
     {
+        self.clear(square);
+        add_to(&mut self.sides, side_place(piece.side), square);
+        add_to(&mut self.roles, role_place(piece.role), square);
         self.cells[square.index()] = Some(piece);
     }
 
@@ -72,7 +90,30 @@ impl SBoard {
     pub fn clear(&mut self, square: Ssq)
         ensures { self.new ≡ map.remove self.old square }
     {
-        self.cells[square.index()] = None;
+        match self.cells[square.index()] {
+            None => {}
+            Some(piece) => {
+                take_from(&mut self.sides, side_place(piece.side), square);
+                take_from(&mut self.roles, role_place(piece.role), square);
+                self.cells[square.index()] = None;
+            }
+        }
+    }
+
+    /// The squares on which pieces of a side stand.
+    pub fn squares_of_side(&self, side: Side) -> Word81
+        ensures { (q : ℕ) → set.contains result q ≡ is_side side (map.get self.now q) }
+    {
+        squares_at(&self.sides, side_place(side))
+    }
+
+    /// The squares on which a piece stands.
+    pub fn squares_of(&self, piece: SPiece) -> Word81
+        ensures { (q : ℕ) → set.contains result q ≡ holds piece (map.get self.now q) }
+    {
+        let own = squares_at(&self.sides, side_place(piece.side));
+        let alike = squares_at(&self.roles, role_place(piece.role));
+        own.intersection(alike)
     }
 
     /// How many squares hold a piece of that kind, promoted or not.

@@ -2,11 +2,13 @@
 
 ghost use Rattle.std.specs.Prelude.{◌≡◌, ◌↔◌, ◌≤◌, ◌+◌, ℕ, None, IsTrue, IsSome, IfSome};
 ghost use Rattle.std.specs.FinMap as map;
+ghost use Rattle.squares.specs.ShogiOpening.{opening};
 ghost use Rattle.squares.specs.ShogiSets.{IsShogiPosition, KeepsSets, HasKings, holds_king, holds_kind, in_play, set_size};
 
 use crate::shogi::board::SBoard;
 use crate::shogi::hand::Hands;
-use crate::shogi::piece::HandKind;
+use crate::shogi::opening::{no_hands, opening_board};
+use crate::shogi::piece::{HandKind, SPiece};
 use crate::sides::Side;
 use std::cmp::Ordering;
 use std::marker::Model;
@@ -44,6 +46,18 @@ impl Model for SPos {
 }
 
 impl SPos {
+    /// The position in which a game begins: each side has a king, two golds, silvers, knights and lances on its back rank, a
+    /// rook and a bishop before its knights, and nine pawns on its third rank; the hands are empty, and First moves.
+    pub fn opening() -> SPos
+        ensures { result ≡ opening }
+    {
+        SPos {
+            board: opening_board(),
+            hands: no_hands(),
+            turn: Side::First,
+        }
+    }
+
     /// The position, or none where a side has not one king or a kind has more pieces than its set.
     pub fn new(board: SBoard, hands: Hands, turn: Side) -> Option<SPos>
         ensures some { IsSome result ↔ IsShogiPosition board hands }
@@ -99,6 +113,18 @@ impl SPos {
     {
         self.board.keeps_to_its_squares();
         &self.board
+    }
+}
+
+impl SPos {
+    ghost use Rattle.std.specs.Prelude.{Some, true};
+    ghost use Rattle.masks.specs.Words.{has_bit};
+
+    /// The word of a piece: bit `9 * (file - 1) + (rank - 1)` is set exactly for the squares on which that piece stands.
+    pub fn word(&self, piece: SPiece) -> u128
+        ensures { (n : ℕ) → (has_bit result n ≡ true) ↔ (map.get self.now.board n ≡ Some piece) }
+    {
+        self.board.squares_of(piece).word()
     }
 }
 

@@ -7,5 +7,5 @@ use Rattle.squares.proofs.shogi.board.SBoard.count_kind.Goals as goal
 pub returns-clause-value : goal.returns-clause-value
 returns-clause-value c =
     c.count_cells_of.ensures.value
-    ∙ sym (count_on-cells (holds_kind c.args.kind) c.self.inside.cells c.self.invariant)
+    ∙ sym (count_on-cells (holds_kind c.args.kind) c.self.inside.cells c.self.invariant.has_cells)
     ∙ ap (λ (b : ShogiBoard). count_on (holds_kind c.args.kind) b) c.self.view_is

@@ -7,5 +7,5 @@ use Rattle.squares.proofs.shogi.board.SBoard.count_kings.Goals as goal
 pub returns-clause-value : goal.returns-clause-value
 returns-clause-value c =
     c.count_king_cells.ensures.value
-    ∙ sym (count_on-cells (holds_king c.args.side) c.self.inside.cells c.self.invariant)
+    ∙ sym (count_on-cells (holds_king c.args.side) c.self.inside.cells c.self.invariant.has_cells)
     ∙ ap (λ (b : ShogiBoard). count_on (holds_king c.args.side) b) c.self.view_is

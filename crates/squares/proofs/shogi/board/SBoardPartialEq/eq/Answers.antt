@@ -49,5 +49,5 @@ returns c =
     (λ is_true. let one : b ≡ d = sym c.self.view_is ∙ ap shogi_board_of (test.0 is_true) ∙ c.other.view_is in
     subst (λ x. same_shogi_board b x ≡ true) one (same_shogi_board-itself b))
     (λ same. let views : shogi_board_of mine ≡ shogi_board_of theirs = c.self.view_is ∙ same_shogi_board-same b d same ∙ sym c.other.view_is in
-    test.1 (ext_get_or None mine theirs (c.self.invariant ∙ sym c.other.invariant)
+    test.1 (ext_get_or None mine theirs (c.self.invariant.has_cells ∙ sym c.other.invariant.has_cells)
     (λ k below. sym (get-shogi_board_of mine k) ∙ ap (λ (x : ShogiBoard). get x k) views ∙ get-shogi_board_of theirs k)))
