@@ -1,12 +1,14 @@
 pub mod AttackLemmas
 pub mod CheckLemmas
 pub mod CountLemmas
+pub mod DropLemmas
 pub mod FacingLemmas
 pub mod HeadingLemmas
 pub mod KingLemmas
 pub mod LineLemmas
 pub mod ListingLemmas
 pub mod MateLemmas
+pub mod PawnLemmas
 pub mod PlayLemmas
 pub mod ReachLemmas
 pub mod ReachedLemmas

@@ -74,6 +74,11 @@ drops_second_pawn p m = drops_pawn m && pawn_on_file p.board p.turn (target m)
 unfoldable pub is_pseudo : ShogiPosition → SMove → Bool
 is_pseudo p m = is_movement p m && not (lacks p m) && not (stays p m) && not (drops_dead p m) && not (drops_second_pawn p m)
 
+-- a piece from the hand
+abbrev pub is_drop : SMove → Bool
+is_drop (Step from to promote) = false
+is_drop (Drop kind to) = true
+
 unfoldable pub leaves_king : ShogiPosition → SMove → Bool
 leaves_king p m = king_attacked (board_after p m) p.turn
 

@@ -1,14 +1,13 @@
 //! Which squares are attacked, and whether a king is.
 ghost use Rattle.std.specs.Prelude.{◌≡◌, ◌↔◌, ◌&&◌, not, nat_lt, IsTrue};
 ghost use Rattle.squares.specs.Sides.{same_side};
-ghost use Rattle.squares.specs.ShogiSets.{holds_king};
 ghost use Rattle.shogi_moves.specs.Reach.{Attacked, KingAttacked, range};
 ghost use Rattle.shogi_moves.specs.Facing.{farthest, facing, faced_along, seen};
-ghost use Rattle.shogi_moves.specs.Search.{attacked, king_attacked_at, king_attacked};
+ghost use Rattle.shogi_moves.specs.Search.{attacked};
 
-use crate::board_squares::all_squares;
 use crate::heading::{Heading, range, step};
-use squares::{Role, SBoard, SPiece, SPos, Side, Ssq};
+use crate::kings::is_king_attacked;
+use squares::{SBoard, SPiece, SPos, Side, Ssq};
 
 /// Whether some enemy of the side reaches the square. It takes no memory.
 pub fn attacked(position: &SPos, side: Side, square: Ssq) -> bool
@@ -92,38 +91,4 @@ pub fn is_attacked(board: &SBoard, side: Side, square: Ssq) -> bool
     ensures { result ≡ attacked board.now side square }
 {
     is_seen(board, side, square)
-}
-
-/// Whether the cell holds the king of the side.
-pub fn holds_king(cell: Option<SPiece>, side: Side) -> bool
-    ensures { result ≡ holds_king side cell }
-{
-    match cell {
-        None => false,
-        Some(piece) => match piece.role {
-            Role::King => piece.side == side,
-            _ => false,
-        },
-    }
-}
-
-// Whether the king of the side stands on the square and is attacked.
-#[tactic(auto, unfolding(crate::specs::Search::king_attacked_at))]
-fn king_attacked_at(board: &SBoard, side: Side, square: Ssq) -> bool
-    ensures { result ≡ king_attacked_at board.now side square }
-{
-    if holds_king(board.at(square), side) {
-        return is_attacked(board, side, square);
-    }
-    false
-}
-
-/// Whether the king of the side is attacked.
-#[tactic(auto, unfolding(crate::specs::Search::king_attacked))]
-pub fn is_king_attacked(board: &SBoard, side: Side) -> bool
-    ensures { result ≡ king_attacked board.now side }
-{
-    all_squares()
-        .iter()
-        .any(|square| king_attacked_at(board, side, *square))
 }

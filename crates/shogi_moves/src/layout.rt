@@ -1,13 +1,12 @@
 //! What the rules look at, and what a move makes of it.
 ghost use Rattle.std.specs.Prelude.{◌≡◌};
 ghost use Rattle.squares.specs.ShogiSets.{IsShogiPosition};
-ghost use Rattle.shogi_moves.specs.Kings.{AreKings};
 ghost use Rattle.shogi_moves.specs.Rules.{may_promote, held, with_held, dropped_role, arrived, board_after, hands_after, play};
 ghost use Rattle.squares.specs.declared.shogi.moves.SMove.TheVariants.{Step, Drop};
 ghost use Rattle.shogi_moves.specs.Search.{king_attacked};
+ghost use Rattle.shogi_moves.specs.Computed.{is_drop};
 
-use crate::kings::{kings_moved, kings_of, some_attacked};
-use masks::Word81;
+use crate::kings::is_king_attacked;
 use squares::{Hand, HandKind, Hands, Role, SBoard, SMove, SPiece, SPos, Side, Ssq};
 
 /// A board, hands and a turn, as in a position.
@@ -16,8 +15,8 @@ pub struct Layout {
     pub board: SBoard,
     pub hands: Hands,
     pub turn: Side,
-    kings: Word81,
-    ghost are_kings: { AreKings board turn kings },
+    checked: bool,
+    ghost is_known: { checked ≡ king_attacked board turn },
 }
 
 impl Layout {
@@ -30,12 +29,12 @@ impl Layout {
     {
         let board = position.board().copied();
         let turn = position.turn();
-        let kings = kings_of(&board, turn);
+        let checked = is_king_attacked(&board, turn);
         Layout {
             board,
             hands: position.hands(),
             turn,
-            kings,
+            checked,
         }
     }
 
@@ -86,55 +85,21 @@ impl Layout {
         }
     }
 
-    // The squares of the kings after a step.
-    fn kings_after_step(&self, from: Ssq, to: Ssq, promote: bool) -> Word81
-        ensures { AreKings (board_after (position_of self.now) (Step from to promote)) self.now.turn result }
-    {
-        match self.board.at(from) {
-            None => self.kings,
-            Some(piece) => kings_moved(self.kings, self.turn, arrived(piece, promote), from, to),
-        }
-    }
-
-    // The squares of the kings after a drop.
-    fn kings_after_drop(&self, kind: HandKind, to: Ssq) -> Word81
-        ensures { AreKings (board_after (position_of self.now) (Drop kind to)) self.now.turn result }
-    {
-        kings_moved(
-            self.kings,
-            self.turn,
-            SPiece {
-                side: self.turn,
-                role: dropped_role(kind),
-            },
-            to,
-            to,
-        )
-    }
-
-    // The squares of the kings after a move.
-    fn kings_after(&self, played: &SMove) -> Word81
-        ensures { AreKings (board_after (position_of self.now) played.now) self.now.turn result }
-    {
-        match played {
-            SMove::Step { from, to, promote } => self.kings_after_step(*from, *to, *promote),
-            SMove::Drop { kind, to } => self.kings_after_drop(*kind, *to),
-        }
-    }
-
     /// Whether the king of the side to move is attacked.
     pub fn is_checked(&self) -> bool
         ensures { result ≡ king_attacked self.now.board self.now.turn }
     {
-        some_attacked(&self.board, self.turn, self.kings)
+        self.checked
     }
 
-    /// Whether the king of the side to move is attacked after a move.
+    /// Whether the king of the side to move is attacked after a move. A drop uncovers no king.
     pub fn is_checked_after(&self, played: &SMove) -> bool
         ensures { result ≡ king_attacked (board_after (position_of self.now) played.now) self.now.turn }
     {
-        let board = self.board_after(played);
-        some_attacked(&board, self.turn, self.kings_after(played))
+        if is_drop(played) && !self.checked {
+            return false;
+        }
+        is_king_attacked(&self.board_after(played), self.turn)
     }
 
     /// The layout after a drop.
@@ -143,14 +108,24 @@ impl Layout {
     {
         let board = self.board_after_drop(kind, to);
         let turn = self.turn.other();
-        let kings = kings_of(&board, turn);
+        let checked = is_king_attacked(&board, turn);
         let count = self.held(kind).saturating_sub(1);
         Layout {
             board,
             hands: with_held(self.hands, self.turn, kind, count),
             turn,
-            kings,
+            checked,
         }
+    }
+}
+
+// Whether the move drops a piece.
+fn is_drop(played: &SMove) -> bool
+    ensures { result ≡ is_drop played.now }
+{
+    match played {
+        SMove::Step { .. } => false,
+        SMove::Drop { .. } => true,
     }
 }
 

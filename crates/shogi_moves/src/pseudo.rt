@@ -1,16 +1,18 @@
 //! Moves but for what they do to the kings.
-ghost use Rattle.std.specs.Prelude.{◌≡◌, ◌&&◌, ◌||◌, not};
+ghost use Rattle.std.specs.Prelude.{◌≡◌, ◌&&◌, ◌||◌, ◌==◌, ℕ, not};
 ghost use Rattle.std.specs.FinMap as map;
+ghost use Rattle.std.specs.FinSet as set;
+ghost use Rattle.squares.specs.ShogiGeometry.{file_of};
 ghost use Rattle.squares.specs.Sides.{same_side};
 ghost use Rattle.shogi_moves.specs.Rules.{may_land, may_promote};
 ghost use Rattle.shogi_moves.specs.Search.{piece_reaches};
 ghost use Rattle.shogi_moves.specs.Layouts.{position_of};
-ghost use Rattle.shogi_moves.specs.Computed.{goes, is_free, is_movement, lacks, stuck_after, stays, drops_dead, holds_pawn, pawn_on_file_at, pawn_on_file, drops_pawn, drops_second_pawn, is_pseudo};
+ghost use Rattle.shogi_moves.specs.Computed.{goes, is_free, is_movement, lacks, stuck_after, stays, drops_dead, holds_pawn, pawn_on_file, drops_pawn, drops_second_pawn, is_pseudo};
 
-use crate::board_squares::all_squares;
 use crate::layout::{Layout, dropped_role};
 use crate::reaching::piece_reaches;
 use crate::zones::{is_stuck, may_land, may_promote};
+use masks::Word81;
 use squares::{HandKind, Role, SBoard, SMove, SPiece, Side, Ssq};
 
 // Whether the piece, standing on `from`, is of the side and goes to `to`.
@@ -96,35 +98,34 @@ pub fn drops_dead(layout: &Layout, played: &SMove) -> bool
     }
 }
 
-// Whether the cell holds an unpromoted pawn of the side.
-fn holds_pawn(cell: Option<SPiece>, side: Side) -> bool
-    ensures { result ≡ holds_pawn side cell }
+// The squares on which unpromoted pawns of the side stand.
+fn pawns_of(board: &SBoard, side: Side) -> Word81
+    ensures { (q : ℕ) → set.contains result q ≡ holds_pawn side (map.get board.now q) }
 {
-    match cell {
-        None => false,
-        Some(piece) => match piece.role {
-            Role::Pawn => piece.side == side,
-            _ => false,
-        },
-    }
+    board.squares_of(SPiece {
+        side,
+        role: Role::Pawn,
+    })
 }
 
-// Whether an unpromoted pawn of the side stands there, on the file of the square.
-#[tactic(auto, unfolding(crate::specs::Computed::pawn_on_file_at))]
-fn pawn_on_file_at(board: &SBoard, side: Side, square: Ssq, there: Ssq) -> bool
-    ensures { result ≡ pawn_on_file_at board.now side square there }
+// Whether the two squares are on one file.
+fn on_one_file(there: Ssq, square: Ssq) -> bool
+    ensures { result ≡ (file_of there == file_of square) }
 {
-    holds_pawn(board.at(there), side) && there.file() == square.file()
+    there.file() == square.file()
 }
 
 // Whether an unpromoted pawn of the side stands on the file of the square.
-#[tactic(auto, unfolding(crate::specs::Computed::pawn_on_file))]
 fn pawn_on_file(board: &SBoard, side: Side, square: Ssq) -> bool
     ensures { result ≡ pawn_on_file board.now side square }
 {
-    all_squares()
-        .iter()
-        .any(|there| pawn_on_file_at(board, side, square, *there))
+    let mut rest = pawns_of(board, side);
+    while let Some(there) = rest.pop() {
+        if on_one_file(Ssq::of_number(there), square) {
+            return true;
+        }
+    }
+    false
 }
 
 /// Whether the move drops a pawn.

@@ -2,7 +2,7 @@ use Rattle.std.proofs.Common.{◌≡◌, length}
 use Rattle.std.specs.List.{list_any}
 use Rattle.masks.specs.Words.{ascending}
 use Rattle.shogi_moves.specs.Search.{attacked, king_attacked}
-use Rattle.shogi_moves.proofs.kings.some_attacked.Given as goal
+use Rattle.shogi_moves.proofs.kings.is_king_attacked.Given as goal
 
 abbrev pub invariant-loop-square : goal.invariant-loop-square
 invariant-loop-square l = list_any (attacked l.board l.side) (ascending 0 81 l.rest) ≡ king_attacked l.board l.side

@@ -1,10 +1,10 @@
 use Rattle.std.proofs.Common.{◌∙◌, sym, ap}
 use Rattle.shogi_moves.specs.Search.{attacked, king_attacked}
 use Rattle.shogi_moves.proofs.KingLemmas.{kings-attacked, any-here, any-past}
-use Rattle.shogi_moves.proofs.kings.some_attacked.Goals as goal
+use Rattle.shogi_moves.proofs.kings.is_king_attacked.Goals as goal
 
 pub loop-square-init : goal.loop-square-init
-loop-square-init c = kings-attacked c.args.board.now c.args.side c.args.kings c.requires
+loop-square-init c = kings-attacked c.args.board.now c.args.side c.kings_of-rest.result c.kings_of-rest.ensures
 
 pub returns-then-is_attacked : goal.returns-then-is_attacked
 returns-then-is_attacked c =
