@@ -1,11 +1,10 @@
 -- A drop uncovers no king: what attacks it after the drop attacked it before.
-use Rattle.std.proofs.Common.{◌≡◌, ℕ, Bool, true, false, cond, Option, Some, None, List, [], ◌∷◌, nat_eq, refl, sym, ap, ◌∙◌, subst}
+use Rattle.std.proofs.Common.{◌≡◌, ℕ, Bool, true, false, cond, Option, Some, None, List, [], ◌∷◌, nat_eq, refl, sym, ap, ◌∙◌}
 use Rattle.std.specs.Cmp.{nat_cmp_total, unsigned_tied}
 use Rattle.std.specs.FinMap as map
 use Rattle.squares.specs.declared.sides.Side.{Side}
 use Rattle.squares.specs.declared.sides.Side.TheVariants.{First, Second}
 use Rattle.squares.specs.declared.shogi.piece.Role.{Role}
-use Rattle.squares.specs.declared.shogi.piece.Role.TheVariants as role
 use Rattle.squares.specs.declared.shogi.piece.HandKind.{HandKind}
 use Rattle.squares.specs.declared.shogi.piece.HandKind.TheVariants as in_hand
 use Rattle.squares.specs.declared.shogi.piece.SPiece.{SPiece}
@@ -14,7 +13,7 @@ use Rattle.squares.specs.declared.shogi.moves.SMove.TheVariants.{Step, Drop}
 use Rattle.squares.specs.Sides.{other}
 use Rattle.squares.specs.ShogiBoard.{ShogiBoard}
 use Rattle.squares.specs.ShogiSets.{ShogiPosition, is_king}
-use Rattle.shogi_moves.specs.Reach.{Reach, Attacked, KingAttacked, AllClear, king}
+use Rattle.shogi_moves.specs.Reach.{Attacked, KingAttacked, AllClear, king}
 use Rattle.shogi_moves.specs.Search.{king_attacked}
 use Rattle.shogi_moves.specs.Rules.{board_after, dropped_role}
 use Rattle.shogi_moves.specs.Computed.{is_drop}

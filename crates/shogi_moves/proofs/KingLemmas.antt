@@ -1,10 +1,8 @@
 -- Kings are attacked exactly if one of their squares is.
-use Rattle.std.proofs.Common.{◌≡◌, ℕ, zero, suc, ◌+◌, ◌<◌, ◌≤◌, Bool, true, false, cond, not, ◌&&◌, ◌||◌, nat_eq, Option, Some, None, [], ◌∷◌, ◌⊎◌, inl, inr, refl, sym, ap, ◌∙◌, arith}
+use Rattle.std.proofs.Common.{◌≡◌, ℕ, zero, suc, ◌+◌, Bool, true, false, cond, ◌&&◌, ◌||◌, Option, Some, None, [], ◌∷◌, refl, sym, ap, ◌∙◌, arith}
 use Rattle.std.specs.List.{list_any, range_with_len}
-use Rattle.std.specs.Cmp.{nat_cmp_total, unsigned_tied}
 use Rattle.std.specs.FinMap as map
 use Rattle.std.specs.FinSet as set
-use Rattle.std.proofs.lemmas.Bool.{cases_order}
 use Rattle.masks.specs.Words.{Numbers, passing, ascending}
 use Rattle.squares.specs.declared.sides.Side.{Side}
 use Rattle.squares.specs.declared.shogi.piece.SPiece.{SPiece}
@@ -16,10 +14,8 @@ use Rattle.squares.specs.ShogiSamePosition.{same_role}
 use Rattle.squares.specs.ShogiWords.{holds}
 use Rattle.squares.specs.ShogiSets.{holds_king, is_king}
 use Rattle.shogi_moves.specs.Reach.{king}
-use Rattle.squares.specs.In.{list_any-found, list_any-finds}
 use Rattle.shogi_moves.specs.Kings.{AreKings}
 use Rattle.shogi_moves.specs.Search.{all_squares, attacked, king_attacked_at, king_attacked}
-use Rattle.shogi_moves.proofs.TruthLemmas.{and_true, true_and, nat_eq-same, same-nat_eq, In-all_squares}
 
 one_more : (n : ℕ) → n + 1 ≡ suc n
 one_more n = omega arith
@@ -50,6 +46,7 @@ king-cell side (Some piece) = turn (same_side piece.side side) (same_role piece.
     turn true false false e = refl
     turn false b true e = refl
     turn false b false e = refl
+
     one : (r : Role) → same_role r role.King ≡ is_king r
     one role.King = refl
     one role.Rook = refl

@@ -13,4 +13,5 @@ pub mod PlayLemmas
 pub mod ReachLemmas
 pub mod ReachedLemmas
 pub mod RuleLemmas
+pub mod SeekLemmas
 pub mod TruthLemmas

@@ -1,5 +1,5 @@
--- The listed moves are the legal ones, in order.
-use Rattle.std.proofs.Common.{◌≡◌, ℕ, zero, suc, ◌+◌, ◌<◌, ◌≤◌, Bool, true, false, cond, inl, inr, List, [], ◌∷◌, ◌++◌, length, take, get_or, refl, sym, ap, ◌∙◌, subst, arith}
+-- The listed moves are those that pass, in order.
+use Rattle.std.proofs.Common.{◌≡◌, ℕ, zero, suc, ◌+◌, ◌<◌, Bool, true, false, cond, inl, inr, List, [], ◌∷◌, ◌++◌, length, refl, sym, ap, ◌∙◌, subst, arith}
 use Rattle.std.specs.Prelude.{◌↔◌}
 use Rattle.std.specs.Ordering.{nat_cmp, ordering_then}
 use Rattle.std.specs.Cmp.{nat_cmp_is}
@@ -8,7 +8,6 @@ use Rattle.std.specs.List.{flat_map, range_with_len, AllByRecursion, Contains}
 use Rattle.std.specs.List.Sorted.{IsStrictlySortedBy}
 use Rattle.std.specs.declared.cmp.Ordering.{Ordering}
 use Rattle.std.specs.declared.cmp.Ordering.TheVariants.{Less, Equal}
-use Rattle.std.proofs.lemmas.List.{take_more, take_all, flat_map_more}
 use Rattle.std.proofs.lemmas.List.FromFn.{length-range_with_len}
 use Rattle.squares.specs.declared.shogi.piece.HandKind.{HandKind}
 use Rattle.squares.specs.declared.shogi.piece.HandKind.TheVariants as in_hand
@@ -19,19 +18,9 @@ use Rattle.squares.specs.In.{In, In-left, In-right, In-cases, In-flat_map, In-fr
 use Rattle.shogi_moves.specs.Search.{all_squares}
 use Rattle.shogi_moves.specs.Rules.{Legal}
 use Rattle.shogi_moves.specs.Computed.{all_kinds, is_legal}
-use Rattle.shogi_moves.specs.Listing.{place, move_cmp, if_legal, steps_between, steps_from, all_steps, drops_on, drops_of, all_drops, all_moves}
+use Rattle.shogi_moves.specs.Listing.{place, move_cmp, if_passes, steps_between, steps_from, all_steps, drops_on, drops_of, all_drops, all_moves}
 use Rattle.shogi_moves.proofs.MateLemmas.{NamesSquares, Movement-squares, In-all_kinds, is_legal-is}
 use Rattle.shogi_moves.proofs.TruthLemmas.{In-all_squares, range-In}
-
--- one more element of a loop that adds
-pub added_more : {A B : Type 0} (f : B → List A) (xs : List B) (i : ℕ) (x : B) (before old new : List A) → i < length xs → x ≡ get_or xs i x → old ≡ before ++ flat_map f (take i xs) → new ≡ old ++ f x → new ≡ before ++ flat_map f (take (i + 1) xs)
-added_more f xs i x before old new h is so_far step =
-    step ∙ ap (λ ys. ys ++ f x) so_far ∙ flat_map_more f before (take i xs) x
-    ∙ ap (λ ys. before ++ flat_map f ys) (ap (λ y. take i xs ++ y ∷ []) is ∙ sym (take_more xs i x h))
-
-pub added_at : {A B : Type 0} (f : B → List A) (xs : List B) (i : ℕ) (d : B) (before old new : List A) → i < length xs → old ≡ before ++ flat_map f (take i xs) → new ≡ old ++ f (get_or xs i d) → new ≡ before ++ flat_map f (take (i + 1) xs)
-added_at f xs i d before old new h so_far step =
-    step ∙ ap (λ ys. ys ++ f (get_or xs i d)) so_far ∙ flat_map_more f before (take i xs) (get_or xs i d) ∙ ap (λ ys. before ++ flat_map f ys) (sym (take_more xs i d h))
 
 -- Lists in order.
 module _ {A : Type 0} (order : A → A → Ordering) where
@@ -135,139 +124,132 @@ module _ (k l : HandKind) (t u : ℕ) where
 less_as : (a b m n : SMove) → a ≡ m → b ≡ n → move_cmp m n ≡ Less → move_cmp a b ≡ Less
 less_as a b m n e f h = (λ i. move_cmp (e i) (f i)) ∙ h
 
-module _ (p : ShogiPosition) where
-  in_if_legal : (m a : SMove) → In a (if_legal p m) → (a ≡ m) × (is_legal p m ≡ true)
-  unfolding if_legal
-  in_if_legal m a h =
-      elim (is_legal p m) as (λ c. is_legal p m ≡ c → In a (cond c (m ∷ []) []) → (a ≡ m) × (is_legal p m ≡ true)) [
+module _ (test : SMove → Bool) where
+  in_if_passes : (m a : SMove) → In a (if_passes test m) → (a ≡ m) × (test m ≡ true)
+  unfolding if_passes
+  in_if_passes m a h =
+      elim (test m) as (λ c. test m ≡ c → In a (cond c (m ∷ []) []) → (a ≡ m) × (test m ≡ true)) [
         | true ↦ λ e k. elim k [ inl is ↦ (sym is, e) | inr never ↦ absurd never ]
         | false ↦ λ _ k. absurd k
       ] refl h
 
-  if_legal-in : (m : SMove) → is_legal p m ≡ true → In m (if_legal p m)
-  unfolding if_legal
-  if_legal-in m e = subst (λ c. In m (cond c (m ∷ []) [])) (sym e) (inl refl)
+  if_passes-in : (m : SMove) → test m ≡ true → In m (if_passes test m)
+  unfolding if_passes
+  if_passes-in m e = subst (λ c. In m (cond c (m ∷ []) [])) (sym e) (inl refl)
 
-  if_legal-sorted : (m : SMove) → IsStrictlySortedBy move_cmp (if_legal p m)
-  unfolding if_legal IsStrictlySortedBy
-  if_legal-sorted m = elim (is_legal p m) as (λ c. IsStrictlySortedBy move_cmp (cond c (m ∷ []) [])) [ true ↦ (tt, tt) | false ↦ tt ]
+  if_passes-sorted : (m : SMove) → IsStrictlySortedBy move_cmp (if_passes test m)
+  unfolding if_passes IsStrictlySortedBy
+  if_passes-sorted m = elim (test m) as (λ c. IsStrictlySortedBy move_cmp (cond c (m ∷ []) [])) [ true ↦ (tt, tt) | false ↦ tt ]
 
-  in_between : (from to : ℕ) (a : SMove) → In a (steps_between p from to) → (promote : Bool) × (a ≡ Step from to promote) × (is_legal p a ≡ true)
+  in_between : (from to : ℕ) (a : SMove) → In a (steps_between test from to) → (promote : Bool) × (a ≡ Step from to promote) × (test a ≡ true)
   unfolding steps_between
   in_between from to a h =
-      elim (In-cases a (if_legal p (Step from to false)) (if_legal p (Step from to true)) h) [
-        | inl k ↦ let w = in_if_legal (Step from to false) a k in (false, w.0, ap (is_legal p) w.0 ∙ w.1)
-        | inr k ↦ let w = in_if_legal (Step from to true) a k in (true, w.0, ap (is_legal p) w.0 ∙ w.1)
+      elim (In-cases a (if_passes test (Step from to false)) (if_passes test (Step from to true)) h) [
+        | inl k ↦ let w = in_if_passes (Step from to false) a k in (false, w.0, ap (test) w.0 ∙ w.1)
+        | inr k ↦ let w = in_if_passes (Step from to true) a k in (true, w.0, ap (test) w.0 ∙ w.1)
       ]
 
-  between-in : (from to : ℕ) (promote : Bool) → is_legal p (Step from to promote) ≡ true → In (Step from to promote) (steps_between p from to)
+  between-in : (from to : ℕ) (promote : Bool) → test (Step from to promote) ≡ true → In (Step from to promote) (steps_between test from to)
   unfolding steps_between
-  between-in from to false e = In-left (Step from to false) (if_legal p (Step from to false)) (if_legal p (Step from to true)) (if_legal-in (Step from to false) e)
-  between-in from to true e = In-right (Step from to true) (if_legal p (Step from to false)) (if_legal p (Step from to true)) (if_legal-in (Step from to true) e)
+  between-in from to false e = In-left (Step from to false) (if_passes test (Step from to false)) (if_passes test (Step from to true)) (if_passes-in (Step from to false) e)
+  between-in from to true e = In-right (Step from to true) (if_passes test (Step from to false)) (if_passes test (Step from to true)) (if_passes-in (Step from to true) e)
 
-  between-sorted : (from to : ℕ) → IsStrictlySortedBy move_cmp (steps_between p from to)
+  between-sorted : (from to : ℕ) → IsStrictlySortedBy move_cmp (steps_between test from to)
   unfolding steps_between
   between-sorted from to =
-      sorted-append move_cmp (if_legal p (Step from to false)) (if_legal p (Step from to true)) (if_legal-sorted (Step from to false)) (if_legal-sorted (Step from to true))
+      sorted-append move_cmp (if_passes test (Step from to false)) (if_passes test (Step from to true)) (if_passes-sorted (Step from to false)) (if_passes-sorted (Step from to true))
       (λ a b h k.
-      less_as a b (Step from to false) (Step from to true) (in_if_legal (Step from to false) a h).0 (in_if_legal (Step from to true) b k).0
+      less_as a b (Step from to false) (Step from to true) (in_if_passes (Step from to false) a h).0 (in_if_passes (Step from to true) b k).0
       (step-before_promoting from to))
 
-  in_from : (from : ℕ) (a : SMove) → In a (steps_from p from) → (to : ℕ) × (promote : Bool) × (a ≡ Step from to promote) × (is_legal p a ≡ true)
+  in_from : (from : ℕ) (a : SMove) → In a (steps_from test from) → (to : ℕ) × (promote : Bool) × (a ≡ Step from to promote) × (test a ≡ true)
   unfolding steps_from
-  in_from from a h = let w = In-from_flat_map (steps_between p from) a all_squares h in let v = in_between from w.0 a w.2 in (w.0, v.0, v.1, v.2)
+  in_from from a h = let w = In-from_flat_map (steps_between test from) a all_squares h in let v = in_between from w.0 a w.2 in (w.0, v.0, v.1, v.2)
 
-  from-sorted : (from : ℕ) → IsStrictlySortedBy move_cmp (steps_from p from)
+  from-sorted : (from : ℕ) → IsStrictlySortedBy move_cmp (steps_from test from)
   unfolding steps_from
   from-sorted from =
-      sorted-flat_map move_cmp (λ m. m) (steps_between p from) all_squares squares-rise (between-sorted from)
+      sorted-flat_map move_cmp (λ m. m) (steps_between test from) all_squares squares-rise (between-sorted from)
       (λ x y less a b h k.
       let v = in_between from x a h in
       let w = in_between from y b k in
       less_as a b (Step from x v.0) (Step from y w.0) v.1 w.1 (step-before_to from from x y v.0 w.0 less))
 
-  in_steps : (a : SMove) → In a (all_steps p) → (from : ℕ) × (to : ℕ) × (promote : Bool) × (a ≡ Step from to promote) × (is_legal p a ≡ true)
+  in_steps : (a : SMove) → In a (all_steps test) → (from : ℕ) × (to : ℕ) × (promote : Bool) × (a ≡ Step from to promote) × (test a ≡ true)
   unfolding all_steps
-  in_steps a h = let w = In-from_flat_map (steps_from p) a all_squares h in let v = in_from w.0 a w.2 in (w.0, v.0, v.1, v.2, v.3)
+  in_steps a h = let w = In-from_flat_map (steps_from test) a all_squares h in let v = in_from w.0 a w.2 in (w.0, v.0, v.1, v.2, v.3)
 
-  steps-sorted : IsStrictlySortedBy move_cmp (all_steps p)
+  steps-sorted : IsStrictlySortedBy move_cmp (all_steps test)
   unfolding all_steps
   steps-sorted =
-      sorted-flat_map move_cmp (λ m. m) (steps_from p) all_squares squares-rise from-sorted
+      sorted-flat_map move_cmp (λ m. m) (steps_from test) all_squares squares-rise from-sorted
       (λ x y less a b h k.
       let v = in_from x a h in
       let w = in_from y b k in
       less_as a b (Step x v.0 v.1) (Step y w.0 w.1) v.2 w.2 (step-before_from x y v.0 w.0 v.1 w.1 less))
 
-  in_drops_on : (kind : HandKind) (to : ℕ) (a : SMove) → In a (drops_on p kind to) → (a ≡ Drop kind to) × (is_legal p a ≡ true)
+  in_drops_on : (kind : HandKind) (to : ℕ) (a : SMove) → In a (drops_on test kind to) → (a ≡ Drop kind to) × (test a ≡ true)
   unfolding drops_on
-  in_drops_on kind to a h = let w = in_if_legal (Drop kind to) a h in (w.0, ap (is_legal p) w.0 ∙ w.1)
+  in_drops_on kind to a h = let w = in_if_passes (Drop kind to) a h in (w.0, ap (test) w.0 ∙ w.1)
 
-  drops_on-sorted : (kind : HandKind) (to : ℕ) → IsStrictlySortedBy move_cmp (drops_on p kind to)
+  drops_on-sorted : (kind : HandKind) (to : ℕ) → IsStrictlySortedBy move_cmp (drops_on test kind to)
   unfolding drops_on
-  drops_on-sorted kind to = if_legal-sorted (Drop kind to)
+  drops_on-sorted kind to = if_passes-sorted (Drop kind to)
 
-  in_drops_of : (kind : HandKind) (a : SMove) → In a (drops_of p kind) → (to : ℕ) × (a ≡ Drop kind to) × (is_legal p a ≡ true)
+  in_drops_of : (kind : HandKind) (a : SMove) → In a (drops_of test kind) → (to : ℕ) × (a ≡ Drop kind to) × (test a ≡ true)
   unfolding drops_of
-  in_drops_of kind a h = let w = In-from_flat_map (drops_on p kind) a all_squares h in let v = in_drops_on kind w.0 a w.2 in (w.0, v.0, v.1)
+  in_drops_of kind a h = let w = In-from_flat_map (drops_on test kind) a all_squares h in let v = in_drops_on kind w.0 a w.2 in (w.0, v.0, v.1)
 
-  drops_of-sorted : (kind : HandKind) → IsStrictlySortedBy move_cmp (drops_of p kind)
+  drops_of-sorted : (kind : HandKind) → IsStrictlySortedBy move_cmp (drops_of test kind)
   unfolding drops_of
   drops_of-sorted kind =
-      sorted-flat_map move_cmp (λ m. m) (drops_on p kind) all_squares squares-rise (drops_on-sorted kind)
+      sorted-flat_map move_cmp (λ m. m) (drops_on test kind) all_squares squares-rise (drops_on-sorted kind)
       (λ x y less a b h k. less_as a b (Drop kind x) (Drop kind y) (in_drops_on kind x a h).0 (in_drops_on kind y b k).0 (drop-before_to kind kind x y less))
 
-  in_drops : (a : SMove) → In a (all_drops p) → (kind : HandKind) × (to : ℕ) × (a ≡ Drop kind to) × (is_legal p a ≡ true)
+  in_drops : (a : SMove) → In a (all_drops test) → (kind : HandKind) × (to : ℕ) × (a ≡ Drop kind to) × (test a ≡ true)
   unfolding all_drops
-  in_drops a h = let w = In-from_flat_map (drops_of p) a all_kinds h in let v = in_drops_of w.0 a w.2 in (w.0, v.0, v.1, v.2)
+  in_drops a h = let w = In-from_flat_map (drops_of test) a all_kinds h in let v = in_drops_of w.0 a w.2 in (w.0, v.0, v.1, v.2)
 
-  drops-sorted : IsStrictlySortedBy move_cmp (all_drops p)
+  drops-sorted : IsStrictlySortedBy move_cmp (all_drops test)
   unfolding all_drops
   drops-sorted =
-      sorted-flat_map move_cmp place (drops_of p) all_kinds kinds-rise drops_of-sorted
+      sorted-flat_map move_cmp place (drops_of test) all_kinds kinds-rise drops_of-sorted
       (λ x y less a b h k.
       let v = in_drops_of x a h in
       let w = in_drops_of y b k in
       less_as a b (Drop x v.0) (Drop y w.0) v.1 w.1 (drop-before_kind x y v.0 w.0 less))
 
-  pub moves-sorted : IsStrictlySortedBy move_cmp (all_moves p)
+  pub moves-sorted : IsStrictlySortedBy move_cmp (all_moves test)
   unfolding all_moves
   moves-sorted =
-      sorted-append move_cmp (all_steps p) (all_drops p) steps-sorted drops-sorted
+      sorted-append move_cmp (all_steps test) (all_drops test) steps-sorted drops-sorted
       (λ a b h k.
       let v = in_steps a h in
       let w = in_drops b k in
       less_as a b (Step v.0 v.1 v.2) (Drop w.0 w.1) v.3 w.2 (step-before_drop w.0 w.0 w.1 w.1 v.0 v.1 v.2))
 
-  moves-legal : (m : SMove) → In m (all_moves p) → is_legal p m ≡ true
+  pub moves-pass : (m : SMove) → In m (all_moves test) → test m ≡ true
   unfolding all_moves
-  moves-legal m h = elim (In-cases m (all_steps p) (all_drops p) h) [ inl k ↦ (in_steps m k).4 | inr k ↦ (in_drops m k).3 ]
+  moves-pass m h = elim (In-cases m (all_steps test) (all_drops test) h) [ inl k ↦ (in_steps m k).4 | inr k ↦ (in_drops m k).3 ]
 
-  legal-moves : (m : SMove) → NamesSquares m → is_legal p m ≡ true → In m (all_moves p)
+  passing-moves : (m : SMove) → NamesSquares m → test m ≡ true → In m (all_moves test)
   unfolding all_moves all_steps steps_from all_drops drops_of drops_on
-  legal-moves (Step from to promote) on e =
-      In-left (Step from to promote) (all_steps p) (all_drops p)
-      (In-flat_map (steps_from p) (Step from to promote) from all_squares (In-all_squares from on.0)
-      (In-flat_map (steps_between p from) (Step from to promote) to all_squares (In-all_squares to on.1) (between-in from to promote e)))
-  legal-moves (Drop kind to) on e =
-      In-right (Drop kind to) (all_steps p) (all_drops p)
-      (In-flat_map (drops_of p) (Drop kind to) kind all_kinds (In-all_kinds kind)
-      (In-flat_map (drops_on p kind) (Drop kind to) to all_squares (In-all_squares to on) (if_legal-in (Drop kind to) e)))
+  passing-moves (Step from to promote) on e =
+      In-left (Step from to promote) (all_steps test) (all_drops test)
+      (In-flat_map (steps_from test) (Step from to promote) from all_squares (In-all_squares from on.0)
+      (In-flat_map (steps_between test from) (Step from to promote) to all_squares (In-all_squares to on.1) (between-in from to promote e)))
+  passing-moves (Drop kind to) on e =
+      In-right (Drop kind to) (all_steps test) (all_drops test)
+      (In-flat_map (drops_of test) (Drop kind to) kind all_kinds (In-all_kinds kind)
+      (In-flat_map (drops_on test kind) (Drop kind to) to all_squares (In-all_squares to on) (if_passes-in (Drop kind to) e)))
 
-  pub moves-members : (m : SMove) → Contains (all_moves p) m ↔ Legal p m
+module _ (p : ShogiPosition) where
+  pub moves-members : (m : SMove) → Contains (all_moves (is_legal p)) m ↔ Legal p m
   moves-members m = (
-    λ c. (is_legal-is p m).0 (moves-legal m (Contains-In m (all_moves p) c)),
-    λ l. In-Contains m (all_moves p) (legal-moves m (Movement-squares p m l.pseudo.moves) ((is_legal-is p m).1 l)),
+    λ c. (is_legal-is p m).0 (moves-pass (is_legal p) m (Contains-In m (all_moves (is_legal p)) c)),
+    λ l. In-Contains m (all_moves (is_legal p)) (passing-moves (is_legal p) m (Movement-squares p m l.pseudo.moves) ((is_legal-is p m).1 l)),
   )
-
--- the end of a loop that adds
-pub added_all : {A B : Type 0} (f : B → List A) (xs all : List B) (i : ℕ) (before new : List A) → length xs ≤ i → xs ≡ all → new ≡ before ++ flat_map f (take i xs) → new ≡ before ++ flat_map f all
-added_all f xs all i before new h is so_far = so_far ∙ ap (λ ys. before ++ flat_map f ys) (take_all i xs h ∙ is)
 
 pub length-all_squares : length all_squares ≡ 81
 unfolding all_squares
 length-all_squares = length-range_with_len 0 81
-
-pub all_moves-is : (p : ShogiPosition) → all_steps p ++ all_drops p ≡ all_moves p
-unfolding all_moves
-all_moves-is p = refl

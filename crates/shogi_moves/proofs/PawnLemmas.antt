@@ -29,6 +29,7 @@ pawn-cell side (Some piece) = turn (same_side piece.side side) (same_role piece.
     turn true false false e = refl
     turn false b true e = refl
     turn false b false e = refl
+
     one : (r : Role) → same_role r role.Pawn ≡ is_pawn r
     one role.King = refl
     one role.Rook = refl

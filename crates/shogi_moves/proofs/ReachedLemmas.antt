@@ -6,24 +6,26 @@ use Rattle.std.specs.List.{list_any, flat_map}
 use Rattle.std.specs.FinMap as map
 use Rattle.std.specs.FinSet as set
 use Rattle.std.proofs.lemmas.Grind.{common_steps}
-use Rattle.std.proofs.lemmas.List.{take_more, take_all, append-nil}
+use Rattle.std.proofs.lemmas.List.{take_more, take_all}
 use Rattle.std.proofs.lemmas.List.Folds.{list_any-append}
 use Rattle.masks.specs.Words.{Numbers, ascending}
 use Rattle.masks.specs.Walks.{flat_map-ascending}
 use Rattle.squares.specs.declared.sides.Side.{Side}
 use Rattle.squares.specs.declared.shogi.piece.SPiece.{SPiece}
+use Rattle.squares.specs.declared.shogi.moves.SMove.{SMove}
 use Rattle.squares.specs.declared.shogi.moves.SMove.TheVariants.{Step, Drop}
 use Rattle.squares.specs.declared.shogi.piece.HandKind.{HandKind}
 use Rattle.squares.specs.Sides.{same_side}
 use Rattle.squares.specs.ShogiBoard.{ShogiBoard}
 use Rattle.squares.specs.ShogiSets.{ShogiPosition}
+use Rattle.squares.specs.ShogiWords.{is_side}
 use Rattle.squares.specs.DraughtsMarks.{contains-insert_nat}
 use Rattle.shogi_moves.specs.declared.heading.Heading.{Heading}
 use Rattle.shogi_moves.specs.Reach.{step, line}
 use Rattle.shogi_moves.specs.Rules.{may_land, may_promote, is_stuck, held}
 use Rattle.shogi_moves.specs.Search.{all_squares, comes_to, piece_reaches}
-use Rattle.shogi_moves.specs.Computed.{goes, stuck_after, is_movement, lacks, stays, drops_dead, drops_second_pawn, is_pseudo, leaves_king, escapes, mates_by_pawn, is_legal}
-use Rattle.shogi_moves.specs.Listing.{if_legal, steps_between, steps_from, drops_on, drops_of}
+use Rattle.shogi_moves.specs.Computed.{goes, stuck_after, is_movement, stays, drops_dead, drops_second_pawn, is_pseudo, leaves_king, escapes, mates_by_pawn, is_legal}
+use Rattle.shogi_moves.specs.Listing.{if_passes, steps_between, steps_from, all_steps, drops_on, drops_of}
 use Rattle.shogi_moves.specs.Steps.{step_passes}
 use Rattle.shogi_moves.proofs.HeadingLemmas.{walk-edge, walk-end, walk_first}
 use Rattle.shogi_moves.proofs.TruthLemmas.{same_side-itself}
@@ -80,12 +82,6 @@ any_next f xs i x found h is so_far = ap (λ y. found || f y) is ∙ any_more f 
 pub any_all : {A : Type 0} (f : A → Bool) (xs : List A) (i : ℕ) (found : Bool) → length xs ≤ i → found ≡ list_any f (take i xs) → found ≡ list_any f xs
 any_all f xs i found h so_far = so_far ∙ ap (list_any f) (take_all i xs h)
 
-tidy : (g s k : Bool) → ((((((g && true) && s) && true) && true) && k) && true) ≡ ((g && s) && k)
-tidy true true true = refl
-tidy true true false = refl
-tidy true false k = refl
-tidy false s k = refl
-
 and_truth : (a : Bool) → (a && true) ≡ a
 and_truth true = refl
 and_truth false = refl
@@ -94,27 +90,57 @@ flat_map-none : {A B : Type 0} (f : B → List A) (xs : List B) → ((x : B) →
 flat_map-none f [] none = refl
 flat_map-none f (x ∷ xs) none = ap (λ ys. ys ++ flat_map f xs) (none x) ∙ flat_map-none f xs none
 
-module _ (p : ShogiPosition) (from : ℕ) where
-  step_is : (to : ℕ) (promote : Bool) → is_legal p (Step from to promote) ≡ ((goes p from to promote && not (not promote && stuck_after p from to)) && not (leaves_king p (Step from to promote)))
-  unfolding is_legal escapes mates_by_pawn is_pseudo drops_second_pawn
-  step_is to promote = tidy (goes p from to promote) (not (not promote && stuck_after p from to)) (not (leaves_king p (Step from to promote)))
+tidy : (g s : Bool) → ((((g && true) && s) && true) && true) ≡ (g && s)
+tidy true true = refl
+tidy true false = refl
+tidy false s = refl
 
-  not_gone : (to : ℕ) (promote : Bool) → goes p from to promote ≡ false → is_legal p (Step from to promote) ≡ false
-  not_gone to promote e = step_is to promote ∙ ap (λ b. (b && not (not promote && stuck_after p from to)) && not (leaves_king p (Step from to promote))) e
+step_is : (p : ShogiPosition) (from to : ℕ) (promote : Bool) → is_pseudo p (Step from to promote) ≡ (goes p from to promote && not (not promote && stuck_after p from to))
+unfolding is_pseudo drops_second_pawn
+step_is p from to promote = tidy (goes p from to promote) (not (not promote && stuck_after p from to))
 
-  none_between : (to : ℕ) → ((promote : Bool) → goes p from to promote ≡ false) → steps_between p from to ≡ []
-  unfolding steps_between if_legal
-  none_between to none =
-      (λ i. cond (not_gone to false (none false) i) (Step from to false ∷ []) [] ++ cond (not_gone to true (none true) i) (Step from to true ∷ []) [])
+not_gone : (p : ShogiPosition) (from to : ℕ) (promote : Bool) → goes p from to promote ≡ false → is_pseudo p (Step from to promote) ≡ false
+not_gone p from to promote e = step_is p from to promote ∙ ap (λ b. b && not (not promote && stuck_after p from to)) e
 
-  none_from : ((to : ℕ) (promote : Bool) → goes p from to promote ≡ false) → steps_from p from ≡ []
-  unfolding steps_from
-  none_from none = flat_map-none (steps_between p from) all_squares (λ to. none_between to (none to))
+-- A test that only moves pass which may be played but for what they do to the kings.
+module _ (p : ShogiPosition) (test : SMove → Bool) (only : (m : SMove) → is_pseudo p m ≡ false → test m ≡ false) where
+  pub none_passing : (m : SMove) → is_pseudo p m ≡ false → if_passes test m ≡ []
+  unfolding if_passes
+  none_passing m e = ap (λ b. cond b (m ∷ []) []) (only m e)
 
-  -- no piece stands there
-  pub steps-empty : map.get p.board from ≡ None → steps_from p from ≡ []
-  unfolding goes
-  steps-empty e = none_from (λ to promote. ap (λ o. option_map_or (λ q. same_side q.side p.turn && may_land p.turn (map.get p.board to) && (not promote || may_promote q from to) && piece_reaches p.board q from to) o false) e)
+  module _ (from : ℕ) where
+    none_between : (to : ℕ) → ((promote : Bool) → goes p from to promote ≡ false) → steps_between test from to ≡ []
+    unfolding steps_between
+    none_between to none = (λ i. none_passing (Step from to false) (not_gone p from to false (none false)) i ++ none_passing (Step from to true) (not_gone p from to true (none true)) i)
+
+    none_from : ((to : ℕ) (promote : Bool) → goes p from to promote ≡ false) → steps_from test from ≡ []
+    unfolding steps_from
+    none_from none = flat_map-none (steps_between test from) all_squares (λ to. none_between to (none to))
+
+    -- no own piece stands there
+    pub steps-not_own : is_side p.turn (map.get p.board from) ≡ false → steps_from test from ≡ []
+    unfolding goes
+    steps-not_own e =
+        none_from
+        (λ to promote. elim (map.get p.board from) as (λ o. is_side p.turn o ≡ false → option_map_or (λ q. same_side q.side p.turn && may_land p.turn (map.get p.board to) && (not promote || may_promote q from to) && piece_reaches p.board q from to) o false ≡ false) [
+          | None ↦ λ _. refl
+          | Some q ↦ λ is. ap (λ b. b && may_land p.turn (map.get p.board to) && (not promote || may_promote q from to) && piece_reaches p.board q from to) is
+        ] e)
+
+  pub steps-own : (own : Numbers) → ((q : ℕ) → set.contains own q ≡ is_side p.turn (map.get p.board q)) → flat_map (steps_from test) (ascending 0 81 own) ≡ all_steps test
+  unfolding all_steps all_squares
+  steps-own own is = sym (flat_map-ascending (steps_from test) own 0 81 (λ q e. steps-not_own q (sym (is q) ∙ e)))
+
+  -- drops of what is not held
+  pub drops-none : (kind : HandKind) → held p.hands p.turn kind ≡ 0 → drops_of test kind ≡ []
+  unfolding drops_of drops_on is_pseudo
+  drops-none kind e = flat_map-none (λ to. if_passes test (Drop kind to)) all_squares (λ to. none_passing (Drop kind to) (none_held to))
+    where
+      none_held : (to : ℕ) → is_pseudo p (Drop kind to) ≡ false
+      none_held to =
+          let m = Drop kind to in
+          ap (λ n. is_movement p m && not (nat_eq n 0) && not (stays p m) && not (drops_dead p m) && not (drops_second_pawn p m)) e
+          ∙ ap (λ b. b && not (stays p m) && not (drops_dead p m) && not (drops_second_pawn p m)) (and_false (is_movement p m))
 
 -- The steps of a piece.
 module _ (p : ShogiPosition) (piece : SPiece) (from : ℕ) (stands : map.get p.board from ≡ Some piece) where
@@ -126,30 +152,27 @@ module _ (p : ShogiPosition) (piece : SPiece) (from : ℕ) (stands : map.get p.b
   unfolding stuck_after
   stuck_after-is to = ap (λ o. option_map_or (λ q. is_stuck q.side q.role to) o false) stands
 
-  -- an enemy stands there
-  pub steps-enemy : same_side piece.side p.turn ≡ false → steps_from p from ≡ []
-  steps-enemy e = none_from p from (λ to promote. goes-is to promote ∙ ap (λ b. b && may_land p.turn (map.get p.board to) && (not promote || may_promote piece from to) && piece_reaches p.board piece from to) e)
+  module _ (test : SMove → Bool) (only : (m : SMove) → is_pseudo p m ≡ false → test m ≡ false) where
+    -- the piece may not land there
+    pub steps-no_landing : (to : ℕ) → may_land p.turn (map.get p.board to) ≡ false → steps_between test from to ≡ []
+    steps-no_landing to e =
+        none_between p test only from to
+        (λ promote.
+        goes-is to promote
+        ∙ ap (λ b. same_side piece.side p.turn && b && (not promote || may_promote piece from to) && piece_reaches p.board piece from to) e
+        ∙ ap (λ b. b && (not promote || may_promote piece from to) && piece_reaches p.board piece from to) (and_false (same_side piece.side p.turn)))
 
-  -- the piece may not land there
-  pub steps-no_landing : (to : ℕ) → may_land p.turn (map.get p.board to) ≡ false → steps_between p from to ≡ []
-  steps-no_landing to e =
-      none_between p from to
-      (λ promote.
-      goes-is to promote
-      ∙ ap (λ b. same_side piece.side p.turn && b && (not promote || may_promote piece from to) && piece_reaches p.board piece from to) e
-      ∙ ap (λ b. b && (not promote || may_promote piece from to) && piece_reaches p.board piece from to) (and_false (same_side piece.side p.turn)))
+    -- the piece does not reach it
+    unreached : (to : ℕ) → piece_reaches p.board piece from to ≡ false → steps_between test from to ≡ []
+    unreached to e =
+        none_between p test only from to
+        (λ promote.
+        let asked = same_side piece.side p.turn && may_land p.turn (map.get p.board to) && (not promote || may_promote piece from to) in
+        goes-is to promote ∙ ap (λ b. asked && b) e ∙ and_false asked)
 
-  -- the piece does not reach it
-  unreached : (to : ℕ) → piece_reaches p.board piece from to ≡ false → steps_between p from to ≡ []
-  unreached to e =
-      none_between p from to
-      (λ promote.
-      let asked = same_side piece.side p.turn && may_land p.turn (map.get p.board to) && (not promote || may_promote piece from to) in
-      goes-is to promote ∙ ap (λ b. asked && b) e ∙ and_false asked)
-
-  pub steps-reached : (s : Numbers) → ((to : ℕ) → set.contains s to ≡ piece_reaches p.board piece from to) → flat_map (steps_between p from) (ascending 0 81 s) ≡ steps_from p from
-  unfolding steps_from all_squares
-  steps-reached s is = sym (flat_map-ascending (steps_between p from) s 0 81 (λ q e. unreached q (sym (is q) ∙ e)))
+    pub steps-reached : (s : Numbers) → ((to : ℕ) → set.contains s to ≡ piece_reaches p.board piece from to) → flat_map (steps_between test from) (ascending 0 81 s) ≡ steps_from test from
+    unfolding steps_from all_squares
+    steps-reached s is = sym (flat_map-ascending (steps_between test from) s 0 81 (λ q e. unreached q (sym (is q) ∙ e)))
 
   -- the piece reaches it, and may land there
   module _ (to : ℕ) (own : piece.side ≡ p.turn) (reaches : piece_reaches p.board piece from to ≡ true) (lands : may_land p.turn (map.get p.board to) ≡ true) where
@@ -157,25 +180,16 @@ module _ (p : ShogiPosition) (piece : SPiece) (from : ℕ) (stands : map.get p.b
     goes-own promote =
         goes-is to promote ∙ (λ i. same_side-itself piece.side p.turn own i && lands i && (not promote || may_promote piece from to) && reaches i) ∙ and_truth (not promote || may_promote piece from to)
 
-    pub step-legal : (promote : Bool) → (step_passes piece from to promote && not (leaves_king p (Step from to promote))) ≡ is_legal p (Step from to promote)
-    step-legal true = sym (step_is p from to true ∙ ap (λ b. (b && true) && not (leaves_king p (Step from to true))) (goes-own true) ∙ ap (λ b. b && not (leaves_king p (Step from to true))) (and_truth (may_promote piece from to)))
-    step-legal false = sym (step_is p from to false ∙ (λ i. (goes-own false i && not (stuck_after-is to i)) && not (leaves_king p (Step from to false))))
+    pub step-pseudo : (promote : Bool) → step_passes piece from to promote ≡ is_pseudo p (Step from to promote)
+    step-pseudo true = sym (step_is p from to true ∙ ap (λ b. b && true) (goes-own true) ∙ and_truth (may_promote piece from to))
+    step-pseudo false = sym (step_is p from to false ∙ (λ i. goes-own false i && not (stuck_after-is to i)))
 
--- Drops of what is not held.
-module _ (p : ShogiPosition) (kind : HandKind) where
-  none_dropped : (to : ℕ) → lacks p (Drop kind to) ≡ true → is_legal p (Drop kind to) ≡ false
-  unfolding is_legal escapes is_pseudo
-  none_dropped to e =
-      let m = Drop kind to in
-      ap (λ b. ((((is_movement p m && not b) && not (stays p m) && not (drops_dead p m) && not (drops_second_pawn p m)) && not (leaves_king p m)) && not (mates_by_pawn p m))) e
-      ∙ ap (λ b. (((b && not (stays p m) && not (drops_dead p m) && not (drops_second_pawn p m)) && not (leaves_king p m)) && not (mates_by_pawn p m))) (and_false (is_movement p m))
+-- What the tests say of a move that may be played but for what it does to the kings.
+module _ (p : ShogiPosition) (m : SMove) (pseudo : is_pseudo p m ≡ true) where
+  pub escapes-pseudo : escapes p m ≡ not (leaves_king p m)
+  unfolding escapes
+  escapes-pseudo = ap (λ b. b && not (leaves_king p m)) pseudo
 
-  pub drops-none : held p.hands p.turn kind ≡ 0 → drops_of p kind ≡ []
-  unfolding drops_of drops_on if_legal
-  drops-none e =
-      let lacking : lacks p (Drop kind 0) ≡ true = ap (λ n. nat_eq n 0) e in
-      flat_map-none (λ to. if_legal p (Drop kind to)) all_squares (λ to. ap (λ b. cond b (Drop kind to ∷ []) []) (none_dropped to lacking))
-
--- a list to which nothing is added
-pub nothing_added : {A : Type 0} (xs ys : List A) → ys ≡ [] → xs ≡ xs ++ ys
-nothing_added xs ys e = sym (ap (λ zs. xs ++ zs) e ∙ append-nil xs)
+  pub is_legal-pseudo : is_legal p m ≡ (not (leaves_king p m) && not (mates_by_pawn p m))
+  unfolding is_legal
+  is_legal-pseudo = ap (λ b. b && not (mates_by_pawn p m)) escapes-pseudo

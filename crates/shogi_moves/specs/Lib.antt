@@ -8,4 +8,5 @@ pub mod Reach
 pub mod RuleTexts
 pub mod Rules
 pub mod Search
+pub mod Seeking
 pub mod Steps

@@ -1,16 +1,16 @@
 //! Which moves are legal.
-ghost use Rattle.std.specs.Prelude.{◌≡◌, ◌↔◌, IsTrue, IsOk, Err};
-ghost use Rattle.squares.specs.declared.shogi.moves.SMove.TheVariants.{Drop};
+ghost use Rattle.std.specs.Prelude.{◌≡◌, ◌↔◌, true, IsTrue, IsOk, Err};
 ghost use Rattle.shogi_moves.specs.Layouts.{position_of};
 ghost use Rattle.shogi_moves.specs.declared.checking.Illegal.{Illegal};
 ghost use Rattle.shogi_moves.specs.Rules.{Legal, HasMove, FirstBroken};
-ghost use Rattle.shogi_moves.specs.Computed.{is_legal, check_of, some_step_between, some_step_from, some_step, some_drop_of, some_drop, has_move};
+ghost use Rattle.shogi_moves.specs.Computed.{is_pseudo, is_legal, check_of, has_move};
 
-use crate::board_squares::all_squares;
 use crate::layout::Layout;
-use crate::mating::{escapes, leaves_king, mates_by_pawn};
+use crate::mating::{leaves_king, mates_by_pawn};
 use crate::pseudo::{drops_dead, drops_second_pawn, is_movement, lacks, stays};
-use squares::{HandKind, SMove, SPos, Ssq};
+use crate::seeking::{Seeker, seek};
+use squares::{SMove, SPos};
+use std::convert::Infallible;
 use std::fmt;
 
 /// Why a move is refused.
@@ -101,12 +101,47 @@ fn check_layout(layout: &Layout, played: &SMove) -> Result<(), Illegal>
     Ok(())
 }
 
-/// Whether a move on a layout is legal.
-#[tactic(auto, unfolding(crate::specs::Computed::is_legal))]
+/// Whether a move that may be played but for what it does to the kings is legal.
 pub fn is_legal(layout: &Layout, played: &SMove) -> bool
+    requires { is_pseudo (position_of layout.now) played.now ≡ true }
     ensures { result ≡ is_legal (position_of layout.now) played.now }
 {
-    escapes(layout, played) && !mates_by_pawn(layout, played)
+    !leaves_king(layout, played) && !mates_by_pawn(layout, played)
+}
+
+// Whether a walk has come to a legal move.
+#[derive(Drop)]
+struct AnyLegal {
+    found: bool,
+}
+
+impl Seeker for AnyLegal {
+    type Fault = Infallible;
+
+    ghost use Rattle.std.specs.Prelude.{◌||◌};
+    ghost use Rattle.shogi_moves.specs.Computed as computed;
+    ghost use Rattle.shogi_moves.specs.Seeking.{is_any, is_legal-only, found_none, found_more};
+
+    ghost test = { computed.is_legal };
+
+    ghost plus = { λ sought moves. record { found = sought.found || is_any moves } };
+
+    fn take(&mut self, layout: &Layout, played: SMove) -> Result<(), Infallible> {
+        if is_legal(layout, &played) {
+            self.found = true;
+        }
+        Ok(())
+    }
+
+    fn is_done(&self) -> bool {
+        self.found
+    }
+
+    ghost only = { is_legal-only };
+
+    ghost plus_none = { λ x i. record { found = found_none x.found i } };
+
+    ghost plus_more = { λ x xs ys i. record { found = found_more x.found xs ys i } };
 }
 
 /// Whether the side to move has a legal move. It takes no memory.
@@ -117,67 +152,11 @@ pub fn has_move(position: &SPos) -> bool
 }
 
 // Whether the side to move has a legal move on a layout.
-#[tactic(auto, unfolding(crate::specs::Computed::has_move, crate::specs::Computed::some_move))]
 fn has_move_on(layout: &Layout) -> bool
     ensures { result ≡ has_move (position_of layout.now) }
 {
-    has_step(layout) || has_drop(layout)
-}
-
-// Whether a step from a square to another is legal.
-fn has_step_between(layout: &Layout, from: Ssq, to: Ssq) -> bool
-    ensures { result ≡ some_step_between (is_legal (position_of layout.now)) from to }
-{
-    let stays = SMove::Step {
-        from,
-        to,
-        promote: false,
-    };
-    let promotes = SMove::Step {
-        from,
-        to,
-        promote: true,
-    };
-    is_legal(layout, &stays) || is_legal(layout, &promotes)
-}
-
-// Whether a step from a square is legal.
-fn has_step_from(layout: &Layout, from: Ssq) -> bool
-    ensures { result ≡ some_step_from (is_legal (position_of layout.now)) from }
-{
-    all_squares()
-        .iter()
-        .any(|to| has_step_between(layout, from, *to))
-}
-
-// Whether a step is legal.
-fn has_step(layout: &Layout) -> bool
-    ensures { result ≡ some_step (is_legal (position_of layout.now)) }
-{
-    all_squares()
-        .iter()
-        .any(|from| has_step_from(layout, *from))
-}
-
-// Whether a drop on a square is legal.
-fn has_drop_to(layout: &Layout, kind: HandKind, to: Ssq) -> bool
-    ensures { result ≡ is_legal (position_of layout.now) (Drop kind to) }
-{
-    is_legal(layout, &SMove::Drop { kind, to })
-}
-
-// Whether a drop of a piece of the kind is legal.
-fn has_drop_of(layout: &Layout, kind: HandKind) -> bool
-    ensures { result ≡ some_drop_of (is_legal (position_of layout.now)) kind }
-{
-    all_squares()
-        .iter()
-        .any(|to| has_drop_to(layout, kind, *to))
-}
-
-// Whether a drop is legal.
-fn has_drop(layout: &Layout) -> bool
-    ensures { result ≡ some_drop (is_legal (position_of layout.now)) }
-{
-    HandKind::ALL.iter().any(|kind| has_drop_of(layout, *kind))
+    let mut sought = AnyLegal { found: false };
+    match seek(layout, &mut sought) {
+        Ok(()) => sought.found,
+    }
 }

@@ -13,6 +13,7 @@ mod mating;
 mod playing;
 mod pseudo;
 mod reaching;
+mod seeking;
 mod zones;
 
 pub use attacks::{attacked, in_check};

@@ -1,14 +1,14 @@
 //! Whether a king is mated.
 ghost use Rattle.std.specs.Prelude.{◌≡◌, ◌↔◌, IsTrue};
-ghost use Rattle.squares.specs.declared.shogi.moves.SMove.TheVariants.{Drop};
 ghost use Rattle.shogi_moves.specs.Layouts.{position_of};
 ghost use Rattle.shogi_moves.specs.Rules.{Mate};
-ghost use Rattle.shogi_moves.specs.Computed.{leaves_king, escapes, some_step_between, some_step_from, some_step, some_drop_of, some_drop, some_move, is_mate, mates_by_pawn};
+ghost use Rattle.shogi_moves.specs.Computed.{leaves_king, escapes, some_move, is_mate, mates_by_pawn};
 
-use crate::board_squares::all_squares;
 use crate::layout::Layout;
-use crate::pseudo::{drops_pawn, is_pseudo};
-use squares::{HandKind, SMove, SPos, Ssq};
+use crate::pseudo::drops_pawn;
+use crate::seeking::{Seeker, seek};
+use squares::{SMove, SPos};
+use std::convert::Infallible;
 
 /// Whether the side to move is mated: its king is attacked, and none of its moves or drops leaves
 /// the king safe. It takes no memory.
@@ -26,79 +26,60 @@ pub fn leaves_king(layout: &Layout, played: &SMove) -> bool
     layout.is_checked_after(played)
 }
 
-/// Whether the side to move may move so, and its king is safe then.
-#[tactic(auto, unfolding(crate::specs::Computed::escapes))]
-pub fn escapes(layout: &Layout, played: &SMove) -> bool
-    ensures { result ≡ escapes (position_of layout.now) played.now }
-{
-    is_pseudo(layout, played) && !leaves_king(layout, played)
+// Whether a walk has come to a move that leaves the king safe.
+#[derive(Drop)]
+struct AnyEscape {
+    found: bool,
 }
 
-// Whether a step from a square to another leaves the king safe.
-fn escapes_between(layout: &Layout, from: Ssq, to: Ssq) -> bool
-    ensures { result ≡ some_step_between (escapes (position_of layout.now)) from to }
-{
-    let stays = SMove::Step {
-        from,
-        to,
-        promote: false,
-    };
-    let promotes = SMove::Step {
-        from,
-        to,
-        promote: true,
-    };
-    escapes(layout, &stays) || escapes(layout, &promotes)
+impl Seeker for AnyEscape {
+    type Fault = Infallible;
+
+    ghost use Rattle.std.specs.Prelude.{◌||◌};
+    ghost use Rattle.shogi_moves.specs.Computed as computed;
+    ghost use Rattle.shogi_moves.specs.Seeking.{is_any, escapes-only, found_none, found_more};
+
+    ghost test = { computed.escapes };
+
+    ghost plus = { λ sought moves. record { found = sought.found || is_any moves } };
+
+    fn take(&mut self, layout: &Layout, played: SMove) -> Result<(), Infallible> {
+        if !leaves_king(layout, &played) {
+            self.found = true;
+        }
+        Ok(())
+    }
+
+    fn is_done(&self) -> bool {
+        self.found
+    }
+
+    ghost only = { escapes-only };
+
+    ghost plus_none = { λ x i. record { found = found_none x.found i } };
+
+    ghost plus_more = { λ x xs ys i. record { found = found_more x.found xs ys i } };
 }
 
-// Whether a step from a square leaves the king safe.
-fn escapes_from(layout: &Layout, from: Ssq) -> bool
-    ensures { result ≡ some_step_from (escapes (position_of layout.now)) from }
+// Whether some move of the side to move leaves its king safe.
+fn has_escape(layout: &Layout) -> bool
+    ensures { result ≡ some_move (escapes (position_of layout.now)) }
 {
-    all_squares()
-        .iter()
-        .any(|to| escapes_between(layout, from, *to))
-}
-
-// Whether a step leaves the king safe.
-fn escapes_by_step(layout: &Layout) -> bool
-    ensures { result ≡ some_step (escapes (position_of layout.now)) }
-{
-    all_squares().iter().any(|from| escapes_from(layout, *from))
-}
-
-// Whether a drop on a square leaves the king safe.
-fn escapes_to(layout: &Layout, kind: HandKind, to: Ssq) -> bool
-    ensures { result ≡ escapes (position_of layout.now) (Drop kind to) }
-{
-    escapes(layout, &SMove::Drop { kind, to })
-}
-
-// Whether a drop of a piece of the kind leaves the king safe.
-fn escapes_by_drop_of(layout: &Layout, kind: HandKind) -> bool
-    ensures { result ≡ some_drop_of (escapes (position_of layout.now)) kind }
-{
-    all_squares().iter().any(|to| escapes_to(layout, kind, *to))
-}
-
-// Whether a drop leaves the king safe.
-fn escapes_by_drop(layout: &Layout) -> bool
-    ensures { result ≡ some_drop (escapes (position_of layout.now)) }
-{
-    HandKind::ALL
-        .iter()
-        .any(|kind| escapes_by_drop_of(layout, *kind))
+    let mut sought = AnyEscape { found: false };
+    match seek(layout, &mut sought) {
+        Ok(()) => sought.found,
+    }
 }
 
 /// Whether the side to move is mated.
-#[tactic(auto, unfolding(crate::specs::Computed::is_mate, crate::specs::Computed::some_move))]
+#[tactic(auto, unfolding(crate::specs::Computed::is_mate))]
 pub fn is_mate(layout: &Layout) -> bool
     ensures { result ≡ is_mate (position_of layout.now) }
 {
     if !layout.is_checked() {
         return false;
     }
-    !(escapes_by_step(layout) || escapes_by_drop(layout))
+    !has_escape(layout)
 }
 
 /// Whether the move drops a pawn that mates.

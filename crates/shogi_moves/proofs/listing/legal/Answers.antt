@@ -1,23 +1,21 @@
-use Rattle.std.proofs.Common.{◌≡◌, ◌++◌, List, sym, ap, ◌∙◌, subst}
+use Rattle.std.proofs.Common.{◌≡◌, ◌++◌, List, sym, ◌∙◌, subst}
 use Rattle.std.specs.Prelude.{◌↔◌}
 use Rattle.std.specs.List.{Contains}
 use Rattle.std.specs.List.Sorted.{IsStrictlySortedBy}
 use Rattle.squares.specs.declared.shogi.moves.SMove.{SMove}
-use Rattle.shogi_moves.specs.Layouts.{position_of}
 use Rattle.shogi_moves.specs.Rules.{Legal}
-use Rattle.shogi_moves.specs.Listing.{move_cmp, all_steps, all_drops, all_moves}
-use Rattle.shogi_moves.proofs.ListingLemmas.{moves-sorted, moves-members, all_moves-is}
+use Rattle.shogi_moves.specs.Computed.{is_legal}
+use Rattle.shogi_moves.specs.Listing.{move_cmp, all_moves}
+use Rattle.shogi_moves.proofs.ListingLemmas.{moves-sorted, moves-members}
 use Rattle.shogi_moves.proofs.listing.legal.Goals as goal
 
-listed : (c : goal.In_ok-push_drops) → c.push_drops.new.moves.items ≡ all_moves c.args.position.now
+listed : (c : goal.In_ok-seek) → c.listed.inside.moves.items ≡ all_moves (is_legal c.args.position.now)
 listed c =
-    let p = c.args.position.now in
-    let q = position_of c.of-layout.result in
-    c.in_ok-push_drops.ensures ∙ ap (λ ms. ms ++ all_drops q) (c.in_ok-push_steps.ensures ∙ ap (λ ms. ms ++ all_steps q) c.new-moves.ensures.items)
-    ∙ (λ i. all_steps (c.of-layout.ensures.value i) ++ all_drops (c.of-layout.ensures.value i)) ∙ all_moves-is p
+    c.listed.view_is ∙ c.in_ok-seek.ensures
+    ∙ (λ i. c.new.ensures.items i ++ all_moves (is_legal (c.of.ensures.value i)))
 
 pub returns-clause-in_order : goal.returns-clause-in_order
-returns-clause-in_order c = subst (λ ms. IsStrictlySortedBy move_cmp ms) (sym (listed c)) (moves-sorted c.args.position.now)
+returns-clause-in_order c = subst (λ ms. IsStrictlySortedBy move_cmp ms) (sym (listed c)) (moves-sorted (is_legal c.args.position.now))
 
 pub returns-clause-members : goal.returns-clause-members
 returns-clause-members c m =

@@ -1,0 +1,15 @@
+use Rattle.std.proofs.Common.{sym, ◌∙◌}
+use Rattle.shogi_moves.specs.Layouts.{position_of}
+use Rattle.shogi_moves.specs.Computed.{is_legal}
+use Rattle.shogi_moves.proofs.SeekLemmas.{found-passing, found-failing}
+use Rattle.shogi_moves.proofs.checking.AnyLegalSeeker.take.Goals as goal
+
+pub returns-then-is_legal : goal.returns-then-is_legal
+returns-then-is_legal c =
+    let a = c.args in
+    λ i. record { found = found-passing (is_legal (position_of a.layout.now)) a.played a.self.now.found (sym c.is_legal.ensures ∙ c.if-is_legal.true) i }
+
+pub returns-else-is_legal : goal.returns-else-is_legal
+returns-else-is_legal c =
+    let a = c.args in
+    λ i. record { found = found-failing (is_legal (position_of a.layout.now)) a.played a.self.now.found (sym c.is_legal.ensures ∙ c.if-is_legal.false) i }

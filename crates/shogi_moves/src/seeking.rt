@@ -1,0 +1,209 @@
+//! A walk over the moves of a position, for whatever is asked of them.
+ghost use Rattle.std.specs.Prelude.{◌≡◌, ◌++◌, Bool, true, false, List, [], IsTrue, OnOk};
+ghost use Rattle.std.specs.FinMap as map;
+ghost use Rattle.squares.specs.declared.shogi.moves.SMove.{SMove};
+ghost use Rattle.squares.specs.declared.shogi.moves.SMove.TheVariants.{Step, Drop};
+ghost use Rattle.squares.specs.ShogiSets.{ShogiPosition};
+ghost use Rattle.squares.specs.ShogiWords.{is_side};
+ghost use Rattle.shogi_moves.specs.Layouts.{position_of};
+ghost use Rattle.shogi_moves.specs.Rules.{may_land};
+ghost use Rattle.shogi_moves.specs.Computed.{is_pseudo};
+ghost use Rattle.shogi_moves.specs.Search.{piece_reaches};
+ghost use Rattle.shogi_moves.specs.Steps.{step_passes};
+ghost use Rattle.shogi_moves.specs.Listing.{if_passes, steps_between, steps_from, all_steps, drops_on, drops_of, all_drops, all_moves};
+
+use crate::board_squares::all_squares;
+use crate::layout::Layout;
+use crate::pseudo::is_pseudo;
+use crate::reaching::reached;
+use crate::zones::{is_stuck, may_land, may_promote};
+use squares::{HandKind, SMove, SPiece, Ssq};
+
+/// What is asked of the moves of a walk: a test of each, and what becomes of those that pass.
+pub trait Seeker {
+    type Fault: Drop;
+
+    ghost test: { ShogiPosition → SMove → Bool };
+
+    ghost plus: { Self → List SMove → Self };
+
+    /// Takes a move that may be played but for what it does to the kings.
+    fn take(&mut self, layout: &Layout, played: SMove) -> Result<(), Self::Fault>
+        requires { is_pseudo (position_of layout.now) played ≡ true }
+        ensures { OnOk result (self.new ≡ plus self.old (if_passes (test (position_of layout.now)) played)) };
+
+    /// Whether no further move changes what is found.
+    fn is_done(&self) -> bool
+        ensures { IsTrue result → (moves : List SMove) → plus self.now moves ≡ self.now };
+
+    ghost only: { (p : ShogiPosition) (m : SMove) → is_pseudo p m ≡ false → test p m ≡ false };
+
+    ghost plus_none: { (x : Self) → plus x [] ≡ x };
+
+    ghost plus_more: { (x : Self) (xs ys : List SMove) → plus x (xs ++ ys) ≡ plus (plus x xs) ys };
+}
+
+// Whether a step that promotes may do so, or one that does not leaves the piece where it can move again.
+fn passes(piece: SPiece, from: Ssq, to: Ssq, promote: bool) -> bool
+    ensures { result ≡ step_passes piece from to promote }
+{
+    if promote {
+        may_promote(piece, from, to)
+    } else {
+        !is_stuck(piece.side, piece.role, to)
+    }
+}
+
+// Takes a piece's step to a square that it reaches and where it may land.
+fn seek_step<S: Seeker>(
+    layout: &Layout,
+    piece: SPiece,
+    from: Ssq,
+    to: Ssq,
+    promote: bool,
+    seeker: &mut S,
+) -> Result<(), S::Fault>
+    requires stands { map.get layout.now.board from ≡ Some piece }
+    requires own { piece.side ≡ layout.now.turn }
+    requires reaches { piece_reaches layout.now.board piece from to ≡ true }
+    requires lands { may_land layout.now.turn (map.get layout.now.board to) ≡ true }
+    ensures { OnOk result (seeker.new
+        ≡ S.plus seeker.old (if_passes (S.test (position_of layout.now)) (Step from to promote))) }
+{
+    if !passes(piece, from, to, promote) {
+        return Ok(());
+    }
+    seeker.take(layout, SMove::Step { from, to, promote })?;
+    Ok(())
+}
+
+// Takes the steps of a piece to a square that it reaches.
+fn seek_between<S: Seeker>(
+    layout: &Layout,
+    piece: SPiece,
+    from: Ssq,
+    to: Ssq,
+    seeker: &mut S,
+) -> Result<(), S::Fault>
+    requires stands { map.get layout.now.board from ≡ Some piece }
+    requires own { piece.side ≡ layout.now.turn }
+    requires reaches { piece_reaches layout.now.board piece from to ≡ true }
+    ensures { OnOk result (seeker.new
+        ≡ S.plus seeker.old (steps_between (S.test (position_of layout.now)) from to)) }
+{
+    if !may_land(layout.turn, layout.board.at(to)) {
+        return Ok(());
+    }
+    seek_step(layout, piece, from, to, false, seeker)?;
+    seek_step(layout, piece, from, to, true, seeker)?;
+    Ok(())
+}
+
+// Takes the steps of a piece.
+fn seek_steps_of<S: Seeker>(
+    layout: &Layout,
+    piece: SPiece,
+    from: Ssq,
+    seeker: &mut S,
+) -> Result<(), S::Fault>
+    requires stands { map.get layout.now.board from ≡ Some piece }
+    requires own { piece.side ≡ layout.now.turn }
+    ensures { OnOk result (seeker.new
+        ≡ S.plus seeker.old (steps_from (S.test (position_of layout.now)) from)) }
+{
+    let mut rest = reached(&layout.board, piece, from);
+    while let Some(to) = rest.pop() {
+        if seeker.is_done() {
+            return Ok(());
+        }
+        seek_between(layout, piece, from, Ssq::of_number(to), seeker)?;
+    }
+    Ok(())
+}
+
+// Takes the steps from a square on which an own piece stands.
+fn seek_steps_from<S: Seeker>(layout: &Layout, from: Ssq, seeker: &mut S) -> Result<(), S::Fault>
+    requires { is_side layout.now.turn (map.get layout.now.board from) ≡ true }
+    ensures { OnOk result (seeker.new
+        ≡ S.plus seeker.old (steps_from (S.test (position_of layout.now)) from)) }
+{
+    match layout.board.at(from) {
+        None => Ok(()),
+        Some(piece) => {
+            seek_steps_of(layout, piece, from, seeker)?;
+            Ok(())
+        }
+    }
+}
+
+// Takes the steps.
+fn seek_steps<S: Seeker>(layout: &Layout, seeker: &mut S) -> Result<(), S::Fault>
+    ensures { OnOk result (seeker.new
+        ≡ S.plus seeker.old (all_steps (S.test (position_of layout.now)))) }
+{
+    let mut rest = layout.board.squares_of_side(layout.turn);
+    while let Some(from) = rest.pop() {
+        if seeker.is_done() {
+            return Ok(());
+        }
+        seek_steps_from(layout, Ssq::of_number(from), seeker)?;
+    }
+    Ok(())
+}
+
+// Takes the drop on a square.
+fn seek_drop_on<S: Seeker>(
+    layout: &Layout,
+    kind: HandKind,
+    to: Ssq,
+    seeker: &mut S,
+) -> Result<(), S::Fault>
+    ensures { OnOk result (seeker.new
+        ≡ S.plus seeker.old (drops_on (S.test (position_of layout.now)) kind to)) }
+{
+    let played = SMove::Drop { kind, to };
+    if !is_pseudo(layout, &played) {
+        return Ok(());
+    }
+    seeker.take(layout, played)?;
+    Ok(())
+}
+
+// Takes the drops of a kind.
+fn seek_drops_of<S: Seeker>(layout: &Layout, kind: HandKind, seeker: &mut S) -> Result<(), S::Fault>
+    ensures { OnOk result (seeker.new
+        ≡ S.plus seeker.old (drops_of (S.test (position_of layout.now)) kind)) }
+{
+    if layout.held(kind) == 0 {
+        return Ok(());
+    }
+    for to in &all_squares() {
+        if seeker.is_done() {
+            return Ok(());
+        }
+        seek_drop_on(layout, kind, *to, seeker)?;
+    }
+    Ok(())
+}
+
+// Takes the drops.
+fn seek_drops<S: Seeker>(layout: &Layout, seeker: &mut S) -> Result<(), S::Fault>
+    ensures { OnOk result (seeker.new
+        ≡ S.plus seeker.old (all_drops (S.test (position_of layout.now)))) }
+{
+    for kind in &HandKind::ALL {
+        seek_drops_of(layout, *kind, seeker)?;
+    }
+    Ok(())
+}
+
+/// Takes each move that may be played but for what it does to the kings, in the order of the list
+/// of moves, until the seeker is done.
+pub fn seek<S: Seeker>(layout: &Layout, seeker: &mut S) -> Result<(), S::Fault>
+    ensures { OnOk result (seeker.new
+        ≡ S.plus seeker.old (all_moves (S.test (position_of layout.now)))) }
+{
+    seek_steps(layout, seeker)?;
+    seek_drops(layout, seeker)?;
+    Ok(())
+}
