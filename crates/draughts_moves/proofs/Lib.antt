@@ -1,4 +1,5 @@
 pub mod CheckLemmas
+pub mod FirstJumpLemmas
 pub mod GrowthLemmas
 pub mod JumpLemmas
 pub mod LegalLemmas

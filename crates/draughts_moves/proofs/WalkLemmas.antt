@@ -70,7 +70,7 @@ module _ (b : Cells) (p : DPiece) (t : Squares) (d : Direction) (n : ℕ) where
   no_prey o (l ∷ ns) e = ap (λ c. cond (c && is_none (b l)) ((o, l) ∷ []) []) e
 
   module _ (over : ℕ) (next : step d n ≡ Some over) where
-    first_over : ray d n ≡ over ∷ line 8 d over
+    pub first_over : ray d n ≡ over ∷ line 8 d over
     unfolding ray
     first_over = line-step 9 8 d n over next refl
 

@@ -10,7 +10,7 @@ use Rattle.squares.specs.declared.draughts.direction.Direction.{Direction}
 use Rattle.squares.specs.declared.draughts.direction.Direction.TheVariants.{UpLeft, UpRight, DownLeft, DownRight}
 use Rattle.squares.specs.declared.draughts.piece.DPiece.{DPiece}
 use Rattle.squares.specs.DraughtsSets.{Squares}
-use Rattle.squares.specs.DraughtsGeometry.{ray}
+use Rattle.squares.specs.DraughtsGeometry.{ray, step}
 use Rattle.draughts_moves.specs.Legal.{is_forward}
 use Rattle.draughts_moves.specs.Capture.{Cells, is_enemy, without}
 use Rattle.squares.specs.Sides.{same_side}
@@ -22,6 +22,10 @@ clear_front b (n ∷ ns) = cond (is_none (b n)) (n ∷ clear_front b ns) []
 
 abbrev pub is_prey : Cells → DPiece → Squares → ℕ → Bool
 is_prey b p taken n = is_enemy p (b n) && not (set.contains taken n)
+
+-- whether the piece takes what stands on n by a jump in a direction: the next square is there and empty
+abbrev pub takes : Cells → DPiece → Squares → Direction → ℕ → Bool
+takes b p taken d n = is_prey b p taken n && option_map_or (λ l. is_none (b l)) (step d n) false
 
 -- the jumps of a king along a line: the square jumped over, and the landing
 abbrev pub king_jumps : Cells → DPiece → Squares → List ℕ → List (ℕ × ℕ)

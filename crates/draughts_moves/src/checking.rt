@@ -8,7 +8,7 @@ ghost use Rattle.draughts_moves.specs.Legal.{IsQuiet, IsCapture, IsShortCapture,
 ghost use Rattle.draughts_moves.specs.Search.{is_step, can_move, has_move};
 ghost use Rattle.draughts_moves.specs.Check.{IsCheck, check_of};
 
-use crate::jumps::jumps_from;
+use crate::first_jumps::can_jump;
 use crate::most::{most, own_at};
 use crate::mover::Mover;
 use crate::reaches::reaches;
@@ -150,7 +150,7 @@ fn can_move(position: &DPos, square: Dsq) -> bool
             if steps_from(position, piece, square).len() > 0 {
                 return true;
             }
-            jumps_from(position, &Mover::new(piece, square)).len() > 0
+            can_jump(position, &Mover::new(piece, square))
         }
         None => false,
     }

@@ -59,7 +59,7 @@ impl Jumps {
 }
 
 // What stands on a square, once the piece on `origin` has left it.
-fn stands(position: &DPos, origin: Dsq, square: Dsq) -> Option<DPiece>
+pub(crate) fn stands(position: &DPos, origin: Dsq, square: Dsq) -> Option<DPiece>
     ensures { result ≡ without position.now.board origin square }
 {
     if square == origin {
@@ -69,7 +69,7 @@ fn stands(position: &DPos, origin: Dsq, square: Dsq) -> Option<DPiece>
 }
 
 // Whether an enemy stands there that is not taken.
-fn is_prey(position: &DPos, mover: &Mover, square: Dsq) -> bool
+pub(crate) fn is_prey(position: &DPos, mover: &Mover, square: Dsq) -> bool
     ensures { result
         ≡ is_prey (without position.now.board mover.now.origin) mover.now.piece mover.now.taken square }
 {

@@ -2,6 +2,7 @@
 #![tactic(auto)]
 
 pub mod checking;
+mod first_jumps;
 pub mod jumps;
 pub mod laws;
 pub mod listing;

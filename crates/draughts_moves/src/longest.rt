@@ -3,6 +3,7 @@ ghost use Rattle.std.specs.Prelude.{◌≡◌, ◌≤◌};
 ghost use Rattle.draughts_moves.specs.Capture.{without};
 ghost use Rattle.draughts_moves.specs.Search.{greatest};
 
+use crate::first_jumps::can_jump;
 use crate::jumps::jumps_from;
 use crate::mover::Mover;
 use squares::DPos;
@@ -13,6 +14,9 @@ pub fn longest(position: &DPos, mover: &Mover) -> usize
         mover.now.piece mover.now.taken mover.now.at }
     ensures few { result ≤ 50 }
 {
+    if !can_jump(position, mover) {
+        return 0;
+    }
     let mut best = 0;
     let jumps = jumps_from(position, mover);
     for (over, to) in jumps.items() {

@@ -8,7 +8,13 @@ use Rattle.squares.specs.In.{In, In-get_or}
 use Rattle.draughts_moves.proofs.JumpLemmas.{jumps-sound}
 use Rattle.draughts_moves.proofs.Prey.{prey_left-falls}
 use Rattle.draughts_moves.proofs.RouteLemmas.{greatest-jumps, greatest-fits}
+use Rattle.draughts_moves.proofs.FirstJumpLemmas.{greatest-none}
 use Rattle.draughts_moves.proofs.longest.+longest.Goals as goal
+
+pub returns-then-not-can_jump-clause-value : goal.returns-then-not-can_jump-clause-value
+returns-then-not-can_jump-clause-value t c =
+    let m = c.args.mover.now in
+    greatest-none (without c.args.position.now.board m.origin) m.piece m.taken m.at c.can_jump.result c.can_jump.ensures c.if-not-can_jump.true
 
 pub longest-more-requires : goal.longest-more-requires
 longest-more-requires t c =
