@@ -8,6 +8,7 @@ pub mod MaxLemmas
 pub mod MostLemmas
 pub mod MoveLemmas
 pub mod OrderLemmas
+pub mod PlaceLemmas
 pub mod Prey
 pub mod RouteLemmas
 pub mod RoutingLemmas

@@ -24,6 +24,7 @@ fn collect(
     left: usize,
     moves: &mut Vec<DMove>,
 ) -> Result<(), AllocError>
+    requires { IsStrictlySortedBy move_cmp moves.old.items }
     ensures { OnOk result (moves.new.items ≡ put_all move_cmp
         (map (move_to mover.now.origin)
         (routes_of (without position.now.board mover.now.origin)
@@ -57,6 +58,7 @@ fn captures_from(
     size: usize,
     moves: &mut Vec<DMove>,
 ) -> Result<(), AllocError>
+    requires { IsStrictlySortedBy move_cmp moves.old.items }
     ensures { OnOk result (moves.new.items
         ≡ put_all move_cmp (captures_at position.now size square) moves.old.items) }
 {
@@ -72,6 +74,7 @@ fn captures_from(
 
 // Puts the quiet moves from a square to each of the squares of a line.
 fn put_steps(from: Dsq, line: &[Dsq], moves: &mut Vec<DMove>) -> Result<(), AllocError>
+    requires { IsStrictlySortedBy move_cmp moves.old.items }
     ensures { OnOk result (moves.new.items
         ≡ put_all move_cmp (map (step_to from) line.now) moves.old.items) }
 {
@@ -91,6 +94,7 @@ fn put_steps(from: Dsq, line: &[Dsq], moves: &mut Vec<DMove>) -> Result<(), Allo
 // Puts the quiet moves of the piece on a square.
 #[tactic(auto, unfolding(crate::specs::Listing::quiet_at))]
 fn quiet_from(position: &DPos, square: Dsq, moves: &mut Vec<DMove>) -> Result<(), AllocError>
+    requires { IsStrictlySortedBy move_cmp moves.old.items }
     ensures { OnOk result (moves.new.items
         ≡ put_all move_cmp (quiet_at position.now square) moves.old.items) }
 {
@@ -112,6 +116,7 @@ fn moves_from(
     size: usize,
     moves: &mut Vec<DMove>,
 ) -> Result<(), AllocError>
+    requires { IsStrictlySortedBy move_cmp moves.old.items }
     ensures { OnOk result (moves.new.items
         ≡ put_all move_cmp (moves_at position.now size square) moves.old.items) }
 {

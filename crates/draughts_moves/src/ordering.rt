@@ -1,5 +1,6 @@
 //! The order of moves.
 ghost use Rattle.std.specs.Prelude.{◌≡◌, OnOk};
+ghost use Rattle.std.specs.List.Sorted.{IsStrictlySortedBy};
 ghost use Rattle.squares.specs.OrderedLists.{put};
 ghost use Rattle.draughts_moves.specs.Listing.{move_cmp};
 
@@ -19,21 +20,24 @@ fn compare(a: &DMove, b: &DMove) -> Ordering
     }
 }
 
-/// Puts a move at its place, if it is not there.
+/// Puts a move at its place, if it is not there. Its place is looked for from the end.
 pub fn put_move(moves: &mut Vec<DMove>, played: DMove) -> Result<(), AllocError>
+    requires { IsStrictlySortedBy move_cmp moves.old.items }
     ensures { OnOk result (moves.new.items ≡ put move_cmp played moves.old.items) }
 {
-    for i in 0..moves.len() {
+    let count = moves.len();
+    for passed in 0..count {
+        let i = count - 1 - passed;
         let there = moves[i];
         match compare(&there, &played) {
-            Ordering::Less => {}
+            Ordering::Greater => {}
             Ordering::Equal => return Ok(()),
-            Ordering::Greater => {
-                moves.insert(i, played)?;
+            Ordering::Less => {
+                moves.insert(i + 1, played)?;
                 return Ok(());
             }
         }
     }
-    moves.push(played)?;
+    moves.insert(0, played)?;
     Ok(())
 }

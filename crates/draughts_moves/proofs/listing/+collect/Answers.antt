@@ -1,4 +1,4 @@
-use Rattle.std.proofs.Common.{◌≡◌, ℕ, zero, suc, ◌-◌, ◌<◌, List, [], ◌∷◌, refl, sym, ap, ◌∙◌, arith}
+use Rattle.std.proofs.Common.{◌≡◌, ℕ, zero, suc, ◌-◌, ◌<◌, List, [], ◌∷◌, take, refl, sym, ap, ◌∙◌, arith}
 use Rattle.std.specs.Prelude.{map}
 use Rattle.std.specs.List.{flat_map}
 use Rattle.std.specs.FinSet as set
@@ -13,6 +13,7 @@ use Rattle.draughts_moves.specs.Listing.{move_cmp, move_to}
 use Rattle.squares.specs.OrderedLists.{put_all}
 use Rattle.squares.specs.PutLemmas.{put_all-more, map-flat_map}
 use Rattle.draughts_moves.proofs.OrderLemmas.{move_cmp-total}
+use Rattle.draughts_moves.proofs.PlaceLemmas.{sorted_from}
 use Rattle.draughts_moves.proofs.listing.+collect.Goals as goal
 
 none_left : (b : Cells) (p : DPiece) (n : ℕ) (t : Squares) (s x : ℕ) → n ≡ 0 → map (move_to x) (routes_of b p n t s) ≡ move_to x (t, s) ∷ []
@@ -32,6 +33,13 @@ returns-then-left-eq0 t c =
     let b = without c.args.position.now.board c.args.mover.now.origin in
     c.in_ok-put_move.ensures
     ∙ ap (λ ms. put_all move_cmp ms c.args.moves.now.items) (sym (none_left b c.args.mover.now.piece c.args.left c.args.mover.now.taken c.args.mover.now.at c.args.mover.now.origin c.if-left-eq0.true))
+
+pub collect-requires : goal.collect-requires
+collect-requires t c =
+    let b = without c.args.position.now.board c.args.mover.now.origin in
+    let w = c.loop-over in
+    let one : ℕ × ℕ → List DMove = λ j. map (move_to c.args.mover.now.origin) (routes_of b c.args.mover.now.piece (c.args.left - 1) (set.insert c.args.mover.now.taken j.0) j.1) in
+    (omega (arith, c.decreases, c.if-left-eq0.false), sorted_from move_cmp move_cmp-total (flat_map one (take w.over-index c.items-over-items.result.now)) c.args.moves.now.items w.moves.items w.invariant.so_far c.requires)
 
 pub loop-over-preserved : goal.loop-over-preserved
 loop-over-preserved t c =

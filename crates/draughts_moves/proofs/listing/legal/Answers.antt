@@ -42,6 +42,11 @@ whole_list p n xs all i past is so_far =
     let fifty : length all ≡ 50 = ap length is in
     so_far ∙ ap (λ ys. put_all move_cmp (flat_map (moves_at p n) ys) []) (take_all i all (omega arith) ∙ is) ∙ ap (λ ms. put_all move_cmp ms []) (all_moves p n)
 
+pub moves_from-requires : goal.moves_from-requires
+moves_from-requires c =
+    let w = c.loop-square in
+    sorted_all (flat_map (moves_at c.args.position.now c.most-size.result) (take w.square-index c.all.result)) w.moves.items w.invariant
+
 pub loop-square-preserved : goal.loop-square-preserved
 loop-square-preserved c =
     let p = c.args.position.now in
