@@ -132,7 +132,7 @@ module _ (b : Cells) (p : DPiece) (t : Squares) (s : ℕ) where
   pub jumps-last : along UpLeft ≡ false → along UpRight ≡ false → along DownLeft ≡ false → along DownRight ≡ any (jumps b p t s)
   jumps-last a c d = only_last (along UpLeft) (along UpRight) (along DownLeft) (along DownRight) a c d ∙ sym any-jumps
 
-any-none : (xs : List (ℕ × ℕ)) → any xs ≡ false → xs ≡ []
+pub any-none : (xs : List (ℕ × ℕ)) → any xs ≡ false → xs ≡ []
 any-none [] e = refl
 any-none (x ∷ xs) e = let f = any-cons x xs in cc
 

@@ -8,6 +8,7 @@ ghost use Rattle.draughts_moves.specs.Search.{routes_of};
 ghost use Rattle.draughts_moves.specs.Listing.{move_cmp, move_to, step_to, captures_at, quiet_at, moves_at};
 ghost use Rattle.squares.specs.OrderedLists.{put_all};
 
+use crate::first_jumps::can_jump;
 use crate::jumps::jumps_from;
 use crate::memory::Memory;
 use crate::most::{most, own_at};
@@ -40,6 +41,9 @@ fn collect(
                 taken: mover.taken,
             },
         )?;
+        return Ok(());
+    }
+    if !can_jump(position, mover) {
         return Ok(());
     }
     let jumps = jumps_from(position, mover);

@@ -13,6 +13,7 @@ use Rattle.draughts_moves.specs.Listing.{move_cmp, move_to}
 use Rattle.squares.specs.OrderedLists.{put_all}
 use Rattle.squares.specs.PutLemmas.{put_all-more, map-flat_map}
 use Rattle.draughts_moves.proofs.OrderLemmas.{move_cmp-total}
+use Rattle.draughts_moves.proofs.FirstJumpLemmas.{any-none}
 use Rattle.draughts_moves.proofs.PlaceLemmas.{sorted_from}
 use Rattle.draughts_moves.proofs.listing.+collect.Goals as goal
 
@@ -33,6 +34,15 @@ returns-then-left-eq0 t c =
     let b = without c.args.position.now.board c.args.mover.now.origin in
     c.in_ok-put_move.ensures
     ∙ ap (λ ms. put_all move_cmp ms c.args.moves.now.items) (sym (none_left b c.args.mover.now.piece c.args.left c.args.mover.now.taken c.args.mover.now.at c.args.mover.now.origin c.if-left-eq0.true))
+
+pub returns-then-not-can_jump : goal.returns-then-not-can_jump
+returns-then-not-can_jump t c =
+    let m = c.args.mover.now in
+    let b = without c.args.position.now.board m.origin in
+    let none = any-none (jumps b m.piece m.taken m.at) (sym c.can_jump.ensures ∙ c.if-not-can_jump.true) in
+    ap (λ ms. put_all move_cmp ms c.args.moves.now.items)
+    (sym (more_left b m.piece c.args.left m.taken m.at m.origin (omega (arith, c.if-left-eq0.false))
+    ∙ ap (flat_map (λ j. map (move_to m.origin) (routes_of b m.piece (c.args.left - 1) (set.insert m.taken j.0) j.1))) none))
 
 pub collect-requires : goal.collect-requires
 collect-requires t c =
