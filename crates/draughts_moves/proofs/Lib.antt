@@ -1,3 +1,4 @@
+pub mod BesideLemmas
 pub mod CheckLemmas
 pub mod FirstJumpLemmas
 pub mod GrowthLemmas

@@ -1,8 +1,8 @@
 -- The moves of a position, computed.
-use Rattle.std.specs.Prelude.{ℕ, ◌+◌, Bool, false, not, cond, length, ◌&&◌, Option, Some, None, is_none, List, [], ◌∷◌, ◌++◌, max, count_by, fold, map, take, nat_lt, ◌||◌, ◌==◌, option_and_then, if◌then◌else◌}
+use Rattle.std.specs.Prelude.{◌≡◌, ℕ, ◌+◌, Bool, false, not, cond, length, ◌&&◌, Option, Some, None, is_none, List, [], ◌∷◌, ◌++◌, max, count_by, fold, map, take, nat_lt, ◌||◌, ◌==◌, option_and_then, if◌then◌else◌}
 use Rattle.std.specs.Option.{option_map_or}
 use Rattle.std.specs.FinMap as finite_map
-use Rattle.squares.specs.DraughtsBoard.{Position}
+use Rattle.squares.specs.DraughtsBoard.{Position, is_of}
 use Rattle.std.proofs.Common.{zero, suc}
 use Rattle.std.specs.List.{flat_map, range_with_len, list_any}
 use Rattle.std.specs.FinSet as set
@@ -13,7 +13,7 @@ use Rattle.squares.specs.DraughtsSets.{Squares}
 use Rattle.squares.specs.DraughtsGeometry.{ray, step}
 use Rattle.draughts_moves.specs.Legal.{is_forward}
 use Rattle.draughts_moves.specs.Capture.{Cells, is_enemy, without}
-use Rattle.squares.specs.Sides.{same_side}
+use Rattle.squares.specs.Sides.{same_side, other}
 
 -- the squares up to the first piece
 abbrev pub clear_front : Cells → List ℕ → List ℕ
@@ -77,6 +77,18 @@ greatest b p taken s = longest b p (prey_left b p taken) taken s
 -- the piece on x, if it is of the side to move
 abbrev pub own_at : Position → ℕ → Option DPiece
 own_at p x = option_and_then (λ q. if same_side q.side p.turn then Some q else None) (finite_map.get p.board x)
+
+-- the set has the squares of the other side's pieces, and no other
+abbrev pub AreEnemies : Position → Squares → Type 0
+AreEnemies p enemies = (n : ℕ) → set.contains enemies n ≡ is_of (other p.turn) (finite_map.get p.board n)
+
+-- whether the next square in a direction is of the set
+abbrev pub next_in : Squares → Direction → ℕ → Bool
+next_in s d n = option_map_or (set.contains s) (step d n) false
+
+-- whether one of the four next squares is of the set
+abbrev pub is_beside : Squares → ℕ → Bool
+is_beside s n = ((next_in s UpLeft n || next_in s UpRight n) || next_in s DownLeft n) || next_in s DownRight n
 
 -- the most jumps in a row of the piece on x
 unfoldable pub greatest_at : Position → ℕ → ℕ

@@ -1,6 +1,7 @@
 //! The moves of international draughts: which are legal, and what they leave.
 #![tactic(auto)]
 
+mod beside;
 pub mod checking;
 mod first_jumps;
 pub mod jumps;

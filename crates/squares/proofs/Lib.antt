@@ -2,6 +2,7 @@ pub mod DraughtsAscending
 pub mod DraughtsCleared
 pub mod DraughtsHashed
 pub mod DraughtsRays
+pub mod DraughtsSides
 pub mod DraughtsTables
 pub mod DraughtsWords
 pub mod ShogiCells

@@ -1,10 +1,11 @@
 -- A board is a finite map from squares to pieces, and a position a board and a turn.
-use Rattle.std.specs.Prelude.{ℕ, Option, Some, None, List, [], ◌∷◌}
+use Rattle.std.specs.Prelude.{ℕ, Bool, false, Option, Some, None, List, [], ◌∷◌}
 use Rattle.std.specs.Ordering.{nat_cmp}
 use Rattle.std.specs.FinMap as map
 use Rattle.std.proofs.Common.{suc}
 use Rattle.squares.specs.declared.draughts.piece.DPiece.{DPiece}
 use Rattle.squares.specs.declared.sides.Side.{Side}
+use Rattle.squares.specs.Sides.{same_side}
 
 abbrev pub Board : Type 0
 Board = map.FinMap nat_cmp DPiece
@@ -21,3 +22,8 @@ occupied n (Some p ∷ cells) = (n, p) ∷ occupied (suc n) cells
 -- the board of fifty cells, in the order of the squares
 unfoldable pub board_of : List (Option DPiece) → Board
 board_of cells = map.from_entries (occupied 1 cells)
+
+-- whether a piece of a side stands there
+abbrev pub is_of : Side → Option DPiece → Bool
+is_of side None = false
+is_of side (Some q) = same_side q.side side

@@ -3,6 +3,7 @@ ghost use Rattle.std.specs.Prelude.{◌≡◌, ◌+◌, ◌<◌, ◌≤◌, ℕ,
 ghost use Rattle.std.specs.FinMap as map;
 ghost use Rattle.std.specs.FinSet as set;
 ghost use Rattle.squares.specs.DraughtsGeometry.{OnBoard};
+ghost use Rattle.squares.specs.DraughtsBoard.{is_of};
 ghost use Rattle.squares.specs.DraughtsSamePosition.{same_cell};
 ghost use Rattle.squares.specs.DraughtsOpening.{opening, opening_piece, man};
 ghost use Rattle.squares.specs.Sides.{other};
@@ -11,6 +12,7 @@ use crate::draughts::piece::DPiece;
 use crate::draughts::set::DSet;
 use crate::draughts::square::Dsq;
 use crate::sides::Side;
+use masks::Word50;
 use std::hash::{Hash, Hasher};
 use std::marker::Model;
 
@@ -94,6 +96,19 @@ impl DPos {
         ensures { result ≡ map.get self.now.board square }
     {
         self.cells[usize::from(square.number()) - 1]
+    }
+
+    /// The squares of a side's pieces.
+    pub fn squares_of(&self, side: Side) -> DSet
+        ensures { (n : ℕ) → set.contains result n ≡ is_of side (map.get self.now.board n) }
+    {
+        let mut squares = Word50::new();
+        for i in 0..50 {
+            if is_of(side, self.cells[i]) {
+                squares = squares.with(i as u8 + 1);
+            }
+        }
+        DSet::of_word(squares)
     }
 
     /// Puts a piece on a square, in place of what stands there.
@@ -193,6 +208,16 @@ fn same_cells(mine: &[Option<DPiece>], theirs: &[Option<DPiece>]) -> bool
         }
     }
     true
+}
+
+// Whether a piece of a side stands there.
+fn is_of(side: Side, cell: Option<DPiece>) -> bool
+    ensures { result ≡ is_of side cell }
+{
+    match cell {
+        Some(piece) => piece.side == side,
+        None => false,
+    }
 }
 
 fn same_cell(mine: Option<DPiece>, theirs: Option<DPiece>) -> bool

@@ -81,6 +81,13 @@ impl DSet {
             .cmp(Numbers::of(other).as_slice())
     }
 
+    // The set of a word.
+    pub(crate) fn of_word(squares: Word50) -> DSet
+        ensures { result ≡ squares }
+    {
+        DSet { squares }
+    }
+
     pub(crate) fn marks(self) -> [bool; 50]
         ensures marks { self ≡ squares_of result }
         ensures len { length result ≡ 50 }

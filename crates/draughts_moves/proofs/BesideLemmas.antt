@@ -1,0 +1,76 @@
+-- A man with no enemy beside it takes nothing.
+use Rattle.std.proofs.Common.{◌≡◌, ℕ, Bool, true, false, cond, not, ◌&&◌, ◌||◌, nat_eq, Option, Some, None, refl, sym, ap, ◌∙◌}
+use Rattle.std.specs.Prelude.{is_none}
+use Rattle.std.specs.Option.{option_map_or}
+use Rattle.std.specs.FinMap as map
+use Rattle.std.specs.FinSet as set
+use Rattle.squares.specs.declared.draughts.direction.Direction.{Direction}
+use Rattle.squares.specs.declared.draughts.direction.Direction.TheVariants.{UpLeft, UpRight, DownLeft, DownRight}
+use Rattle.squares.specs.declared.draughts.piece.DPiece.{DPiece}
+use Rattle.squares.specs.declared.sides.Side.{Side}
+use Rattle.squares.specs.declared.sides.Side.TheVariants.{First, Second}
+use Rattle.squares.specs.Sides.{same_side, other}
+use Rattle.squares.specs.DraughtsBoard.{Position, is_of}
+use Rattle.squares.specs.DraughtsSets.{Squares}
+use Rattle.squares.specs.DraughtsGeometry.{step, ray}
+use Rattle.draughts_moves.specs.Capture.{Cells, is_enemy, without}
+use Rattle.draughts_moves.specs.Search.{takes, king_jumps, man_jumps, line_jumps, greatest, own_at, greatest_at, AreEnemies, next_in, is_beside}
+use Rattle.draughts_moves.proofs.MostLemmas.{own_at-is}
+use Rattle.draughts_moves.proofs.FirstJumpLemmas.{any, man-none, man-takes, jumps-last, greatest-none}
+
+enemy_sides : (mine theirs : Side) → not (same_side mine theirs) ≡ same_side theirs (other mine)
+enemy_sides First First = refl
+enemy_sides First Second = refl
+enemy_sides Second First = refl
+enemy_sides Second Second = refl
+
+enemy-is : (q : DPiece) (o : Option DPiece) → is_enemy q o ≡ is_of (other q.side) o
+enemy-is q None = refl
+enemy-is q (Some r) = enemy_sides q.side r.side
+
+or_false : (a b : Bool) → (a || b) ≡ false → (a ≡ false) × (b ≡ false)
+or_false true b e = cc
+or_false false b e = (refl, e)
+
+module _ (p : Position) (x : ℕ) (q : DPiece) (enemies : Squares) (are : AreEnemies p enemies) (own : own_at p x ≡ Some q) (man : q.king ≡ false) where
+  abbrev b : Cells
+  b = without p.board x
+
+  enemy_there : (n : ℕ) → is_enemy q (map.get p.board n) ≡ set.contains enemies n
+  enemy_there n = enemy-is q (map.get p.board n) ∙ ap (λ s. is_of (other s) (map.get p.board n)) (own_at-is p x q own).1 ∙ sym (are n)
+
+  no_enemy : (n : ℕ) → set.contains enemies n ≡ false → is_enemy q (b n) ≡ false
+  no_enemy n e =
+      elim (nat_eq n x) as (λ c. is_enemy q (cond c None (map.get p.board n)) ≡ false) [
+        | true ↦ refl
+        | false ↦ enemy_there n ∙ e
+      ]
+
+  takes_none : (d : Direction) (n : ℕ) → set.contains enemies n ≡ false → takes b q set.empty d n ≡ false
+  takes_none d n e = ap (λ c. (c && not (set.contains (let s : Squares = set.empty in s) n)) && option_map_or (λ l. is_none (b l)) (step d n) false) (no_enemy n e)
+
+  along_none : (d : Direction) → next_in enemies d x ≡ false → any (line_jumps b q set.empty (ray d x)) ≡ false
+  along_none d e =
+      ap (λ c. any (cond c (king_jumps b q set.empty (ray d x)) (man_jumps b q set.empty (ray d x)))) man
+      ∙ elim (step d x) as (λ o. step d x ≡ o → option_map_or (set.contains enemies) o false ≡ false → any (man_jumps b q set.empty (ray d x)) ≡ false) [
+        | None ↦ λ edge _. man-none b q set.empty d x edge
+        | Some over ↦ λ there f. man-takes b q set.empty d x over there ∙ takes_none d over f
+      ] refl e
+
+  at_own : greatest_at p x ≡ greatest b q set.empty x
+  unfolding greatest_at
+  at_own = ap (λ o. option_map_or (λ r. greatest b r set.empty x) o 0) own
+
+  pub none_beside : is_beside enemies x ≡ false → 0 ≡ greatest_at p x
+  none_beside e =
+      let last = or_false ((next_in enemies UpLeft x || next_in enemies UpRight x) || next_in enemies DownLeft x) (next_in enemies DownRight x) e in
+      let third = or_false (next_in enemies UpLeft x || next_in enemies UpRight x) (next_in enemies DownLeft x) last.0 in
+      let two = or_false (next_in enemies UpLeft x) (next_in enemies UpRight x) third.0 in
+      let none = sym (along_none DownRight last.1)
+      ∙ jumps-last b q set.empty x (along_none UpLeft two.0) (along_none UpRight two.1) (along_none DownLeft third.1) in
+      greatest-none b q set.empty x false none refl ∙ sym at_own
+
+pub two_not : (a c : Bool) → (not a && not c) ≡ true → (a ≡ false) × (c ≡ false)
+two_not true c e = cc
+two_not false true e = cc
+two_not false false e = (refl, refl)
