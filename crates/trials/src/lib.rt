@@ -1,10 +1,10 @@
-//! Trials of the whole: the stored club beside the plain one, and stops at each call of the disk. It has tests alone.
+//! Trials of the whole: commands and rows written out by hand, and stops at each call of the disk. It has tests alone.
 #![tactic(auto)]
 
 #[cfg(test)]
-mod first_path;
+mod commands;
 #[cfg(test)]
-mod script;
+mod first_path;
 #[cfg(test)]
 mod stops;
 #[cfg(test)]

@@ -1,5 +1,0 @@
-pub mod Kept
-pub mod Replayed
-pub mod Runs
-pub mod Spent
-pub mod Steps
