@@ -17,4 +17,6 @@ pub use judging::judge;
 pub use tails::{Class, Tail};
 
 #[cfg(test)]
+mod long_line;
+#[cfg(test)]
 mod tests;

@@ -1,4 +1,4 @@
-use crate::{Counts, DEnd, Fault, judge};
+use crate::{Counts, DEnd, Fault, judge, long_line};
 use draughts_moves::Illegal;
 use squares::{DMove, DPiece, DPos, DSet, Dsq, Score, Side};
 use std::alloc::{AllocGlobal, Global};
@@ -232,6 +232,16 @@ fn fifty_plies_of_kings_are_a_draw(rt: HostRuntime) -> Result<(), Fail> {
         Ok(Some(DEnd::KingMoves))
     );
     ends_so(&rt, &start, moves.as_slice(), DEnd::KingMoves)
+}
+
+#[test]
+fn six_hundred_plies_are_a_draw(rt: HostRuntime) -> Result<(), Fail> {
+    let mut start = kings(&[36, 45], &[6, 15]);
+    place(&mut start, Side::First, false, &[46, 47, 48, 49, 50]);
+    place(&mut start, Side::Second, false, &[1, 2, 3, 4, 5]);
+    let moves = long_line::moves(rt.alloc())?;
+    assert_eq!(rt; moves.len(), 600);
+    ends_so(&rt, &start, moves.as_slice(), DEnd::PlyLimit)
 }
 
 #[test]
