@@ -42,21 +42,31 @@ impl From<AllocError> for BadWords {
 // The games that an event may have.
 static GAMES: [&str; 2] = ["draughts", "shogi"];
 
+// What a name may be: of a member, of an event, or the key of a game.
+const A_NAME: &str = "1 to 24 letters, digits, '.', '_' or '-'";
+
 // A positional word that has to be there.
-fn word<'a>(alloc: Global, name: &'a str) -> Arg<'a> {
-    Arg::new(alloc, name).required(true).action(ArgAction::Set)
+fn word<'a>(alloc: Global, name: &'a str, help: &'a str) -> Arg<'a> {
+    Arg::new(alloc, name)
+        .help(help)
+        .required(true)
+        .action(ArgAction::Set)
 }
 
 // A positional whole number that has to be there.
-fn number<'a>(alloc: Global, name: &'a str) -> Arg<'a> {
-    word(alloc, name).value_parser(value_parser!(u64))
+fn number<'a>(alloc: Global, name: &'a str, help: &'a str) -> Arg<'a> {
+    word(alloc, name, help).value_parser(value_parser!(u64))
 }
 
 fn member_words<'a>(alloc: Global) -> Result<clap::Command<'a>, AllocError> {
     clap::Command::new(alloc, "member")
         .about("Adds a member, with the key that the member will show")
-        .arg(word(alloc, "NAME"))?
-        .arg(word(alloc, "KEY"))
+        .arg(word(alloc, "NAME", A_NAME))?
+        .arg(word(
+            alloc,
+            "KEY",
+            "The member's secret: 8 to 64 letters and digits",
+        ))
 }
 
 fn event_words<'a>(alloc: Global) -> Result<clap::Command<'a>, AllocError> {
@@ -64,27 +74,49 @@ fn event_words<'a>(alloc: Global) -> Result<clap::Command<'a>, AllocError> {
         .about(
             "Adds an event; each player starts with BUDGET seconds and gains INCREMENT at each move",
         )
-        .arg(word(alloc, "NAME"))?
-        .arg(word(alloc, "GAME").value_parser(GAMES.as_slice()))?
-        .arg(number(alloc, "BUDGET"))?
-        .arg(number(alloc, "INCREMENT"))
+        .arg(word(alloc, "NAME", A_NAME))?
+        .arg(word(alloc, "GAME", "The game that is played in the event").value_parser(
+            GAMES.as_slice(),
+        ))?
+        .arg(number(
+            alloc,
+            "BUDGET",
+            "Seconds that each player starts with: 1 to 31536000, as 86400 for a day",
+        ))?
+        .arg(number(
+            alloc,
+            "INCREMENT",
+            "Seconds that a player gains at each move: 0 to 2592000",
+        ))
 }
 
 fn seat_words<'a>(alloc: Global) -> Result<clap::Command<'a>, AllocError> {
     clap::Command::new(alloc, "seat")
         .about("Starts a game of an event between two members, under a key")
-        .arg(word(alloc, "KEY"))?
-        .arg(word(alloc, "EVENT"))?
-        .arg(word(alloc, "FIRST"))?
-        .arg(word(alloc, "SECOND"))
+        .arg(word(alloc, "KEY", A_NAME))?
+        .arg(word(alloc, "EVENT", "The event's name"))?
+        .arg(word(
+            alloc,
+            "FIRST",
+            "The member who moves first: White in draughts, Black in shogi",
+        ))?
+        .arg(word(alloc, "SECOND", "The other member"))
 }
 
 fn move_words<'a>(alloc: Global) -> Result<clap::Command<'a>, AllocError> {
     clap::Command::new(alloc, "move")
         .about("Plays a move for the side whose ply it is")
-        .arg(number(alloc, "GAME"))?
-        .arg(number(alloc, "PLY"))?
-        .arg(word(alloc, "TEXT"))
+        .arg(number(alloc, "GAME", "The game's number, as 'seat' printed it"))?
+        .arg(number(
+            alloc,
+            "PLY",
+            "The number of the move in the game, both sides counted: 1 for the first",
+        ))?
+        .arg(word(
+            alloc,
+            "TEXT",
+            "The move: in draughts the squares left and come to, as 32-28",
+        ))
 }
 
 // The program's words, as the parser takes them.
@@ -98,10 +130,16 @@ fn club_words<'a>(alloc: Global) -> Result<clap::Command<'a>, AllocError> {
         "Makes the tables of a club in an empty file",
     );
     clap::Command::new(alloc, "club")
-        .about("Keeps a club's games of draughts and shogi in one file")
+        .about(
+            "Keeps a club's games of draughts and shogi in one file.\nStatus: 0 done, 1 refused, 2 bad words (and help), 3 a fault",
+        )
         .subcommand_required(true)
         .arg(now)?
-        .arg(word(alloc, "FILE"))?
+        .arg(word(
+            alloc,
+            "FILE",
+            "The club's file; beside it may lie FILE-wal, which belongs to it",
+        ))?
         .subcommand(init)?
         .subcommand(member_words(alloc)?)?
         .subcommand(event_words(alloc)?)?
