@@ -1,6 +1,7 @@
 pub mod DraughtsAscending
 pub mod DraughtsCleared
 pub mod DraughtsHashed
+pub mod DraughtsPops
 pub mod DraughtsRays
 pub mod DraughtsSides
 pub mod DraughtsTables

@@ -1,6 +1,6 @@
 -- Sets of squares: kept as fifty marks in the order of the squares, and listed in ascending order.
 use Rattle.std.specs.List.{range_with_len}
-use Rattle.std.specs.Prelude.{filter, ℕ, Bool, cond, ◌&&◌, List, [], ◌∷◌}
+use Rattle.std.specs.Prelude.{◌≡◌, filter, ℕ, Bool, true, cond, ◌&&◌, Option, Some, None, List, [], ◌∷◌}
 use Rattle.std.specs.Ordering.{nat_cmp}
 use Rattle.std.specs.FinSet as set
 use Rattle.std.proofs.Common.{suc}
@@ -24,3 +24,8 @@ marked n (b ∷ bs) = cond b (n ∷ marked (suc n) bs) (marked (suc n) bs)
 -- the set of fifty marks
 unfoldable pub squares_of : List Bool → Squares
 squares_of marks = set.from_list (marked 1 marks)
+
+-- what taking the least square out of a set answers and leaves
+abbrev pub PopsSquare : Squares → Option ℕ → Squares → Type 0
+PopsSquare before None after = (before ≡ set.empty) × (ascending before ≡ []) × (after ≡ before)
+PopsSquare before (Some n) after = (ascending before ≡ n ∷ ascending after) × (after ≡ set.remove before n) × (set.contains before n ≡ true)

@@ -2,7 +2,7 @@
 ghost use Rattle.std.specs.Prelude.{◌≡◌, ◌↔◌, ◌+◌, ℕ, IsTrue, length};
 ghost use Rattle.masks.specs.Words.{has_bit};
 ghost use Rattle.std.specs.FinSet as set;
-ghost use Rattle.squares.specs.DraughtsSets.{squares_of, ascending};
+ghost use Rattle.squares.specs.DraughtsSets.{squares_of, ascending, PopsSquare};
 ghost use Rattle.std.specs.Ordering.{nat_cmp};
 ghost use Rattle.std.specs.Cmp.Lexicographic.{slice_cmp};
 
@@ -79,6 +79,17 @@ impl DSet {
         Numbers::of(self)
             .as_slice()
             .cmp(Numbers::of(other).as_slice())
+    }
+
+    /// Takes the least square out of the set, or answers None where there is none.
+    pub fn pop(&mut self) -> Option<Dsq>
+        ensures { PopsSquare self.old result self.new }
+    {
+        let number = match self.squares.pop() {
+            Some(number) => number,
+            None => return None,
+        };
+        Dsq::new(number)
     }
 
     // The set of a word.
