@@ -1,8 +1,11 @@
 -- Taking the least square out of a set.
-use Rattle.std.proofs.Common.{◌≡◌, ℕ, zero, suc, ◌+◌, ◌≤◌, ◌<◌, Bool, true, false, cond, Option, Some, None, List, [], ◌∷◌, refl, sym, ap, ◌∙◌, subst, arith}
+use Rattle.std.proofs.Common.{◌≡◌, ℕ, zero, suc, ◌+◌, ◌≤◌, ◌<◌, Bool, true, false, cond, Option, Some, None, List, [], ◌∷◌, ◌++◌, length, take, refl, sym, ap, ◌∙◌, subst, arith}
 use Rattle.std.specs.Prelude.{filter, is_some, IfSome}
 use Rattle.std.specs.List.{range_with_len}
 use Rattle.std.specs.FinSet as set
+use Rattle.std.proofs.Math.ListN.{set as list_set}
+use Rattle.std.proofs.lemmas.Grind.{common_steps}
+use Rattle.std.proofs.lemmas.List.{append_assoc, append-nil}
 use Rattle.masks.specs.Words.{Pops, passing}
 use Rattle.masks.specs.Words as words
 use Rattle.squares.specs.DraughtsSets.{Squares, ascending, PopsSquare}
@@ -29,3 +32,22 @@ pops-some before after n o w e =
 pub some-is : (o : Option ℕ) (n : ℕ) → is_some o ≡ true → IfSome o (λ s. s ≡ n) → o ≡ Some n
 some-is None n e h = cc
 some-is (Some s) n e h = ap Some h
+
+pub ascending-fits : (s : Squares) → length (ascending s) ≤ 50
+unfolding ascending
+ascending-fits s = fits (set.contains s) (range_with_len 1 50)
+  where
+    fits : (test : ℕ → Bool) (xs : List ℕ) → length (filter test xs) ≤ length xs
+    fits test [] = omega arith
+    fits test (x ∷ xs) = elim (test x) as (λ c. length (cond c (x ∷ filter test xs) (filter test xs)) ≤ suc (length xs)) [ true ↦ omega (arith, fits test xs) | false ↦ omega (arith, fits test xs) ]
+
+take-write : (xs : List ℕ) (i m : ℕ) → i < length xs → take (i + 1) (list_set xs i m) ≡ take i xs ++ m ∷ []
+take-write xs i m h = grind (arith, common_steps)
+
+-- one more square is written behind those that were
+pub popped-write : (xs whole rest after : List ℕ) (i n m : ℕ) → i < length xs → m ≡ n → take i xs ++ rest ≡ whole → rest ≡ n ∷ after → take (i + 1) (list_set xs i m) ++ after ≡ whole
+popped-write xs whole rest after i n m h same so_far is =
+    ap (λ ys. ys ++ after) (take-write xs i m h) ∙ append_assoc (take i xs) (m ∷ []) after ∙ (λ j. take i xs ++ same j ∷ after) ∙ sym (ap (λ r. take i xs ++ r) is) ∙ so_far
+
+pub popped-end : (xs whole rest : List ℕ) (i : ℕ) → rest ≡ [] → take i xs ++ rest ≡ whole → take i xs ≡ whole
+popped-end xs whole rest i none so_far = sym (append-nil (take i xs)) ∙ sym (ap (λ r. take i xs ++ r) none) ∙ so_far

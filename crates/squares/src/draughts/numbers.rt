@@ -27,14 +27,12 @@ impl Numbers {
     pub fn of(set: DSet) -> Numbers
         ensures { result ≡ ascending set }
     {
-        let marks = set.marks();
+        let mut rest = set;
         let mut numbers = [0; 50];
         let mut len = 0;
-        for i in 0..50 {
-            if marks[i] {
-                numbers[len] = i as u8 + 1;
-                len += 1;
-            }
+        while let Some(square) = rest.pop() {
+            numbers[len] = square.number();
+            len += 1;
         }
         Numbers { numbers, len }
     }
