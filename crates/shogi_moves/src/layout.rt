@@ -1,5 +1,5 @@
 //! What the rules look at, and what a move makes of it.
-ghost use Rattle.std.specs.Prelude.{◌≡◌};
+ghost use Rattle.std.specs.Prelude.{◌≡◌, ◌&&◌, not};
 ghost use Rattle.squares.specs.ShogiSets.{IsShogiPosition};
 ghost use Rattle.shogi_moves.specs.Rules.{may_promote, held, with_held, dropped_role, arrived, board_after, hands_after, play};
 ghost use Rattle.squares.specs.declared.shogi.moves.SMove.TheVariants.{Step, Drop};
@@ -45,26 +45,25 @@ impl Layout {
         self.hands.of(self.turn).count(kind)
     }
 
-    /// The board after a step from a square to another.
-    pub fn board_after_step(&self, from: Ssq, to: Ssq, promote: bool) -> SBoard
-        ensures { result ≡ board_after (position_of self.now) (Step from to promote) }
+    // Makes a step on the board of the layout.
+    fn make_step(&self, board: &mut SBoard, from: Ssq, to: Ssq, promote: bool)
+        requires { board.old ≡ self.now.board }
+        ensures { board.new ≡ board_after (position_of self.now) (Step from to promote) }
     {
-        let mut board = self.board.copied();
         match self.board.at(from) {
-            None => board,
+            None => {}
             Some(piece) => {
                 board.clear(from);
                 board.put(to, arrived(piece, promote));
-                board
             }
         }
     }
 
-    /// The board after a drop.
-    pub fn board_after_drop(&self, kind: HandKind, to: Ssq) -> SBoard
-        ensures { result ≡ board_after (position_of self.now) (Drop kind to) }
+    // Makes a drop on the board of the layout.
+    fn make_drop(&self, board: &mut SBoard, kind: HandKind, to: Ssq)
+        requires { board.old ≡ self.now.board }
+        ensures { board.new ≡ board_after (position_of self.now) (Drop kind to) }
     {
-        let mut board = self.board.copied();
         board.put(
             to,
             SPiece {
@@ -72,17 +71,26 @@ impl Layout {
                 role: dropped_role(kind),
             },
         );
-        board
+    }
+
+    // Makes a move on the board of the layout.
+    fn make(&self, board: &mut SBoard, played: &SMove)
+        requires { board.old ≡ self.now.board }
+        ensures { board.new ≡ board_after (position_of self.now) played.now }
+    {
+        match played {
+            SMove::Step { from, to, promote } => self.make_step(board, *from, *to, *promote),
+            SMove::Drop { kind, to } => self.make_drop(board, *kind, *to),
+        }
     }
 
     /// The board after a move.
     pub fn board_after(&self, played: &SMove) -> SBoard
         ensures { result ≡ board_after (position_of self.now) played.now }
     {
-        match played {
-            SMove::Step { from, to, promote } => self.board_after_step(*from, *to, *promote),
-            SMove::Drop { kind, to } => self.board_after_drop(*kind, *to),
-        }
+        let mut board = self.board.copied();
+        self.make(&mut board, played);
+        board
     }
 
     /// Whether the king of the side to move is attacked.
@@ -92,21 +100,31 @@ impl Layout {
         self.checked
     }
 
+    // Whether the move is a drop while the king of the side to move is not attacked.
+    fn uncovers_nothing(&self, played: &SMove) -> bool
+        ensures { result ≡ (is_drop played.now && not self.now.checked) }
+    {
+        is_drop(played) && !self.checked
+    }
+
     /// Whether the king of the side to move is attacked after a move. A drop uncovers no king.
     pub fn is_checked_after(&self, played: &SMove) -> bool
         ensures { result ≡ king_attacked (board_after (position_of self.now) played.now) self.now.turn }
     {
-        if is_drop(played) && !self.checked {
+        if self.uncovers_nothing(played) {
             return false;
         }
-        is_king_attacked(&self.board_after(played), self.turn)
+        let mut board = self.board.copied();
+        self.make(&mut board, played);
+        is_king_attacked(&board, self.turn)
     }
 
     /// The layout after a drop.
     pub fn after_drop(&self, kind: HandKind, to: Ssq) -> Layout
         ensures { position_of result ≡ play (position_of self.now) (Drop kind to) }
     {
-        let board = self.board_after_drop(kind, to);
+        let mut board = self.board.copied();
+        self.make_drop(&mut board, kind, to);
         let turn = self.turn.other();
         let checked = is_king_attacked(&board, turn);
         let count = self.held(kind).saturating_sub(1);

@@ -3,7 +3,7 @@ use crate::checking::{Illegal, check, has_move};
 use crate::listing::legal;
 use crate::mating::mated;
 use crate::playing::play;
-use squares::{Hand, HandKind, Hands, Kind, Role, SBoard, SMove, SPiece, SPos, Side, Ssq};
+use squares::{Hand, HandKind, Hands, Role, SBoard, SMove, SPiece, SPos, Side, Ssq};
 use std::test::Fail;
 
 fn square(file: u8, rank: u8) -> Result<Ssq, Fail> {
@@ -111,45 +111,104 @@ fn drops_are_refused_by_their_rules(rt: HostRuntime) -> Result<(), Fail> {
     Ok(())
 }
 
-// The pieces of a side in the opening, its back rank, its second and its third given.
-fn army(
-    board: &mut SBoard,
-    side: Side,
-    ranks: (u8, u8, u8),
-    rook: u8,
-    bishop: u8,
-) -> Result<(), Fail> {
-    put(board, 1, ranks.0, side, Role::Lance)?;
-    put(board, 2, ranks.0, side, Role::Knight)?;
-    put(board, 3, ranks.0, side, Role::Silver)?;
-    put(board, 4, ranks.0, side, Role::Gold)?;
-    put(board, 5, ranks.0, side, Role::King)?;
-    put(board, 6, ranks.0, side, Role::Gold)?;
-    put(board, 7, ranks.0, side, Role::Silver)?;
-    put(board, 8, ranks.0, side, Role::Knight)?;
-    put(board, 9, ranks.0, side, Role::Lance)?;
-    put(board, rook, ranks.1, side, Role::Rook)?;
-    put(board, bishop, ranks.1, side, Role::Bishop)?;
-    put(board, 1, ranks.2, side, Role::Pawn)?;
-    put(board, 2, ranks.2, side, Role::Pawn)?;
-    put(board, 3, ranks.2, side, Role::Pawn)?;
-    put(board, 4, ranks.2, side, Role::Pawn)?;
-    put(board, 5, ranks.2, side, Role::Pawn)?;
-    put(board, 6, ranks.2, side, Role::Pawn)?;
-    put(board, 7, ranks.2, side, Role::Pawn)?;
-    put(board, 8, ranks.2, side, Role::Pawn)?;
-    put(board, 9, ranks.2, side, Role::Pawn)?;
+#[test]
+fn the_opening_has_thirty_moves(rt: HostRuntime) -> Result<(), Fail> {
+    let position = SPos::opening();
+    let moves = legal(rt.alloc(), &position)?;
+    assert_eq!(rt; moves.len(), 30);
+    assert!(rt; has_move(&position));
+    assert!(rt; !in_check(&position));
+    Ok(())
+}
+
+// The position with the most moves that is known.
+#[test]
+fn a_position_has_593_moves(rt: HostRuntime) -> Result<(), Fail> {
+    let mut board = SBoard::empty();
+    put(&mut board, 9, 1, Side::First, Role::Rook)?;
+    put(&mut board, 7, 2, Side::First, Role::King)?;
+    put(&mut board, 5, 2, Side::First, Role::Silver)?;
+    put(&mut board, 3, 2, Side::First, Role::Silver)?;
+    put(&mut board, 2, 2, Side::First, Role::Silver)?;
+    put(&mut board, 1, 2, Side::Second, Role::King)?;
+    put(&mut board, 5, 3, Side::First, Role::Bishop)?;
+    put(&mut board, 8, 9, Side::First, Role::Lance)?;
+    put(&mut board, 6, 9, Side::First, Role::Lance)?;
+    put(&mut board, 4, 9, Side::First, Role::Lance)?;
+    let first = Hand {
+        rook: 1,
+        bishop: 1,
+        gold: 1,
+        silver: 1,
+        knight: 1,
+        lance: 1,
+        pawn: 1,
+    };
+    let second = Hand {
+        gold: 3,
+        knight: 3,
+        pawn: 17,
+        ..Hand::default()
+    };
+    let position = SPos::new(board, Hands { first, second }, Side::First).ok_or("a position")?;
+    assert_eq!(rt; legal(rt.alloc(), &position)?.len(), 593);
+    Ok(())
+}
+
+// Two kings in the corners, and First's pawn before the far ranks.
+#[test]
+fn moves_are_listed_in_order(rt: HostRuntime) -> Result<(), Fail> {
+    let mut board = SBoard::empty();
+    put(&mut board, 1, 1, Side::Second, Role::King)?;
+    put(&mut board, 9, 9, Side::First, Role::King)?;
+    put(&mut board, 5, 4, Side::First, Role::Pawn)?;
+    let position = SPos::new(board, Hands::default(), Side::First).ok_or("a position")?;
+    let promotes = SMove::Step {
+        from: square(5, 4)?,
+        to: square(5, 3)?,
+        promote: true,
+    };
+    let moves = legal(rt.alloc(), &position)?;
+    assert_eq!(rt; moves.len(), 5);
+    let listed = moves.as_slice();
+    assert_eq!(rt; listed.get(0).copied(), Some(step((5, 4), (5, 3))?));
+    assert_eq!(rt; listed.get(1).copied(), Some(promotes));
+    assert_eq!(rt; listed.get(2).copied(), Some(step((9, 9), (8, 8))?));
+    assert_eq!(rt; listed.get(3).copied(), Some(step((9, 9), (8, 9))?));
+    assert_eq!(rt; listed.get(4).copied(), Some(step((9, 9), (9, 8))?));
+    Ok(())
+}
+
+// First's king on its edge, on the file of Second's rook, and First's gold between them or not.
+fn on_the_rooks_file(gold: bool) -> Result<SPos, Fail> {
+    let mut board = SBoard::empty();
+    put(&mut board, 9, 1, Side::Second, Role::King)?;
+    put(&mut board, 5, 1, Side::Second, Role::Rook)?;
+    put(&mut board, 5, 9, Side::First, Role::King)?;
+    if gold {
+        put(&mut board, 5, 5, Side::First, Role::Gold)?;
+    }
+    Ok(SPos::new(board, with_pawn(), Side::First).ok_or("a position")?)
+}
+
+#[test]
+fn a_pinned_piece_keeps_to_its_line(rt: HostRuntime) -> Result<(), Fail> {
+    let position = on_the_rooks_file(true)?;
+    assert!(rt; !in_check(&position));
+    let leaves = step((5, 5), (4, 5))?;
+    assert_eq!(rt; check(&position, &leaves), Err(Illegal::KingAttacked));
+    assert_eq!(rt; check(&position, &step((5, 5), (5, 4))?), Ok(()));
+    assert_eq!(rt; check(&position, &drop_on(HandKind::Pawn, 4, 5)?), Ok(()));
     Ok(())
 }
 
 #[test]
-fn the_opening_has_thirty_moves(rt: HostRuntime) -> Result<(), Fail> {
-    let mut board = SBoard::empty();
-    army(&mut board, Side::First, (9, 8, 7), 2, 8)?;
-    army(&mut board, Side::Second, (1, 2, 3), 8, 2)?;
-    let position = SPos::new(board, Hands::default(), Side::First).ok_or("a position")?;
-    let moves = legal(rt.alloc(), &position)?;
-    assert_eq!(rt; moves.len(), 30);
-    assert!(rt; has_move(&position));
+fn a_drop_in_check_comes_between(rt: HostRuntime) -> Result<(), Fail> {
+    let position = on_the_rooks_file(false)?;
+    assert!(rt; in_check(&position));
+    let elsewhere = drop_on(HandKind::Pawn, 4, 5)?;
+    assert_eq!(rt; check(&position, &elsewhere), Err(Illegal::KingAttacked));
+    assert_eq!(rt; check(&position, &drop_on(HandKind::Pawn, 5, 5)?), Ok(()));
+    assert!(rt; !mated(&position));
     Ok(())
 }

@@ -4,6 +4,7 @@ use super::piece::{HandKind, Kind, Role, SPiece};
 use super::position::SPos;
 use super::square::Ssq;
 use crate::sides::Side;
+use std::cmp::Ordering;
 use std::test::Fail;
 
 fn square(file: u8, rank: u8) -> Result<Ssq, Fail> {
@@ -98,5 +99,45 @@ fn positions_are_the_same_by_board_hands_and_turn(rt: HostRuntime) -> Result<(),
     assert!(rt; moved != *position.board());
     let elsewhere = SPos::new(moved, position.hands(), Side::First).ok_or("two pawns")?;
     assert!(rt; position != elsewhere);
+    Ok(())
+}
+
+// The opening as it stands in every book: the rook on 2h, the king on 5i, and pawns on the third ranks.
+#[test]
+fn a_game_opens_with_two_armies(rt: HostRuntime) -> Result<(), Fail> {
+    let position = SPos::opening();
+    assert_eq!(rt; position.turn(), Side::First);
+    assert_eq!(rt; position.hands(), Hands::default());
+    assert_eq!(rt; position.word(piece(Side::First, Role::Rook)), 1 << 16);
+    assert_eq!(rt; position.word(piece(Side::First, Role::Bishop)), 1 << 70);
+    assert_eq!(rt; position.word(piece(Side::Second, Role::Rook)), 1 << 64);
+    assert_eq!(rt; position.word(piece(Side::Second, Role::Bishop)), 1 << 10);
+    assert_eq!(rt; position.word(piece(Side::First, Role::King)), 1 << 44);
+    assert_eq!(rt; position.word(piece(Side::Second, Role::King)), 1 << 36);
+    let pawns = position.word(piece(Side::Second, Role::Pawn));
+    assert_eq!(rt; pawns.count_ones(), 9);
+    assert_eq!(rt; pawns.trailing_zeros(), 2);
+    assert_eq!(rt; position.board().squares_of_side(Side::First).len(), 20);
+    assert_eq!(rt; position.word(piece(Side::First, Role::PromotedPawn)), 0);
+    Ok(())
+}
+
+// A square of any number, and none past the last.
+#[test]
+fn numbers_above_eighty_are_no_squares(rt: HostRuntime) -> Result<(), Fail> {
+    assert_eq!(rt; Ssq::from_number(59), Some(square(7, 6)?));
+    assert_eq!(rt; Ssq::from_number(81), None);
+    Ok(())
+}
+
+// Positions are ordered by turn, then hands, then board.
+#[test]
+fn positions_have_an_order(rt: HostRuntime) -> Result<(), Fail> {
+    let opening = SPos::opening();
+    let fewer = kings_and_pawns(1)?.ok_or("one pawn")?;
+    let more = kings_and_pawns(2)?.ok_or("two pawns")?;
+    assert!(rt; fewer < more);
+    assert!(rt; opening < fewer);
+    assert!(rt; opening.cmp(&SPos::opening()) == Ordering::Equal);
     Ok(())
 }

@@ -1,9 +1,18 @@
-use Rattle.std.proofs.Common.{◌∙◌, sym}
+use Rattle.std.proofs.Common.{◌≡◌, Bool, true, false, ◌&&◌, refl, sym, ◌∙◌}
+use Rattle.std.specs.Prelude.{not}
 use Rattle.shogi_moves.specs.Layouts.{position_of}
+use Rattle.shogi_moves.specs.Computed.{is_drop}
+use Rattle.shogi_moves.proofs.TruthLemmas.{and_true}
 use Rattle.shogi_moves.proofs.DropLemmas.{drop-safe}
 use Rattle.shogi_moves.proofs.layout.Layout.is_checked_after.Goals as goal
 
-pub returns-then-not-self : goal.returns-then-not-self
-returns-then-not-self c =
+untrue : (b : Bool) → not b ≡ true → b ≡ false
+untrue true e = sym e
+untrue false e = refl
+
+pub returns-then-uncovers_nothing : goal.returns-then-uncovers_nothing
+returns-then-uncovers_nothing c =
     let l = c.args.self.now in
-    sym (drop-safe (position_of l) c.args.played.now (sym c.is_drop.ensures ∙ c.if-is_drop.true) (sym l.is_known ∙ c.if-not-self.true))
+    let m = c.args.played.now in
+    let both = and_true (is_drop m) (not l.checked) (sym c.uncovers_nothing.ensures ∙ c.if-uncovers_nothing.true) in
+    sym (drop-safe (position_of l) m both.0 (sym l.is_known ∙ untrue l.checked both.1))
