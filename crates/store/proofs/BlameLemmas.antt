@@ -1,37 +1,43 @@
 -- From what was read of a table to what a fault says of it, and to the content.
 use Rattle.std.proofs.Common.{◌≡◌, ℕ, List, [], ◌∷◌, All, inl, inr, refl, subst, sym, ap, ◌∙◌, Some, pos, get_or, slice_get, map}
 use Rattle.std.specs.List.{AllByRecursion}
-use Rattle.std.specs.List.Sorted.{IsPermutation}
-use Rattle.sqlite.specs.Order.{Row}
+use Rattle.std.specs.List.Sorted.{IsPermutation, IsSorted}
+use Rattle.sqlite.specs.Order.{Row, column}
 use Rattle.sqlite.specs.Effect.{Database}
 use Rattle.sqlite.specs.Table.{Table as Definition}
 use Rattle.sqlite.specs.State.{State, IsUnchanged}
 use Rattle.sqlite.specs.declared.types.Value.TheVariants.{Int}
 use Rattle.sqlite.proofs.Callers.{unchanged_then}
 use Rattle.sqlite_rules.proofs.ListLemmas.{all_has, has_got}
-use Rattle.store_tables.specs.Cells.{IsMeta, meta_cells}
+use Rattle.store_tables.specs.Cells.{IsMeta, meta_cells, member_cells, event_cells, game_cells}
 use Rattle.store_tables.specs.declared.rows.MetaRow.{MetaRow}
 use Rattle.sqlite_rules.specs.Lists.{Has}
 use Rattle.store_tables.specs.Content.{Keeps, AreApart, cells}
-use Rattle.store_tables.specs.Contents.{Content, Stores, Holds, IsOpened, IsExactly, Leaves}
-use Rattle.store_tables.specs.Reading.{Tells, TellsIds}
+use Rattle.store_tables.specs.Contents.{Content, Stores}
+use Rattle.store_tables.specs.Club.{Holds, IsOpened, IsExactly, Leaves}
+use Rattle.store_tables.specs.Reading.{Tells, AreIds, by_columns}
 use Rattle.store_tables.specs.Reading.{KeepsMay}
-use Rattle.store_tables.specs.Rows.{content_of, AreInOrder}
+use Rattle.sqlite_trees.specs.View.{is_int}
+use Rattle.std.specs.Prelude.{IsTrue, ℤ}
+use Rattle.store_tables.specs.Rows.{content_of, AreInOrder, HaveIds}
 use Rattle.store_tables.specs.declared.rows.Rows.{Rows}
-use Rattle.store_tables.proofs.StepLemmas.{leaves_of}
-use Rattle.store_tables.specs.Tables.{club_schema, meta}
-use Rattle.store_tables.proofs.TellLemmas.{all_alike, one_shown}
+use Rattle.store_tables.proofs.Laws.{leaves_of}
+use Rattle.store_tables.specs.Tables.{club_schema, meta, members, events, games}
+use Rattle.store_tables.proofs.Laws.{one_shown, ids_of, apart_of}
 use Rattle.store_tables.specs.declared.names.Table.{Table}
 use Rattle.store.specs.declared.fault.OpenFault.{OpenFault}
+use Rattle.store_sql.specs.declared.fault.ReadFault.{ReadFault}
+use Rattle.store_sql.specs.Read.{Blames as BlamesRead}
+use Rattle.store.specs.Faults.{told}
 use Rattle.store.specs.declared.fault.OpenFault.TheVariants.{Schema}
-use Rattle.store.specs.Blames.{IsReadAs, IsOneMeta, HasTypes, Faults, Blames, NamesTable, NamesSchema, AreRead}
+use Rattle.store.specs.Blames.{IsOneMeta, HasTypes, Faults, Blames, NamesTable, NamesSchema, AreRead}
+use Rattle.store_sql.specs.Read.{IsReadAs}
 
-pub blame_types : (t : Table) (definition : Definition) (IsTyped : Row → Type 0) (old mid : State) (slice shown : List Row) (e : OpenFault) → slice ≡ shown → mid.now ≡ old.now → Keeps definition mid.now.trees shown → Faults t (¬ All IsTyped slice) e
-    → Blames t definition IsTyped old e
-blame_types t definition IsTyped old mid slice shown e is same keeps (inl memory) = inr (inl memory)
-blame_types t definition IsTyped old mid slice shown e is same keeps (inr (named, wrong)) =
-    let here : Keeps definition old.now.trees shown = subst (λ (d : Database). Keeps definition d.trees shown) same keeps in
-    inr (inr (named, λ rows kept apart all. (rw is at wrong) (all_alike definition old.now.trees IsTyped shown rows here kept all)))
+-- a fault of a table, as it is told
+pub blames_told : (t : Table) (definition : Definition) (IsTyped : Row → Type 0) (old : State) (e : ReadFault) (fault : OpenFault) → fault ≡ told t e → BlamesRead definition IsTyped old e → Blames t definition IsTyped old fault
+blames_told t definition IsTyped old e fault is (inl store) = inl (is ∙ ap (told t) store)
+blames_told t definition IsTyped old e fault is (inr (inl memory)) = inr (inl (is ∙ ap (told t) memory))
+blames_told t definition IsTyped old e fault is (inr (inr (named, wrong))) = inr (inr (is ∙ ap (told t) named, wrong))
 
 -- ---- the row of meta
 
@@ -40,13 +46,13 @@ one_is_meta rows row at one =
     let is : row ≡ Int (pos 1) ∷ Int one.schema ∷ Int one.last ∷ [] = at ∙ ap (λ l. get_or l 0 row) one.is in
     subst IsMeta (sym is) (record { width = refl; id = (pos 1, refl); schema = (one.schema, refl); last = (one.last, refl) })
 
-pub shown_one : (db : Database) (content : Content) (slice shown : List Row) (old new : State) → slice ≡ shown → db ≡ old.now → Tells (meta 0) 1 shown old new → TellsIds 0 shown old new → Holds db content → IsOneMeta (content 0) → IsOneMeta slice
-shown_one db content slice shown old new is same told ids k one =
+pub shown_one : (db : Database) (content : Content) (slice shown : List Row) (old new : State) → slice ≡ shown → db ≡ old.now → Tells (meta 0) 1 shown old new → Holds db content → IsOneMeta (content 0) → IsOneMeta slice
+shown_one db content slice shown old new is same tells k one =
     let stored : Stores (meta 0) db.trees content = k.tables.0 in
     let x : Row = Int (pos 1) ∷ Int one.schema ∷ Int one.last ∷ [] in
     let kept : Keeps (meta 0) old.now.trees (x ∷ []) = subst (λ (d : Database). Keeps (meta 0) d.trees (x ∷ [])) same (subst (Keeps (meta 0) db.trees) one.is stored.rows) in
     let apart : AreApart (old.now.trees 0) = subst (λ (d : Database). AreApart (d.trees 0)) same stored.apart in
-    record { schema = one.schema; last = one.last; is = is ∙ one_shown (meta 0) old.now.trees shown x told.keeps kept (ids.ids apart) }
+    record { schema = one.schema; last = one.last; is = is ∙ one_shown (meta 0) old.now.trees shown x tells.keeps kept (ids_of (meta 0) (old.now.trees 0) shown (λ r. refl) tells.once apart) }
 
 -- ---- several tables in turn
 
@@ -108,7 +114,7 @@ read_exactly rows old new opened it may =
       idle = same.mode ∙ opened.idle;
       now = subst (λ (d : Database). Holds d (content_of rows)) (sym same.now_is) holds;
       committed = same.committed_is ∙ opened.committed ∙ sym same.now_is;
-      may_leave = λ db left. subst (Leaves (content_of rows)) (sym (opened.settled db (may db left) ∙ ap (λ (d : Database). d.trees) opened.committed)) (leaves_of old.now (content_of rows) holds);
+      may_leave = λ db left. subst (Leaves (content_of rows)) (sym (opened.settled db (may db left) ∙ ap (λ (d : Database). d.trees) opened.committed)) (leaves_of club_schema old.now (content_of rows) holds);
     }
 
 pub read_order : (rows : Rows) (old new : State) → AreRead rows old new → AreInOrder rows
@@ -120,4 +126,25 @@ read_order rows old new it = record {
   games = it.games.sorted;
   seen = it.seen.sorted;
   scores = it.scores.sorted;
+}
+
+-- the one row of `meta` that is shown was read
+pub read_one : (slice rows : List Row) (row : Row) (id : ℤ) (old new : State) → slice ≡ rows → slice ≡ row ∷ [] → column row 0 ≡ Int id → Tells (meta 0) 1 rows old new → IsReadAs (meta 0) 1 (row ∷ []) old new
+read_one slice rows row id old new whole one first tells =
+    let is : rows ≡ row ∷ [] = sym whole ∙ one in
+    let ids : AreIds (row ∷ []) = record { apart = (tt, tt); ints = (subst (λ v. IsTrue (is_int v)) (sym first) refl, tt) } in
+    record {
+      keeps = subst (Keeps (meta 0) old.now.trees) is tells.keeps;
+      once = subst (IsPermutation (map (cells (meta 0)) (old.now.trees 0))) is tells.once;
+      apart = apart_of (meta 0) (old.now.trees 0) rows (λ r. refl) tells.once (subst AreIds (sym is) ids);
+      sorted = subst (IsSorted (by_columns 1)) is tells.sorted;
+      same = tells.same;
+    }
+
+-- no two members, events or games have one id
+pub have_ids : (rows : Rows) (old new : State) → AreRead rows old new → HaveIds rows
+have_ids rows old new it = record {
+  members = ids_of (members 1) (old.now.trees 1) (map member_cells rows.members.items) (λ r. refl) it.members.once it.members.apart;
+  events = ids_of (events 4) (old.now.trees 4) (map event_cells rows.events.items) (λ r. refl) it.events.once it.events.apart;
+  games = ids_of (games 10) (old.now.trees 10) (map game_cells rows.games.items) (λ r. refl) it.games.once it.games.apart;
 }

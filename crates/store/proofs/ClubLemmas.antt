@@ -14,21 +14,24 @@ use Rattle.club_core.specs.Events.{Event}
 use Rattle.club_core.specs.State.{AnyGame, draughts, shogi}
 use Rattle.store_tables.specs.Cells.{meta_cells, member_cells, event_cells, challenge_cells, move_cells, game_cells, seen_cells, score_cells}
 use Rattle.store_tables.specs.Content.{Keeps}
-use Rattle.store_tables.specs.Contents.{Content, Holds}
+use Rattle.store_tables.specs.Contents.{Content}
+use Rattle.store_tables.specs.Club.{Holds}
 use Rattle.store_tables.specs.Reading.{AreIds}
 use Rattle.store_tables.specs.Rows.{content_of, HaveIds}
 use Rattle.store_tables.specs.Tables.{meta, members, events, challenges, games, seen, scores}
 use Rattle.store_tables.specs.declared.names.Table.{Table}
 use Rattle.store_tables.specs.declared.names.Table.TheVariants.{Members, Events, Challenges, Moves, Games, Seen, Scores, Meta}
 use Rattle.store_tables.specs.declared.rows.Rows.{Rows}
-use Rattle.store_tables.proofs.IdLemmas.{in_order, one_list, places_rise}
+use Rattle.store_tables.proofs.Laws.{in_order, one_list, places_rise}
 use Rattle.club_rows.specs.Club.{ClubState, IsClub, IsStoredAs}
 use Rattle.club_rows.specs.Tables.{member_row, event_row, numbered_from, row_of_game, tables_of}
 use Rattle.club_rows.proofs.TextLemmas.{members-typed, events-typed, moves-typed, games-typed}
 use Rattle.store.proofs.FoundLemmas.{moved}
 use Rattle.store.proofs.MoveOrderLemmas.{moves_are}
-use Rattle.store.specs.Blames.{IsReadAs, AreRead, HasTypes, NamesTable, NamesSchema}
-use Rattle.store.specs.Places.{ArePlaces, HasPlaces, BeginWithPlaces, NamesRows}
+use Rattle.store.specs.Blames.{AreRead, HasTypes, NamesTable, NamesSchema}
+use Rattle.store_sql.specs.Read.{IsReadAs}
+use Rattle.store.specs.Places.{ArePlaces, HasPlaces, NamesRows}
+use Rattle.store_sql.specs.Read.{BeginWithPlaces}
 use Rattle.store.specs.declared.fault.OpenFault.{OpenFault}
 use Rattle.store.specs.declared.fault.OpenFault.TheVariants.{Store, Memory}
 

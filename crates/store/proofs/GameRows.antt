@@ -40,7 +40,7 @@ use Rattle.store_tables.specs.Content.{same_key}
 use Rattle.store_tables.specs.Contents.{AreThose}
 use Rattle.store_tables.specs.declared.rows.GameRecord.{GameRecord}
 use Rattle.store_tables.specs.declared.rows.MoveRow.{MoveRow}
-use Rattle.store_tables.proofs.KeyLemmas.{equal_cmp, equal_from}
+use Rattle.store_tables.proofs.Laws.{equal_cmp, equal_from}
 use Rattle.club_rows.specs.Club.{ClubState, IsClub, tables}
 use Rattle.store.specs.Steps.{game_in, HaveSame, IsRecordOf}
 use Rattle.store.proofs.PutSame.{numbered_had, numbered_has, gathered_had, gathered_has, ids_same as same_ids, ids_agree, one_line, AreAtPlaces}

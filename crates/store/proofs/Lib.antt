@@ -1,8 +1,6 @@
 pub mod BlameLemmas
-pub mod BoundLemmas
 pub mod ClubLemmas
 pub mod FoundLemmas
-pub mod OpenLemmas
 pub mod OpeningLemmas
 pub mod MoveOrderLemmas
 pub mod GameRows

@@ -1,4 +1,5 @@
 -- What sessions of a club lead to, counted by the requests that are accepted.
+use Rattle.store_tables.specs.Tables.{club_schema}
 use Rattle.std.proofs.Common.{◌≡◌, ◌⊎◌, ℕ, zero, suc, ◌+◌, ◌≤◌, Bool, true, false, List, [], ◌∷◌, ◌++◌, map, length, take, Option, Some, None, IsSome, IsTrue, is_none, refl, sym, ap, subst, ◌∙◌, inl, inr, arith}
 use Rattle.std.specs.Prelude.{if◌then◌else◌}
 use Rattle.std.specs.List.{count_by}
@@ -15,12 +16,13 @@ use Rattle.club_core.specs.Outcome.{Outcome, accepted, repeated, refused}
 use Rattle.club_core.specs.State.{Request, opening_state, is_accepted}
 use Rattle.club_core.proofs.Folds.{folds-accepted}
 use Rattle.club_rows.specs.Club.{ClubState, IsClub, tables}
-use Rattle.store_tables.specs.Contents.{Content, IsExactly, Leaves}
+use Rattle.store_tables.specs.Contents.{Content}
+use Rattle.store_tables.specs.Club.{IsExactly, Leaves}
 use Rattle.store.specs.declared.club.run.Run.{Run}
 use Rattle.store.specs.declared.fault.StoreFault.{StoreFault}
 use Rattle.store.specs.Steps.{club_step, club_next}
 use Rattle.store.specs.Runs.{club_fold, club_outcomes, club_accepted}
-use Rattle.store.proofs.OpenLemmas.{opens_exactly}
+use Rattle.store_sql.proofs.Laws.{opens_exactly}
 use Rattle.store.specs.Lives.{Session, LeadsOn, Leads, IsLed, Stands, IsAfter, is_taken, session_of}
 
 -- those of the first requests are the first of those
@@ -173,7 +175,7 @@ pub stops_led : (sessions : List Session) (now : State) → Stands sessions now 
 stops_led sessions now at trees left = record { after = at.after; legal = at.legal; leads = at.leads; leaves = at.exactly.may_leave trees left }
 
 pub opens_led : (sessions : List Session) (s : State) → Opens s → IsLive s → ((db : Trees) → IsTrue s.is_open → s.may_leave db → db ≡ s.committed.trees) → IsLed sessions s.committed.trees → Stands sessions s
-opens_led sessions s opens live settled led = record { after = led.after; legal = led.legal; leads = led.leads; exactly = opens_exactly (tables led.after) s opens live settled led.leaves }
+opens_led sessions s opens live settled led = record { after = led.after; legal = led.legal; leads = led.leads; exactly = opens_exactly club_schema (tables led.after) s opens live settled led.leaves }
 
 -- what keeps the tables keeps where they stand
 pub still_stands : (sessions : List Session) (old new : State) → ((content : Content) → IsExactly content old → IsExactly content new) → Stands sessions old → Stands sessions new

@@ -6,7 +6,8 @@ use Rattle.sqlite.specs.Tree.{Trees}
 use Rattle.sqlite.specs.State.{State}
 use Rattle.club_core.specs.State.{opening_state}
 use Rattle.club_rows.specs.Club.{tables}
-use Rattle.store_tables.specs.Contents.{Content, IsExactly, Leaves, opening}
+use Rattle.store_tables.specs.Contents.{Content, opening}
+use Rattle.store_tables.specs.Club.{IsExactly, Leaves}
 
 nothing-else : (z a b c d : Bool) (rows : List Row) → ◌≡◌ {A = List Row} (if z then rows else []) (if z then rows else (if a then [] else (if b then [] else (if c then [] else (if d then [] else [])))))
 nothing-else true a b c d rows = refl

@@ -26,7 +26,7 @@ use Rattle.club_core.proofs.LegalSteps.{not-false}
 use Rattle.club_core.proofs.Legals.{none-holds}
 use Rattle.club_rows.specs.Tables.{member_row, event_row, game_row}
 use Rattle.sqlite.specs.Order.{Row}
-use Rattle.store.specs.declared.changes.Changes.{Changes}
+use Rattle.store_tables.specs.declared.rows.Changes.{Changes}
 use Rattle.store.specs.declared.command.Decided.{Decided}
 use Rattle.club_rows.specs.Club.{ClubState, IsClub, tables}
 use Rattle.store.specs.Steps.{request, club_step, caller_step, game_in, AreSame, PutsOnly, IsDecided, changed_if}

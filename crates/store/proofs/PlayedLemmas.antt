@@ -46,7 +46,7 @@ use Rattle.club_rows.specs.Tables.{game_row, move_rows, number}
 use Rattle.club_rows.proofs.MadeLemmas.{made-last}
 use Rattle.store_tables.specs.Cells.{game_cells}
 use Rattle.store_tables.specs.declared.rows.GameRecord.{GameRecord}
-use Rattle.store.specs.declared.changes.Changes.{Changes}
+use Rattle.store_tables.specs.declared.rows.Changes.{Changes}
 use Rattle.store.specs.declared.command.Decided.{Decided}
 use Rattle.club_rows.specs.Club.{ClubState, IsClub, tables}
 use Rattle.store.specs.Steps.{caller_step, AreSame, PutsOnly, IsDecided}

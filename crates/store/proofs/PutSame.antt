@@ -14,14 +14,9 @@ use Rattle.sqlite_rules.proofs.ListLemmas.{has_filtered, has_kept, has_either, h
 use Rattle.club_core.proofs.Lists.{got-append, got-set, set-got, get-append, at-last, put-at}
 use Rattle.club_rows.specs.Tables.{number, numbered_from, gathered_from}
 use Rattle.store_tables.specs.Content.{same_key, put}
-use Rattle.store_tables.proofs.KeyLemmas.{equal_ints, equal_from}
+use Rattle.store_tables.proofs.Laws.{equal_ints, equal_from}
+pub use Rattle.store_tables.proofs.Laws.{same_itself, same_by, put_had, put_kept}
 use Rattle.store.specs.Steps.{HaveSame}
-
-pub same_itself : (rows : List Row) → HaveSame rows rows
-same_itself rows = record { there = λ z h. h; back = λ z h. h }
-
-pub same_by : (one other : List Row) → one ≡ other → HaveSame one other
-same_by one other is = subst (HaveSame one) is (same_itself one)
 
 -- ---- keys
 
@@ -59,14 +54,6 @@ pairs_apart a b m n k j p q r t apart = elim (cases_Bool (same_key (0 ∷ 1 ∷ 
 ]
 
 -- ---- a row that is put
-
-module _ (key : List ℕ) (row : Row) (rows : List Row) (z : Row) where
-  pub put_had : Has (put key row rows) z → (z ≡ row) ⊎ (Has rows z × (same_key key z row ≡ false))
-  put_had (inl is) = inl is
-  put_had (inr h) = let old = has_filtered (λ x. not (same_key key x row)) rows z h in inr (old.0, not-true _ old.1)
-
-  pub put_kept : Has rows z → same_key key z row ≡ false → Has (put key row rows) z
-  put_kept h apart = inr (has_kept (λ x. not (same_key key x row)) rows z h (ap not apart))
 
 -- the one row of a table is replaced
 pub one_replaced : (old new : Row) (m : ℕ) → column old 0 ≡ number m → column new 0 ≡ number m → HaveSame (put (0 ∷ []) new (old ∷ [])) (new ∷ [])

@@ -14,7 +14,7 @@ use Rattle.club_rules.specs.Draughts.{draughts}
 use Rattle.club_rows.specs.Tables.{number, numbered_from, member_row, event_row}
 use Rattle.store_tables.specs.Cells.{member_cells}
 use Rattle.store_tables.specs.declared.rows.MemberRow.{MemberRow}
-use Rattle.store.specs.Places.{BeginWithPlaces}
+use Rattle.store_sql.specs.Read.{BeginWithPlaces}
 use Rattle.club_rows.specs.Club.{ClubState, tables}
 use Rattle.store.specs.Steps.{game_in}
 use Rattle.store.proofs.PutSame.{numbered_at, numbered_length, numbered_places, at_get, take_next}

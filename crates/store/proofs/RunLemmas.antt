@@ -3,7 +3,7 @@ use Rattle.std.proofs.Common.{◌≡◌, ℕ, zero, suc, ◌+◌, ◌<◌, ◌�
 use Rattle.std.proofs.lemmas.List.{take_more, take_all, map-append, length_push}
 use Rattle.sqlite.specs.State.{State}
 use Rattle.sqlite.specs.Tree.{Trees}
-use Rattle.store_tables.specs.Contents.{IsExactly, Leaves}
+use Rattle.store_tables.specs.Club.{IsExactly, Leaves}
 use Rattle.club_core.specs.declared.requests.Request as given_request
 use Rattle.club_core.specs.declared.answers.Outcome as given_outcome
 use Rattle.club_core.specs.Answer.{answered, outcome_of, request_of}

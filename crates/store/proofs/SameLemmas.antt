@@ -8,11 +8,12 @@ use Rattle.sqlite.specs.Tree.{Trees}
 use Rattle.sqlite.specs.State.{State}
 use Rattle.store_tables.specs.Cells.{meta_cells, seen_cells, score_cells, challenge_cells}
 use Rattle.store_tables.specs.Content.{Keeps}
-use Rattle.store_tables.specs.Contents.{Content, put_in, put_each, Stores, AreStored, Leaves, IsExactly}
+use Rattle.store_tables.specs.Contents.{Content, put_in, put_each, Stores, AreStored}
+use Rattle.store_tables.specs.Club.{Leaves, IsExactly}
 use Rattle.store_tables.specs.Tables.{club_schema}
 use Rattle.store_tables.specs.declared.rows.MetaRow.{MetaRow}
-use Rattle.store.specs.declared.changes.Changes.{Changes}
-use Rattle.store.specs.Changed.{changed, put_maybe}
+use Rattle.store_tables.specs.declared.rows.Changes.{Changes}
+use Rattle.store_tables.specs.Changed.{changed, put_maybe}
 use Rattle.store.specs.Steps.{HaveSame, AreSame, PutsOnly}
 use Rattle.store.proofs.NextRows.{puts, meta_row}
 

@@ -1,18 +1,18 @@
 -- What reading a table of a club's database tells, and what a fault says of its rows.
 use Rattle.std.specs.Prelude.{◌≡◌, ◌≢◌, ◌⊎◌, ℕ, ℤ, pos, List, [], ◌∷◌, map}
 use Rattle.std.specs.List.{AllByRecursion}
-use Rattle.std.specs.List.Sorted.{IsSorted, IsPermutation}
 use Rattle.sqlite.specs.Order.{Row}
 use Rattle.sqlite.specs.Table.{Table as Definition}
 use Rattle.sqlite.specs.Effect.{Database}
-use Rattle.sqlite.specs.State.{State, IsUnchanged}
+use Rattle.sqlite.specs.State.{State}
 use Rattle.sqlite.specs.declared.types.Value.TheVariants.{Int}
 use Rattle.sqlite_rules.specs.Lists.{Has}
 use Rattle.store_tables.specs.Cells.{meta_cells, member_cells, event_cells, challenge_cells, move_cells, game_cells, seen_cells, score_cells}
 use Rattle.store_tables.specs.Cells.{IsMember, IsEvent, IsChallenge, IsMove, IsGame, IsSeen, IsScore}
-use Rattle.store_tables.specs.Content.{Keeps, AreApart, cells}
-use Rattle.store_tables.specs.Contents.{Content, Holds}
-use Rattle.store_tables.specs.Reading.{by_columns}
+use Rattle.store_tables.specs.Content.{Keeps, AreApart}
+use Rattle.store_tables.specs.Contents.{Content}
+use Rattle.store_tables.specs.Club.{Holds}
+use Rattle.store_sql.specs.Read.{IsReadAs}
 use Rattle.store_tables.specs.Tables.{meta, members, events, challenges, moves, games, seen, scores}
 use Rattle.store_tables.specs.declared.rows.Rows.{Rows}
 use Rattle.store_tables.specs.declared.names.Table.{Table}
@@ -21,14 +21,6 @@ use Rattle.store.specs.declared.fault.OpenFault.{OpenFault}
 use Rattle.store.specs.declared.fault.OpenFault.TheVariants.{Schema, Damaged, Store, Memory}
 
 -- ---- what is read
-
--- The table has these rows, each of them once, in the order of its key, and the connection is as it was.
-pub record IsReadAs (table : Definition) (count : ℕ) (rows : List Row) (old new : State) : Type 0 where
-  pub keeps : Keeps table old.now.trees rows
-  pub once : IsPermutation (map (cells table) (old.now.trees table.tree)) rows
-  pub apart : AreApart (old.now.trees table.tree)
-  pub sorted : IsSorted (by_columns count) rows
-  pub same : IsUnchanged old new
 
 -- Each table has its rows, and the schema is number 1.
 pub record AreRead (rows : Rows) (old new : State) : Type 0 where

@@ -1,5 +1,4 @@
 pub mod Blames
-pub mod Changed
 pub mod Clubs
 pub mod Faults
 pub mod Lives

@@ -3,7 +3,7 @@ use Rattle.std.specs.Prelude.{◌≡◌, ◌⊎◌, ℕ, ◌+◌, ◌<◌, ℤ, 
 use Rattle.sqlite.specs.Effect.{Database}
 use Rattle.sqlite.specs.Order.{Row, column}
 use Rattle.sqlite.specs.declared.types.Value.TheVariants.{Int}
-use Rattle.store_tables.specs.Contents.{Holds}
+use Rattle.store_tables.specs.Club.{Holds}
 use Rattle.store_tables.specs.declared.rows.Rows.{Rows}
 use Rattle.store_tables.specs.declared.names.Table.{Table}
 use Rattle.store_tables.specs.declared.names.Table.TheVariants.{Members, Events, Games}
@@ -31,7 +31,3 @@ BlamesRows rows fault = (fault ≡ Memory) ⊎ ((t : Table) × (fault ≡ Damage
 -- A table is called damaged, and no legal club has the tables of the database.
 abbrev pub NamesRows : Database → OpenFault → Type 0
 NamesRows db fault = (t : Table) × (fault ≡ Damaged t) × ((s : ClubState) → IsClub s → ¬ Holds db (tables s))
-
--- the rows begin with their places
-abbrev pub BeginWithPlaces : List Row → Type 0
-BeginWithPlaces rows = (k : ℕ) → k < length rows → column (get_or rows k []) 0 ≡ Int (pos (k + 1))

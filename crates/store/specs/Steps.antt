@@ -1,9 +1,9 @@
 -- The club as a machine, and what is decided of a request by rows of its tables.
 use Rattle.std.specs.Prelude.{◌≡◌, ◌≤◌, ℕ, List, [], ◌∷◌, map, Option, Some, None, IsTrue}
 use Rattle.std.specs.Option.{option_map}
-use Rattle.std.specs.List.{AllByRecursion}
 use Rattle.sqlite.specs.Order.{Row}
-use Rattle.sqlite_rules.specs.Lists.{Has}
+use Rattle.store_tables.specs.Changes as changes
+pub use Rattle.store_tables.specs.Changes.{HaveSame}
 use Rattle.squares.specs.declared.draughts.moves.DMove.{DMove}
 use Rattle.club_rules.specs.Draughts as rules
 use Rattle.club_rules.specs.GameRules.{GameRules}
@@ -24,9 +24,9 @@ use Rattle.store_tables.specs.Cells.{meta_cells, member_cells, event_cells, move
 use Rattle.store_tables.specs.Contents.{Content}
 use Rattle.store_tables.specs.Tables.{club_schema}
 use Rattle.store_tables.specs.declared.rows.GameRecord.{GameRecord}
-use Rattle.store.specs.declared.changes.Changes.{Changes}
+use Rattle.store_tables.specs.declared.rows.Changes.{Changes}
 use Rattle.store.specs.declared.command.Decided.{Decided}
-use Rattle.store.specs.Changed.{changed}
+use Rattle.store_tables.specs.Changed.{changed}
 
 -- ---- the machine
 
@@ -61,14 +61,9 @@ pub record IsRecordOf {P M E : Type 0} (laws : GameRules P M E) (terms : Terms) 
 
 -- ---- rows
 
--- the same rows, in whatever order
-pub record HaveSame (one other : List Row) : Type 0 where
-  pub there : (row : Row) → Has one row → Has other row
-  pub back : (row : Row) → Has other row → Has one row
-
--- each table has the same rows
+-- each table of a club has the same rows
 abbrev pub AreSame : Content → Content → Type 0
-AreSame one other = AllByRecursion (λ t. HaveSame (one t.tree) (other t.tree)) club_schema.tables
+AreSame = changes.AreSame club_schema
 
 -- These rows are put, with the moment as that of the last accepted command, and no other.
 pub record PutsOnly (changes : Changes) (moment : ℕ) (members events games moves : List Row) : Type 0 where

@@ -4,12 +4,13 @@ ghost use Rattle.std.specs.Prelude.{◌≡◌, ◌≢◌, ◌≤◌, ◌⊎◌, 
 ghost use Rattle.sqlite.specs.State.{HasCleanDisk, IsUnchanged};
 ghost use Rattle.sqlite.specs.Held.{state};
 ghost use Rattle.sqlite_trees.specs.View.{doubt};
-ghost use Rattle.store_tables.specs.Contents.{IsExactly, IsExactlyEmpty, IsEmpty, IsOpened, Leaves};
-ghost use Rattle.store_tables.specs.Reading.{KeepsMay};
+ghost use Rattle.store_tables.specs.Contents.{IsExactlyEmpty, IsEmpty};
+ghost use Rattle.store_tables.specs.Club.{IsExactly, IsOpened, Leaves};
+ghost use Rattle.store_tables.specs.Reading.{KeepsMay, OnlyReads};
 ghost use Rattle.store_tables.specs.Tables.{club_schema};
 ghost use Rattle.store.specs.Blames.{NamesTable, NamesSchema};
 ghost use Rattle.store.specs.Lives.{IsLed, Stands};
-ghost use Rattle.store.specs.Changed.{changed};
+ghost use Rattle.store_tables.specs.Changed.{changed};
 ghost use Rattle.store.specs.Whole.{IsAccepted};
 ghost use Rattle.store.specs.Places.{NamesRows};
 ghost use Rattle.club_core.specs.Answer.{answered, outcome_of};
@@ -20,11 +21,9 @@ ghost use Rattle.store.specs.Steps.{request, club_step, club_next};
 mod life;
 mod run;
 
-use crate::changes::{Changes, commit_changes};
 use crate::command::{Decided, decide_request};
 use crate::examine::examine;
 use crate::fault::{OpenFault, StoreFault};
-use crate::make::create_tables;
 use crate::read::fault_of;
 use clocks::Moment;
 use club_core::{Command, Outcome, Who};
@@ -33,6 +32,8 @@ pub use run::Run;
 use sqlite::{Alter, Connection};
 use std::alloc::Global;
 use std::marker::Model;
+use store_sql::{commit_changes, create_tables};
+use store_tables::Changes;
 
 /// The store of a club, over any store of `sqlite`. It stands outside a transaction between calls.
 #[derive(Drop)]
@@ -66,15 +67,24 @@ pub struct Unopened<S: Alter> {
 pub fn create<S: Alter>(_alloc: Global, conn: Connection<S>) -> Result<Club<S>, Unopened<S>>
     requires { conn.in_transaction ≡ false }
     ensures ready { IfOk result (λ club. club.needs_reopening ≡ false) }
-    ensures stored { IfOk result (λ club. HasCleanDisk (state S.Store club.connection) → IsExactlyEmpty (state S.Store conn) → IsExactly (tables opening_state) (state S.Store club.connection)) }
-    ensures fresh { IfOk result (λ club. HasCleanDisk (state S.Store club.connection) → (state S.Store conn).now.schema ≢ club_schema) }
-    ensures clean { IfOk result (λ club. doubt (state S.Store conn).is_clean ≤ doubt (state S.Store club.connection).is_clean) }
+    ensures stored { IfOk result (λ club. HasCleanDisk (state S.Store club.connection) → IsExactlyEmpty
+        (state S.Store conn) → IsExactly (tables opening_state) (state S.Store club.connection)) }
+    ensures fresh { IfOk result (λ club. HasCleanDisk (state S.Store club.connection) →
+        (state S.Store conn).now.schema ≢ club_schema) }
+    ensures clean { IfOk result (λ club. doubt (state S.Store conn).is_clean ≤ doubt
+        (state S.Store club.connection).is_clean) }
     ensures idle { IfErr result (λ u. u.conn.in_transaction ≡ false) }
     ensures named { IfErr result (λ u. (u.fault ≡ OpenFault.Foreign) ⊎ (u.fault ≡ OpenFault.Store)) }
-    ensures fault { IfErr result (λ u. HasCleanDisk (state S.Store u.conn) → IsExactlyEmpty (state S.Store conn) → (db : _) → (state S.Store u.conn).may_leave db → IsEmpty db ⊎ Leaves (tables opening_state) db) }
-    ensures begins { IfOk result (λ club. HasCleanDisk (state S.Store club.connection) → IsExactlyEmpty (state S.Store conn) → Stands [] (state S.Store club.connection)) }
-    ensures cut_off { IfErr result (λ u. HasCleanDisk (state S.Store u.conn) → IsExactlyEmpty (state S.Store conn) → (db : _) → (state S.Store u.conn).may_leave db → IsEmpty db ⊎ IsLed [] db) }
-    ensures stays { IfErr result (λ u. HasCleanDisk (state S.Store u.conn) → (state S.Store conn).now.schema ≡ club_schema → KeepsMay (state S.Store conn) (state S.Store u.conn)) }
+    ensures fault { IfErr result (λ u. HasCleanDisk (state S.Store u.conn) → IsExactlyEmpty (state S.Store conn) →
+        (db : _) → (state S.Store u.conn).may_leave db → IsEmpty db ⊎ Leaves (tables opening_state) db) }
+    ensures begins { IfOk result (λ club. HasCleanDisk (state S.Store club.connection) → IsExactlyEmpty
+        (state S.Store conn) → Stands [] (state S.Store club.connection)) }
+    ensures cut_off { IfErr result (λ u. HasCleanDisk (state S.Store u.conn) → IsExactlyEmpty (state S.Store conn) →
+        (db : _) → (state S.Store u.conn).may_leave db → IsEmpty db ⊎ IsLed [] db) }
+    ensures stays { IfErr result (λ u. HasCleanDisk (state S.Store u.conn) →
+        (state S.Store conn).now.schema ≡ club_schema → KeepsMay (state S.Store conn) (state S.Store u.conn)) }
+    ensures refused { IfErr result (λ u. HasCleanDisk (state S.Store u.conn) → u.fault ≡ OpenFault.Foreign → KeepsMay
+        (state S.Store conn) (state S.Store u.conn)) }
     ensures known { IfErr result (λ u. doubt (state S.Store conn).is_clean ≤ doubt (state S.Store u.conn).is_clean) }
 {
     let mut conn = conn;
@@ -94,15 +104,22 @@ pub fn create<S: Alter>(_alloc: Global, conn: Connection<S>) -> Result<Club<S>, 
 pub fn adopt<S: Alter>(alloc: Global, conn: Connection<S>) -> Result<Club<S>, Unopened<S>>
     requires { conn.in_transaction ≡ false }
     ensures ready { IfOk result (λ club. club.needs_reopening ≡ false) }
-    ensures found { IfOk result (λ club. HasCleanDisk (state S.Store club.connection) → IsOpened (state S.Store conn) → (s : _) × IsClub s × IsExactly (tables s) (state S.Store club.connection)) }
-    ensures same { IfOk result (λ club. HasCleanDisk (state S.Store club.connection) → (content : _) → IsExactly content (state S.Store conn) → IsExactly content (state S.Store club.connection)) }
-    ensures unchanged { IfOk result (λ club. HasCleanDisk (state S.Store club.connection) → (state S.Store conn).now.schema ≡ club_schema → IsUnchanged (state S.Store conn) (state S.Store club.connection) × KeepsMay (state S.Store conn) (state S.Store club.connection)) }
-    ensures clean { IfOk result (λ club. doubt (state S.Store conn).is_clean ≤ doubt (state S.Store club.connection).is_clean) }
+    ensures found { IfOk result (λ club. HasCleanDisk (state S.Store club.connection) → IsOpened
+        (state S.Store conn) → (s : _) × IsClub s × IsExactly (tables s) (state S.Store club.connection)) }
+    ensures same { IfOk result (λ club. HasCleanDisk (state S.Store club.connection) → (content : _) →
+        IsExactly content (state S.Store conn) → IsExactly content (state S.Store club.connection)) }
+    ensures unchanged { IfOk result (λ club. HasCleanDisk (state S.Store club.connection) →
+        (state S.Store conn).now.schema ≡ club_schema → IsUnchanged (state S.Store conn)
+        (state S.Store club.connection) × KeepsMay (state S.Store conn) (state S.Store club.connection)) }
+    ensures clean { IfOk result (λ club. doubt (state S.Store conn).is_clean ≤ doubt
+        (state S.Store club.connection).is_clean) }
     ensures idle { IfErr result (λ u. u.conn.in_transaction ≡ false) }
-    ensures blames { IfErr result (λ u. HasCleanDisk (state S.Store u.conn) → (state S.Store conn).now.schema ≡ club_schema → NamesTable (state S.Store conn).now u.fault ⊎ (NamesSchema (state S.Store conn).now u.fault ⊎ NamesRows (state S.Store conn).now u.fault)) }
-    ensures good { IfErr result (λ u. HasCleanDisk (state S.Store u.conn) → (s : _) → IsClub s → IsExactly (tables s) (state S.Store conn) → (u.fault ≡ OpenFault.Store) ⊎ (u.fault ≡ OpenFault.Memory)) }
-    ensures kept { IfErr result (λ u. HasCleanDisk (state S.Store u.conn) → (state S.Store conn).now.schema ≡ club_schema → KeepsMay (state S.Store conn) (state S.Store u.conn)) }
-    ensures known { IfErr result (λ u. doubt (state S.Store conn).is_clean ≤ doubt (state S.Store u.conn).is_clean) }
+    ensures blames { IfErr result (λ u. HasCleanDisk (state S.Store u.conn) →
+        (state S.Store conn).now.schema ≡ club_schema → NamesTable (state S.Store conn).now u.fault ⊎ (NamesSchema
+        (state S.Store conn).now u.fault ⊎ NamesRows (state S.Store conn).now u.fault)) }
+    ensures good { IfErr result (λ u. HasCleanDisk (state S.Store u.conn) → (s : _) → IsClub s → IsExactly (tables s)
+        (state S.Store conn) → (u.fault ≡ OpenFault.Store) ⊎ (u.fault ≡ OpenFault.Memory)) }
+    ensures reads { IfErr result (λ u. OnlyReads (state S.Store conn) (state S.Store u.conn)) }
 {
     let mut conn = conn;
     match examine(alloc, &mut conn) {
@@ -129,13 +146,19 @@ impl<S: Alter> Club<S> {
 
     /// Puts all of the rows in one transaction with one commit. After a fault every later call is refused with `Reopen`.
     pub(crate) fn apply_changes(&mut self, changes: &Changes) -> Result<(), StoreFault>
-        ensures clean { doubt (state S.Store self.old.connection).is_clean ≤ doubt (state S.Store self.new.connection).is_clean }
+        ensures clean { doubt (state S.Store self.old.connection).is_clean ≤ doubt
+            (state S.Store self.new.connection).is_clean }
         ensures shut { self.old.needs_reopening ≡ true → (result ≡ Err StoreFault.Reopen) × (self.new ≡ self.old) }
         ensures goes_on { OnOk result (self.new.needs_reopening ≡ false) }
         ensures ends { OnErr result (self.new.needs_reopening ≡ true) }
         ensures named { IfErr result (λ fault. self.old.needs_reopening ≡ false → fault ≡ StoreFault.Store) }
-        ensures stored { HasCleanDisk (state S.Store self.new.connection) → OnOk result ((content : _) → IsExactly content (state S.Store self.old.connection) → IsExactly (changed changes.now content) (state S.Store self.new.connection)) }
-        ensures fault { HasCleanDisk (state S.Store self.new.connection) → OnErr result (self.old.needs_reopening ≡ false → (content : _) → IsExactly content (state S.Store self.old.connection) → (db : _) → (state S.Store self.new.connection).may_leave db → Leaves content db ⊎ Leaves (changed changes.now content) db) }
+        ensures stored { HasCleanDisk (state S.Store self.new.connection) → OnOk result ((content : _) →
+            IsExactly content (state S.Store self.old.connection) → IsExactly (changed changes.now content)
+            (state S.Store self.new.connection)) }
+        ensures fault { HasCleanDisk (state S.Store self.new.connection) →
+            OnErr result (self.old.needs_reopening ≡ false → (content : _) → IsExactly content
+            (state S.Store self.old.connection) → (db : _) → (state S.Store self.new.connection).may_leave db →
+            Leaves content db ⊎ Leaves (changed changes.now content) db) }
     {
         if self.needs_reopening {
             return Err(StoreFault::Reopen);
@@ -162,15 +185,23 @@ impl<S: Alter> Club<S> {
         ensures shut { self.old.needs_reopening ≡ true → (result ≡ Err StoreFault.Reopen) × (self.new ≡ self.old) }
         ensures goes_on { OnOk result (self.new.needs_reopening ≡ false) }
         ensures ends { OnErr result (self.new.needs_reopening ≡ true) }
-        ensures named { IfErr result (λ fault. self.old.needs_reopening ≡ false → (fault ≡ StoreFault.Store) ⊎ (fault ≡ StoreFault.Memory)) }
-        ensures clean { doubt (state S.Store self.old.connection).is_clean ≤ doubt (state S.Store self.new.connection).is_clean }
-        ensures answer { HasCleanDisk (state S.Store self.new.connection) → IfOk result (λ outcome. (s : ClubState) → IsClub s → IsExactly (tables s) (state S.Store self.old.connection) →
+        ensures named { IfErr result (λ fault. self.old.needs_reopening ≡ false →
+            (fault ≡ StoreFault.Store) ⊎ (fault ≡ StoreFault.Memory)) }
+        ensures clean { doubt (state S.Store self.old.connection).is_clean ≤ doubt
+            (state S.Store self.new.connection).is_clean }
+        ensures answer { HasCleanDisk (state S.Store self.new.connection) → IfOk result (λ outcome. (s : ClubState) →
+            IsClub s → IsExactly (tables s) (state S.Store self.old.connection) →
             outcome_of outcome ≡ answered (club_step s (request who.now command.now moment))) }
-        ensures step { HasCleanDisk (state S.Store self.new.connection) → OnOk result ((s : ClubState) → IsClub s → IsExactly (tables s) (state S.Store self.old.connection) →
+        ensures step { HasCleanDisk (state S.Store self.new.connection) → OnOk result ((s : ClubState) → IsClub s →
+            IsExactly (tables s) (state S.Store self.old.connection) →
             IsExactly (tables (club_next s (request who.now command.now moment))) (state S.Store self.new.connection)) }
-        ensures fault { HasCleanDisk (state S.Store self.new.connection) → OnErr result (self.old.needs_reopening ≡ false → (s : ClubState) → IsClub s → IsExactly (tables s) (state S.Store self.old.connection) →
+        ensures fault { HasCleanDisk (state S.Store self.new.connection) →
+            OnErr result (self.old.needs_reopening ≡ false → (s : ClubState) → IsClub s → IsExactly (tables s)
+            (state S.Store self.old.connection) →
             (db : _) → (state S.Store self.new.connection).may_leave db → Leaves (tables s) db ⊎ Leaves (tables (club_next s (request who.now command.now moment))) db) }
-        ensures unchanged { HasCleanDisk (state S.Store self.new.connection) → IfOk result (λ outcome. ¬ IsAccepted outcome → (content : _) → IsExactly content (state S.Store self.old.connection) → IsExactly content (state S.Store self.new.connection)) }
+        ensures unchanged { HasCleanDisk (state S.Store self.new.connection) →
+            IfOk result (λ outcome. ¬ IsAccepted outcome → (content : _) → IsExactly content
+            (state S.Store self.old.connection) → IsExactly content (state S.Store self.new.connection)) }
     {
         if self.needs_reopening {
             return Err(StoreFault::Reopen);

@@ -4,7 +4,6 @@ ghost use Rattle.std.specs.Prelude.{◌≡◌, ◌≤◌, ◌<◌, ◌^◌, ℕ,
 ghost use Rattle.std.specs.Option.{option_map};
 ghost use Rattle.sqlite.specs.State.{HasCleanDisk};
 ghost use Rattle.sqlite.specs.Held.{state};
-ghost use Rattle.sqlite_trees.specs.View.{doubt};
 ghost use Rattle.squares.specs.declared.draughts.moves.DMove.{DMove};
 ghost use Rattle.club_rules.specs.Draughts.{draughts};
 ghost use Rattle.club_core.specs.Answer.{outcome_of, members_of, event_of, events_of, added_event, keyed_of, pairing_of, command_of, move_reply_of};
@@ -20,14 +19,14 @@ ghost use Rattle.club_rows.specs.Made.{made_row};
 ghost use Rattle.club_rows.specs.Replay.{terms_given};
 ghost use Rattle.club_rows.specs.Tables.{number, kind_number, numbered_from, member_row, event_row, game_row, move_rows};
 ghost use Rattle.store_tables.specs.Cells.{meta_cells, member_cells, event_cells, game_cells, move_cells};
-ghost use Rattle.store_tables.specs.Contents.{IsExactly, Leaves};
+ghost use Rattle.store_tables.specs.Club.{IsExactly};
+ghost use Rattle.store_tables.specs.Reading.{OnlyReads};
+ghost use Rattle.store_sql.specs.Read.{KeepsContent};
 ghost use Rattle.club_rows.specs.Club.{ClubState, IsClub, tables};
 ghost use Rattle.store.specs.Steps.{request, club_step, caller_step, game_in, HaveSame, PutsOnly, IsDecided, IsRecordOf};
 ghost use Rattle.store.specs.Whole.{IsWhole};
 
-use crate::changes::Changes;
 use crate::fault::CallFault;
-use crate::find;
 use clocks::Moment;
 use club_core::values::{MOST_EVENTS, MOST_MEMBERS};
 use club_core::{
@@ -40,7 +39,8 @@ use club_rows::{Shown, Terms, ask, move_row, record_of, view_of};
 use club_rules::{Draughts, DraughtsEnd, GameKind, Memory};
 use sqlite::{Alter, Connection};
 use std::alloc::Global;
-use store_tables::{EventRow, GameRecord, MemberRow, MetaRow, MoveRow};
+use store_sql::{GameKey, count, find, find_by_first, list};
+use store_tables::{Changes, EventRow, GameRecord, MemberRow, MetaRow, MoveRow};
 
 /// An outcome, and the rows to put where it is accepted.
 #[derive(Drop)]
@@ -119,7 +119,8 @@ fn is_accepted(outcome: &Outcome) -> bool
 // The members of which these are the rows, by id.
 fn members_of(alloc: Global, rows: &[MemberRow]) -> Result<Vec<Member>, CallFault>
     ensures room { IfOk result (λ members. length members.items ≤ 200) }
-    ensures values { IfOk result (λ members. (all : List core_members.Member) → map member_cells rows.now ≡ numbered_from member_row 1 all → members_of members.items ≡ all) }
+    ensures values { IfOk result (λ members. (all : List core_members.Member) →
+        map member_cells rows.now ≡ numbered_from member_row 1 all → members_of members.items ≡ all) }
 {
     if rows.len() > MOST_MEMBERS {
         return Err(CallFault::Store);
@@ -136,7 +137,8 @@ fn members_of(alloc: Global, rows: &[MemberRow]) -> Result<Vec<Member>, CallFaul
 
 // The event of which this is the row.
 fn event_of(row: &EventRow) -> Result<Event, CallFault>
-    ensures { IfOk result (λ e. (id : ℕ) (event : core.Event) → event_cells row.now ≡ event_row id event → event_of e ≡ event) }
+    ensures { IfOk result (λ e. (id : ℕ) (event : core.Event) → event_cells row.now ≡ event_row id event →
+        event_of e ≡ event) }
 {
     let game = match row.game {
         0 => GameKind::Draughts,
@@ -157,7 +159,8 @@ fn event_of(row: &EventRow) -> Result<Event, CallFault>
 // The events of which these are the rows, by id.
 fn events_of(alloc: Global, rows: &[EventRow]) -> Result<Vec<Event>, CallFault>
     ensures room { IfOk result (λ events. length events.items ≤ 50) }
-    ensures values { IfOk result (λ events. (all : List core.Event) → map event_cells rows.now ≡ numbered_from event_row 1 all → events_of events.items ≡ all) }
+    ensures values { IfOk result (λ events. (all : List core.Event) →
+        map event_cells rows.now ≡ numbered_from event_row 1 all → events_of events.items ≡ all) }
 {
     if rows.len() > MOST_EVENTS {
         return Err(CallFault::Store);
@@ -222,7 +225,8 @@ fn kind_number(game: GameKind) -> i64
 // The row of an event that is added.
 fn event_row(id: u32, command: &AddEvent) -> Result<EventRow, CallFault>
     // Seconds that 63 bits hold are stored as they are.
-    ensures { IfOk result (λ row. command.now.budget < 2 ^ 63 → command.now.increment < 2 ^ 63 → event_cells row ≡ event_row id (added_event command.now)) }
+    ensures { IfOk result (λ row. command.now.budget < 2 ^ 63 → command.now.increment < 2 ^ 63 →
+        event_cells row ≡ event_row id (added_event command.now)) }
 {
     let name = command.name.clone()?;
     Ok(EventRow {
@@ -263,7 +267,8 @@ fn on_event(
 
 // The ids in the row of a game: its own, and those of its event and players.
 fn ids_in(row: &GameRecord) -> Result<KeyedGame, CallFault>
-    ensures { IfOk result (λ k. (s : ClubState) (id : ℕ) (game : AnyGame DMove DMove) → game_cells row.now ≡ game_in s id game →
+    ensures { IfOk result (λ k. (s : ClubState) (id : ℕ) (game : AnyGame DMove DMove) →
+        game_cells row.now ≡ game_in s id game →
         Some (keyed_of k) ≡ keyed_game (Some game) id) }
 {
     let (Some(game), Some(event), Some(first), Some(second)) = (
@@ -290,14 +295,14 @@ fn game_under<S: Alter>(
     conn: &mut Connection<S>,
     key: &str,
 ) -> Result<Option<KeyedGame>, CallFault>
-    ensures idle { conn.old.in_transaction ≡ false → conn.new.in_transaction ≡ false }
-    ensures clean { doubt (state S.Store conn.old).is_clean ≤ doubt (state S.Store conn.new).is_clean }
-    ensures kept { HasCleanDisk (state S.Store conn.new) → OnOk result ((content : _) → IsExactly content (state S.Store conn.old) → IsExactly content (state S.Store conn.new)) }
-    ensures may { HasCleanDisk (state S.Store conn.new) → (content : _) → IsExactly content (state S.Store conn.old) → (db : _) → (state S.Store conn.new).may_leave db → Leaves content db }
-    ensures found { HasCleanDisk (state S.Store conn.new) → IfOk result (λ k. (s : ClubState) → IsClub s → IsExactly (tables s) (state S.Store conn.old) →
+    ensures reads { OnlyReads (state S.Store conn.old) (state S.Store conn.new) }
+    ensures kept { HasCleanDisk (state S.Store conn.new) → OnOk result (KeepsContent (state S.Store conn.old)
+        (state S.Store conn.new)) }
+    ensures found { HasCleanDisk (state S.Store conn.new) → IfOk result (λ k. (s : ClubState) → IsClub s →
+        IsExactly (tables s) (state S.Store conn.old) →
         option_map keyed_of k ≡ game_under s.games key.now) }
 {
-    match first(find::game_with_key(alloc, conn, key)?) {
+    match first(find(alloc, conn, &GameKey { key })?) {
         Some(row) => Ok(Some(ids_in(&row)?)),
         None => Ok(None),
     }
@@ -305,7 +310,8 @@ fn game_under<S: Alter>(
 
 // The seconds that the event of this id gives.
 fn terms_at(events: &[Event], event: u32) -> Result<Terms, CallFault>
-    ensures { IfOk result (λ terms. (e : core.Event) × (place (events_of events.now) event ≡ Some e) × (terms_given terms ≡ e.terms)) }
+    ensures { IfOk result (λ terms. (e : core.Event) × (place (events_of events.now) event ≡ Some e) ×
+        (terms_given terms ≡ e.terms)) }
 {
     if event == 0 {
         return Err(CallFault::Store);
@@ -351,17 +357,17 @@ fn on_seat<S: Alter>(
 ) -> Result<Decided, CallFault>
     requires members { length members.now ≤ 200 }
     requires events { length events.now ≤ 50 }
-    ensures idle { conn.old.in_transaction ≡ false → conn.new.in_transaction ≡ false }
-    ensures clean { doubt (state S.Store conn.old).is_clean ≤ doubt (state S.Store conn.new).is_clean }
-    ensures kept { HasCleanDisk (state S.Store conn.new) → OnOk result ((content : _) → IsExactly content (state S.Store conn.old) → IsExactly content (state S.Store conn.new)) }
-    ensures may { HasCleanDisk (state S.Store conn.new) → (content : _) → IsExactly content (state S.Store conn.old) → (db : _) → (state S.Store conn.new).may_leave db → Leaves content db }
+    ensures reads { OnlyReads (state S.Store conn.old) (state S.Store conn.new) }
+    ensures kept { HasCleanDisk (state S.Store conn.new) → OnOk result (KeepsContent (state S.Store conn.old)
+        (state S.Store conn.new)) }
     ensures acts { IfOk result IsWhole }
-    ensures step { HasCleanDisk (state S.Store conn.new) → IfOk result (λ d. (s : ClubState) → IsClub s → members_of members.now ≡ s.members → events_of events.now ≡ s.events →
+    ensures step { HasCleanDisk (state S.Store conn.new) → IfOk result (λ d. (s : ClubState) → IsClub s →
+        members_of members.now ≡ s.members → events_of events.now ≡ s.events →
         IsExactly (tables s) (state S.Store conn.old) → IsDecided s (caller_step s moment caller
         (club.seat (string_bytes command.now.key) (string_bytes command.now.event) (string_bytes command.now.first) (string_bytes command.now.second))) d) }
 {
     let under_key = game_under(alloc, conn, command.key.as_str())?;
-    let Ok(games) = u32::try_from(find::count_games(conn)?) else {
+    let Ok(games) = u32::try_from(count::<GameRecord, S>(conn)?) else {
         return Err(CallFault::Store);
     };
     match seat(members, events, under_key, games, caller, command) {
@@ -386,7 +392,8 @@ fn moved_rows(
     moment: Moment,
 ) -> Result<Changes, CallFault>
     // Seconds that 63 bits hold are stored as they are.
-    ensures { IfOk result (λ changes. (terms : core.Terms) (new : Game DMove) → row.now.left_first < 2 ^ 63 → row.now.left_second < 2 ^ 63 → moved.now.left < 2 ^ 63 →
+    ensures { IfOk result (λ changes. (terms : core.Terms) (new : Game DMove) → row.now.left_first < 2 ^ 63 →
+        row.now.left_second < 2 ^ 63 → moved.now.left < 2 ^ 63 →
         IsRowOf draughts terms new row.now →
         PutsOnly changes moment [] [] (game_row draughts terms game new ∷ []) (made_row game (move_reply_of moved.now) moment ∷ [])) }
 {
@@ -406,7 +413,8 @@ fn played(
     moment: Moment,
 ) -> Result<Decided, CallFault>
     ensures acts { IfOk result IsWhole }
-    ensures step { IfOk result (λ d. (s : ClubState) (old : Game DMove) (who : Caller) (ply : ℕ) (text : List ℕ) → IsClub s → place s.games game ≡ Some (club.draughts old) →
+    ensures step { IfOk result (λ d. (s : ClubState) (old : Game DMove) (who : Caller) (ply : ℕ) (text : List ℕ) →
+        IsClub s → place s.games game ≡ Some (club.draughts old) →
         IsDecision draughts (terms_at (place s.events old.event)) old (game_step draughts (terms_at (place s.events old.event)) old moment who (move ply text)) shown →
         IsDecided s (caller_step s moment who (on_game game (move ply text))) d) }
 {
@@ -440,7 +448,8 @@ fn asked_view(
     ensures sound { IfOk result (λ view. IsSound draughts view) }
     ensures terms { IfOk result (λ view. terms_of view ≡ terms_given terms) }
     // The order and the number of the rows of the moves are found here, so that these may be any that are the game's.
-    ensures shows { IfOk result (λ view. (id : ℕ) (game : Game DMove) → IsRecordOf draughts (terms_given terms) id row.now game →
+    ensures shows { IfOk result (λ view. (id : ℕ) (game : Game DMove) →
+        IsRecordOf draughts (terms_given terms) id row.now game →
         HaveSame (map move_cells moves.now) (move_rows draughts (terms_given terms) id game) → Shows draughts game view × ShowsPly draughts game ply view) }
 {
     match view_of::<Draughts>(alloc, row, terms, moves)? {
@@ -458,18 +467,18 @@ fn on_game<S: Alter>(
     command: &Move,
     moment: Moment,
 ) -> Result<Decided, CallFault>
-    ensures idle { conn.old.in_transaction ≡ false → conn.new.in_transaction ≡ false }
-    ensures clean { doubt (state S.Store conn.old).is_clean ≤ doubt (state S.Store conn.new).is_clean }
-    ensures kept { HasCleanDisk (state S.Store conn.new) → OnOk result ((content : _) → IsExactly content (state S.Store conn.old) → IsExactly content (state S.Store conn.new)) }
-    ensures may { HasCleanDisk (state S.Store conn.new) → (content : _) → IsExactly content (state S.Store conn.old) → (db : _) → (state S.Store conn.new).may_leave db → Leaves content db }
+    ensures reads { OnlyReads (state S.Store conn.old) (state S.Store conn.new) }
+    ensures kept { HasCleanDisk (state S.Store conn.new) → OnOk result (KeepsContent (state S.Store conn.old)
+        (state S.Store conn.new)) }
     ensures acts { IfOk result IsWhole }
-    ensures step { HasCleanDisk (state S.Store conn.new) → IfOk result (λ d. (s : ClubState) (number : ℕ) (old : Game DMove) → IsClub s → s.last ≤ moment →
+    ensures step { HasCleanDisk (state S.Store conn.new) →
+        IfOk result (λ d. (s : ClubState) (number : ℕ) (old : Game DMove) → IsClub s → s.last ≤ moment →
         place s.games number ≡ Some (club.draughts old) → game_cells row.now ≡ game_in s number (club.draughts old) →
         IsExactly (tables s) (state S.Store conn.old) → IsDecided s (caller_step s moment caller (on_game number (move command.now.ply (string_bytes command.now.text)))) d) }
 {
     let ids = ids_in(row)?;
-    let events = events_of(alloc, &find::events(alloc, conn)?)?;
-    let moves = find::moves_of(alloc, conn, &row.id)?;
+    let events = events_of(alloc, &list::<EventRow, S>(alloc, conn)?)?;
+    let moves = find_by_first::<MoveRow, S>(alloc, conn, &row.id)?;
     let terms = terms_at(&events, ids.pairing.event)?;
     let view = asked_view(alloc, row, terms, moves.as_slice(), command.ply)?;
     on_view(alloc, ids.game, &view, caller, command, moment)
@@ -486,7 +495,8 @@ fn on_view(
 ) -> Result<Decided, CallFault>
     requires { IsSound draughts view.now }
     ensures acts { IfOk result IsWhole }
-    ensures step { IfOk result (λ d. (s : ClubState) (old : Game DMove) → IsClub s → s.last ≤ moment → place s.games game ≡ Some (club.draughts old) →
+    ensures step { IfOk result (λ d. (s : ClubState) (old : Game DMove) → IsClub s → s.last ≤ moment →
+        place s.games game ≡ Some (club.draughts old) →
         terms_of view.now ≡ terms_at (place s.events old.event) → Shows draughts old view.now → ShowsPly draughts old command.now.ply view.now →
         IsDecided s (caller_step s moment caller (on_game game (move command.now.ply (string_bytes command.now.text)))) d) }
 {
@@ -503,18 +513,18 @@ fn on_move<S: Alter>(
     command: &Move,
     moment: Moment,
 ) -> Result<Decided, CallFault>
-    ensures idle { conn.old.in_transaction ≡ false → conn.new.in_transaction ≡ false }
-    ensures clean { doubt (state S.Store conn.old).is_clean ≤ doubt (state S.Store conn.new).is_clean }
-    ensures kept { HasCleanDisk (state S.Store conn.new) → OnOk result ((content : _) → IsExactly content (state S.Store conn.old) → IsExactly content (state S.Store conn.new)) }
-    ensures may { HasCleanDisk (state S.Store conn.new) → (content : _) → IsExactly content (state S.Store conn.old) → (db : _) → (state S.Store conn.new).may_leave db → Leaves content db }
+    ensures reads { OnlyReads (state S.Store conn.old) (state S.Store conn.new) }
+    ensures kept { HasCleanDisk (state S.Store conn.new) → OnOk result (KeepsContent (state S.Store conn.old)
+        (state S.Store conn.new)) }
     ensures acts { IfOk result IsWhole }
-    ensures step { HasCleanDisk (state S.Store conn.new) → IfOk result (λ d. (s : ClubState) → IsClub s → s.last ≤ moment → IsExactly (tables s) (state S.Store conn.old) →
+    ensures step { HasCleanDisk (state S.Store conn.new) → IfOk result (λ d. (s : ClubState) → IsClub s →
+        s.last ≤ moment → IsExactly (tables s) (state S.Store conn.old) →
         IsDecided s (caller_step s moment caller (on_game command.now.game (move command.now.ply (string_bytes command.now.text)))) d) }
 {
     let Ok(game) = i64::try_from(command.game) else {
         return Ok(unchanged(Outcome::Refused(Refusal::UnknownGame)));
     };
-    match first(find::game_with_id(alloc, conn, &game)?) {
+    match first(find_by_first::<GameRecord, S>(alloc, conn, &game)?) {
         Some(row) => on_game(alloc, conn, &row, caller, command, moment),
         None => Ok(unchanged(Outcome::Refused(Refusal::UnknownGame))),
     }
@@ -530,22 +540,22 @@ fn on_command<S: Alter>(
     moment: Moment,
 ) -> Result<Decided, CallFault>
     requires { length members.now ≤ 200 }
-    ensures idle { conn.old.in_transaction ≡ false → conn.new.in_transaction ≡ false }
-    ensures clean { doubt (state S.Store conn.old).is_clean ≤ doubt (state S.Store conn.new).is_clean }
-    ensures kept { HasCleanDisk (state S.Store conn.new) → OnOk result ((content : _) → IsExactly content (state S.Store conn.old) → IsExactly content (state S.Store conn.new)) }
-    ensures may { HasCleanDisk (state S.Store conn.new) → (content : _) → IsExactly content (state S.Store conn.old) → (db : _) → (state S.Store conn.new).may_leave db → Leaves content db }
+    ensures reads { OnlyReads (state S.Store conn.old) (state S.Store conn.new) }
+    ensures kept { HasCleanDisk (state S.Store conn.new) → OnOk result (KeepsContent (state S.Store conn.old)
+        (state S.Store conn.new)) }
     ensures acts { IfOk result IsWhole }
-    ensures step { HasCleanDisk (state S.Store conn.new) → IfOk result (λ d. (s : ClubState) → IsClub s → s.last ≤ moment → members_of members.now ≡ s.members →
+    ensures step { HasCleanDisk (state S.Store conn.new) → IfOk result (λ d. (s : ClubState) → IsClub s →
+        s.last ≤ moment → members_of members.now ≡ s.members →
         IsExactly (tables s) (state S.Store conn.old) → IsDecided s (caller_step s moment caller (command_of command.now)) d) }
 {
     match command {
         Command::AddMember(command) => on_member(alloc, members, caller, command, moment),
         Command::AddEvent(command) => {
-            let events = events_of(alloc, &find::events(alloc, conn)?)?;
+            let events = events_of(alloc, &list::<EventRow, S>(alloc, conn)?)?;
             on_event(alloc, &events, caller, command, moment)
         }
         Command::Seat(command) => {
-            let events = events_of(alloc, &find::events(alloc, conn)?)?;
+            let events = events_of(alloc, &list::<EventRow, S>(alloc, conn)?)?;
             on_seat(alloc, conn, members, &events, caller, command, moment)
         }
         Command::Move(command) => on_move(alloc, conn, caller, command, moment),
@@ -564,13 +574,13 @@ fn last_in(row: &MetaRow) -> Result<Moment, CallFault>
 
 // The moment of the last accepted command.
 fn last_moment<S: Alter>(alloc: Global, conn: &mut Connection<S>) -> Result<Moment, CallFault>
-    ensures idle { conn.old.in_transaction ≡ false → conn.new.in_transaction ≡ false }
-    ensures clean { doubt (state S.Store conn.old).is_clean ≤ doubt (state S.Store conn.new).is_clean }
-    ensures kept { HasCleanDisk (state S.Store conn.new) → OnOk result ((content : _) → IsExactly content (state S.Store conn.old) → IsExactly content (state S.Store conn.new)) }
-    ensures may { HasCleanDisk (state S.Store conn.new) → (content : _) → IsExactly content (state S.Store conn.old) → (db : _) → (state S.Store conn.new).may_leave db → Leaves content db }
-    ensures last { HasCleanDisk (state S.Store conn.new) → IfOk result (λ last. (s : ClubState) → IsExactly (tables s) (state S.Store conn.old) → last ≡ s.last) }
+    ensures reads { OnlyReads (state S.Store conn.old) (state S.Store conn.new) }
+    ensures kept { HasCleanDisk (state S.Store conn.new) → OnOk result (KeepsContent (state S.Store conn.old)
+        (state S.Store conn.new)) }
+    ensures last { HasCleanDisk (state S.Store conn.new) → IfOk result (λ last. (s : ClubState) → IsExactly (tables s)
+        (state S.Store conn.old) → last ≡ s.last) }
 {
-    match first(find::meta(alloc, conn)?) {
+    match first(list::<MetaRow, S>(alloc, conn)?) {
         Some(row) => Ok(last_in(&row)?),
         None => Err(CallFault::Store),
     }
@@ -585,16 +595,16 @@ pub(crate) fn decide_request<S: Alter>(
     command: &Command,
     moment: Moment,
 ) -> Result<Decided, CallFault>
-    ensures idle { conn.old.in_transaction ≡ false → conn.new.in_transaction ≡ false }
-    ensures clean { doubt (state S.Store conn.old).is_clean ≤ doubt (state S.Store conn.new).is_clean }
-    ensures kept { HasCleanDisk (state S.Store conn.new) → OnOk result ((content : _) → IsExactly content (state S.Store conn.old) → IsExactly content (state S.Store conn.new)) }
-    ensures may { HasCleanDisk (state S.Store conn.new) → (content : _) → IsExactly content (state S.Store conn.old) → (db : _) → (state S.Store conn.new).may_leave db → Leaves content db }
+    ensures reads { OnlyReads (state S.Store conn.old) (state S.Store conn.new) }
+    ensures kept { HasCleanDisk (state S.Store conn.new) → OnOk result (KeepsContent (state S.Store conn.old)
+        (state S.Store conn.new)) }
     ensures acts { IfOk result IsWhole }
-    ensures step { HasCleanDisk (state S.Store conn.new) → IfOk result (λ d. (s : ClubState) → IsClub s → IsExactly (tables s) (state S.Store conn.old) →
+    ensures step { HasCleanDisk (state S.Store conn.new) → IfOk result (λ d. (s : ClubState) → IsClub s →
+        IsExactly (tables s) (state S.Store conn.old) →
         IsDecided s (club_step s (request who.now command.now moment)) d) }
 {
     let last = last_moment(alloc, conn)?;
-    let members = members_of(alloc, &find::members(alloc, conn)?)?;
+    let members = members_of(alloc, &list::<MemberRow, S>(alloc, conn)?)?;
     match identify(&members, who) {
         Some(caller) => { on_command(alloc, conn, &members, caller, command, moment.later(last)) }
         None => Ok(unchanged(Outcome::Refused(Refusal::UnknownKey))),

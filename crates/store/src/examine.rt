@@ -1,11 +1,10 @@
 //! Examining the tables of a database that was opened.
 
-ghost use Rattle.std.specs.Prelude.{◌≡◌, ◌≤◌, ◌⊎◌, false, IfErr, OnOk};
+ghost use Rattle.std.specs.Prelude.{◌≡◌, ◌⊎◌, IfErr, OnOk};
 ghost use Rattle.sqlite.specs.State.{HasCleanDisk, IsUnchanged};
 ghost use Rattle.sqlite.specs.Held.{state};
-ghost use Rattle.sqlite_trees.specs.View.{doubt};
-ghost use Rattle.store_tables.specs.Contents.{IsExactly, IsOpened};
-ghost use Rattle.store_tables.specs.Reading.{KeepsMay};
+ghost use Rattle.store_tables.specs.Club.{IsExactly, IsOpened};
+ghost use Rattle.store_tables.specs.Reading.{OnlyReads};
 ghost use Rattle.store_tables.specs.Tables.{club_schema};
 ghost use Rattle.store.specs.Blames.{NamesTable, NamesSchema};
 ghost use Rattle.club_rows.specs.Club.{IsClub, tables};
@@ -19,12 +18,15 @@ use std::alloc::Global;
 
 /// Tests that the tables are those of a club, and changes nothing.
 pub(crate) fn examine<S: Alter>(alloc: Global, conn: &mut Connection<S>) -> Result<(), OpenFault>
-    ensures idle { conn.old.in_transaction ≡ false → conn.new.in_transaction ≡ false }
-    ensures clean { doubt (state S.Store conn.old).is_clean ≤ doubt (state S.Store conn.new).is_clean }
-    ensures found { HasCleanDisk (state S.Store conn.new) → OnOk result (IsOpened (state S.Store conn.old) → (s : _) × IsClub s × IsExactly (tables s) (state S.Store conn.new)) }
-    ensures same { HasCleanDisk (state S.Store conn.new) → OnOk result ((state S.Store conn.old).now.schema ≡ club_schema → IsUnchanged (state S.Store conn.old) (state S.Store conn.new)) }
-    ensures blames { HasCleanDisk (state S.Store conn.new) → IfErr result (λ e. (state S.Store conn.old).now.schema ≡ club_schema → NamesTable (state S.Store conn.old).now e ⊎ (NamesSchema (state S.Store conn.old).now e ⊎ NamesRows (state S.Store conn.old).now e)) }
-    ensures may { HasCleanDisk (state S.Store conn.new) → (state S.Store conn.old).now.schema ≡ club_schema → KeepsMay (state S.Store conn.old) (state S.Store conn.new) }
+    ensures reads { OnlyReads (state S.Store conn.old) (state S.Store conn.new) }
+    ensures found { HasCleanDisk (state S.Store conn.new) → OnOk result (IsOpened (state S.Store conn.old) → (s : _) ×
+        IsClub s × IsExactly (tables s) (state S.Store conn.new)) }
+    ensures same { HasCleanDisk (state S.Store conn.new) →
+        OnOk result ((state S.Store conn.old).now.schema ≡ club_schema → IsUnchanged (state S.Store conn.old)
+        (state S.Store conn.new)) }
+    ensures blames { HasCleanDisk (state S.Store conn.new) → IfErr result (λ e.
+        (state S.Store conn.old).now.schema ≡ club_schema → NamesTable (state S.Store conn.old).now e ⊎ (NamesSchema
+        (state S.Store conn.old).now e ⊎ NamesRows (state S.Store conn.old).now e)) }
 {
     let rows = match read_rows(alloc, conn) {
         Ok(rows) => rows,

@@ -26,6 +26,15 @@ pub(crate) enum CallFault {
     Memory,
 }
 
+impl From<store_sql::CallFault> for CallFault {
+    fn from(fault: store_sql::CallFault) -> CallFault {
+        match fault {
+            store_sql::CallFault::Store => CallFault::Store,
+            store_sql::CallFault::Memory => CallFault::Memory,
+        }
+    }
+}
+
 impl From<CallFault> for StoreFault {
     ghost use Rattle.std.specs.Prelude.{◌≡◌};
     ghost use Rattle.store.specs.Faults.{called};

@@ -2,22 +2,18 @@
 #![tactic(auto)]
 
 mod audit;
-mod changes;
 mod club;
 mod command;
 mod examine;
 mod fault;
-mod find;
 pub mod laws;
-mod make;
-mod put;
 mod read;
 mod reopen;
-mod select;
 #[cfg(test)]
 mod tests;
 
 pub use club::{Club, Run, Unopened, adopt, create, resume};
 pub use fault::{OpenFault, StoreFault};
-pub use reopen::{holds_exactly, holds_what_sessions_left, leaves_what_sessions_left};
+pub use reopen::{holds_what_sessions_left, leaves_what_sessions_left};
+pub use store_sql::holds_exactly;
 pub use store_tables::Table;

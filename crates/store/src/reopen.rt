@@ -2,29 +2,22 @@
 
 ghost use Rattle.sqlite.specs.State.{Opens, IsLive};
 ghost use Rattle.sqlite.specs.Held.{state};
-ghost use Rattle.store_tables.specs.Contents.{IsExactly, Leaves};
 ghost use Rattle.store.specs.Lives.{IsLed, Stands};
 
 use sqlite::{Alter, Connection};
 
-/// A law. Where a stop left the tables of a club with certain rows, and a connection was just opened over what it left,
-/// the connection has the schema of a club and exactly these rows, now and after another stop.
-pub fn holds_exactly<S: Alter>(conn: &Connection<S>)
-    ensures { Opens (state S.Store conn.now) → IsLive (state S.Store conn.now) → (content : _) → Leaves content (state S.Store conn.now).committed.trees → IsExactly content (state S.Store conn.now) }
-{
-    let _conn = conn;
-}
-
 /// A law. Where a connection was just opened over the tables that sessions lead to, it stands where they lead.
 pub fn holds_what_sessions_left<S: Alter>(conn: &Connection<S>)
-    ensures { Opens (state S.Store conn.now) → IsLive (state S.Store conn.now) → (sessions : _) → IsLed sessions (state S.Store conn.now).committed.trees → Stands sessions (state S.Store conn.now) }
+    ensures { Opens (state S.Store conn.now) → IsLive (state S.Store conn.now) → (sessions : _) → IsLed sessions
+        (state S.Store conn.now).committed.trees → Stands sessions (state S.Store conn.now) }
 {
     let _conn = conn;
 }
 
 /// A law. A stop between two sessions leaves tables that the sessions so far lead to.
 pub fn leaves_what_sessions_left<S: Alter>(conn: &Connection<S>)
-    ensures { (sessions : _) → Stands sessions (state S.Store conn.now) → (db : _) → (state S.Store conn.now).may_leave db → IsLed sessions db }
+    ensures { (sessions : _) → Stands sessions (state S.Store conn.now) → (db : _) →
+        (state S.Store conn.now).may_leave db → IsLed sessions db }
 {
     let _conn = conn;
 }

@@ -1,15 +1,14 @@
 ghost use Rattle.std.specs.Prelude.{◌≡◌, false};
 
-use crate::changes::Changes;
-use crate::find::{count_games, game_with_id, game_with_key, moves_of};
 use crate::{Club, OpenFault, StoreFault, Table, adopt, create, resume};
 use clocks::Moment;
 use club_core::{AddMember, Answer, Command, Outcome, Refusal, Request, Who};
 use sqlite::{Connection, Error, MemStore};
 use std::alloc::Global;
 use std::test::Fail;
+use store_sql::{EventName, GameKey, MemberKey, MemberName, MovePly, count, find, find_by_first};
 use store_tables::{
-    ChallengeRow, EventRow, GameRecord, MemberRow, MetaRow, MoveRow, ScoreRow, SeenRow,
+    ChallengeRow, Changes, EventRow, GameRecord, MemberRow, MetaRow, MoveRow, ScoreRow, SeenRow,
 };
 
 fn text(alloc: Global, s: &str) -> Result<String, Error> {
@@ -315,14 +314,50 @@ fn rows_are_found_by_their_keys(rt: HostRuntime) -> Result<(), Fail> {
     club.apply_changes(&first_day(rt.alloc(), 540)?)?;
     let mut conn = club.into_connection();
     assert_eq!(rt;
-        game_with_id(rt.alloc(), &mut conn, &1)?.as_slice(),
+        find_by_first::<GameRecord, _>(rt.alloc(), &mut conn, &1)?.as_slice(),
         [game(rt.alloc())?].as_slice()
     );
-    assert_eq!(rt; game_with_key(rt.alloc(), &mut conn, "final")?.len(), 1);
-    assert_eq!(rt; game_with_key(rt.alloc(), &mut conn, "finals")?.len(), 0);
-    assert_eq!(rt; moves_of(rt.alloc(), &mut conn, &1)?.len(), 1);
-    assert_eq!(rt; moves_of(rt.alloc(), &mut conn, &2)?.len(), 0);
-    assert_eq!(rt; count_games(&mut conn)?, 1);
+    assert_eq!(rt;
+        find(rt.alloc(), &mut conn, &GameKey { key: "final" })?.len(),
+        1
+    );
+    assert_eq!(rt;
+        find(rt.alloc(), &mut conn, &GameKey { key: "finals" })?.len(),
+        0
+    );
+    assert_eq!(rt;
+        find_by_first::<MoveRow, _>(rt.alloc(), &mut conn, &1)?.len(),
+        1
+    );
+    assert_eq!(rt;
+        find_by_first::<MoveRow, _>(rt.alloc(), &mut conn, &2)?.len(),
+        0
+    );
+    assert_eq!(rt;
+        find(rt.alloc(), &mut conn, &MemberName { name: "bert" })?.len(),
+        1
+    );
+    assert_eq!(rt;
+        find(rt.alloc(), &mut conn, &MemberKey { key: "bert" })?.len(),
+        0
+    );
+    assert_eq!(rt;
+        find(rt.alloc(), &mut conn, &MemberKey { key: "keyanna1" })?.len(),
+        1
+    );
+    assert_eq!(rt;
+        find(rt.alloc(), &mut conn, &EventName { name: "cup" })?.len(),
+        1
+    );
+    assert_eq!(rt;
+        find(rt.alloc(), &mut conn, &MovePly { game: 1, ply: 1 })?.len(),
+        1
+    );
+    assert_eq!(rt;
+        find(rt.alloc(), &mut conn, &MovePly { game: 1, ply: 2 })?.len(),
+        0
+    );
+    assert_eq!(rt; count::<GameRecord, _>(&mut conn)?, 1);
     Ok(())
 }
 

@@ -1,12 +1,15 @@
+pub mod AlterLemmas
 pub mod ApartLemmas
 pub mod ContentLemmas
 pub mod IdLemmas
 pub mod KeyLemmas
+pub mod Laws
 pub mod MakeLemmas
 pub mod Meanings
 pub mod OrderLemmas
 pub mod PutLemmas
 pub mod PutMeanings
+pub mod QueryLemmas
 pub mod ReadLemmas
 pub mod RowLemmas
 pub mod SelectMeanings

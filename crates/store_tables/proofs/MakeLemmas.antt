@@ -107,7 +107,7 @@ pub makes_then : (from mid to : ℕ) (a b c : State) → Makes from mid a b → 
 makes_then from mid to a b c one two = record { made = λ k. two.made (one.made k); committed = two.committed ∙ one.committed; inside = two.inside }
 
 -- the tables that were made hold no row
-pub holds_nothing : (db : Database) → AreMade club_schema db → Holds db nothing
+pub holds_nothing : (db : Database) → AreMade club_schema db → Holds club_schema db nothing
 holds_nothing db k = record {
   schema = k.schema_is;
   sound = k.sound;

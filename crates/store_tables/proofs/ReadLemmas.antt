@@ -16,7 +16,7 @@ use Rattle.sqlite.specs.Table.{Table}
 use Rattle.sqlite.specs.Listing.{understood}
 use Rattle.sqlite.proofs.Callers.{IsPlain, never_commits}
 use Rattle.store_tables.specs.Content.{cells, Keeps}
-use Rattle.store_tables.specs.Tables.{club_schema}
+use Rattle.sqlite.specs.Schema.{Schema}
 use Rattle.store_tables.specs.Contents.{Content, Holds, Leaves, IsExactly}
 use Rattle.sqlite_sql.specs.Term.{Term, eval_all, holds}
 use Rattle.sqlite_sql.specs.Query.{IsAnswer, Output, output}
@@ -105,18 +105,18 @@ shown_unchanged sql params old new rows plain h =
     it.3
 
 -- a call that reads leaves nothing else, whatever it answers
-pub may_as_before : (sql : List ℕ) (params : Row) (old new : State) → IsPlain (understood club_schema sql) → Survives old new (CommitsShowing sql params old) → HasCleanDisk new
-    → (content : Content) → IsExactly content old → (db : Trees) → new.may_leave db → Leaves content db
-may_as_before sql params old new plain s clean content k db left = elim (s.crash clean db left) [
+pub may_as_before : (schema : Schema) (sql : List ℕ) (params : Row) (old new : State) → IsPlain (understood schema sql) → Survives old new (CommitsShowing sql params old) → HasCleanDisk new
+    → (content : Content) → IsExactly schema content old → (db : Trees) → new.may_leave db → Leaves schema content db
+may_as_before schema sql params old new plain s clean content k db left = elim (s.crash clean db left) [
   | inl was ↦ k.may_leave db was
   | inr wrote ↦ absurd (never_commits sql params old db (subst (λ d. IsPlain (understood d sql)) (sym k.now.schema) plain) wrote)
 ]
 
-pub unchanged_exactly : (content : Content) (old new : State) → IsExactly content old → IsUnchanged old new → ((db : Trees) → new.may_leave db → Leaves content db) → IsExactly content new
-unchanged_exactly content old new k same may = record {
+pub unchanged_exactly : (schema : Schema) (content : Content) (old new : State) → IsExactly schema content old → IsUnchanged old new → ((db : Trees) → new.may_leave db → Leaves schema content db) → IsExactly schema content new
+unchanged_exactly schema content old new k same may = record {
   is_open = same.0.is_open;
   idle = same.0.mode ∙ k.idle;
-  now = subst (λ d. Holds d content) (sym same.0.now_is) k.now;
+  now = subst (λ d. Holds schema d content) (sym same.0.now_is) k.now;
   committed = same.0.committed_is ∙ k.committed ∙ sym same.0.now_is;
   may_leave = may;
 }

@@ -2,25 +2,23 @@
 use Rattle.std.proofs.Common.{◌≡◌, ℕ, ℤ, List, [], ◌∷◌, Equal, refl, codes}
 use Rattle.sqlite.specs.Listing.{understood}
 use Rattle.sqlite.specs.Term.{Term, col, op2}
-use Rattle.sqlite.specs.Order.{Row, column}
+use Rattle.sqlite.specs.Order.{Row}
 use Rattle.sqlite.specs.declared.types.Value.TheVariants.{Null, Int, Text}
-use Rattle.sqlite_sql.specs.Term.{eval_all}
 use Rattle.sqlite_sql.specs.declared.ops.BinaryOp.TheVariants.{Compare}
 use Rattle.sqlite_sql.specs.declared.ops.CompareOp.TheVariants.{Eq}
 use Rattle.sqlite.specs.Collation.TheVariants.{Binary}
 use Rattle.sqlite_tied.specs.Compute.{everything}
-use Rattle.sqlite_trees.specs.Tree.{rowid}
 use Rattle.sqlite_value.specs.Keys.{ascending, first_key}
-use Rattle.store_tables.specs.Content.{cells}
-use Rattle.store_tables.specs.Reading.{by_ply}
-use Rattle.store_tables.specs.Tables.{meta, members, events, challenges, moves, games, seen, scores}
+use Rattle.store_tables.specs.Queries.{Selects, Finds, AreShownBy, by_others, IsSelect}
+use Rattle.store_tables.specs.Tables.{club_schema, meta, members, events, challenges, moves, games, seen, scores}
 use Rattle.store_tables.specs.Texts as t
-use Rattle.store_tables.proofs.TellLemmas.{Selects, Finds}
 
-abbrev pub meta_columns : List Term
+-- ---- meta
+
+abbrev meta_columns : List Term
 meta_columns = col 1 0 ∷ col 1 2 ∷ col 1 3 ∷ []
 
-pub meta_all_is : Selects 0 1 t.meta_all meta_columns
+meta_all_is : Selects club_schema 0 1 t.meta_all meta_columns
 unfolding understood everything
 meta_all_is = record {
   order = (col 1 0, ascending Binary) ∷ [];
@@ -32,16 +30,61 @@ meta_all_is = record {
   by = λ r s. refl;
 }
 
-pub meta_shown : (r : Row) → eval_all meta_columns ([] ∷ r ∷ []) ≡ cells (meta 0) r
-meta_shown r = refl
+meta_ids_is : Selects club_schema 0 1 t.meta_ids (col 1 0 ∷ [])
+unfolding understood everything
+meta_ids_is = record {
+  order = (col 1 0, ascending Binary) ∷ [];
+  names = codes "id" ∷ [];
+  command = refl;
+  plain = (refl, refl);
+  unlisted = refl;
+  overlaid = λ d. refl;
+  by = λ r s. refl;
+}
 
-pub meta_first : (r : Row) → column (eval_all meta_columns ([] ∷ r ∷ [])) 0 ≡ rowid r
-meta_first r = refl
+meta_some : (n : ℤ) → Finds club_schema (meta 0) 0 (0 ∷ []) (Int n ∷ []) (Int n ∷ []) t.meta_by_first (by_others 1)
+unfolding understood everything first_key
+meta_some n = record {
+  at = refl;
+  filter = op2 (Compare Eq Binary) (col 1 0) (col 0 0) ∷ [];
+  project = meta_columns;
+  order = [];
+  names = codes "id" ∷ codes "schema" ∷ codes "last" ∷ [];
+  command = refl;
+  plain = (refl, refl);
+  unlisted = refl;
+  overlaid = λ d. refl;
+  shows = λ r. refl;
+  picks = λ r. refl;
+  by = λ r s. refl;
+}
 
-abbrev pub members_columns : List Term
+meta_selects : IsSelect t.meta_all × IsSelect t.meta_ids × IsSelect t.meta_by_first
+unfolding understood everything
+meta_selects = (refl, refl, refl)
+
+pub meta_read : AreShownBy club_schema (meta 0) 1 t.meta_all t.meta_ids t.meta_by_first
+meta_read = record {
+  place = 0;
+  at = refl;
+  columns = meta_columns;
+  rows = meta_all_is;
+  whole = λ r. refl;
+  firsts = col 1 0 ∷ [];
+  numbers = meta_ids_is;
+  first = λ r. refl;
+  some = meta_some;
+  all_is = meta_selects.0;
+  ids_is = meta_selects.1;
+  group_is = meta_selects.2;
+}
+
+-- ---- members
+
+abbrev members_columns : List Term
 members_columns = col 1 0 ∷ col 1 2 ∷ col 1 3 ∷ []
 
-pub members_all_is : Selects 1 1 t.members_all members_columns
+members_all_is : Selects club_schema 1 1 t.members_all members_columns
 unfolding understood everything
 members_all_is = record {
   order = (col 1 0, ascending Binary) ∷ [];
@@ -53,16 +96,61 @@ members_all_is = record {
   by = λ r s. refl;
 }
 
-pub members_shown : (r : Row) → eval_all members_columns ([] ∷ r ∷ []) ≡ cells (members 1) r
-members_shown r = refl
+members_ids_is : Selects club_schema 1 1 t.members_ids (col 1 0 ∷ [])
+unfolding understood everything
+members_ids_is = record {
+  order = (col 1 0, ascending Binary) ∷ [];
+  names = codes "id" ∷ [];
+  command = refl;
+  plain = (refl, refl);
+  unlisted = refl;
+  overlaid = λ d. refl;
+  by = λ r s. refl;
+}
 
-pub members_first : (r : Row) → column (eval_all members_columns ([] ∷ r ∷ [])) 0 ≡ rowid r
-members_first r = refl
+members_some : (n : ℤ) → Finds club_schema (members 1) 1 (0 ∷ []) (Int n ∷ []) (Int n ∷ []) t.members_by_first (by_others 1)
+unfolding understood everything first_key
+members_some n = record {
+  at = refl;
+  filter = op2 (Compare Eq Binary) (col 1 0) (col 0 0) ∷ [];
+  project = members_columns;
+  order = [];
+  names = codes "id" ∷ codes "name" ∷ codes "key" ∷ [];
+  command = refl;
+  plain = (refl, refl);
+  unlisted = refl;
+  overlaid = λ d. refl;
+  shows = λ r. refl;
+  picks = λ r. refl;
+  by = λ r s. refl;
+}
 
-abbrev pub events_columns : List Term
+members_selects : IsSelect t.members_all × IsSelect t.members_ids × IsSelect t.members_by_first
+unfolding understood everything
+members_selects = (refl, refl, refl)
+
+pub members_read : AreShownBy club_schema (members 1) 1 t.members_all t.members_ids t.members_by_first
+members_read = record {
+  place = 1;
+  at = refl;
+  columns = members_columns;
+  rows = members_all_is;
+  whole = λ r. refl;
+  firsts = col 1 0 ∷ [];
+  numbers = members_ids_is;
+  first = λ r. refl;
+  some = members_some;
+  all_is = members_selects.0;
+  ids_is = members_selects.1;
+  group_is = members_selects.2;
+}
+
+-- ---- events
+
+abbrev events_columns : List Term
 events_columns = col 1 0 ∷ col 1 2 ∷ col 1 3 ∷ col 1 4 ∷ col 1 5 ∷ []
 
-pub events_all_is : Selects 4 1 t.events_all events_columns
+events_all_is : Selects club_schema 4 1 t.events_all events_columns
 unfolding understood everything
 events_all_is = record {
   order = (col 1 0, ascending Binary) ∷ [];
@@ -74,16 +162,61 @@ events_all_is = record {
   by = λ r s. refl;
 }
 
-pub events_shown : (r : Row) → eval_all events_columns ([] ∷ r ∷ []) ≡ cells (events 4) r
-events_shown r = refl
+events_ids_is : Selects club_schema 4 1 t.events_ids (col 1 0 ∷ [])
+unfolding understood everything
+events_ids_is = record {
+  order = (col 1 0, ascending Binary) ∷ [];
+  names = codes "id" ∷ [];
+  command = refl;
+  plain = (refl, refl);
+  unlisted = refl;
+  overlaid = λ d. refl;
+  by = λ r s. refl;
+}
 
-pub events_first : (r : Row) → column (eval_all events_columns ([] ∷ r ∷ [])) 0 ≡ rowid r
-events_first r = refl
+events_some : (n : ℤ) → Finds club_schema (events 4) 2 (0 ∷ []) (Int n ∷ []) (Int n ∷ []) t.events_by_first (by_others 1)
+unfolding understood everything first_key
+events_some n = record {
+  at = refl;
+  filter = op2 (Compare Eq Binary) (col 1 0) (col 0 0) ∷ [];
+  project = events_columns;
+  order = [];
+  names = codes "id" ∷ codes "name" ∷ codes "game" ∷ codes "budget" ∷ codes "increment" ∷ [];
+  command = refl;
+  plain = (refl, refl);
+  unlisted = refl;
+  overlaid = λ d. refl;
+  shows = λ r. refl;
+  picks = λ r. refl;
+  by = λ r s. refl;
+}
 
-abbrev pub challenges_columns : List Term
+events_selects : IsSelect t.events_all × IsSelect t.events_ids × IsSelect t.events_by_first
+unfolding understood everything
+events_selects = (refl, refl, refl)
+
+pub events_read : AreShownBy club_schema (events 4) 1 t.events_all t.events_ids t.events_by_first
+events_read = record {
+  place = 2;
+  at = refl;
+  columns = events_columns;
+  rows = events_all_is;
+  whole = λ r. refl;
+  firsts = col 1 0 ∷ [];
+  numbers = events_ids_is;
+  first = λ r. refl;
+  some = events_some;
+  all_is = events_selects.0;
+  ids_is = events_selects.1;
+  group_is = events_selects.2;
+}
+
+-- ---- challenges
+
+abbrev challenges_columns : List Term
 challenges_columns = col 1 1 ∷ col 1 2 ∷ col 1 3 ∷ col 1 4 ∷ col 1 5 ∷ col 1 6 ∷ col 1 7 ∷ []
 
-pub challenges_all_is : Selects 6 2 t.challenges_all challenges_columns
+challenges_all_is : Selects club_schema 6 2 t.challenges_all challenges_columns
 unfolding understood everything
 challenges_all_is = record {
   order = (col 1 1, ascending Binary) ∷ (col 1 2, ascending Binary) ∷ [];
@@ -95,85 +228,7 @@ challenges_all_is = record {
   by = λ r s. refl;
 }
 
-pub challenges_shown : (r : Row) → eval_all challenges_columns ([] ∷ r ∷ []) ≡ cells (challenges 6) r
-challenges_shown r = refl
-
-abbrev pub moves_columns : List Term
-moves_columns = col 1 1 ∷ col 1 2 ∷ col 1 3 ∷ col 1 4 ∷ col 1 5 ∷ col 1 6 ∷ []
-
-pub moves_all_is : Selects 8 2 t.moves_all moves_columns
-unfolding understood everything
-moves_all_is = record {
-  order = (col 1 1, ascending Binary) ∷ (col 1 2, ascending Binary) ∷ [];
-  names = codes "game" ∷ codes "ply" ∷ codes "text" ∷ codes "moment" ∷ codes "left" ∷ codes "position" ∷ [];
-  command = refl;
-  plain = (refl, refl);
-  unlisted = refl;
-  overlaid = λ d. refl;
-  by = λ r s. refl;
-}
-
-pub moves_shown : (r : Row) → eval_all moves_columns ([] ∷ r ∷ []) ≡ cells (moves 8) r
-moves_shown r = refl
-
-abbrev pub games_columns : List Term
-games_columns = col 1 0 ∷ col 1 2 ∷ col 1 3 ∷ col 1 4 ∷ col 1 5 ∷ col 1 6 ∷ col 1 7 ∷ col 1 8 ∷ col 1 9 ∷ col 1 10 ∷ col 1 11 ∷ col 1 12 ∷ col 1 13 ∷ col 1 14 ∷ col 1 15 ∷ col 1 16 ∷ col 1 17 ∷ []
-
-pub games_all_is : Selects 10 1 t.games_all games_columns
-unfolding understood everything
-games_all_is = record {
-  order = (col 1 0, ascending Binary) ∷ [];
-  names = codes "id" ∷ codes "key" ∷ codes "event" ∷ codes "first" ∷ codes "second" ∷ codes "start" ∷ codes "since" ∷ codes "plies" ∷ codes "left1" ∷ codes "left2" ∷ codes "offer_side" ∷ codes "offer_ply" ∷ codes "end" ∷ codes "result" ∷ codes "position" ∷ codes "track_a" ∷ codes "track_b" ∷ [];
-  command = refl;
-  plain = (refl, refl);
-  unlisted = refl;
-  overlaid = λ d. refl;
-  by = λ r s. refl;
-}
-
-pub games_shown : (r : Row) → eval_all games_columns ([] ∷ r ∷ []) ≡ cells (games 10) r
-games_shown r = refl
-
-pub games_first : (r : Row) → column (eval_all games_columns ([] ∷ r ∷ [])) 0 ≡ rowid r
-games_first r = refl
-
-abbrev pub seen_columns : List Term
-seen_columns = col 1 1 ∷ col 1 2 ∷ col 1 3 ∷ col 1 4 ∷ []
-
-pub seen_all_is : Selects 12 2 t.seen_all seen_columns
-unfolding understood everything
-seen_all_is = record {
-  order = (col 1 1, ascending Binary) ∷ (col 1 2, ascending Binary) ∷ [];
-  names = codes "game" ∷ codes "position" ∷ codes "count" ∷ codes "first_ply" ∷ [];
-  command = refl;
-  plain = (refl, refl);
-  unlisted = refl;
-  overlaid = λ d. refl;
-  by = λ r s. refl;
-}
-
-pub seen_shown : (r : Row) → eval_all seen_columns ([] ∷ r ∷ []) ≡ cells (seen 12) r
-seen_shown r = refl
-
-abbrev pub scores_columns : List Term
-scores_columns = col 1 1 ∷ col 1 2 ∷ col 1 3 ∷ col 1 4 ∷ col 1 5 ∷ col 1 6 ∷ col 1 7 ∷ []
-
-pub scores_all_is : Selects 14 3 t.scores_all scores_columns
-unfolding understood everything
-scores_all_is = record {
-  order = (col 1 1, ascending Binary) ∷ (col 1 2, ascending Binary) ∷ (col 1 3, ascending Binary) ∷ [];
-  names = codes "event" ∷ codes "member" ∷ codes "opponent" ∷ codes "points" ∷ codes "wins" ∷ codes "draws" ∷ codes "losses" ∷ [];
-  command = refl;
-  plain = (refl, refl);
-  unlisted = refl;
-  overlaid = λ d. refl;
-  by = λ r s. refl;
-}
-
-pub scores_shown : (r : Row) → eval_all scores_columns ([] ∷ r ∷ []) ≡ cells (scores 14) r
-scores_shown r = refl
-
-pub challenges_ids_is : Selects 6 1 t.challenges_ids (col 1 0 ∷ [])
+challenges_ids_is : Selects club_schema 6 1 t.challenges_ids (col 1 0 ∷ [])
 unfolding understood everything
 challenges_ids_is = record {
   order = (col 1 0, ascending Binary) ∷ [];
@@ -185,7 +240,61 @@ challenges_ids_is = record {
   by = λ r s. refl;
 }
 
-pub moves_ids_is : Selects 8 1 t.moves_ids (col 1 0 ∷ [])
+challenges_some : (n : ℤ) → Finds club_schema (challenges 6) 3 (0 ∷ []) (Int n ∷ []) (Int n ∷ []) t.challenges_by_first (by_others 2)
+unfolding understood everything first_key
+challenges_some n = record {
+  at = refl;
+  filter = op2 (Compare Eq Binary) (col 1 1) (col 0 0) ∷ [];
+  project = challenges_columns;
+  order = (col 1 2, ascending Binary) ∷ [];
+  names = codes "member" ∷ codes "number" ∷ codes "event" ∷ codes "other" ∷ codes "first" ∷ codes "state" ∷ codes "game" ∷ [];
+  command = refl;
+  plain = (refl, refl);
+  unlisted = refl;
+  overlaid = λ d. refl;
+  shows = λ r. refl;
+  picks = λ r. refl;
+  by = λ r s. refl;
+}
+
+challenges_selects : IsSelect t.challenges_all × IsSelect t.challenges_ids × IsSelect t.challenges_by_first
+unfolding understood everything
+challenges_selects = (refl, refl, refl)
+
+pub challenges_read : AreShownBy club_schema (challenges 6) 2 t.challenges_all t.challenges_ids t.challenges_by_first
+challenges_read = record {
+  place = 3;
+  at = refl;
+  columns = challenges_columns;
+  rows = challenges_all_is;
+  whole = λ r. refl;
+  firsts = col 1 0 ∷ [];
+  numbers = challenges_ids_is;
+  first = λ r. refl;
+  some = challenges_some;
+  all_is = challenges_selects.0;
+  ids_is = challenges_selects.1;
+  group_is = challenges_selects.2;
+}
+
+-- ---- moves
+
+abbrev moves_columns : List Term
+moves_columns = col 1 1 ∷ col 1 2 ∷ col 1 3 ∷ col 1 4 ∷ col 1 5 ∷ col 1 6 ∷ []
+
+moves_all_is : Selects club_schema 8 2 t.moves_all moves_columns
+unfolding understood everything
+moves_all_is = record {
+  order = (col 1 1, ascending Binary) ∷ (col 1 2, ascending Binary) ∷ [];
+  names = codes "game" ∷ codes "ply" ∷ codes "text" ∷ codes "moment" ∷ codes "left" ∷ codes "position" ∷ [];
+  command = refl;
+  plain = (refl, refl);
+  unlisted = refl;
+  overlaid = λ d. refl;
+  by = λ r s. refl;
+}
+
+moves_ids_is : Selects club_schema 8 1 t.moves_ids (col 1 0 ∷ [])
 unfolding understood everything
 moves_ids_is = record {
   order = (col 1 0, ascending Binary) ∷ [];
@@ -197,36 +306,9 @@ moves_ids_is = record {
   by = λ r s. refl;
 }
 
-pub seen_ids_is : Selects 12 1 t.seen_ids (col 1 0 ∷ [])
-unfolding understood everything
-seen_ids_is = record {
-  order = (col 1 0, ascending Binary) ∷ [];
-  names = codes "rowid" ∷ [];
-  command = refl;
-  plain = (refl, refl);
-  unlisted = refl;
-  overlaid = λ d. refl;
-  by = λ r s. refl;
-}
-
-pub scores_ids_is : Selects 14 1 t.scores_ids (col 1 0 ∷ [])
-unfolding understood everything
-scores_ids_is = record {
-  order = (col 1 0, ascending Binary) ∷ [];
-  names = codes "rowid" ∷ [];
-  command = refl;
-  plain = (refl, refl);
-  unlisted = refl;
-  overlaid = λ d. refl;
-  by = λ r s. refl;
-}
-
-pub rowid_first : (r : Row) → column (eval_all (col 1 0 ∷ []) ([] ∷ r ∷ [])) 0 ≡ rowid r
-rowid_first r = refl
-
-pub moves_of_game_is : (game : ℤ) → Finds (moves 8) 4 (0 ∷ []) (Int game ∷ []) (Int game ∷ []) t.moves_of_game by_ply
+moves_some : (n : ℤ) → Finds club_schema (moves 8) 4 (0 ∷ []) (Int n ∷ []) (Int n ∷ []) t.moves_by_first (by_others 2)
 unfolding understood everything first_key
-moves_of_game_is game = record {
+moves_some n = record {
   at = refl;
   filter = op2 (Compare Eq Binary) (col 1 1) (col 0 0) ∷ [];
   project = moves_columns;
@@ -241,9 +323,58 @@ moves_of_game_is game = record {
   by = λ r s. refl;
 }
 
-pub game_by_id_is : (id : ℤ) → Finds (games 10) 5 (0 ∷ []) (Int id ∷ []) (Int id ∷ []) t.game_by_id (λ a b. Equal)
+moves_selects : IsSelect t.moves_all × IsSelect t.moves_ids × IsSelect t.moves_by_first
+unfolding understood everything
+moves_selects = (refl, refl, refl)
+
+pub moves_read : AreShownBy club_schema (moves 8) 2 t.moves_all t.moves_ids t.moves_by_first
+moves_read = record {
+  place = 4;
+  at = refl;
+  columns = moves_columns;
+  rows = moves_all_is;
+  whole = λ r. refl;
+  firsts = col 1 0 ∷ [];
+  numbers = moves_ids_is;
+  first = λ r. refl;
+  some = moves_some;
+  all_is = moves_selects.0;
+  ids_is = moves_selects.1;
+  group_is = moves_selects.2;
+}
+
+-- ---- games
+
+abbrev games_columns : List Term
+games_columns = col 1 0 ∷ col 1 2 ∷ col 1 3 ∷ col 1 4 ∷ col 1 5 ∷ col 1 6 ∷ col 1 7 ∷ col 1 8 ∷ col 1 9 ∷ col 1 10 ∷ col 1 11 ∷ col 1 12 ∷ col 1 13 ∷ col 1 14 ∷ col 1 15 ∷ col 1 16 ∷ col 1 17 ∷ []
+
+games_all_is : Selects club_schema 10 1 t.games_all games_columns
+unfolding understood everything
+games_all_is = record {
+  order = (col 1 0, ascending Binary) ∷ [];
+  names = codes "id" ∷ codes "key" ∷ codes "event" ∷ codes "first" ∷ codes "second" ∷ codes "start" ∷ codes "since" ∷ codes "plies" ∷ codes "left1" ∷ codes "left2" ∷ codes "offer_side" ∷ codes "offer_ply" ∷ codes "end" ∷ codes "result" ∷ codes "position" ∷ codes "track_a" ∷ codes "track_b" ∷ [];
+  command = refl;
+  plain = (refl, refl);
+  unlisted = refl;
+  overlaid = λ d. refl;
+  by = λ r s. refl;
+}
+
+games_ids_is : Selects club_schema 10 1 t.games_ids (col 1 0 ∷ [])
+unfolding understood everything
+games_ids_is = record {
+  order = (col 1 0, ascending Binary) ∷ [];
+  names = codes "id" ∷ [];
+  command = refl;
+  plain = (refl, refl);
+  unlisted = refl;
+  overlaid = λ d. refl;
+  by = λ r s. refl;
+}
+
+games_some : (n : ℤ) → Finds club_schema (games 10) 5 (0 ∷ []) (Int n ∷ []) (Int n ∷ []) t.games_by_first (by_others 1)
 unfolding understood everything first_key
-game_by_id_is id = record {
+games_some n = record {
   at = refl;
   filter = op2 (Compare Eq Binary) (col 1 0) (col 0 0) ∷ [];
   project = games_columns;
@@ -258,9 +389,226 @@ game_by_id_is id = record {
   by = λ r s. refl;
 }
 
-pub game_by_key_is : (key : List ℕ) → Finds (games 10) 5 (1 ∷ []) (Null ∷ Text key ∷ []) (Text key ∷ []) t.game_by_key (λ a b. Equal)
+games_selects : IsSelect t.games_all × IsSelect t.games_ids × IsSelect t.games_by_first
+unfolding understood everything
+games_selects = (refl, refl, refl)
+
+pub games_read : AreShownBy club_schema (games 10) 1 t.games_all t.games_ids t.games_by_first
+games_read = record {
+  place = 5;
+  at = refl;
+  columns = games_columns;
+  rows = games_all_is;
+  whole = λ r. refl;
+  firsts = col 1 0 ∷ [];
+  numbers = games_ids_is;
+  first = λ r. refl;
+  some = games_some;
+  all_is = games_selects.0;
+  ids_is = games_selects.1;
+  group_is = games_selects.2;
+}
+
+-- ---- seen
+
+abbrev seen_columns : List Term
+seen_columns = col 1 1 ∷ col 1 2 ∷ col 1 3 ∷ col 1 4 ∷ []
+
+seen_all_is : Selects club_schema 12 2 t.seen_all seen_columns
+unfolding understood everything
+seen_all_is = record {
+  order = (col 1 1, ascending Binary) ∷ (col 1 2, ascending Binary) ∷ [];
+  names = codes "game" ∷ codes "position" ∷ codes "count" ∷ codes "first_ply" ∷ [];
+  command = refl;
+  plain = (refl, refl);
+  unlisted = refl;
+  overlaid = λ d. refl;
+  by = λ r s. refl;
+}
+
+seen_ids_is : Selects club_schema 12 1 t.seen_ids (col 1 0 ∷ [])
+unfolding understood everything
+seen_ids_is = record {
+  order = (col 1 0, ascending Binary) ∷ [];
+  names = codes "rowid" ∷ [];
+  command = refl;
+  plain = (refl, refl);
+  unlisted = refl;
+  overlaid = λ d. refl;
+  by = λ r s. refl;
+}
+
+seen_some : (n : ℤ) → Finds club_schema (seen 12) 6 (0 ∷ []) (Int n ∷ []) (Int n ∷ []) t.seen_by_first (by_others 2)
 unfolding understood everything first_key
-game_by_key_is key = record {
+seen_some n = record {
+  at = refl;
+  filter = op2 (Compare Eq Binary) (col 1 1) (col 0 0) ∷ [];
+  project = seen_columns;
+  order = (col 1 2, ascending Binary) ∷ [];
+  names = codes "game" ∷ codes "position" ∷ codes "count" ∷ codes "first_ply" ∷ [];
+  command = refl;
+  plain = (refl, refl);
+  unlisted = refl;
+  overlaid = λ d. refl;
+  shows = λ r. refl;
+  picks = λ r. refl;
+  by = λ r s. refl;
+}
+
+seen_selects : IsSelect t.seen_all × IsSelect t.seen_ids × IsSelect t.seen_by_first
+unfolding understood everything
+seen_selects = (refl, refl, refl)
+
+pub seen_read : AreShownBy club_schema (seen 12) 2 t.seen_all t.seen_ids t.seen_by_first
+seen_read = record {
+  place = 6;
+  at = refl;
+  columns = seen_columns;
+  rows = seen_all_is;
+  whole = λ r. refl;
+  firsts = col 1 0 ∷ [];
+  numbers = seen_ids_is;
+  first = λ r. refl;
+  some = seen_some;
+  all_is = seen_selects.0;
+  ids_is = seen_selects.1;
+  group_is = seen_selects.2;
+}
+
+-- ---- scores
+
+abbrev scores_columns : List Term
+scores_columns = col 1 1 ∷ col 1 2 ∷ col 1 3 ∷ col 1 4 ∷ col 1 5 ∷ col 1 6 ∷ col 1 7 ∷ []
+
+scores_all_is : Selects club_schema 14 3 t.scores_all scores_columns
+unfolding understood everything
+scores_all_is = record {
+  order = (col 1 1, ascending Binary) ∷ (col 1 2, ascending Binary) ∷ (col 1 3, ascending Binary) ∷ [];
+  names = codes "event" ∷ codes "member" ∷ codes "opponent" ∷ codes "points" ∷ codes "wins" ∷ codes "draws" ∷ codes "losses" ∷ [];
+  command = refl;
+  plain = (refl, refl);
+  unlisted = refl;
+  overlaid = λ d. refl;
+  by = λ r s. refl;
+}
+
+scores_ids_is : Selects club_schema 14 1 t.scores_ids (col 1 0 ∷ [])
+unfolding understood everything
+scores_ids_is = record {
+  order = (col 1 0, ascending Binary) ∷ [];
+  names = codes "rowid" ∷ [];
+  command = refl;
+  plain = (refl, refl);
+  unlisted = refl;
+  overlaid = λ d. refl;
+  by = λ r s. refl;
+}
+
+scores_some : (n : ℤ) → Finds club_schema (scores 14) 7 (0 ∷ []) (Int n ∷ []) (Int n ∷ []) t.scores_by_first (by_others 3)
+unfolding understood everything first_key
+scores_some n = record {
+  at = refl;
+  filter = op2 (Compare Eq Binary) (col 1 1) (col 0 0) ∷ [];
+  project = scores_columns;
+  order = (col 1 2, ascending Binary) ∷ (col 1 3, ascending Binary) ∷ [];
+  names = codes "event" ∷ codes "member" ∷ codes "opponent" ∷ codes "points" ∷ codes "wins" ∷ codes "draws" ∷ codes "losses" ∷ [];
+  command = refl;
+  plain = (refl, refl);
+  unlisted = refl;
+  overlaid = λ d. refl;
+  shows = λ r. refl;
+  picks = λ r. refl;
+  by = λ r s. refl;
+}
+
+scores_selects : IsSelect t.scores_all × IsSelect t.scores_ids × IsSelect t.scores_by_first
+unfolding understood everything
+scores_selects = (refl, refl, refl)
+
+pub scores_read : AreShownBy club_schema (scores 14) 3 t.scores_all t.scores_ids t.scores_by_first
+scores_read = record {
+  place = 7;
+  at = refl;
+  columns = scores_columns;
+  rows = scores_all_is;
+  whole = λ r. refl;
+  firsts = col 1 0 ∷ [];
+  numbers = scores_ids_is;
+  first = λ r. refl;
+  some = scores_some;
+  all_is = scores_selects.0;
+  ids_is = scores_selects.1;
+  group_is = scores_selects.2;
+}
+
+-- ---- by a whole key, or by a column that is UNIQUE
+
+pub members_by_name_finds : (a : List ℕ) → Finds club_schema (members 1) 1 (1 ∷ []) (Null ∷ Text a ∷ []) (Text a ∷ []) t.members_by_name (λ x y. Equal)
+unfolding understood everything first_key
+members_by_name_finds a = record {
+  at = refl;
+  filter = op2 (Compare Eq Binary) (col 1 2) (col 0 0) ∷ [];
+  project = members_columns;
+  order = [];
+  names = codes "id" ∷ codes "name" ∷ codes "key" ∷ [];
+  command = refl;
+  plain = (refl, refl);
+  unlisted = refl;
+  overlaid = λ d. refl;
+  shows = λ r. refl;
+  picks = λ r. refl;
+  by = λ r s. refl;
+}
+
+pub members_by_name_select : IsSelect t.members_by_name
+unfolding understood everything
+members_by_name_select = refl
+
+pub members_by_key_finds : (a : List ℕ) → Finds club_schema (members 1) 1 (2 ∷ []) (Null ∷ Null ∷ Text a ∷ []) (Text a ∷ []) t.members_by_key (λ x y. Equal)
+unfolding understood everything first_key
+members_by_key_finds a = record {
+  at = refl;
+  filter = op2 (Compare Eq Binary) (col 1 3) (col 0 0) ∷ [];
+  project = members_columns;
+  order = [];
+  names = codes "id" ∷ codes "name" ∷ codes "key" ∷ [];
+  command = refl;
+  plain = (refl, refl);
+  unlisted = refl;
+  overlaid = λ d. refl;
+  shows = λ r. refl;
+  picks = λ r. refl;
+  by = λ r s. refl;
+}
+
+pub members_by_key_select : IsSelect t.members_by_key
+unfolding understood everything
+members_by_key_select = refl
+
+pub events_by_name_finds : (a : List ℕ) → Finds club_schema (events 4) 2 (1 ∷ []) (Null ∷ Text a ∷ []) (Text a ∷ []) t.events_by_name (λ x y. Equal)
+unfolding understood everything first_key
+events_by_name_finds a = record {
+  at = refl;
+  filter = op2 (Compare Eq Binary) (col 1 2) (col 0 0) ∷ [];
+  project = events_columns;
+  order = [];
+  names = codes "id" ∷ codes "name" ∷ codes "game" ∷ codes "budget" ∷ codes "increment" ∷ [];
+  command = refl;
+  plain = (refl, refl);
+  unlisted = refl;
+  overlaid = λ d. refl;
+  shows = λ r. refl;
+  picks = λ r. refl;
+  by = λ r s. refl;
+}
+
+pub events_by_name_select : IsSelect t.events_by_name
+unfolding understood everything
+events_by_name_select = refl
+
+pub games_by_key_finds : (a : List ℕ) → Finds club_schema (games 10) 5 (1 ∷ []) (Null ∷ Text a ∷ []) (Text a ∷ []) t.games_by_key (λ x y. Equal)
+unfolding understood everything first_key
+games_by_key_finds a = record {
   at = refl;
   filter = op2 (Compare Eq Binary) (col 1 2) (col 0 0) ∷ [];
   project = games_columns;
@@ -275,14 +623,90 @@ game_by_key_is key = record {
   by = λ r s. refl;
 }
 
-pub game_ids_is : Selects 10 1 t.game_ids (col 1 0 ∷ [])
+pub games_by_key_select : IsSelect t.games_by_key
 unfolding understood everything
-game_ids_is = record {
-  order = (col 1 0, ascending Binary) ∷ [];
-  names = codes "id" ∷ [];
+games_by_key_select = refl
+
+pub challenges_by_number_finds : (a : ℤ) (b : ℤ) → Finds club_schema (challenges 6) 3 (0 ∷ 1 ∷ []) (Int a ∷ Int b ∷ []) (Int a ∷ Int b ∷ []) t.challenges_by_number (λ x y. Equal)
+unfolding understood everything first_key
+challenges_by_number_finds a b = record {
+  at = refl;
+  filter = op2 (Compare Eq Binary) (col 1 1) (col 0 0) ∷ op2 (Compare Eq Binary) (col 1 2) (col 0 1) ∷ [];
+  project = challenges_columns;
+  order = [];
+  names = codes "member" ∷ codes "number" ∷ codes "event" ∷ codes "other" ∷ codes "first" ∷ codes "state" ∷ codes "game" ∷ [];
   command = refl;
   plain = (refl, refl);
   unlisted = refl;
   overlaid = λ d. refl;
+  shows = λ r. refl;
+  picks = λ r. refl;
   by = λ r s. refl;
 }
+
+pub challenges_by_number_select : IsSelect t.challenges_by_number
+unfolding understood everything
+challenges_by_number_select = refl
+
+pub moves_by_ply_finds : (a : ℤ) (b : ℤ) → Finds club_schema (moves 8) 4 (0 ∷ 1 ∷ []) (Int a ∷ Int b ∷ []) (Int a ∷ Int b ∷ []) t.moves_by_ply (λ x y. Equal)
+unfolding understood everything first_key
+moves_by_ply_finds a b = record {
+  at = refl;
+  filter = op2 (Compare Eq Binary) (col 1 1) (col 0 0) ∷ op2 (Compare Eq Binary) (col 1 2) (col 0 1) ∷ [];
+  project = moves_columns;
+  order = [];
+  names = codes "game" ∷ codes "ply" ∷ codes "text" ∷ codes "moment" ∷ codes "left" ∷ codes "position" ∷ [];
+  command = refl;
+  plain = (refl, refl);
+  unlisted = refl;
+  overlaid = λ d. refl;
+  shows = λ r. refl;
+  picks = λ r. refl;
+  by = λ r s. refl;
+}
+
+pub moves_by_ply_select : IsSelect t.moves_by_ply
+unfolding understood everything
+moves_by_ply_select = refl
+
+pub seen_by_position_finds : (a : ℤ) (b : List ℕ) → Finds club_schema (seen 12) 6 (0 ∷ 1 ∷ []) (Int a ∷ Text b ∷ []) (Int a ∷ Text b ∷ []) t.seen_by_position (λ x y. Equal)
+unfolding understood everything first_key
+seen_by_position_finds a b = record {
+  at = refl;
+  filter = op2 (Compare Eq Binary) (col 1 1) (col 0 0) ∷ op2 (Compare Eq Binary) (col 1 2) (col 0 1) ∷ [];
+  project = seen_columns;
+  order = [];
+  names = codes "game" ∷ codes "position" ∷ codes "count" ∷ codes "first_ply" ∷ [];
+  command = refl;
+  plain = (refl, refl);
+  unlisted = refl;
+  overlaid = λ d. refl;
+  shows = λ r. refl;
+  picks = λ r. refl;
+  by = λ r s. refl;
+}
+
+pub seen_by_position_select : IsSelect t.seen_by_position
+unfolding understood everything
+seen_by_position_select = refl
+
+pub scores_by_pair_finds : (a : ℤ) (b : ℤ) (c : ℤ) → Finds club_schema (scores 14) 7 (0 ∷ 1 ∷ 2 ∷ []) (Int a ∷ Int b ∷ Int c ∷ []) (Int a ∷ Int b ∷ Int c ∷ []) t.scores_by_pair (λ x y. Equal)
+unfolding understood everything first_key
+scores_by_pair_finds a b c = record {
+  at = refl;
+  filter = op2 (Compare Eq Binary) (col 1 1) (col 0 0) ∷ op2 (Compare Eq Binary) (col 1 2) (col 0 1) ∷ op2 (Compare Eq Binary) (col 1 3) (col 0 2) ∷ [];
+  project = scores_columns;
+  order = [];
+  names = codes "event" ∷ codes "member" ∷ codes "opponent" ∷ codes "points" ∷ codes "wins" ∷ codes "draws" ∷ codes "losses" ∷ [];
+  command = refl;
+  plain = (refl, refl);
+  unlisted = refl;
+  overlaid = λ d. refl;
+  shows = λ r. refl;
+  picks = λ r. refl;
+  by = λ r s. refl;
+}
+
+pub scores_by_pair_select : IsSelect t.scores_by_pair
+unfolding understood everything
+scores_by_pair_select = refl

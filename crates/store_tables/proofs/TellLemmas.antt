@@ -31,33 +31,24 @@ use Rattle.sqlite_sql.specs.Program.{overlay}
 use Rattle.sqlite_sql.specs.Query.{output, output_cmp}
 use Rattle.sqlite_rules.specs.Lists.{Has}
 use Rattle.sqlite_rules.proofs.ListLemmas.{all_has, has_got}
-use Rattle.store_tables.specs.Content.{cells, same_key, Keeps}
-use Rattle.store_tables.specs.Contents.{Content, Stores, IsExactly, AreThose}
+use Rattle.store_tables.specs.Content.{cells, same_key, Keeps, AreApart}
+use Rattle.store_tables.specs.Contents.{Content, Stores, AreStored, IsExactly, AreThose}
 use Rattle.store_tables.specs.Put.{selects}
 use Rattle.store_tables.specs.Reading.{AreIds, by_columns, Tells, TellsIds, IsNoInput, KeepsMay}
-use Rattle.store_tables.specs.Tables.{club_schema}
+use Rattle.store_tables.specs.Queries.{Selects, Finds}
+use Rattle.sqlite.specs.Schema.{Schema}
 use Rattle.store_tables.proofs.ApartLemmas.{pairs_turned, each_shown}
 use Rattle.store_tables.proofs.OrderLemmas.{sorted_rows, has_index}
 use Rattle.store_tables.proofs.ReadLemmas.{found_rows, shown_rows, has_map, has_mapped, shown_unchanged, may_as_before, unchanged_exactly}
 
--- The text selects some terms of each row of one table, in the order of the first so many of these.
-pub record Selects (tree : ℕ) (count : ℕ) (sql : List ℕ) (project : List Term) : Type 0 where
-  pub order : List (Term × Key)
-  pub names : List (List ℕ)
-  pub command : command_of (understood club_schema sql) ≡ Select (record { lets = []; body = selects tree [] project order }) names
-  pub plain : IsPlain (understood club_schema sql)
-  pub unlisted : reads_listing club_schema sql ≡ false
-  pub overlaid : (d : Trees) → overlay d [] tree ≡ d tree
-  pub by : (r s : Row) → output_cmp (selects tree [] project order) (output (selects tree [] project order) ([] ∷ r ∷ [])) (output (selects tree [] project order) ([] ∷ s ∷ [])) ≡ by_columns count (eval_all project ([] ∷ r ∷ [])) (eval_all project ([] ∷ s ∷ []))
+module _ (schema : Schema) (tree count : ℕ) (sql : List ℕ) (project : List Term) (is : Selects schema tree count sql project) where
+  read_by : (old new : State) (rows : List Row) → old.now.schema ≡ schema → Shown sql [] old new rows → Reads (Select (record { lets = []; body = selects tree [] project is.order }) is.names) old.now [] rows
+  read_by old new rows has h = reads_as sql [] old new schema has _ is.command is.plain is.unlisted rows h
 
-module _ (tree count : ℕ) (sql : List ℕ) (project : List Term) (is : Selects tree count sql project) where
-  read_by : (old new : State) (rows : List Row) → old.now.schema ≡ club_schema → Shown sql [] old new rows → Reads (Select (record { lets = []; body = selects tree [] project is.order }) is.names) old.now [] rows
-  read_by old new rows has h = reads_as sql [] old new club_schema has _ is.command is.plain is.unlisted rows h
-
-  kept_by : (old new : State) (rows : List Row) → old.now.schema ≡ club_schema → Shown sql [] old new rows → IsUnchanged old new
+  kept_by : (old new : State) (rows : List Row) → old.now.schema ≡ schema → Shown sql [] old new rows → IsUnchanged old new
   kept_by old new rows has h = shown_unchanged sql [] old new rows (subst (λ s. IsPlain (understood s sql)) (sym has) is.plain) h
 
-  sorted_by : (old new : State) (rows : List Row) → old.now.schema ≡ club_schema → Shown sql [] old new rows → IsSorted (by_columns count) rows
+  sorted_by : (old new : State) (rows : List Row) → old.now.schema ≡ schema → Shown sql [] old new rows → IsSorted (by_columns count) rows
   sorted_by old new rows has h = sorted_rows old.now [] tree [] project is.order is.names rows (by_columns count) is.overlaid is.by (read_by old new rows has h)
 
   abbrev Apart : Row → Row → Type 0
@@ -74,25 +65,25 @@ maps-same f g same [] = refl
 maps-same f g same (x ∷ xs) = λ i. same x i ∷ maps-same f g same xs i
 
 -- where every column is selected, in the order of the key
-pub tells : (table : Table) (count : ℕ) (sql : List ℕ) (project : List Term) → Selects table.tree count sql project → ((r : Row) → eval_all project ([] ∷ r ∷ []) ≡ cells table r)
-    → (old new : State) (rows : List Row) → old.now.schema ≡ club_schema → Shown sql [] old new rows → Tells table count rows old new
-tells table count sql project is shows old new rows has h = record {
-  keeps = found_rows table project is.order is.names is.overlaid shows old.now rows (read_by table.tree count sql project is old new rows has h);
+pub tells : (schema : Schema) (table : Table) (count : ℕ) (sql : List ℕ) (project : List Term) → Selects schema table.tree count sql project → ((r : Row) → eval_all project ([] ∷ r ∷ []) ≡ cells table r)
+    → (old new : State) (rows : List Row) → old.now.schema ≡ schema → Shown sql [] old new rows → Tells table count rows old new
+tells schema table count sql project is shows old new rows has h = record {
+  keeps = found_rows table project is.order is.names is.overlaid shows old.now rows (read_by schema table.tree count sql project is old new rows has h);
   once = subst (λ shown. IsPermutation shown rows) (maps-same (λ r. eval_all project ([] ∷ r ∷ [])) (cells table) shows (old.now.trees table.tree))
-      (each_shown old.now [] table.tree project is.order is.names rows is.overlaid (read_by table.tree count sql project is old new rows has h));
-  sorted = sorted_by table.tree count sql project is old new rows has h;
-  same = kept_by table.tree count sql project is old new rows has h;
+      (each_shown old.now [] table.tree project is.order is.names rows is.overlaid (read_by schema table.tree count sql project is old new rows has h));
+  sorted = sorted_by schema table.tree count sql project is old new rows has h;
+  same = kept_by schema table.tree count sql project is old new rows has h;
 }
 
 -- where the rowid is selected first, and orders the rows
-pub tells_ids : (tree : ℕ) (sql : List ℕ) (project : List Term) → Selects tree 1 sql project → ((r : Row) → column (eval_all project ([] ∷ r ∷ [])) 0 ≡ rowid r)
-    → (old new : State) (rows : List Row) → old.now.schema ≡ club_schema → Shown sql [] old new rows → TellsIds tree rows old new
-tells_ids tree sql project is first old new rows has h =
+pub tells_ids : (schema : Schema) (tree : ℕ) (sql : List ℕ) (project : List Term) → Selects schema tree 1 sql project → ((r : Row) → column (eval_all project ([] ∷ r ∷ [])) 0 ≡ rowid r)
+    → (old new : State) (rows : List Row) → old.now.schema ≡ schema → Shown sql [] old new rows → TellsIds tree rows old new
+tells_ids schema tree sql project is first old new rows has h =
     let stored = old.now.trees tree in
-    let one = each_shown old.now [] tree project is.order is.names rows is.overlaid (read_by tree 1 sql project is old new rows has h) in
-    let differ = Apart tree 1 sql project is in
-    let shown = show tree 1 sql project is in
-    let turned = turn tree 1 sql project is in
+    let one = each_shown old.now [] tree project is.order is.names rows is.overlaid (read_by schema tree 1 sql project is old new rows has h) in
+    let differ = Apart schema tree 1 sql project is in
+    let shown = show schema tree 1 sql project is in
+    let turned = turn schema tree 1 sql project is in
     record {
       apart = λ ids. record {
         apart = ascending_weaker (λ r s. differ (shown r) (shown s)) (λ r s. value_cmp (rowid r) (rowid s) ≢ Equal) (λ r s other same. other (subst₂ (λ x y. value_cmp x y ≡ Equal) (sym (first r)) (sym (first s)) same)) stored
@@ -106,16 +97,16 @@ tells_ids tree sql project is first old new rows has h =
         ints = all-permutation (λ x. IsTrue (is_int (column x 0))) (map shown stored) rows one (all-map (λ x. IsTrue (is_int (column x 0))) shown stored
             (all_weaker (λ r. IsTrue (is_int (rowid r))) (λ r. IsTrue (is_int (column (shown r) 0))) (λ r int. subst (λ v. IsTrue (is_int v)) (sym (first r)) int) stored are.ints));
       };
-      sorted = sorted_by tree 1 sql project is old new rows has h;
-      same = kept_by tree 1 sql project is old new rows has h;
+      sorted = sorted_by schema tree 1 sql project is old new rows has h;
+      same = kept_by schema tree 1 sql project is old new rows has h;
     }
 
 -- where the first column of each row is selected
-pub tells_first : (table : Table) (sql : List ℕ) (project : List Term) → Selects table.tree 1 sql project → ((r : Row) → eval_all project ([] ∷ r ∷ []) ≡ column (cells table r) 0 ∷ [])
-    → (old new : State) (rows wanted : List Row) → old.now.schema ≡ club_schema → Shown sql [] old new rows → Keeps table old.now.trees wanted → (z : Row) → (Has rows z → Has (map (λ r. column r 0 ∷ []) wanted) z) × (Has (map (λ r. column r 0 ∷ []) wanted) z → Has rows z)
-tells_first table sql project is shows old new rows wanted has h keeps z =
+pub tells_first : (schema : Schema) (table : Table) (sql : List ℕ) (project : List Term) → Selects schema table.tree 1 sql project → ((r : Row) → eval_all project ([] ∷ r ∷ []) ≡ column (cells table r) 0 ∷ [])
+    → (old new : State) (rows wanted : List Row) → old.now.schema ≡ schema → Shown sql [] old new rows → Keeps table old.now.trees wanted → (z : Row) → (Has rows z → Has (map (λ r. column r 0 ∷ []) wanted) z) × (Has (map (λ r. column r 0 ∷ []) wanted) z → Has rows z)
+tells_first schema table sql project is shows old new rows wanted has h keeps z =
     let first : Row → Row = λ r. column r 0 ∷ [] in
-    let are = shown_rows old.now [] table.tree [] project is.order is.names rows is.overlaid (read_by table.tree 1 sql project is old new rows has h) in (
+    let are = shown_rows old.now [] table.tree [] project is.order is.names rows is.overlaid (read_by schema table.tree 1 sql project is old new rows has h) in (
       λ there.
           let it = are.sound z there in
           subst (Has (map first wanted)) (sym (it.3 ∙ shows it.0)) (has_map first wanted (cells table it.0) (keeps.only it.0 it.1)),
@@ -125,28 +116,13 @@ tells_first table sql project is shows old new rows wanted has h keeps z =
           subst (Has rows) (shows it.0 ∙ ap first it.2 ∙ sym y.2) (are.complete it.0 it.1 refl),
     )
 
--- The text selects every column of the rows of one table whose columns have given values, in some order.
-pub record Finds (table : Table) (place : ℕ) (key : List ℕ) (wanted params : Row) (sql : List ℕ) (cmp : Row → Row → Ordering) : Type 0 where
-  pub at : slice_get club_schema.tables place ≡ Some table
-  pub filter : List Term
-  pub project : List Term
-  pub order : List (Term × Key)
-  pub names : List (List ℕ)
-  pub command : command_of (understood club_schema sql) ≡ Select (record { lets = []; body = selects table.tree filter project order }) names
-  pub plain : IsPlain (understood club_schema sql)
-  pub unlisted : reads_listing club_schema sql ≡ false
-  pub overlaid : (d : Trees) → overlay d [] table.tree ≡ d table.tree
-  pub shows : (r : Row) → eval_all project (params ∷ r ∷ []) ≡ cells table r
-  pub picks : (r : Row) → list_all (holds (params ∷ r ∷ [])) filter ≡ same_key key (cells table r) wanted
-  pub by : (r s : Row) → output_cmp (selects table.tree filter project order) (output (selects table.tree filter project order) (params ∷ r ∷ [])) (output (selects table.tree filter project order) (params ∷ s ∷ [])) ≡ cmp (eval_all project (params ∷ r ∷ [])) (eval_all project (params ∷ s ∷ []))
-
-pub finds : (table : Table) (place : ℕ) (key : List ℕ) (wanted params : Row) (sql : List ℕ) (cmp : Row → Row → Ordering) → Finds table place key wanted params sql cmp
+pub finds : (schema : Schema) (table : Table) (place : ℕ) (key : List ℕ) (wanted params : Row) (sql : List ℕ) (cmp : Row → Row → Ordering) → Finds schema table place key wanted params sql cmp
     → (old new : State) (rows : List Row) → Survives old new (CommitsShowing sql params old) → HasCleanDisk new → Shown sql params old new rows
-    → (content : Content) → IsExactly content old → AreThose key wanted (content table.tree) rows × IsSorted cmp rows × IsExactly content new
-finds table place key wanted params sql cmp is old new rows s clean h content k =
-    let reads = reads_as sql params old new club_schema k.now.schema _ is.command is.plain is.unlisted rows h in
+    → (content : Content) → IsExactly schema content old → AreThose key wanted (content table.tree) rows × IsSorted cmp rows × IsExactly schema content new
+finds schema table place key wanted params sql cmp is old new rows s clean h content k =
+    let reads = reads_as sql params old new schema k.now.schema _ is.command is.plain is.unlisted rows h in
     let are = shown_rows old.now params table.tree is.filter is.project is.order is.names rows is.overlaid reads in
-    let kept : Stores table old.now.trees content = all_has (λ t. Stores t old.now.trees content) club_schema.tables table k.now.tables (has_got club_schema.tables place table is.at) in (
+    let kept : Stores table old.now.trees content = all_has (λ t. Stores t old.now.trees content) schema.tables table k.now.tables (has_got schema.tables place table is.at) in (
       record {
         sound = λ x there.
             let it = are.sound x there in
@@ -157,11 +133,11 @@ finds table place key wanted params sql cmp is old new rows s clean h content k 
             subst (λ y. Has rows y) (is.shows it.0 ∙ it.2) (are.complete it.0 it.1 (is.picks it.0 ∙ subst (λ y. same_key key y wanted ≡ true) (sym it.2) same));
       },
       sorted_rows old.now params table.tree is.filter is.project is.order is.names rows cmp is.overlaid is.by reads,
-      unchanged_exactly content old new k (shown_unchanged sql params old new rows (subst (λ d. IsPlain (understood d sql)) (sym k.now.schema) is.plain) h) (may_as_before sql params old new is.plain s clean content k),
+      unchanged_exactly schema content old new k (shown_unchanged sql params old new rows (subst (λ d. IsPlain (understood d sql)) (sym k.now.schema) is.plain) h) (may_as_before schema sql params old new is.plain s clean content k),
     )
 
-pub keeps_may : (sql : List ℕ) (params : Row) (old new : State) → IsPlain (understood club_schema sql) → old.now.schema ≡ club_schema → Survives old new (CommitsShowing sql params old) → HasCleanDisk new → KeepsMay old new
-keeps_may sql params old new plain has s clean db left = elim (s.crash clean db left) [
+pub keeps_may : (schema : Schema) (sql : List ℕ) (params : Row) (old new : State) → IsPlain (understood schema sql) → old.now.schema ≡ schema → Survives old new (CommitsShowing sql params old) → HasCleanDisk new → KeepsMay old new
+keeps_may schema sql params old new plain has s clean db left = elim (s.crash clean db left) [
   | inl was ↦ was
   | inr made ↦ absurd (never_commits sql params old db (subst (λ x. IsPlain (understood x sql)) (sym has) plain) made)
 ]
@@ -196,11 +172,11 @@ no_statement s sql params e plain (inr h) why is = elim h.2 [
 ]
 
 -- A query whose text is understood fails for another reason.
-pub no_input : (sql : List ℕ) (params : Row) (old new : State) (e : Error) → IsPlain (understood club_schema sql) → old.now.schema ≡ club_schema → FailsToQuery sql params old new e → IsNoInput e
+pub no_input : (schema : Schema) (sql : List ℕ) (params : Row) (old new : State) (e : Error) → IsPlain (understood schema sql) → old.now.schema ≡ schema → FailsToQuery sql params old new e → IsNoInput e
 unfolding FailsToQuery IsNotRun
-no_input sql params old new e plain has (inl (inl h)) = no_statement old sql params e (subst (λ s. IsPlain (understood s sql)) (sym has) plain) h.0
-no_input sql params old new e plain has (inl (inr h)) = λ why is. no_store h.0 why (sym h.1 ∙ is)
-no_input sql params old new e plain has (inr h) =
+no_input schema sql params old new e plain has (inl (inl h)) = no_statement old sql params e (subst (λ s. IsPlain (understood s sql)) (sym has) plain) h.0
+no_input schema sql params old new e plain has (inl (inr h)) = λ why is. no_store h.0 why (sym h.1 ∙ is)
+no_input schema sql params old new e plain has (inr h) =
     let bare = subst (λ s. IsPlain (understood s sql)) (sym has) plain in
     let none = (subst IsPlain h.1.is bare).0 in
     let it = subst (FailsToShow old new sql h.0 (timed params h.0.formats h.1.now) e) none h.2 in
@@ -225,3 +201,36 @@ one_shown table db (y ∷ z ∷ rest) x one two ids =
     let a = only_row table db (y ∷ z ∷ rest) x one two y (inl refl) in
     let b = only_row table db (y ∷ z ∷ rest) x one two z (inr (inl refl)) in
     absurd (ids.apart.0.0 (rw (a, b) (tied_itself value_cmp_total (column x 0))))
+
+-- the rows that are shown begin with the rowids, where these are shown first
+pub ids_of : (table : Table) (stored rows : List Row) → ((r : Row) → column (cells table r) 0 ≡ rowid r) → IsPermutation (map (cells table) stored) rows → AreApart stored → AreIds rows
+ids_of table stored rows first once are = record {
+  apart = pairs_turned differ turned (map (cells table) stored) rows once (ascending-map differ (cells table) stored
+      (ascending_weaker (λ r s. value_cmp (rowid r) (rowid s) ≢ Equal) (λ r s. differ (cells table r) (cells table s)) (λ r s other same. other (subst₂ (λ x y. value_cmp x y ≡ Equal) (first r) (first s) same)) stored are.apart));
+  ints = all-permutation (λ x. IsTrue (is_int (column x 0))) (map (cells table) stored) rows once (all-map (λ x. IsTrue (is_int (column x 0))) (cells table) stored
+      (all_weaker (λ r. IsTrue (is_int (rowid r))) (λ r. IsTrue (is_int (column (cells table r) 0))) (λ r int. subst (λ v. IsTrue (is_int v)) (sym (first r)) int) stored are.ints));
+}
+  where
+    differ : Row → Row → Type 0
+    differ a b = value_cmp (column a 0) (column b 0) ≢ Equal
+
+    turned : (a b : Row) → differ a b → differ b a
+    turned a b other same = other (tied_back value_cmp_total (column b 0) (column a 0) same)
+
+pub apart_of : (table : Table) (stored rows : List Row) → ((r : Row) → column (cells table r) 0 ≡ rowid r) → IsPermutation (map (cells table) stored) rows → AreIds rows → AreApart stored
+apart_of table stored rows first once ids = record {
+  apart = ascending_weaker (λ r s. differ (cells table r) (cells table s)) (λ r s. value_cmp (rowid r) (rowid s) ≢ Equal) (λ r s other same. other (subst₂ (λ x y. value_cmp x y ≡ Equal) (sym (first r)) (sym (first s)) same)) stored
+      (ascending_from_map differ (cells table) stored (pairs_turned differ turned rows (map (cells table) stored) (IsPermutation-sym _ _ once) ids.apart));
+  ints = all_weaker (λ r. IsTrue (is_int (column (cells table r) 0))) (λ r. IsTrue (is_int (rowid r))) (λ r int. subst (λ v. IsTrue (is_int v)) (first r) int) stored
+      (all_from_map (λ x. IsTrue (is_int (column x 0))) (cells table) stored (all-permutation (λ x. IsTrue (is_int (column x 0))) rows (map (cells table) stored) (IsPermutation-sym _ _ once) ids.ints));
+}
+  where
+    differ : Row → Row → Type 0
+    differ a b = value_cmp (column a 0) (column b 0) ≢ Equal
+
+    turned : (a b : Row) → differ a b → differ b a
+    turned a b other same = other (tied_back value_cmp_total (column b 0) (column a 0) same)
+
+-- the table at a place of the schema is stored
+pub stored_at : (schema : Schema) (table : Table) (place : ℕ) → slice_get schema.tables place ≡ Some table → (db : Trees) (content : Content) → AreStored schema db content → Stores table db content
+stored_at schema table place at db content all = all_has (λ t. Stores t db content) schema.tables table all (has_got schema.tables place table at)

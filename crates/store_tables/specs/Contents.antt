@@ -45,36 +45,37 @@ pub record Stores (table : Table) (trees : Trees) (content : Content) : Type 0 w
 abbrev pub AreStored : Schema → Trees → Content → Type 0
 AreStored schema trees content = AllByRecursion (λ t. Stores t trees content) schema.tables
 
-pub record Holds (db : Database) (content : Content) : Type 0 where
-  pub schema : db.schema ≡ club_schema
+-- The database has the tables of this schema, each with its rows.
+pub record Holds (wanted : Schema) (db : Database) (content : Content) : Type 0 where
+  pub schema : db.schema ≡ wanted
   pub sound : IsDatabase db
-  pub tables : AreStored club_schema db.trees content
+  pub tables : AreStored wanted db.trees content
 
 -- what a later opening may find: a sound database whose tables have these rows
-pub record Leaves (content : Content) (trees : Trees) : Type 0 where
-  pub sound : IsSound club_schema trees
-  pub tables : AreStored club_schema trees content
+pub record Leaves (schema : Schema) (content : Content) (trees : Trees) : Type 0 where
+  pub sound : IsSound schema trees
+  pub tables : AreStored schema trees content
 
 -- Outside a transaction, the content, and all that a stop may leave, are exactly these rows.
-pub record IsExactly (content : Content) (s : State) : Type 0 where
+pub record IsExactly (schema : Schema) (content : Content) (s : State) : Type 0 where
   pub is_open : IsTrue s.is_open
   pub idle : s.in_transaction ≡ false
-  pub now : Holds s.now content
+  pub now : Holds schema s.now content
   pub committed : s.committed ≡ s.now
-  pub may_leave : (db : Trees) → s.may_leave db → Leaves content db
+  pub may_leave : (db : Trees) → s.may_leave db → Leaves schema content db
 
--- A connection that was just opened over the tables of a club, whatever their rows: a stop leaves what was committed.
-pub record IsOpened (s : State) : Type 0 where
+-- A connection that was just opened over the tables of a schema, whatever their rows: a stop leaves what was committed.
+pub record IsOpened (wanted : Schema) (s : State) : Type 0 where
   pub is_open : IsTrue s.is_open
   pub idle : s.in_transaction ≡ false
-  pub schema : s.now.schema ≡ club_schema
+  pub schema : s.now.schema ≡ wanted
   pub sound : IsDatabase s.now
   pub committed : s.committed ≡ s.now
   pub settled : (db : Trees) → s.may_leave db → db ≡ s.committed.trees
 
 -- Inside a transaction the rows changed so, and nothing was committed.
-pub record Steps (change : Content → Content) (old new : State) : Type 0 where
-  pub holds : (content : Content) → Holds old.now content → Holds new.now (change content)
+pub record Steps (schema : Schema) (change : Content → Content) (old new : State) : Type 0 where
+  pub holds : (content : Content) → Holds schema old.now content → Holds schema new.now (change content)
   pub committed : new.committed ≡ old.committed
   pub inside : new.in_transaction ≡ true
 
@@ -98,7 +99,7 @@ pub record Makes (from to : ℕ) (old new : State) : Type 0 where
 
 -- Inside a transaction, an empty database came to hold the opening content.
 pub record Fills (old new : State) : Type 0 where
-  pub holds : AreMade (schema_after 0) old.now → Holds new.now opening
+  pub holds : AreMade (schema_after 0) old.now → Holds club_schema new.now opening
   pub committed : new.committed ≡ old.committed
   pub inside : new.in_transaction ≡ true
 

@@ -1,8 +1,12 @@
 pub mod Cells
+pub mod Changed
+pub mod Changes
+pub mod Club
 pub mod Content
 pub mod Contents
 pub mod Names
 pub mod Put
+pub mod Queries
 pub mod Reading
 pub mod Rows
 pub mod Tables

@@ -1,5 +1,5 @@
 -- What reading a table tells, of whatever database.
-use Rattle.std.specs.Prelude.{◌≢◌, ℕ, zero, suc, List, [], ◌∷◌, map, IsTrue}
+use Rattle.std.specs.Prelude.{◌≡◌, ◌≢◌, ◌≤◌, ℕ, zero, suc, false, List, [], ◌∷◌, map, IsTrue}
 use Rattle.std.specs.List.{AllByRecursion}
 use Rattle.std.specs.List.Sorted.{IsSorted, IsPermutation}
 use Rattle.std.specs.declared.cmp.Ordering.{Ordering}
@@ -11,13 +11,13 @@ use Rattle.sqlite.specs.Collation.TheVariants.{Binary}
 use Rattle.sqlite.specs.Order.{Row, column}
 use Rattle.sqlite.specs.Tree.{Trees}
 use Rattle.sqlite.specs.Table.{Table}
-use Rattle.sqlite.specs.State.{State, IsUnchanged}
+use Rattle.sqlite.specs.State.{State, HasCleanDisk, IsUnchanged}
 use Rattle.sqlite.specs.declared.error.Error.{Error}
 use Rattle.sqlite.specs.declared.error.Error.TheVariants.{SqlInputError}
 use Rattle.sqlite_resolve.specs.declared.error.CompileError.{CompileError}
 use Rattle.sqlite_sql.specs.Query.{key_cmp}
 use Rattle.sqlite_trees.specs.Tree.{IsAscending}
-use Rattle.sqlite_trees.specs.View.{is_int}
+use Rattle.sqlite_trees.specs.View.{doubt, is_int}
 use Rattle.store_tables.specs.Content.{Keeps, AreApart, cells}
 
 -- the first column of these rows has integers, none of them twice
@@ -58,3 +58,12 @@ IsNoInput e = (why : CompileError) → e ≢ SqlInputError why
 -- what a stop may leave is what it might have left before
 abbrev pub KeepsMay : State → State → Type 0
 KeepsMay old new = (db : Trees) → new.may_leave db → old.may_leave db
+
+-- Whatever the schema and whatever the answer: the connection stays outside a transaction, doubt of the disk does not
+-- shrink, a stop leaves nothing that it could not leave before, and what was committed is what was committed.
+pub record OnlyReads (old new : State) : Type 0 where
+  pub idle : old.in_transaction ≡ false → new.in_transaction ≡ false
+  pub clean : doubt old.is_clean ≤ doubt new.is_clean
+  pub may : HasCleanDisk new → KeepsMay old new
+  pub was_open : HasCleanDisk new → IsTrue new.is_open → IsTrue old.is_open
+  pub committed : HasCleanDisk new → IsTrue new.is_open → new.committed ≡ old.committed

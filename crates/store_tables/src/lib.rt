@@ -12,5 +12,6 @@ pub use ids::check_ids;
 pub use names::Table;
 pub use parse::{TableRow, Unread, parse_all};
 pub use rows::{
-    ChallengeRow, EventRow, GameRecord, MemberRow, MetaRow, MoveRow, Rows, ScoreRow, SeenRow,
+    ChallengeRow, Changes, EventRow, GameRecord, MemberRow, MetaRow, MoveRow, Rows, ScoreRow,
+    SeenRow,
 };

@@ -135,3 +135,16 @@ pub struct Rows {
     pub seen: Vec<SeenRow>,
     pub scores: Vec<ScoreRow>,
 }
+
+/// Rows to put, each in place of the row of its table with its key.
+#[derive(Debug, PartialEq, Drop)]
+pub struct Changes {
+    pub members: Vec<MemberRow>,
+    pub events: Vec<EventRow>,
+    pub challenges: Vec<ChallengeRow>,
+    pub games: Vec<GameRecord>,
+    pub moves: Vec<MoveRow>,
+    pub seen: Vec<SeenRow>,
+    pub scores: Vec<ScoreRow>,
+    pub meta: Option<MetaRow>,
+}

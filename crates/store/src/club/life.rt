@@ -4,7 +4,7 @@ ghost use Rattle.std.specs.Prelude.{◌≡◌, ◌≤◌, ◌⊎◌, ◌++◌, �
 ghost use Rattle.sqlite.specs.State.{HasCleanDisk, Opens, IsLive};
 ghost use Rattle.sqlite.specs.Held.{state};
 ghost use Rattle.sqlite_trees.specs.View.{doubt};
-ghost use Rattle.store_tables.specs.Contents.{IsExactly, Leaves};
+ghost use Rattle.store_tables.specs.Club.{IsExactly, Leaves};
 ghost use Rattle.club_core.specs.Answer.{answered, outcome_of, request_of};
 ghost use Rattle.club_rows.specs.Club.{ClubState, IsClub, tables};
 ghost use Rattle.store.specs.Runs.{club_outcomes};
@@ -22,18 +22,24 @@ impl<S: Alter> Club<S> {
     /// the club, they lead with this one added to all that a stop may leave; and without a fault to the tables of the club,
     /// so that the next session may follow.
     pub fn session(&mut self, alloc: Global, requests: &[Request]) -> Run
-        ensures shut { self.old.needs_reopening ≡ true → (result.fault ≡ Some StoreFault.Reopen) × (result.outcomes.items ≡ []) × (self.new ≡ self.old) }
-        ensures named { self.old.needs_reopening ≡ false → IfSome result.fault (λ fault. (fault ≡ StoreFault.Store) ⊎ (fault ≡ StoreFault.Memory)) }
+        ensures shut { self.old.needs_reopening ≡ true → (result.fault ≡ Some StoreFault.Reopen) ×
+            (result.outcomes.items ≡ []) × (self.new ≡ self.old) }
+        ensures named { self.old.needs_reopening ≡ false →
+            IfSome result.fault (λ fault. (fault ≡ StoreFault.Store) ⊎ (fault ≡ StoreFault.Memory)) }
         ensures goes_on { result.fault ≡ None → self.new.needs_reopening ≡ false }
         ensures ends { IsSome result.fault → self.new.needs_reopening ≡ true }
-        ensures clean { doubt (state S.Store self.old.connection).is_clean ≤ doubt (state S.Store self.new.connection).is_clean }
+        ensures clean { doubt (state S.Store self.old.connection).is_clean ≤ doubt
+            (state S.Store self.new.connection).is_clean }
         ensures within { length result.outcomes.items ≤ length requests.now }
         ensures whole { result.fault ≡ None → length result.outcomes.items ≡ length requests.now }
-        ensures outcomes { HasCleanDisk (state S.Store self.new.connection) → (s : ClubState) → IsClub s → IsExactly (tables s) (state S.Store self.old.connection) →
+        ensures outcomes { HasCleanDisk (state S.Store self.new.connection) → (s : ClubState) → IsClub s →
+            IsExactly (tables s) (state S.Store self.old.connection) →
             map outcome_of result.outcomes.items ≡ map answered (club_outcomes s (map request_of (take (length result.outcomes.items) requests.now))) }
-        ensures life { HasCleanDisk (state S.Store self.new.connection) → self.old.needs_reopening ≡ false → (sessions : _) → Stands sessions (state S.Store self.old.connection) →
+        ensures life { HasCleanDisk (state S.Store self.new.connection) → self.old.needs_reopening ≡ false →
+            (sessions : _) → Stands sessions (state S.Store self.old.connection) →
             (db : _) → (state S.Store self.new.connection).may_leave db → IsLed (sessions ++ session_of requests.now result ∷ []) db }
-        ensures stands { HasCleanDisk (state S.Store self.new.connection) → result.fault ≡ None → (sessions : _) → Stands sessions (state S.Store self.old.connection) →
+        ensures stands { HasCleanDisk (state S.Store self.new.connection) → result.fault ≡ None → (sessions : _) →
+            Stands sessions (state S.Store self.old.connection) →
             Stands (sessions ++ session_of requests.now result ∷ []) (state S.Store self.new.connection) }
     {
         self.run(alloc, requests)
@@ -49,25 +55,33 @@ pub fn resume<S: Alter>(
     requests: &[Request],
 ) -> Result<(Run, Club<S>), Unopened<S>>
     requires { conn.in_transaction ≡ false }
-    ensures clean { IfOk result (λ resumed. doubt (state S.Store conn).is_clean ≤ doubt (state S.Store resumed.1.connection).is_clean) }
+    ensures clean { IfOk result (λ resumed. doubt (state S.Store conn).is_clean ≤ doubt
+        (state S.Store resumed.1.connection).is_clean) }
     ensures goes_on { IfOk result (λ resumed. resumed.0.fault ≡ None → resumed.1.needs_reopening ≡ false) }
     ensures ends { IfOk result (λ resumed. IsSome resumed.0.fault → resumed.1.needs_reopening ≡ true) }
     ensures within { IfOk result (λ resumed. length resumed.0.outcomes.items ≤ length requests.now) }
-    ensures whole { IfOk result (λ resumed. resumed.0.fault ≡ None → length resumed.0.outcomes.items ≡ length requests.now) }
-    ensures outcomes { IfOk result (λ resumed. HasCleanDisk (state S.Store resumed.1.connection) → Opens (state S.Store conn) → IsLive (state S.Store conn) →
+    ensures whole { IfOk result (λ resumed. resumed.0.fault ≡ None →
+        length resumed.0.outcomes.items ≡ length requests.now) }
+    ensures outcomes { IfOk result (λ resumed. HasCleanDisk (state S.Store resumed.1.connection) → Opens
+        (state S.Store conn) → IsLive (state S.Store conn) →
         (s : ClubState) → IsClub s → Leaves (tables s) (state S.Store conn).committed.trees →
         map outcome_of resumed.0.outcomes.items ≡ map answered (club_outcomes s (map request_of (take (length resumed.0.outcomes.items) requests.now)))) }
-    ensures life { IfOk result (λ resumed. HasCleanDisk (state S.Store resumed.1.connection) → Opens (state S.Store conn) → IsLive (state S.Store conn) →
+    ensures life { IfOk result (λ resumed. HasCleanDisk (state S.Store resumed.1.connection) → Opens
+        (state S.Store conn) → IsLive (state S.Store conn) →
         (sessions : _) → IsLed sessions (state S.Store conn).committed.trees →
         (db : _) → (state S.Store resumed.1.connection).may_leave db → IsLed (sessions ++ session_of requests.now resumed.0 ∷ []) db) }
-    ensures stands { IfOk result (λ resumed. HasCleanDisk (state S.Store resumed.1.connection) → Opens (state S.Store conn) → IsLive (state S.Store conn) → resumed.0.fault ≡ None →
+    ensures stands { IfOk result (λ resumed. HasCleanDisk (state S.Store resumed.1.connection) → Opens
+        (state S.Store conn) → IsLive (state S.Store conn) → resumed.0.fault ≡ None →
         (sessions : _) → IsLed sessions (state S.Store conn).committed.trees →
         Stands (sessions ++ session_of requests.now resumed.0 ∷ []) (state S.Store resumed.1.connection)) }
     ensures idle { IfErr result (λ unopened. unopened.conn.in_transaction ≡ false) }
-    ensures known { IfErr result (λ unopened. doubt (state S.Store conn).is_clean ≤ doubt (state S.Store unopened.conn).is_clean) }
-    ensures good { IfErr result (λ unopened. HasCleanDisk (state S.Store unopened.conn) → Opens (state S.Store conn) → IsLive (state S.Store conn) →
+    ensures known { IfErr result (λ unopened. doubt (state S.Store conn).is_clean ≤ doubt
+        (state S.Store unopened.conn).is_clean) }
+    ensures good { IfErr result (λ unopened. HasCleanDisk (state S.Store unopened.conn) → Opens (state S.Store conn) →
+        IsLive (state S.Store conn) →
         (s : ClubState) → IsClub s → Leaves (tables s) (state S.Store conn).committed.trees → (unopened.fault ≡ OpenFault.Store) ⊎ (unopened.fault ≡ OpenFault.Memory)) }
-    ensures kept { IfErr result (λ unopened. HasCleanDisk (state S.Store unopened.conn) → Opens (state S.Store conn) → IsLive (state S.Store conn) →
+    ensures kept { IfErr result (λ unopened. HasCleanDisk (state S.Store unopened.conn) → Opens (state S.Store conn) →
+        IsLive (state S.Store conn) →
         (sessions : _) → IsLed sessions (state S.Store conn).committed.trees →
         (db : _) → (state S.Store unopened.conn).may_leave db → IsLed sessions db) }
 {

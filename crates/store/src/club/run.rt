@@ -4,7 +4,7 @@ ghost use Rattle.std.specs.Prelude.{◌≡◌, ◌≤◌, ◌⊎◌, ◌+◌, tr
 ghost use Rattle.sqlite.specs.State.{HasCleanDisk};
 ghost use Rattle.sqlite.specs.Held.{state};
 ghost use Rattle.sqlite_trees.specs.View.{doubt};
-ghost use Rattle.store_tables.specs.Contents.{IsExactly, Leaves};
+ghost use Rattle.store_tables.specs.Club.{IsExactly, Leaves};
 ghost use Rattle.club_core.specs.Answer.{answered, outcome_of, request_of};
 ghost use Rattle.club_rows.specs.Club.{ClubState, IsClub, tables};
 ghost use Rattle.store.specs.Steps.{club_step, club_next};
@@ -42,14 +42,20 @@ impl<S: Alter> Club<S> {
     fn serve(&mut self, alloc: Global, request: &Request) -> Result<Outcome, StoreFault>
         ensures goes_on { OnOk result (self.new.needs_reopening ≡ false) }
         ensures ends { OnErr result (self.new.needs_reopening ≡ true) }
-        ensures named { IfErr result (λ fault. self.old.needs_reopening ≡ false → (fault ≡ StoreFault.Store) ⊎ (fault ≡ StoreFault.Memory)) }
-        ensures clean { doubt (state S.Store self.old.connection).is_clean ≤ doubt (state S.Store self.new.connection).is_clean }
+        ensures named { IfErr result (λ fault. self.old.needs_reopening ≡ false →
+            (fault ≡ StoreFault.Store) ⊎ (fault ≡ StoreFault.Memory)) }
+        ensures clean { doubt (state S.Store self.old.connection).is_clean ≤ doubt
+            (state S.Store self.new.connection).is_clean }
         ensures legal { (s : ClubState) → IsClub s → IsClub (club_next s (request_of request.now)) }
-        ensures answer { HasCleanDisk (state S.Store self.new.connection) → IfOk result (λ outcome. (s : ClubState) → IsClub s → IsExactly (tables s) (state S.Store self.old.connection) →
+        ensures answer { HasCleanDisk (state S.Store self.new.connection) → IfOk result (λ outcome. (s : ClubState) →
+            IsClub s → IsExactly (tables s) (state S.Store self.old.connection) →
             outcome_of outcome ≡ answered (club_step s (request_of request.now))) }
-        ensures step { HasCleanDisk (state S.Store self.new.connection) → OnOk result ((s : ClubState) → IsClub s → IsExactly (tables s) (state S.Store self.old.connection) →
+        ensures step { HasCleanDisk (state S.Store self.new.connection) → OnOk result ((s : ClubState) → IsClub s →
+            IsExactly (tables s) (state S.Store self.old.connection) →
             IsExactly (tables (club_next s (request_of request.now))) (state S.Store self.new.connection)) }
-        ensures fault { HasCleanDisk (state S.Store self.new.connection) → OnErr result (self.old.needs_reopening ≡ false → (s : ClubState) → IsClub s → IsExactly (tables s) (state S.Store self.old.connection) →
+        ensures fault { HasCleanDisk (state S.Store self.new.connection) →
+            OnErr result (self.old.needs_reopening ≡ false → (s : ClubState) → IsClub s → IsExactly (tables s)
+            (state S.Store self.old.connection) →
             (db : _) → (state S.Store self.new.connection).may_leave db → Leaves (tables s) db ⊎ Leaves (tables (club_next s (request_of request.now))) db) }
     {
         let _within = request.moment.seconds();
@@ -61,24 +67,33 @@ impl<S: Alter> Club<S> {
     /// stop leaves the tables of the state after the answered requests, or after one more, whole; and every later call is
     /// refused with `Reopen`.
     pub fn run(&mut self, alloc: Global, requests: &[Request]) -> Run
-        ensures shut { self.old.needs_reopening ≡ true → (result.fault ≡ Some StoreFault.Reopen) × (result.outcomes.items ≡ []) × (self.new ≡ self.old) }
-        ensures named { self.old.needs_reopening ≡ false → IfSome result.fault (λ fault. (fault ≡ StoreFault.Store) ⊎ (fault ≡ StoreFault.Memory)) }
+        ensures shut { self.old.needs_reopening ≡ true → (result.fault ≡ Some StoreFault.Reopen) ×
+            (result.outcomes.items ≡ []) × (self.new ≡ self.old) }
+        ensures named { self.old.needs_reopening ≡ false →
+            IfSome result.fault (λ fault. (fault ≡ StoreFault.Store) ⊎ (fault ≡ StoreFault.Memory)) }
         ensures goes_on { result.fault ≡ None → self.new.needs_reopening ≡ false }
         ensures ends { IsSome result.fault → self.new.needs_reopening ≡ true }
-        ensures clean { doubt (state S.Store self.old.connection).is_clean ≤ doubt (state S.Store self.new.connection).is_clean }
+        ensures clean { doubt (state S.Store self.old.connection).is_clean ≤ doubt
+            (state S.Store self.new.connection).is_clean }
         ensures within { length result.outcomes.items ≤ length requests.now }
         ensures whole { result.fault ≡ None → length result.outcomes.items ≡ length requests.now }
-        ensures outcomes { HasCleanDisk (state S.Store self.new.connection) → (s : ClubState) → IsClub s → IsExactly (tables s) (state S.Store self.old.connection) →
+        ensures outcomes { HasCleanDisk (state S.Store self.new.connection) → (s : ClubState) → IsClub s →
+            IsExactly (tables s) (state S.Store self.old.connection) →
             map outcome_of result.outcomes.items ≡ map answered (club_outcomes s (map request_of (take (length result.outcomes.items) requests.now))) }
-        ensures stored { HasCleanDisk (state S.Store self.new.connection) → result.fault ≡ None → (s : ClubState) → IsClub s → IsExactly (tables s) (state S.Store self.old.connection) →
+        ensures stored { HasCleanDisk (state S.Store self.new.connection) → result.fault ≡ None → (s : ClubState) →
+            IsClub s → IsExactly (tables s) (state S.Store self.old.connection) →
             IsExactly (tables (club_fold s (map request_of requests.now))) (state S.Store self.new.connection) }
-        ensures legal { HasCleanDisk (state S.Store self.new.connection) → result.fault ≡ None → (s : ClubState) → IsClub s → IsExactly (tables s) (state S.Store self.old.connection) →
+        ensures legal { HasCleanDisk (state S.Store self.new.connection) → result.fault ≡ None → (s : ClubState) →
+            IsClub s → IsExactly (tables s) (state S.Store self.old.connection) →
             IsClub (club_fold s (map request_of requests.now)) }
-        ensures fault { HasCleanDisk (state S.Store self.new.connection) → IsSome result.fault → self.old.needs_reopening ≡ false → (s : ClubState) → IsClub s → IsExactly (tables s) (state S.Store self.old.connection) →
+        ensures fault { HasCleanDisk (state S.Store self.new.connection) → IsSome result.fault →
+            self.old.needs_reopening ≡ false → (s : ClubState) → IsClub s → IsExactly (tables s)
+            (state S.Store self.old.connection) →
             (db : _) → (state S.Store self.new.connection).may_leave db →
             Leaves (tables (club_fold s (map request_of (take (length result.outcomes.items) requests.now)))) db
             ⊎ Leaves (tables (club_fold s (map request_of (take (length result.outcomes.items + 1) requests.now)))) db }
-        ensures left { HasCleanDisk (state S.Store self.new.connection) → self.old.needs_reopening ≡ false → (s : ClubState) → IsClub s → IsExactly (tables s) (state S.Store self.old.connection) →
+        ensures left { HasCleanDisk (state S.Store self.new.connection) → self.old.needs_reopening ≡ false →
+            (s : ClubState) → IsClub s → IsExactly (tables s) (state S.Store self.old.connection) →
             (db : _) → (state S.Store self.new.connection).may_leave db →
             IsAfter s requests.now (length result.outcomes.items) db ⊎ (IsSome result.fault × IsAfter s requests.now (length result.outcomes.items + 1) db) }
     {

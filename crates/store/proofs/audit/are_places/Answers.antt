@@ -1,5 +1,5 @@
 use Rattle.std.proofs.Common.{◌≡◌, ◌≢◌, ◌<◌, ◌+◌, pos, map, get_or, length, arith, rules, sym, ap, ◌∙◌}
-use Rattle.store_tables.proofs.OrderLemmas.{got, same_length}
+use Rattle.store_tables.proofs.Laws.{got, same_length}
 use Rattle.store.proofs.PlaceLemmas.{one_more_place}
 use Rattle.store.proofs.audit.are_places.Goals as goal
 

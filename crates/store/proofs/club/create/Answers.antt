@@ -17,3 +17,9 @@ returns-in-Err-clause-cut_off g c clean k db left = elim ((rw c.in-Err.is at c.c
   | inl empty ↦ inl empty
   | inr made ↦ inr (opening_led db (opening-left db made))
 ]
+
+pub returns-in-Err-clause-refused : goal.returns-in-Err-clause-refused
+returns-in-Err-clause-refused g c clean is = elim (rw c.in-Err.is at c.create_tables.ensures.refused clean) [
+  | inl plain ↦ absurd (c.fault_of.ensures.foreign is plain)
+  | inr kept ↦ kept
+]

@@ -1,4 +1,5 @@
-use Rattle.std.proofs.Common.{[], ◌∷◌, map, ap, sym, subst, string_bytes, ◌∙◌, arith}
+use Rattle.store_tables.specs.Tables.{club_schema}
+use Rattle.std.proofs.Common.{[], ◌∷◌, map, refl, ap, sym, subst, string_bytes, ◌∙◌, arith}
 use Rattle.std.proofs.lemmas.Result.{IfOk-weaker}
 use Rattle.sqlite.specs.Held.{state}
 use Rattle.sqlite.specs.State.{HasCleanDisk}
@@ -15,12 +16,9 @@ use Rattle.store_tables.specs.Contents.{AreThose}
 use Rattle.club_rows.specs.Club.{tables}
 use Rattle.store.specs.Steps.{caller_step, HaveSame, IsDecided, IsRecordOf}
 use Rattle.store.proofs.GameRows.{row_id, ids_same, moves_those, is_record}
+use Rattle.store.proofs.FoundLemmas.{always}
 use Rattle.store.proofs.ReadRows.{events_begin, terms_same}
 use Rattle.store.proofs.command.on_game.Goals as goal
-
-pub returns-in_err-moves-clause-may : goal.returns-in_err-moves-clause-may
-returns-in_err-moves-clause-may g c clean content k db left =
-    c.moves_of.ensures.may clean content (c.in_ok-events.ensures.kept (omega (arith, c.moves_of.ensures.clean)) content k) db left
 
 pub returns-clause-step : goal.returns-clause-step
 returns-clause-step g c clean =
@@ -30,10 +28,10 @@ returns-clause-step g c clean =
     let command = move c.args.command.now.ply (string_bytes c.args.command.now.text) in
     let id_is = row_id draughts terms id old row cells in
     let (game, event) = ids_same (keyed_of c.in_ok-ids.ids) id old (c.in_ok-ids.ensures s id (club.draughts old) cells) in
-    let events_read : HasCleanDisk (state g.S.Store c.events.new.conn) = omega (arith, c.moves_of.ensures.clean) in
-    let kept = c.in_ok-events.ensures.kept events_read (tables s) k in
-    let rows = ap (map event_cells) c.deref.ensures.value ∙ c.in_ok-events.ensures.rows events_read (tables s) k (events_begin s.events) in
-    let events = c.in_ok-events-2.ensures.values s.events rows in
+    let events_read : HasCleanDisk (state g.S.Store c.list.new.conn) = omega (arith, c.find_by_first.ensures.reads.clean) in
+    let kept = c.in_ok-list.ensures.kept events_read club_schema (tables s) k in
+    let rows = ap (map event_cells) c.deref.ensures.value ∙ c.in_ok-list.ensures.rows events_read refl (tables s) k (events_begin s.events) in
+    let events = c.in_ok-events.ensures.values s.events rows in
     let (e, stands, given) = c.in_ok-terms.ensures in
     let same = terms_same (events_of c.deref-2.result.now) c.in_ok-ids.ids.pairing.event e (terms_given c.in_ok-terms.terms) s old.event stands given (ap events_of c.deref-2.ensures.value ∙ events) event in
     let those = subst (λ z. AreThose (0 ∷ []) (Int z ∷ []) (tables s 8) (map move_cells c.in_ok-moves.moves.items)) id_is (c.in_ok-moves.ensures.rows clean (tables s) kept).0 in
@@ -42,3 +40,8 @@ returns-clause-step g c clean =
     let (shows, asked) = c.in_ok-view.ensures.shows id old (subst (λ t. IsRecordOf draughts t id row old) (sym same) (is_record s is_club id old row at cells)) moves_given in
     subst (λ n. IsDecided s (caller_step s c.args.moment c.args.caller (on_game n command)) d) game
     (step s old is_club later (ap (place s.games) game ∙ at) (c.in_ok-view.ensures.terms ∙ same) shows asked)) c.on_view.ensures.step
+
+pub returns-clause-kept : goal.returns-clause-kept
+returns-clause-kept g c clean =
+    let events_read : HasCleanDisk (state g.S.Store c.list.new.conn) = omega (arith, c.find_by_first.ensures.reads.clean) in
+    always c.on_view.result _ (λ schema content k. c.in_ok-moves.ensures.kept clean schema content (c.in_ok-list.ensures.kept events_read schema content k))

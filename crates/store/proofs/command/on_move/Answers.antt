@@ -1,3 +1,4 @@
+use Rattle.store_tables.specs.Tables.{club_schema}
 use Rattle.std.proofs.Common.{[], ◌∷◌, map, SFits, w64, to_z-of_z, sym, subst, string_bytes, ◌∙◌, arith}
 use Rattle.std.proofs.lemmas.Result.{IfOk-weaker}
 use Rattle.sqlite.specs.Held.{state}
@@ -8,12 +9,9 @@ use Rattle.store_tables.specs.Contents.{AreThose}
 use Rattle.club_rows.specs.Club.{tables}
 use Rattle.store.proofs.GameRows.{id_some, id_none, past_none}
 use Rattle.store.proofs.PlayedLemmas.{unknown_decided}
+use Rattle.store.proofs.FoundLemmas.{on_ok}
 use Rattle.store.proofs.ReadRows.{first_mapped, none_mapped}
 use Rattle.store.proofs.command.on_move.Goals as goal
-
-pub returns-in-Some-clause-may : goal.returns-in-Some-clause-may
-returns-in-Some-clause-may g c clean content k db left =
-    c.on_game.ensures.may clean content (c.in_ok-game_with_id.ensures.rows (omega (arith, c.on_game.ensures.clean)) content k).1 db left
 
 pub returns-in_default-clause-step : goal.returns-in_default-clause-step
 returns-in_default-clause-step g c clean s is_club later k =
@@ -23,21 +21,26 @@ pub returns-in-Some-clause-step : goal.returns-in-Some-clause-step
 returns-in-Some-clause-step g c clean =
     IfOk-weaker c.on_game.result _ _ (λ d step s is_club later k.
     let id = c.args.command.now.game in
-    let rows = c.in_ok-game_with_id.field-0.items in
-    let looked : HasCleanDisk (state g.S.Store c.game_with_id.new.conn) = omega (arith, c.on_game.ensures.clean) in
-    let found = c.in_ok-game_with_id.ensures.rows looked (tables s) k in
+    let rows = c.in_ok-find_by_first.field-0.items in
+    let looked : HasCleanDisk (state g.S.Store c.find_by_first.new.conn) = omega (arith, c.on_game.ensures.reads.clean) in
+    let found = c.in_ok-find_by_first.ensures.rows looked (tables s) k in
     let fits : SFits w64 c.in-Ok.game = subst (SFits w64) (sym c.in-Ok.ensures.1) c.in-Ok.ensures.0 in
     let those = subst (λ z. AreThose (0 ∷ []) (Int z ∷ []) (tables s 10) (map game_cells rows)) (to_z-of_z fits ∙ c.in-Ok.ensures.1) found.0 in
     let (old, at, cells) = id_some s is_club id (map game_cells rows) (game_cells c.in-Some.row) those (first_mapped game_cells rows c.in-Some.row (sym c.first.ensures ∙ c.in-Some.is)) in
-    step s id old is_club later at cells found.1) (c.on_game.ensures.step clean)
+    step s id old is_club later at cells (c.in_ok-find_by_first.ensures.kept looked club_schema (tables s) k)) (c.on_game.ensures.step clean)
 
 pub returns-in-None-clause-step : goal.returns-in-None-clause-step
 returns-in-None-clause-step g c clean s is_club later k =
     let id = c.args.command.now.game in
-    let rows = c.in_ok-game_with_id.field-0.items in
-    let found = c.in_ok-game_with_id.ensures.rows clean (tables s) k in
+    let rows = c.in_ok-find_by_first.field-0.items in
+    let found = c.in_ok-find_by_first.ensures.rows clean (tables s) k in
     let fits : SFits w64 c.in-Ok.game = subst (SFits w64) (sym c.in-Ok.ensures.1) c.in-Ok.ensures.0 in
     let those = subst (λ z. AreThose (0 ∷ []) (Int z ∷ []) (tables s 10) (map game_cells rows)) (to_z-of_z fits ∙ c.in-Ok.ensures.1) found.0 in
     unknown_decided s id c.args.moment c.args.caller c.args.command.now.ply (string_bytes c.args.command.now.text) c.unchanged-in-None.result
     (id_none s is_club id (map game_cells rows) those (none_mapped game_cells rows (sym c.first.ensures ∙ c.in-None.is)))
     c.unchanged-in-None.ensures.outcome c.unchanged-in-None.ensures.none
+
+pub returns-in-Some-clause-kept : goal.returns-in-Some-clause-kept
+returns-in-Some-clause-kept g c clean =
+    let looked : HasCleanDisk (state g.S.Store c.find_by_first.new.conn) = omega (arith, c.on_game.ensures.reads.clean) in
+    on_ok c.on_game.result _ _ (λ last schema content k. last schema content (c.in_ok-find_by_first.ensures.kept looked schema content k)) (c.on_game.ensures.kept clean)

@@ -1,3 +1,4 @@
+use Rattle.store_tables.specs.Tables.{club_schema}
 use Rattle.std.proofs.Common.{◌≡◌, [], ◌∷◌, length, Some, string_bytes, refl, ap, sym, subst, ◌∙◌, arith}
 use Rattle.sqlite.specs.Held.{state}
 use Rattle.sqlite.specs.State.{HasCleanDisk}
@@ -16,11 +17,6 @@ use Rattle.store.proofs.OutcomeLemmas.{officer_none, seat_same, seat_decided}
 use Rattle.store.proofs.ReadRows.{games_begin}
 use Rattle.store.proofs.command.on_seat.Goals as goal
 
-pub returns-in_err-count_games-clause-may : goal.returns-in_err-count_games-clause-may
-returns-in_err-count_games-clause-may g c clean content k db left =
-    let looked : HasCleanDisk (state g.S.Store c.game_under.new.conn) = omega (arith, c.count_games.ensures.clean) in
-    c.count_games.ensures.may clean content (c.in_ok-under_key.ensures.kept looked content k) db left
-
 pub returns-in_ok-changes-in-Starts-clause-step : goal.returns-in_ok-changes-in-Starts-clause-step
 returns-in_ok-changes-in-Starts-clause-step g c clean s is_club ms es k =
     let who = c.args.caller in
@@ -28,9 +24,9 @@ returns-in_ok-changes-in-Starts-clause-step g c clean s is_club ms es k =
     let event = string_bytes c.args.command.now.event in
     let first = string_bytes c.args.command.now.first in
     let second = string_bytes c.args.command.now.second in
-    let looked : HasCleanDisk (state g.S.Store c.game_under.new.conn) = omega (arith, c.count_games.ensures.clean) in
+    let looked : HasCleanDisk (state g.S.Store c.game_under.new.conn) = omega (arith, c.count.ensures.reads.clean) in
     let under = c.in_ok-under_key.ensures.found looked s is_club k ∙ ap (game_under s.games) c.as_str.ensures.value in
-    let count = (c.in_ok-count_games.ensures.count clean (tables s) (c.in_ok-under_key.ensures.kept looked (tables s) k) (games_begin s)).0 in
+    let count = (c.in_ok-count.ensures.count clean refl (tables s) (c.in_ok-under_key.ensures.kept looked club_schema (tables s) k) (games_begin s)) in
     let games : c.in-Ok.games ≡ length s.games = omega (arith, c.in-Ok.ensures, count, numbered_length (game_in s) 1 s.games) in
     let same = seat_same _ who key event first second _ s.members _ s.events _ (game_under s.games key) _ (length s.games) c.in-Starts.ensures ms es under games in
     let p = pairing_of c.in-Starts.new.pairing in
@@ -46,9 +42,9 @@ returns-in-Repeated-clause-step g c clean s is_club ms es k =
     let event = string_bytes c.args.command.now.event in
     let first = string_bytes c.args.command.now.first in
     let second = string_bytes c.args.command.now.second in
-    let looked : HasCleanDisk (state g.S.Store c.game_under.new.conn) = omega (arith, c.count_games.ensures.clean) in
+    let looked : HasCleanDisk (state g.S.Store c.game_under.new.conn) = omega (arith, c.count.ensures.reads.clean) in
     let under = c.in_ok-under_key.ensures.found looked s is_club k ∙ ap (game_under s.games) c.as_str.ensures.value in
-    let count = (c.in_ok-count_games.ensures.count clean (tables s) (c.in_ok-under_key.ensures.kept looked (tables s) k) (games_begin s)).0 in
+    let count = (c.in_ok-count.ensures.count clean refl (tables s) (c.in_ok-under_key.ensures.kept looked club_schema (tables s) k) (games_begin s)) in
     let games : c.in-Ok.games ≡ length s.games = omega (arith, c.in-Ok.ensures, count, numbered_length (game_in s) 1 s.games) in
     let step = seat_step s.members s.events (game_under s.games key) (length s.games) key event first second in
     let same = seat_same _ who key event first second _ s.members _ s.events _ (game_under s.games key) _ (length s.games) c.in-Repeated.ensures ms es under games in
@@ -61,10 +57,25 @@ returns-in-Refused-clause-step g c clean s is_club ms es k =
     let event = string_bytes c.args.command.now.event in
     let first = string_bytes c.args.command.now.first in
     let second = string_bytes c.args.command.now.second in
-    let looked : HasCleanDisk (state g.S.Store c.game_under.new.conn) = omega (arith, c.count_games.ensures.clean) in
+    let looked : HasCleanDisk (state g.S.Store c.game_under.new.conn) = omega (arith, c.count.ensures.reads.clean) in
     let under = c.in_ok-under_key.ensures.found looked s is_club k ∙ ap (game_under s.games) c.as_str.ensures.value in
-    let count = (c.in_ok-count_games.ensures.count clean (tables s) (c.in_ok-under_key.ensures.kept looked (tables s) k) (games_begin s)).0 in
+    let count = (c.in_ok-count.ensures.count clean refl (tables s) (c.in_ok-under_key.ensures.kept looked club_schema (tables s) k) (games_begin s)) in
     let games : c.in-Ok.games ≡ length s.games = omega (arith, c.in-Ok.ensures, count, numbered_length (game_in s) 1 s.games) in
     let step = seat_step s.members s.events (game_under s.games key) (length s.games) key event first second in
     let same = seat_same _ who key event first second _ s.members _ s.events _ (game_under s.games key) _ (length s.games) c.in-Refused.ensures ms es under games in
     officer_none s (with_new_game s c.args.moment key) who step c.unchanged-in-Refused.result (given.Refused c.in-Refused.refusal) c.unchanged-in-Refused.ensures.outcome c.unchanged-in-Refused.ensures.none (ap answered same) refl
+
+pub returns-in_ok-changes-in-Starts-clause-kept : goal.returns-in_ok-changes-in-Starts-clause-kept
+returns-in_ok-changes-in-Starts-clause-kept g c clean schema content k =
+    let looked : HasCleanDisk (state g.S.Store c.game_under.new.conn) = omega (arith, c.count.ensures.reads.clean) in
+    c.in_ok-count.ensures.kept clean schema content (c.in_ok-under_key.ensures.kept looked schema content k)
+
+pub returns-in-Repeated-clause-kept : goal.returns-in-Repeated-clause-kept
+returns-in-Repeated-clause-kept g c clean schema content k =
+    let looked : HasCleanDisk (state g.S.Store c.game_under.new.conn) = omega (arith, c.count.ensures.reads.clean) in
+    c.in_ok-count.ensures.kept clean schema content (c.in_ok-under_key.ensures.kept looked schema content k)
+
+pub returns-in-Refused-clause-kept : goal.returns-in-Refused-clause-kept
+returns-in-Refused-clause-kept g c clean schema content k =
+    let looked : HasCleanDisk (state g.S.Store c.game_under.new.conn) = omega (arith, c.count.ensures.reads.clean) in
+    c.in_ok-count.ensures.kept clean schema content (c.in_ok-under_key.ensures.kept looked schema content k)

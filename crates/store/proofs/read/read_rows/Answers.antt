@@ -4,7 +4,7 @@ use Rattle.sqlite.specs.State.{HasCleanDisk}
 use Rattle.sqlite.proofs.Callers.{unchanged_then}
 use Rattle.store_tables.specs.Cells.{meta_cells}
 use Rattle.store_tables.specs.Tables.{meta, members, events, challenges, moves, games, seen, scores}
-use Rattle.store.specs.Blames.{IsReadAs}
+use Rattle.store_sql.specs.Read.{IsReadAs}
 use Rattle.store.proofs.BlameLemmas.{still, read_after, read_before}
 use Rattle.store.proofs.read.read_rows.Goals as goal
 
@@ -15,9 +15,9 @@ returns-clause-rows g c clean has =
     let s2 = state g.S.Store c.read_people.new.conn in
     let s3 = state g.S.Store c.read_play.new.conn in
     let s4 = state g.S.Store c.read_counts.new.conn in
-    let clean1 : HasCleanDisk s1 = omega (arith, c.read_people.ensures.clean, c.read_play.ensures.clean, c.read_counts.ensures.clean) in
-    let clean2 : HasCleanDisk s2 = omega (arith, c.read_play.ensures.clean, c.read_counts.ensures.clean) in
-    let clean3 : HasCleanDisk s3 = omega (arith, c.read_counts.ensures.clean) in
+    let clean1 : HasCleanDisk s1 = omega (arith, c.read_people.ensures.reads.clean, c.read_play.ensures.reads.clean, c.read_counts.ensures.reads.clean) in
+    let clean2 : HasCleanDisk s2 = omega (arith, c.read_play.ensures.reads.clean, c.read_counts.ensures.reads.clean) in
+    let clean3 : HasCleanDisk s3 = omega (arith, c.read_counts.ensures.reads.clean) in
     let first : IsReadAs (meta 0) 1 (meta_cells c.in-Some.meta ∷ []) s0 s1 × (c.in-Some.meta.id ≡ pos 1) × (c.in-Some.meta.schema ≡ pos 1) = (rw (c.in-Some.is) at (c.in-Ok.ensures.some clean1)) has in
     let same1 = first.0.same in
     let people = c.in-Ok-read_people.ensures.rows clean2 (still s0 s1 same1 has) in

@@ -2,7 +2,7 @@ use Rattle.std.proofs.Common.{rules, arith, ◌≡◌, ◌≤◌, ◌+◌, false
 use Rattle.sqlite.specs.State.{HasCleanDisk}
 use Rattle.sqlite.specs.Held.{state}
 use Rattle.sqlite_trees.specs.View.{doubt}
-use Rattle.store_tables.specs.Contents.{IsExactly, Leaves}
+use Rattle.store_tables.specs.Club.{IsExactly, Leaves}
 use Rattle.club_core.specs.Answer.{answered, outcome_of, request_of}
 use Rattle.club_rows.specs.Club.{ClubState, IsClub, tables}
 use Rattle.store.specs.Steps.{club_step, club_next}

@@ -2,7 +2,7 @@ use Rattle.std.proofs.Common.{◌≡◌, ◌≤◌, false, length}
 use Rattle.sqlite.specs.State.{HasCleanDisk}
 use Rattle.sqlite.specs.Held.{state}
 use Rattle.sqlite_trees.specs.View.{doubt}
-use Rattle.store_tables.specs.Contents.{IsExactly}
+use Rattle.store_tables.specs.Club.{IsExactly}
 use Rattle.club_rows.specs.Club.{ClubState, IsClub, tables}
 use Rattle.store.proofs.RunLemmas.{Served}
 use Rattle.store.proofs.club.Club.run.Given as goal

@@ -1,10 +1,11 @@
+use Rattle.store_tables.specs.Tables.{club_schema}
 use Rattle.std.proofs.Common.{arith, ◌≡◌}
 use Rattle.sqlite.specs.State.{HasCleanDisk}
 use Rattle.sqlite.specs.Held.{state}
-use Rattle.store_tables.specs.Contents.{IsExactly}
+use Rattle.store_tables.specs.Club.{IsExactly}
 use Rattle.club_rows.specs.Club.{tables}
 use Rattle.store.specs.Lives.{Stands}
-use Rattle.store.proofs.OpenLemmas.{opens_exactly}
+use Rattle.store_sql.proofs.Laws.{opens_exactly}
 use Rattle.store.proofs.LifeLemmas.{opens_led, still_stands, stops_led}
 use Rattle.store.proofs.club.life.resume.Goals as goal
 
@@ -29,17 +30,17 @@ returns-clause-outcomes g c clean opens live s is_club left =
     let was = state g.S.Store c.args.conn in
     let now = state g.S.Store c.in-Ok.club.connection in
     let before : HasCleanDisk now = omega (arith, c.session-run.ensures.clean, clean) in
-    let found : IsExactly (tables s) was = opens_exactly (tables s) was opens live (λ d shown stays. g.met.S.Store.settled c.args.conn.store d shown stays) left in
+    let found : IsExactly (tables s) was = opens_exactly club_schema (tables s) was opens live (λ d shown stays. g.met.S.Store.settled c.args.conn.store d shown stays) left in
     c.session-run.ensures.outcomes clean s is_club (c.in-Ok.ensures.same before (tables s) found)
 
 pub returns-in-Err-clause-good : goal.returns-in-Err-clause-good
 returns-in-Err-clause-good g c clean opens live s is_club left =
     let was = state g.S.Store c.args.conn in
-    let found : IsExactly (tables s) was = opens_exactly (tables s) was opens live (λ d shown stays. g.met.S.Store.settled c.args.conn.store d shown stays) left in
+    let found : IsExactly (tables s) was = opens_exactly club_schema (tables s) was opens live (λ d shown stays. g.met.S.Store.settled c.args.conn.store d shown stays) left in
     c.in-Err.ensures.good clean s is_club found
 
 pub returns-in-Err-clause-kept : goal.returns-in-Err-clause-kept
 returns-in-Err-clause-kept g c clean opens live sessions led db left =
     let was = state g.S.Store c.args.conn in
     let found : Stands sessions was = opens_led sessions was opens live (λ d shown stays. g.met.S.Store.settled c.args.conn.store d shown stays) led in
-    stops_led sessions was found db (c.in-Err.ensures.kept clean found.exactly.now.schema db left)
+    stops_led sessions was found db (c.in-Err.ensures.reads.may clean db left)

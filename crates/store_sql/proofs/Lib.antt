@@ -1,0 +1,4 @@
+pub mod BoundLemmas
+pub mod Laws
+pub mod OpenLemmas
+pub mod SelectLemmas

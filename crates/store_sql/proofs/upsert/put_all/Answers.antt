@@ -1,0 +1,30 @@
+use Rattle.store_tables.specs.Tables.{club_schema}
+use Rattle.std.proofs.Common.{arith, [], ◌∷◌, map, subst, sym, ap, ◌∙◌, take, ◌++◌, ◌<◌, length}
+use Rattle.std.proofs.lemmas.List.{take_more, map-append}
+use Rattle.sqlite.specs.Held.{state}
+use Rattle.sqlite.proofs.StateLemmas.{survives_then}
+use Rattle.store_tables.specs.Contents.{put_each}
+use Rattle.store_tables.specs.Club.{Steps}
+use Rattle.store_tables.proofs.Laws.{one_more}
+use Rattle.store_sql.proofs.upsert.put_all.Goals as goal
+
+pub rows-preserved : goal.rows-preserved
+rows-preserved g c =
+    let old = state g.S.Store c.args.tx.now.conn.now in
+    let mid = state g.S.Store c.rows.tx.conn.now in
+    let new = state g.S.Store c.put.new.tx.conn.now in
+    let tree = g.T.Put.tree in
+    let key = g.T.Put.key in
+    let cells = g.T.TableRow.cells in
+    let i = c.rows.row-index in (
+      c.put.ensures.same_reference ∙ c.rows.invariant.0,
+      survives_then old mid new _ _ (λ _. ⊥) (λ _ db none. none) (λ _ db none. none) c.rows.invariant.1 c.put.ensures.survives,
+      λ clean inside.
+          let so_far = c.rows.invariant.2 (omega (arith, c.put.ensures.survives.clean)) inside in
+          let step = c.in_ok-put.ensures.put clean so_far.inside in
+          let rows = c.args.rows.now in
+          let within : i < length rows = omega arith in
+          let longer = take_more rows i c.row-item.result within ∙ ap (λ r. take i rows ++ r ∷ []) (sym c.row-item.is) in
+          let shown = ap (map cells) longer ∙ map-append cells (take i rows) (c.row-item.result ∷ []) in
+          subst (λ l. Steps (put_each tree key l) old new) (sym shown) (one_more club_schema tree key (map cells (take i rows)) (cells c.row-item.result) old mid new so_far step),
+    )

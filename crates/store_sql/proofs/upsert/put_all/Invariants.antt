@@ -1,0 +1,12 @@
+use Rattle.std.proofs.Common.{◌≡◌, IsTrue, map, take}
+use Rattle.sqlite.specs.State.{HasCleanDisk, Survives}
+use Rattle.sqlite.specs.Held.{state}
+use Rattle.store_tables.specs.Contents.{put_each}
+use Rattle.store_tables.specs.Club.{Steps}
+use Rattle.store_sql.proofs.upsert.put_all.Given as goal
+
+abbrev pub invariant-rows : goal.invariant-rows
+invariant-rows g l =
+    let old = state g.S.Store l.fn.tx.conn.now in
+    let now = state g.S.Store l.tx.conn.now in
+    (l.tx.conn.ghost_name ≡ l.fn.tx.conn.ghost_name) × Survives old now (λ _. ⊥) × (HasCleanDisk now → IsTrue old.in_transaction → Steps (put_each g.T.Put.tree g.T.Put.key (map g.T.TableRow.cells (take l.row-index l.rows))) old now)

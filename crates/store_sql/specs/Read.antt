@@ -1,0 +1,36 @@
+-- What reading a table tells of what a connection holds, and what a fault says of its rows.
+use Rattle.std.specs.Prelude.{◌≡◌, ◌⊎◌, ℕ, ◌+◌, ◌<◌, pos, List, [], map, length, get_or}
+use Rattle.std.specs.List.{AllByRecursion}
+use Rattle.std.specs.List.Sorted.{IsSorted, IsPermutation}
+use Rattle.sqlite.specs.Order.{Row, column}
+use Rattle.sqlite.specs.Schema.{Schema}
+use Rattle.sqlite.specs.Table.{Table}
+use Rattle.sqlite.specs.State.{State, IsUnchanged}
+use Rattle.sqlite.specs.declared.types.Value.TheVariants.{Int}
+use Rattle.store_tables.specs.Content.{Keeps, AreApart, cells}
+use Rattle.store_tables.specs.Contents.{Content, IsExactly}
+use Rattle.store_tables.specs.Reading.{by_columns}
+use Rattle.store_sql.specs.declared.fault.ReadFault.{ReadFault}
+use Rattle.store_sql.specs.declared.fault.ReadFault.TheVariants.{Mistyped, Store, Memory}
+
+-- The table has these rows, each of them once, in the order of its key, and the connection is as it was.
+pub record IsReadAs (table : Table) (width : ℕ) (rows : List Row) (old new : State) : Type 0 where
+  pub keeps : Keeps table old.now.trees rows
+  pub once : IsPermutation (map (cells table) (old.now.trees table.tree)) rows
+  pub apart : AreApart (old.now.trees table.tree)
+  pub sorted : IsSorted (by_columns width) rows
+  pub same : IsUnchanged old new
+
+-- A call failed, memory was refused, or some row of the table has not the types of its columns.
+abbrev pub Blames : Table → (Row → Type 0) → State → ReadFault → Type 0
+Blames table IsTyped old fault =
+    (fault ≡ Store) ⊎ ((fault ≡ Memory) ⊎ ((fault ≡ Mistyped)
+    × ((rows : List Row) → Keeps table old.now.trees rows → AreApart (old.now.trees table.tree) → ¬ AllByRecursion IsTyped rows)))
+
+-- the rows begin with their places
+abbrev pub BeginWithPlaces : List Row → Type 0
+BeginWithPlaces rows = (k : ℕ) → k < length rows → column (get_or rows k []) 0 ≡ Int (pos (k + 1))
+
+-- What the connection holds exactly, by whatever schema, it still holds exactly.
+abbrev pub KeepsContent : State → State → Type 0
+KeepsContent old new = (schema : Schema) (content : Content) → IsExactly schema content old → IsExactly schema content new

@@ -1,0 +1,99 @@
+//! The rows that one command changes, put in one transaction.
+
+ghost use Rattle.std.specs.Prelude.{◌≡◌, ◌≤◌, ◌⊎◌, false, [], ◌∷◌, IsTrue, OnOk, OnErr, map};
+ghost use Rattle.sqlite.specs.State.{HasCleanDisk, Survives};
+ghost use Rattle.sqlite.specs.Held.{state};
+ghost use Rattle.sqlite_trees.specs.View.{doubt};
+ghost use Rattle.store_tables.specs.Club.{Holds, Steps, IsExactly, Leaves};
+ghost use Rattle.store_tables.specs.Changed.{people_put, play_put, counts_put, meta_put, changed};
+
+use crate::upsert::{Put, put_all};
+use sqlite::{Alter, Connection, Error, Transaction};
+use store_tables::Changes;
+
+/// Puts the members, the events and the challenges.
+fn put_people<S: Alter>(tx: &mut Transaction<'_, S>, changes: &Changes) -> Result<(), Error>
+    ensures same_reference { tx.new.conn.ghost_name ≡ tx.old.conn.ghost_name }
+    ensures put { HasCleanDisk (state S.Store tx.new.conn.now) → IsTrue
+        (state S.Store tx.old.conn.now).in_transaction → OnOk result (Steps (people_put changes.now)
+        (state S.Store tx.old.conn.now) (state S.Store tx.new.conn.now)) }
+    ensures survives { Survives (state S.Store tx.old.conn.now) (state S.Store tx.new.conn.now) (λ _. ⊥) }
+{
+    put_all(tx, &changes.members)?;
+    put_all(tx, &changes.events)?;
+    put_all(tx, &changes.challenges)?;
+    Ok(())
+}
+
+/// Puts the games and their moves.
+fn put_play<S: Alter>(tx: &mut Transaction<'_, S>, changes: &Changes) -> Result<(), Error>
+    ensures same_reference { tx.new.conn.ghost_name ≡ tx.old.conn.ghost_name }
+    ensures put { HasCleanDisk (state S.Store tx.new.conn.now) → IsTrue
+        (state S.Store tx.old.conn.now).in_transaction → OnOk result (Steps (play_put changes.now)
+        (state S.Store tx.old.conn.now) (state S.Store tx.new.conn.now)) }
+    ensures survives { Survives (state S.Store tx.old.conn.now) (state S.Store tx.new.conn.now) (λ _. ⊥) }
+{
+    put_all(tx, &changes.games)?;
+    put_all(tx, &changes.moves)?;
+    Ok(())
+}
+
+/// Puts how often positions stood, and the scores.
+fn put_counts<S: Alter>(tx: &mut Transaction<'_, S>, changes: &Changes) -> Result<(), Error>
+    ensures same_reference { tx.new.conn.ghost_name ≡ tx.old.conn.ghost_name }
+    ensures put { HasCleanDisk (state S.Store tx.new.conn.now) → IsTrue
+        (state S.Store tx.old.conn.now).in_transaction → OnOk result (Steps (counts_put changes.now)
+        (state S.Store tx.old.conn.now) (state S.Store tx.new.conn.now)) }
+    ensures survives { Survives (state S.Store tx.old.conn.now) (state S.Store tx.new.conn.now) (λ _. ⊥) }
+{
+    put_all(tx, &changes.seen)?;
+    put_all(tx, &changes.scores)?;
+    Ok(())
+}
+
+/// Puts the row of `meta`, where there is one.
+fn put_meta<S: Alter>(tx: &mut Transaction<'_, S>, changes: &Changes) -> Result<(), Error>
+    ensures same_reference { tx.new.conn.ghost_name ≡ tx.old.conn.ghost_name }
+    ensures put { HasCleanDisk (state S.Store tx.new.conn.now) → IsTrue
+        (state S.Store tx.old.conn.now).in_transaction → OnOk result (Steps (meta_put changes.now)
+        (state S.Store tx.old.conn.now) (state S.Store tx.new.conn.now)) }
+    ensures survives { Survives (state S.Store tx.old.conn.now) (state S.Store tx.new.conn.now) (λ _. ⊥) }
+{
+    match &changes.meta {
+        Some(meta) => meta.put(tx),
+        None => Ok(()),
+    }
+}
+
+/// Puts all of the rows, in a transaction that is open.
+fn put_changes<S: Alter>(tx: &mut Transaction<'_, S>, changes: &Changes) -> Result<(), Error>
+    ensures same_reference { tx.new.conn.ghost_name ≡ tx.old.conn.ghost_name }
+    ensures put { HasCleanDisk (state S.Store tx.new.conn.now) → IsTrue
+        (state S.Store tx.old.conn.now).in_transaction → OnOk result (Steps (changed changes.now)
+        (state S.Store tx.old.conn.now) (state S.Store tx.new.conn.now)) }
+    ensures survives { Survives (state S.Store tx.old.conn.now) (state S.Store tx.new.conn.now) (λ _. ⊥) }
+{
+    put_people(tx, changes)?;
+    put_play(tx, changes)?;
+    put_counts(tx, changes)?;
+    put_meta(tx, changes)?;
+    Ok(())
+}
+
+/// All of the rows in one transaction with one commit.
+pub fn commit_changes<S: Alter>(conn: &mut Connection<S>, changes: &Changes) -> Result<(), Error>
+    requires { conn.old.in_transaction ≡ false }
+    ensures idle { conn.new.in_transaction ≡ false }
+    ensures stored { HasCleanDisk (state S.Store conn.new) → OnOk result ((content : _) → IsExactly content
+        (state S.Store conn.old) → IsExactly (changed changes.now content) (state S.Store conn.new)) }
+    ensures fault { HasCleanDisk (state S.Store conn.new) → OnErr result ((content : _) → IsExactly content
+        (state S.Store conn.old) → (db : _) → (state S.Store conn.new).may_leave db →
+        Leaves content db ⊎ Leaves (changed changes.now content) db) }
+    ensures survives { Survives (state S.Store conn.old) (state S.Store conn.new) (λ db. (content : _) → Holds
+        (state S.Store conn.old).now content → Leaves (changed changes.now content) db) }
+{
+    let mut tx = conn.transaction();
+    put_changes(&mut tx, changes)?;
+    tx.commit()?;
+    Ok(())
+}

@@ -1,0 +1,229 @@
+//! Rows by the values of a whole key, or of a column that is UNIQUE.
+
+ghost use Rattle.std.specs.Prelude.{◌≡◌, ℕ, List, [], ◌∷◌, IfOk, OnOk, map};
+ghost use Rattle.sqlite.specs.Order.{Row as Cells};
+ghost use Rattle.sqlite.specs.State.{HasCleanDisk};
+ghost use Rattle.sqlite.specs.Held.{state};
+ghost use Rattle.sqlite.specs.declared.types.Value.TheVariants.{Null, Int, Text};
+ghost use Rattle.store_tables.specs.Contents.{AreThose};
+ghost use Rattle.store_tables.specs.Club.{IsExactly};
+ghost use Rattle.store_tables.specs.Reading.{OnlyReads};
+ghost use Rattle.store_sql.specs.Read.{KeepsContent};
+
+use crate::fault::CallFault;
+use crate::read::parsed;
+use crate::texts::Select;
+use sqlite::{Alter, Connection, Error, Row, params};
+use std::alloc::Global;
+use store_tables::{ChallengeRow, EventRow, GameRecord, MemberRow, MoveRow, ScoreRow, SeenRow};
+
+const MEMBERS_BY_NAME: &str = "SELECT id, name, key FROM members WHERE name = ?1";
+
+const MEMBERS_BY_KEY: &str = "SELECT id, name, key FROM members WHERE key = ?1";
+
+const EVENTS_BY_NAME: &str = "SELECT id, name, game, budget, increment FROM events WHERE name = ?1";
+
+const GAMES_BY_KEY: &str =
+    "SELECT id, key, event, first, second, start, since, plies, left1, left2, offer_side, offer_ply, end, result, position, track_a, track_b FROM games WHERE key = ?1";
+
+const CHALLENGES_BY_NUMBER: &str =
+    "SELECT member, number, event, other, first, state, game FROM challenges WHERE member = ?1 AND number = ?2";
+
+const MOVES_BY_PLY: &str =
+    "SELECT game, ply, text, moment, left, position FROM moves WHERE game = ?1 AND ply = ?2";
+
+const SEEN_BY_POSITION: &str =
+    "SELECT game, position, count, first_ply FROM seen WHERE game = ?1 AND position = ?2";
+
+const SCORES_BY_PAIR: &str =
+    "SELECT event, member, opponent, points, wins, draws, losses FROM scores WHERE event = ?1 AND member = ?2 AND opponent = ?3";
+
+/// Values that some columns of a table have in at most one row.
+pub trait Question {
+    type Row: Select;
+
+    // the columns, and the values that they are to have
+    ghost columns: { List ℕ };
+
+    ghost wanted: { Self → Cells };
+
+    /// Shows the row that has the values.
+    fn show<S: Alter>(&self, conn: &mut Connection<S>) -> Result<Vec<Row>, Error>
+        ensures reads { OnlyReads (state S.Store conn.old) (state S.Store conn.new) }
+        ensures rows { HasCleanDisk (state S.Store conn.new) → IfOk result (λ shown. (content : _) → IsExactly content
+            (state S.Store conn.old) →
+            AreThose columns (wanted self.now) (content Self.Row.table.tree) shown.items) }
+        ensures kept { HasCleanDisk (state S.Store conn.new) → OnOk result (KeepsContent (state S.Store conn.old)
+            (state S.Store conn.new)) };
+}
+
+/// The member with a name.
+#[derive(Debug, Clone, Copy)]
+pub struct MemberName<'a> {
+    pub name: &'a str,
+}
+
+impl Question for MemberName<'_> {
+    type Row = MemberRow;
+
+    ghost columns = { 1 ∷ [] };
+
+    ghost wanted = { λ q. Null ∷ Text q.name.now ∷ [] };
+
+    fn show<S: Alter>(&self, conn: &mut Connection<S>) -> Result<Vec<Row>, Error> {
+        conn.query_all(MEMBERS_BY_NAME, params![self.name])
+    }
+}
+
+/// The member with a secret.
+#[derive(Debug, Clone, Copy)]
+pub struct MemberKey<'a> {
+    pub key: &'a str,
+}
+
+impl Question for MemberKey<'_> {
+    type Row = MemberRow;
+
+    ghost columns = { 2 ∷ [] };
+
+    ghost wanted = { λ q. Null ∷ Null ∷ Text q.key.now ∷ [] };
+
+    fn show<S: Alter>(&self, conn: &mut Connection<S>) -> Result<Vec<Row>, Error> {
+        conn.query_all(MEMBERS_BY_KEY, params![self.key])
+    }
+}
+
+/// The event with a name.
+#[derive(Debug, Clone, Copy)]
+pub struct EventName<'a> {
+    pub name: &'a str,
+}
+
+impl Question for EventName<'_> {
+    type Row = EventRow;
+
+    ghost columns = { 1 ∷ [] };
+
+    ghost wanted = { λ q. Null ∷ Text q.name.now ∷ [] };
+
+    fn show<S: Alter>(&self, conn: &mut Connection<S>) -> Result<Vec<Row>, Error> {
+        conn.query_all(EVENTS_BY_NAME, params![self.name])
+    }
+}
+
+/// The game that was seated or imported under a name.
+#[derive(Debug, Clone, Copy)]
+pub struct GameKey<'a> {
+    pub key: &'a str,
+}
+
+impl Question for GameKey<'_> {
+    type Row = GameRecord;
+
+    ghost columns = { 1 ∷ [] };
+
+    ghost wanted = { λ q. Null ∷ Text q.key.now ∷ [] };
+
+    fn show<S: Alter>(&self, conn: &mut Connection<S>) -> Result<Vec<Row>, Error> {
+        conn.query_all(GAMES_BY_KEY, params![self.key])
+    }
+}
+
+/// The challenge of a member with the member's number for it.
+#[derive(Debug, Clone, Copy)]
+pub struct ChallengeNumber {
+    pub member: i64,
+    pub number: i64,
+}
+
+impl Question for ChallengeNumber {
+    type Row = ChallengeRow;
+
+    ghost columns = { 0 ∷ 1 ∷ [] };
+
+    ghost wanted = { λ q. Int q.member ∷ Int q.number ∷ [] };
+
+    fn show<S: Alter>(&self, conn: &mut Connection<S>) -> Result<Vec<Row>, Error> {
+        conn.query_all(CHALLENGES_BY_NUMBER, params![self.member, self.number])
+    }
+}
+
+/// The move of a game at a ply.
+#[derive(Debug, Clone, Copy)]
+pub struct MovePly {
+    pub game: i64,
+    pub ply: i64,
+}
+
+impl Question for MovePly {
+    type Row = MoveRow;
+
+    ghost columns = { 0 ∷ 1 ∷ [] };
+
+    ghost wanted = { λ q. Int q.game ∷ Int q.ply ∷ [] };
+
+    fn show<S: Alter>(&self, conn: &mut Connection<S>) -> Result<Vec<Row>, Error> {
+        conn.query_all(MOVES_BY_PLY, params![self.game, self.ply])
+    }
+}
+
+/// A position that stood in a game.
+#[derive(Debug, Clone, Copy)]
+pub struct SeenPosition<'a> {
+    pub game: i64,
+    pub position: &'a str,
+}
+
+impl Question for SeenPosition<'_> {
+    type Row = SeenRow;
+
+    ghost columns = { 0 ∷ 1 ∷ [] };
+
+    ghost wanted = { λ q. Int q.game ∷ Text q.position.now ∷ [] };
+
+    fn show<S: Alter>(&self, conn: &mut Connection<S>) -> Result<Vec<Row>, Error> {
+        conn.query_all(SEEN_BY_POSITION, params![self.game, self.position])
+    }
+}
+
+/// The score of a member against an opponent in an event.
+#[derive(Debug, Clone, Copy)]
+pub struct ScorePair {
+    pub event: i64,
+    pub member: i64,
+    pub opponent: i64,
+}
+
+impl Question for ScorePair {
+    type Row = ScoreRow;
+
+    ghost columns = { 0 ∷ 1 ∷ 2 ∷ [] };
+
+    ghost wanted = { λ q. Int q.event ∷ Int q.member ∷ Int q.opponent ∷ [] };
+
+    fn show<S: Alter>(&self, conn: &mut Connection<S>) -> Result<Vec<Row>, Error> {
+        conn.query_all(
+            SCORES_BY_PAIR,
+            params![self.event, self.member, self.opponent],
+        )
+    }
+}
+
+/// The rows with the values that are asked for: one, or none.
+pub fn find<Q: Question, S: Alter>(
+    alloc: Global,
+    conn: &mut Connection<S>,
+    question: &Q,
+) -> Result<Vec<Q::Row>, CallFault>
+    ensures reads { OnlyReads (state S.Store conn.old) (state S.Store conn.new) }
+    ensures rows { HasCleanDisk (state S.Store conn.new) → IfOk result (λ found. (content : _) → IsExactly content
+        (state S.Store conn.old) →
+        AreThose Q.columns (Q.wanted question.now) (content Q.Row.table.tree) (map Q.Row.cells found.items)) }
+    ensures kept { HasCleanDisk (state S.Store conn.new) → OnOk result (KeepsContent (state S.Store conn.old)
+        (state S.Store conn.new)) }
+{
+    match question.show(conn) {
+        Ok(shown) => parsed(alloc, &shown),
+        Err(_) => Err(CallFault::Store),
+    }
+}

@@ -1,0 +1,23 @@
+//! Rows of the tables, read and put over any store of `sqlite`, in transactions with one commit each.
+#![tactic(auto)]
+
+mod commit;
+mod fault;
+mod keys;
+mod make;
+mod read;
+mod reopen;
+mod texts;
+mod upsert;
+
+pub use commit::commit_changes;
+pub use fault::{CallFault, ReadFault, is_refused};
+pub use keys::{
+    ChallengeNumber, EventName, GameKey, MemberKey, MemberName, MovePly, Question, ScorePair,
+    SeenPosition, find,
+};
+pub use make::create_tables;
+pub use read::{count, find_by_first, list, read_all, show_all};
+pub use reopen::holds_exactly;
+pub use texts::Select;
+pub use upsert::{Put, put_all};

@@ -1,0 +1,201 @@
+//! All rows of a table, or those whose first column is given, as rows of its type.
+
+ghost use Rattle.std.specs.Prelude.{◌≡◌, ◌⊎◌, IsTrue, IfOk, IfErr, OnOk, All, [], ◌∷◌, map, length};
+ghost use Rattle.std.specs.List.Sorted.{IsSorted};
+ghost use Rattle.sqlite.specs.State.{HasCleanDisk};
+ghost use Rattle.sqlite.specs.Held.{state};
+ghost use Rattle.sqlite.specs.declared.types.Value.TheVariants.{Int};
+ghost use Rattle.store_tables.specs.Contents.{AreThose};
+ghost use Rattle.store_tables.specs.Club.{IsExactly};
+ghost use Rattle.store_tables.specs.Queries.{by_others};
+ghost use Rattle.store_tables.specs.Reading.{AreIds, by_columns, IsNoInput, OnlyReads, Tells, TellsIds};
+ghost use Rattle.store_tables.specs.Tables.{club_schema};
+ghost use Rattle.store_sql.specs.Read.{IsReadAs, Blames, BeginWithPlaces, KeepsContent};
+
+use crate::fault::{CallFault, ReadFault, is_refused};
+use crate::texts::Select;
+use sqlite::{Alter, Connection, Error, Row, params};
+use std::alloc::Global;
+use store_tables::{TableRow, Unread, check_ids, parse_all};
+
+/// Shows all rows of a table, in the order of its key.
+pub fn show_all<T: Select, S: Alter>(conn: &mut Connection<S>) -> Result<Vec<Row>, Error>
+    ensures reads { OnlyReads (state S.Store conn.old) (state S.Store conn.new) }
+    ensures rows { HasCleanDisk (state S.Store conn.new) → IfOk result (λ rows.
+        (state S.Store conn.old).now.schema ≡ club_schema →
+        Tells T.table T.width rows.items (state S.Store conn.old) (state S.Store conn.new)) }
+    ensures known { HasCleanDisk (state S.Store conn.new) → IfErr result (λ e.
+        (state S.Store conn.old).now.schema ≡ club_schema → IsNoInput e) }
+    ensures kept { HasCleanDisk (state S.Store conn.new) → OnOk result (KeepsContent (state S.Store conn.old)
+        (state S.Store conn.new)) }
+{
+    conn.query_all(T::all(), &[])
+}
+
+/// Shows the rowids of a table, in their order.
+fn show_ids<T: Select, S: Alter>(conn: &mut Connection<S>) -> Result<Vec<Row>, Error>
+    ensures reads { OnlyReads (state S.Store conn.old) (state S.Store conn.new) }
+    ensures ids { HasCleanDisk (state S.Store conn.new) → IfOk result (λ rows.
+        (state S.Store conn.old).now.schema ≡ club_schema →
+        TellsIds T.table.tree rows.items (state S.Store conn.old) (state S.Store conn.new)) }
+    ensures known { HasCleanDisk (state S.Store conn.new) → IfErr result (λ e.
+        (state S.Store conn.old).now.schema ≡ club_schema → IsNoInput e) }
+    ensures count { HasCleanDisk (state S.Store conn.new) → IfOk result (λ rows. IsTrue T.has_id → (content : _) →
+        IsExactly content (state S.Store conn.old) →
+        BeginWithPlaces (content T.table.tree) → length rows.items ≡ length (content T.table.tree)) }
+    ensures kept { HasCleanDisk (state S.Store conn.new) → OnOk result (KeepsContent (state S.Store conn.old)
+        (state S.Store conn.new)) }
+{
+    conn.query_all(T::ids(), &[])
+}
+
+/// Shows the rows of a table whose first column is a given number.
+fn show_by_first<T: Select, S: Alter>(
+    conn: &mut Connection<S>,
+    first: &i64,
+) -> Result<Vec<Row>, Error>
+    ensures reads { OnlyReads (state S.Store conn.old) (state S.Store conn.new) }
+    ensures rows { HasCleanDisk (state S.Store conn.new) → IfOk result (λ rows. (content : _) → IsExactly content
+        (state S.Store conn.old) →
+        AreThose (0 ∷ []) (Int first.now ∷ []) (content T.table.tree) rows.items × IsSorted (by_others T.width) rows.items) }
+    ensures kept { HasCleanDisk (state S.Store conn.new) → OnOk result (KeepsContent (state S.Store conn.old)
+        (state S.Store conn.new)) }
+{
+    conn.query_all(T::by_first(), params![first])
+}
+
+/// The rows of a table, from the values that it shows. Values of other types are no club's.
+pub(crate) fn parsed<T: TableRow>(alloc: Global, shown: &[Row]) -> Result<Vec<T>, CallFault>
+    ensures rows { IfOk result (λ found. shown.now ≡ map T.cells found.items) }
+{
+    match parse_all(alloc, shown) {
+        Ok(found) => Ok(found),
+        Err(Unread::Mistyped) => Err(CallFault::Store),
+        Err(Unread::Memory) => Err(CallFault::Memory),
+    }
+}
+
+/// A text that is refused names a table or a column that is missing.
+fn failed(error: Error) -> ReadFault
+    ensures { IsNoInput error → result ≡ ReadFault.Store }
+{
+    if is_refused(&error) {
+        ReadFault::Missing
+    } else {
+        ReadFault::Store
+    }
+}
+
+fn unread(why: Unread) -> ReadFault
+    ensures mistyped { why ≡ Unread.Mistyped → result ≡ ReadFault.Mistyped }
+    ensures memory { why ≡ Unread.Memory → result ≡ ReadFault.Memory }
+{
+    match why {
+        Unread::Mistyped => ReadFault::Mistyped,
+        Unread::Memory => ReadFault::Memory,
+    }
+}
+
+/// The rows of a table, from the values that it shows.
+fn typed<T: TableRow>(alloc: Global, shown: &[Row]) -> Result<Vec<T>, ReadFault>
+    ensures rows { IfOk result (λ found. shown.now ≡ map T.cells found.items) }
+    ensures blames { IfErr result (λ e. (e ≡ ReadFault.Memory) ⊎ ((e ≡ ReadFault.Mistyped) ×
+        (¬ All T.IsTyped shown.now))) }
+{
+    match parse_all(alloc, shown) {
+        Ok(found) => Ok(found),
+        Err(why) => Err(unread(why)),
+    }
+}
+
+/// Tests that the rowids of a table are integers, none of them twice.
+fn identified(alloc: Global, shown: &[Row]) -> Result<(), ReadFault>
+    ensures apart { OnOk result (AreIds shown.now) }
+    ensures blames { IfErr result (λ e. (e ≡ ReadFault.Memory) ⊎ ((e ≡ ReadFault.Mistyped) ×
+        (IsSorted (by_columns 1) shown.now → ¬ AreIds shown.now))) }
+{
+    match check_ids(alloc, shown) {
+        Ok(()) => Ok(()),
+        Err(why) => Err(unread(why)),
+    }
+}
+
+/// All rows of a table, in the order of its key, with its rowids tested: of a database that is looked at for the first time.
+pub fn read_all<T: Select, S: Alter>(
+    alloc: Global,
+    conn: &mut Connection<S>,
+) -> Result<Vec<T>, ReadFault>
+    ensures reads { OnlyReads (state S.Store conn.old) (state S.Store conn.new) }
+    ensures rows { HasCleanDisk (state S.Store conn.new) → IfOk result (λ found.
+        (state S.Store conn.old).now.schema ≡ club_schema →
+        IsReadAs T.table T.width (map T.cells found.items) (state S.Store conn.old) (state S.Store conn.new)) }
+    ensures blames { HasCleanDisk (state S.Store conn.new) → IfErr result (λ e.
+        (state S.Store conn.old).now.schema ≡ club_schema →
+        Blames T.table T.IsTyped (state S.Store conn.old) e) }
+{
+    let ids = match show_ids::<T, S>(conn) {
+        Ok(ids) => ids,
+        Err(error) => return Err(failed(error)),
+    };
+    let shown = match show_all::<T, S>(conn) {
+        Ok(shown) => shown,
+        Err(error) => return Err(failed(error)),
+    };
+    match identified(alloc, &ids) {
+        Ok(()) => typed(alloc, &shown),
+        Err(fault) => Err(fault),
+    }
+}
+
+/// All rows of a table, in the order of its key.
+pub fn list<T: Select, S: Alter>(
+    alloc: Global,
+    conn: &mut Connection<S>,
+) -> Result<Vec<T>, CallFault>
+    ensures reads { OnlyReads (state S.Store conn.old) (state S.Store conn.new) }
+    ensures rows { HasCleanDisk (state S.Store conn.new) → IfOk result (λ found. IsTrue T.has_id → (content : _) →
+        IsExactly content (state S.Store conn.old) →
+        BeginWithPlaces (content T.table.tree) → map T.cells found.items ≡ content T.table.tree) }
+    ensures kept { HasCleanDisk (state S.Store conn.new) → OnOk result (KeepsContent (state S.Store conn.old)
+        (state S.Store conn.new)) }
+{
+    match show_all::<T, S>(conn) {
+        Ok(shown) => parsed(alloc, &shown),
+        Err(_) => Err(CallFault::Store),
+    }
+}
+
+/// The rows of a table whose first column is a given number, in the order of the rest of their key: by an id the one with
+/// it, if there is one.
+pub fn find_by_first<T: Select, S: Alter>(
+    alloc: Global,
+    conn: &mut Connection<S>,
+    first: &i64,
+) -> Result<Vec<T>, CallFault>
+    ensures reads { OnlyReads (state S.Store conn.old) (state S.Store conn.new) }
+    ensures rows { HasCleanDisk (state S.Store conn.new) → IfOk result (λ found. (content : _) → IsExactly content
+        (state S.Store conn.old) →
+        AreThose (0 ∷ []) (Int first.now ∷ []) (content T.table.tree) (map T.cells found.items) × IsSorted (by_others T.width) (map T.cells found.items)) }
+    ensures kept { HasCleanDisk (state S.Store conn.new) → OnOk result (KeepsContent (state S.Store conn.old)
+        (state S.Store conn.new)) }
+{
+    match show_by_first::<T, S>(conn, first) {
+        Ok(shown) => parsed(alloc, &shown),
+        Err(_) => Err(CallFault::Store),
+    }
+}
+
+/// How many rows a table has, where their ids are places.
+pub fn count<T: Select, S: Alter>(conn: &mut Connection<S>) -> Result<usize, CallFault>
+    ensures reads { OnlyReads (state S.Store conn.old) (state S.Store conn.new) }
+    ensures count { HasCleanDisk (state S.Store conn.new) → IfOk result (λ n. IsTrue T.has_id → (content : _) →
+        IsExactly content (state S.Store conn.old) →
+        BeginWithPlaces (content T.table.tree) → n ≡ length (content T.table.tree)) }
+    ensures kept { HasCleanDisk (state S.Store conn.new) → OnOk result (KeepsContent (state S.Store conn.old)
+        (state S.Store conn.new)) }
+{
+    match show_ids::<T, S>(conn) {
+        Ok(ids) => Ok(ids.len()),
+        Err(_) => Err(CallFault::Store),
+    }
+}
