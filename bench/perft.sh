@@ -5,6 +5,7 @@
 #
 #   bench/perft.sh          builds perft first, which proves what it stands on
 set -eu
+PATH=$PATH:/usr/games
 top=$(cd "$(dirname "${BASH_SOURCE[0]}")/.." && pwd)
 work=$(mktemp -d)
 trap 'rm -rf "$work"' EXIT

@@ -77,6 +77,7 @@ at 1 'refused 20 BadText 2' move 1 3 28x19
 says 1 'refused 60 OutOfTime' --now 1066 c.db move 1 3 28x19
 at 3 'store 70 Foreign' init
 says 3 'store 73 Store' --now 1000 nowhere/c.db init
+says 2 'error: a word is not UTF-8' --now 1000 c.db $'\xff'
 reads 'ok' 'PRAGMA integrity_check'
 reads '1|1|1000' 'SELECT * FROM meta'
 reads '1|anna|keyanna1
