@@ -1,10 +1,10 @@
 //! An officer's words over one file of a club: read as an order, done over a connection, and printed.
 #![tactic(auto)]
 
-pub mod act;
+pub mod doing;
 pub mod words;
 
-pub use act::{BAD_WORDS, DONE, FAULT, REFUSED, act, fault};
+pub use doing::{BAD_WORDS, DONE, FAULT, REFUSED, act, fault};
 pub use words::{BadWords, Order, Task, read_words};
 
 #[cfg(test)]
