@@ -10,12 +10,14 @@ use Rattle.squares.specs.declared.draughts.piece.DPiece.{DPiece}
 use Rattle.squares.specs.declared.sides.Side.{Side}
 use Rattle.squares.specs.declared.sides.Side.TheVariants.{First, Second}
 use Rattle.squares.specs.Sides.{same_side, other}
+use Rattle.std.specs.Cmp.{nat_cmp_total}
 use Rattle.squares.specs.DraughtsBoard.{Position, is_of}
+use Rattle.squares.specs.DraughtsKept.{is_king}
 use Rattle.squares.specs.DraughtsSets.{Squares}
 use Rattle.squares.specs.DraughtsGeometry.{step, ray}
 use Rattle.draughts_moves.specs.Capture.{Cells, is_enemy, without}
 use Rattle.draughts_moves.specs.Search.{takes, king_jumps, man_jumps, line_jumps, greatest, own_at, greatest_at, AreEnemies, next_in, is_beside}
-use Rattle.draughts_moves.proofs.MostLemmas.{own_at-is}
+use Rattle.draughts_moves.proofs.MostLemmas.{own_at-is, greatest_at-none, same_side-itself}
 use Rattle.draughts_moves.proofs.FirstJumpLemmas.{any, man-none, man-takes, jumps-last, greatest-none}
 
 enemy_sides : (mine theirs : Side) → not (same_side mine theirs) ≡ same_side theirs (other mine)
@@ -70,7 +72,26 @@ module _ (p : Position) (x : ℕ) (q : DPiece) (enemies : Squares) (are : AreEne
       ∙ jumps-last b q set.empty x (along_none UpLeft two.0) (along_none UpRight two.1) (along_none DownLeft third.1) in
       greatest-none b q set.empty x false none refl ∙ sym at_own
 
-pub two_not : (a c : Bool) → (not a && not c) ≡ true → (a ≡ false) × (c ≡ false)
-two_not true c e = cc
-two_not false true e = cc
-two_not false false e = (refl, refl)
+and_right : (a b : Bool) → a ≡ true → (a && b) ≡ false → b ≡ false
+and_right true b h e = e
+and_right false b h e = cc
+
+-- A piece of the side to move that is no king and has no enemy beside it takes nothing, nor does a piece of the other side.
+module _ (p : Position) (own enemies near kings able : Squares) (are_own : (n : ℕ) → set.contains own n ≡ is_of p.turn (map.get p.board n)) (are : AreEnemies p enemies) (are_near : (n : ℕ) → set.contains near n ≡ is_beside enemies n) (are_kings : (n : ℕ) → set.contains kings n ≡ is_king (map.get p.board n)) (able_is : able ≡ set.intersection own (set.union near kings)) where
+  parts : (n : ℕ) → set.contains able n ≡ (set.contains own n && (set.contains near n || set.contains kings n))
+  parts n =
+      ap (λ s. set.contains s n) able_is ∙ set.contains-intersection nat_cmp_total own (set.union near kings) n
+      ∙ ap (λ b. set.contains own n && b) (set.contains-union nat_cmp_total near kings n)
+
+  pub takes_nothing : (n : ℕ) → set.contains able n ≡ false → greatest_at p n ≡ 0
+  takes_nothing n e =
+      elim (own_at p n) as (λ o. own_at p n ≡ o → greatest_at p n ≡ 0) [
+        | None ↦ λ none. greatest_at-none p n none
+        | Some q ↦ λ is.
+            let stands = own_at-is p n q is in
+            let there : set.contains own n ≡ true = are_own n ∙ ap (is_of p.turn) stands.0 ∙ same_side-itself q.side p.turn stands.1 in
+            let rest = and_right (set.contains own n) (set.contains near n || set.contains kings n) there (sym (parts n) ∙ e) in
+            let both = or_false (set.contains near n) (set.contains kings n) rest in
+            let man : q.king ≡ false = sym (ap is_king stands.0) ∙ sym (are_kings n) ∙ both.1 in
+            sym (none_beside p n q enemies are is man (sym (are_near n) ∙ both.0))
+      ] refl

@@ -9,6 +9,7 @@ pub mod MaxLemmas
 pub mod MostLemmas
 pub mod MoveLemmas
 pub mod OrderLemmas
+pub mod OwnLemmas
 pub mod PlaceLemmas
 pub mod Prey
 pub mod RouteLemmas

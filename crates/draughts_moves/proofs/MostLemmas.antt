@@ -59,7 +59,7 @@ module _ (p : Position) (x : ℕ) (q : DPiece) where
   unfolding greatest_at
   greatest_at-own e = ap (λ o. option_map_or (λ r. greatest (without p.board x) r set.empty x) o 0) e
 
-greatest_at-none : (p : Position) (x : ℕ) → own_at p x ≡ None → greatest_at p x ≡ 0
+pub greatest_at-none : (p : Position) (x : ℕ) → own_at p x ≡ None → greatest_at p x ≡ 0
 unfolding greatest_at
 greatest_at-none p x e = ap (λ o. option_map_or (λ r. greatest (without p.board x) r set.empty x) o 0) e
 

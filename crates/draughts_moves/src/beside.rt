@@ -1,25 +1,17 @@
-//! Whether a square stands beside one of a set.
-ghost use Rattle.std.specs.Prelude.{◌≡◌};
-ghost use Rattle.draughts_moves.specs.Search.{next_in, is_beside};
+//! The squares beside those of a set.
+ghost use Rattle.std.specs.Prelude.{◌≡◌, ℕ};
+ghost use Rattle.std.specs.FinSet as set;
+ghost use Rattle.draughts_moves.specs.Search.{is_beside};
 
-use squares::{DSet, Direction, Dsq};
+use squares::{DSet, Direction};
 
-// Whether the next square in a direction is of the set.
-fn next_in(squares: DSet, toward: Direction, square: Dsq) -> bool
-    ensures { result ≡ next_in squares toward square }
+/// The squares with one of the set next to them in any of the four directions.
+pub fn all_beside(squares: DSet) -> DSet
+    ensures { (n : ℕ) → set.contains result n ≡ is_beside squares n }
 {
-    match square.step(toward) {
-        Some(next) => squares.contains(next),
-        None => false,
-    }
-}
-
-/// Whether one of the four next squares is of the set.
-pub fn is_beside(squares: DSet, square: Dsq) -> bool
-    ensures { result ≡ is_beside squares square }
-{
-    next_in(squares, Direction::UpLeft, square)
-        | next_in(squares, Direction::UpRight, square)
-        | next_in(squares, Direction::DownLeft, square)
-        | next_in(squares, Direction::DownRight, square)
+    let left = squares.beside(Direction::UpLeft);
+    let right = squares.beside(Direction::UpRight);
+    let up = left.union(right);
+    let up_or_left = up.union(squares.beside(Direction::DownLeft));
+    up_or_left.union(squares.beside(Direction::DownRight))
 }

@@ -142,8 +142,9 @@ pub fn legal(alloc: Global, position: &DPos) -> Result<Vec<DMove>, Memory>
 {
     let mut moves = Vec::new(alloc);
     let size = most(position);
-    for square in &Dsq::all() {
-        moves_from(position, *square, size, &mut moves)?;
+    let mut own = position.squares_of(position.turn());
+    while let Some(square) = own.pop() {
+        moves_from(position, square, size, &mut moves)?;
     }
     Ok(moves)
 }

@@ -1,2 +1,3 @@
 mod BitLemmas
 mod SetLemmas
+mod ShiftLemmas

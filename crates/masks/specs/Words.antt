@@ -60,7 +60,7 @@ module _ (test : ℕ → Bool) where
         | false ↦ passing-below (suc first) count q (omega arith)
       ]
 
-  passing-at : (first count q : ℕ) → first ≤ q → q < first + count → list_any (λ y. nat_eq y q) (passing test first count) ≡ test q
+  pub passing-at : (first count q : ℕ) → first ≤ q → q < first + count → list_any (λ y. nat_eq y q) (passing test first count) ≡ test q
   unfolding passing
   passing-at first zero q h below = absurd (omega arith)
   passing-at first (suc count) q h below =
@@ -78,7 +78,7 @@ module _ (test : ℕ → Bool) where
             ]
       ]
 
-  passing-past : (first count q : ℕ) → first + count ≤ q → list_any (λ y. nat_eq y q) (passing test first count) ≡ false
+  pub passing-past : (first count q : ℕ) → first + count ≤ q → list_any (λ y. nat_eq y q) (passing test first count) ≡ false
   unfolding passing
   passing-past first zero q h = refl
   passing-past first (suc count) q h =

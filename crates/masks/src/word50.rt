@@ -1,5 +1,5 @@
 //! A set of squares of the board of fifty.
-ghost use Rattle.std.specs.Prelude.{◌≡◌, ◌↔◌, ◌+◌, ◌≤◌, ℕ, false, ◌⊎◌, ◌<◌, IsTrue};
+ghost use Rattle.std.specs.Prelude.{◌≡◌, ◌↔◌, ◌+◌, ◌-◌, ◌^◌, ◌≤◌, ℕ, false, ◌⊎◌, ◌<◌, IsTrue};
 ghost use Rattle.std.specs.FinSet as set;
 ghost use Rattle.masks.specs.Words.{Pops, has_bit};
 
@@ -119,6 +119,36 @@ impl Word50 {
         ensures { (q : ℕ) → (q < 1) ⊎ (50 < q) → set.contains self q ≡ false }
     {
         let _bits = self.bits;
+    }
+
+    /// The set of a word: it has the square `n + 1` exactly where bit `n` is set.
+    pub fn of_word(bits: u64) -> Word50
+        requires { bits < 2 ^ 50 }
+        ensures { (n : ℕ) → set.contains result (n + 1) ≡ has_bit bits n }
+    {
+        Word50 { bits }
+    }
+
+    /// The squares that come so many numbers after a square of the set.
+    pub fn raised(self, by: u8) -> Word50
+        requires { by < 50 }
+        ensures moved { (q : ℕ) → by < q → q ≤ 50
+            → set.contains result q ≡ set.contains self (q - by) }
+        ensures left { (q : ℕ) → q ≤ by → set.contains result q ≡ false }
+    {
+        Word50 {
+            bits: (self.bits << u32::from(by)) & 0x3_ffff_ffff_ffff,
+        }
+    }
+
+    /// The squares that come so many numbers before a square of the set.
+    pub fn lowered(self, by: u8) -> Word50
+        requires { by < 50 }
+        ensures { (q : ℕ) → 1 ≤ q → set.contains result q ≡ set.contains self (q + by) }
+    {
+        Word50 {
+            bits: self.bits >> u32::from(by),
+        }
     }
 
     /// How many squares the set has.

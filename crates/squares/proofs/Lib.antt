@@ -1,11 +1,11 @@
 pub mod DraughtsAscending
-pub mod DraughtsCleared
+pub mod DraughtsBeside
 pub mod DraughtsHashed
+pub mod DraughtsKept
 pub mod DraughtsPops
 pub mod DraughtsRays
 pub mod DraughtsSides
 pub mod DraughtsTables
-pub mod DraughtsWords
 pub mod ShogiCells
 pub mod ShogiCounts
 pub mod ShogiOrdered

@@ -1,27 +1,25 @@
-use Rattle.std.proofs.Common.{◌≡◌, ◌≤◌, ℕ, ◌⊎◌, inl, inr, List, [], take, length, refl, ap, sym, ◌∙◌, subst, arith}
-use Rattle.std.specs.List.{flat_map, range_with_len, Contains}
+use Rattle.std.proofs.Common.{rules, ◌≡◌, ℕ, ◌⊎◌, inl, inr, List, [], ap, sym, ◌∙◌, subst}
+use Rattle.std.specs.List.{flat_map, Contains}
+use Rattle.std.specs.FinMap as map
 use Rattle.std.specs.List.Sorted.{IsStrictlySortedBy}
-use Rattle.std.proofs.lemmas.List.{take_all}
 use Rattle.std.specs.declared.cmp.Ordering.TheVariants.{Equal}
 use Rattle.squares.specs.declared.draughts.moves.DMove.{DMove}
-use Rattle.squares.specs.DraughtsBoard.{Position}
+use Rattle.squares.specs.DraughtsBoard.{Position, is_of}
+use Rattle.squares.specs.DraughtsSets.{ascending}
 use Rattle.squares.specs.In.{In, In-Contains, Contains-In}
 use Rattle.squares.specs.OrderedLists.{put_all}
-use Rattle.squares.specs.PutLemmas.{put_all-more, put_all-sorted, put_all-in, put_all-has}
+use Rattle.squares.specs.PutLemmas.{put_all-sorted, put_all-in, put_all-has}
 use Rattle.draughts_moves.specs.Capture.{IsMost}
 use Rattle.draughts_moves.specs.Legal.{Legal}
 use Rattle.draughts_moves.specs.Listing.{move_cmp, moves_at, moves}
 use Rattle.draughts_moves.proofs.ListLemmas.{move_cmp-same, moves-sound, moves-complete}
 use Rattle.draughts_moves.proofs.OrderLemmas.{move_cmp-total}
+use Rattle.draughts_moves.proofs.OwnLemmas.{moves-own, popped_put, popped_out}
 use Rattle.draughts_moves.proofs.listing.legal.Goals as goal
 
-sorted_all : (ms xs : List DMove) → xs ≡ put_all move_cmp ms [] → IsStrictlySortedBy move_cmp xs
+sorted_none : IsStrictlySortedBy move_cmp []
 unfolding IsStrictlySortedBy
-sorted_all ms xs e = subst (IsStrictlySortedBy move_cmp) (sym e) (put_all-sorted move_cmp move_cmp-total ms [] tt)
-
-all_moves : (p : Position) (n : ℕ) → flat_map (moves_at p n) (range_with_len 1 50) ≡ moves p n
-unfolding moves
-all_moves p n = refl
+sorted_none = tt
 
 members_all : (p : Position) (n : ℕ) → IsMost p n → (xs : List DMove) → xs ≡ put_all move_cmp (moves p n) [] → (m : DMove) → (Contains xs m → Legal p m) × (Legal p m → Contains xs m)
 members_all p n most xs e m =
@@ -37,35 +35,35 @@ members_all p n most xs e m =
       λ legal. In-Contains m xs (subst (λ ys. In m ys) (sym e) (put_all-has move_cmp move_cmp-total (moves p n) [] m same (moves-complete p n most m legal))),
     )
 
-whole_list : (p : Position) (n : ℕ) (xs : List DMove) (all : List ℕ) (i : ℕ) → 50 ≤ i → all ≡ range_with_len 1 50 → xs ≡ put_all move_cmp (flat_map (moves_at p n) (take i all)) [] → xs ≡ put_all move_cmp (moves p n) []
-whole_list p n xs all i past is so_far =
-    let fifty : length all ≡ 50 = ap length is in
-    so_far ∙ ap (λ ys. put_all move_cmp (flat_map (moves_at p n) ys) []) (take_all i all (omega arith) ∙ is) ∙ ap (λ ms. put_all move_cmp ms []) (all_moves p n)
-
-pub moves_from-requires : goal.moves_from-requires
-moves_from-requires c =
-    let w = c.loop-square in
-    sorted_all (flat_map (moves_at c.args.position.now c.most-size.result) (take w.square-index c.all.result)) w.moves.items w.invariant
+pub loop-square-init : goal.loop-square-init
+loop-square-init c =
+    let p = c.args.position.now in
+    let own = moves-own p c.squares_of-own.result (λ n. c.squares_of-own.ensures n ∙ ap (λ side. is_of side (map.get p.board n)) c.turn.ensures) c.most-size.result in
+    let none : c.new-moves.result.items ≡ [] = search rules in
+    record {
+      listed = ap (put_all move_cmp (flat_map (moves_at p c.most-size.result) (ascending c.squares_of-own.result))) none ∙ sym (ap (λ ms. put_all move_cmp ms []) own);
+      sorted = subst (IsStrictlySortedBy move_cmp) (sym none) sorted_none;
+    }
 
 pub loop-square-preserved : goal.loop-square-preserved
 loop-square-preserved c =
     let p = c.args.position.now in
     let n = c.most-size.result in
-    let fifty : length c.all.result ≡ 50 = ap length c.all.ensures in
-    put_all-more move_cmp move_cmp-total (moves_at p n) c.all.result c.loop-square.square-index c.square-item.result [] c.loop-square.moves.items c.moves_from.new.moves.items (omega arith) c.square-item.is
-    c.loop-square.invariant
-    (c.in_ok-moves_from.ensures ∙ ap (λ x. put_all move_cmp (moves_at p n x) c.loop-square.moves.items) (sym c.square-item.is))
+    let w = c.loop-square in
+    let x = c.in-Some.square in
+    record {
+      listed = popped_put (moves_at p n) w.own c.pop.new.self x w.moves.items c.moves_from.new.moves.items (put_all move_cmp (moves p n) []) c.in-Some.ensures.0 w.invariant.listed c.in_ok-moves_from.ensures;
+      sorted = subst (IsStrictlySortedBy move_cmp) (sym c.in_ok-moves_from.ensures) (put_all-sorted move_cmp move_cmp-total (moves_at p n x) w.moves.items w.invariant.sorted);
+    }
+
+found : (c : goal.In_default) → c.loop-square.moves.items ≡ put_all move_cmp (moves c.args.position.now c.most-size.result) []
+found c =
+    let p = c.args.position.now in
+    let n = c.most-size.result in
+    popped_out (moves_at p n) c.loop-square.own c.loop-square.moves.items (put_all move_cmp (moves p n) []) c.in_default.ensures.1 c.loop-square.invariant.listed
 
 pub returns-clause-in_order : goal.returns-clause-in_order
-returns-clause-in_order c =
-    let p = c.args.position.now in
-    let n = c.most-size.result in
-    let w = c.loop-square in
-    sorted_all (moves p n) w.moves.items (whole_list p n w.moves.items c.all.result w.square-index c.loop-square-test.false c.all.ensures w.invariant)
+returns-clause-in_order c = c.loop-square.invariant.sorted
 
 pub returns-clause-members : goal.returns-clause-members
-returns-clause-members c =
-    let p = c.args.position.now in
-    let n = c.most-size.result in
-    let w = c.loop-square in
-    members_all p n c.most-size.ensures.most w.moves.items (whole_list p n w.moves.items c.all.result w.square-index c.loop-square-test.false c.all.ensures w.invariant)
+returns-clause-members c = members_all c.args.position.now c.most-size.result c.most-size.ensures.most c.loop-square.moves.items (found c)
