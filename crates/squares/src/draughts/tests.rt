@@ -93,24 +93,33 @@ fn hash_of(position: &DPos) -> u64 {
     state.finish()
 }
 
+// A man of First and one of Second, put in this order or in the other.
+fn two_men(first: Dsq, second: Dsq, in_order: bool) -> DPos {
+    let mut position = DPos::new(Side::First);
+    if in_order {
+        position.put(first, man(Side::First));
+        position.put(second, man(Side::Second));
+    } else {
+        position.put(second, man(Side::Second));
+        position.put(first, man(Side::First));
+    }
+    position
+}
+
 #[test]
 fn positions_are_hashed_by_what_stands_on_them(rt: HostRuntime) -> Result<(), Fail> {
     let near = Dsq::new(7).ok_or("no square")?;
     let far = Dsq::new(44).ok_or("no square")?;
-    let mut one = DPos::new(Side::First);
-    one.put(near, man(Side::First));
-    one.put(far, man(Side::Second));
+    let one = two_men(near, far, true);
     one.keeps_to_its_squares();
-    let mut same = DPos::new(Side::First);
-    same.put(far, man(Side::Second));
-    same.put(near, man(Side::First));
+    let hashed = hash_of(&one);
+    assert_eq!(rt; hashed, hash_of(&two_men(near, far, false)));
     let mut passed = one;
     passed.pass();
+    assert!(rt; hashed != hash_of(&passed));
     let mut moved = one;
     moved.clear(near);
-    assert_eq!(rt; hash_of(&one), hash_of(&same));
-    assert!(rt; hash_of(&one) != hash_of(&passed));
-    assert!(rt; hash_of(&one) != hash_of(&moved));
+    assert!(rt; hashed != hash_of(&moved));
     Ok(())
 }
 

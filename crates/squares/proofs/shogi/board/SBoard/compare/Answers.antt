@@ -1,7 +1,7 @@
 use Rattle.std.proofs.Common.{sym, ◌∙◌}
 use Rattle.squares.specs.ShogiOrder.{board_cmp}
 use Rattle.squares.proofs.ShogiOrdered.{board_cmp-cells}
-use Rattle.squares.proofs.shogi.board.SBoardOrd.cmp.Goals as goal
+use Rattle.squares.proofs.shogi.board.SBoard.compare.Goals as goal
 
 pub returns : goal.returns
 returns c =
