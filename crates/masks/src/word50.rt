@@ -1,5 +1,5 @@
 //! A set of squares of the board of fifty.
-ghost use Rattle.std.specs.Prelude.{◌≡◌, ◌↔◌, ◌+◌, ◌-◌, ◌^◌, ◌≤◌, ℕ, false, ◌⊎◌, ◌<◌, IsTrue};
+ghost use Rattle.std.specs.Prelude.{◌≡◌, ◌↔◌, ◌+◌, ◌-◌, ◌^◌, ◌≤◌, ℕ, false, true, ◌⊎◌, ◌<◌, IsTrue};
 ghost use Rattle.std.specs.FinSet as set;
 ghost use Rattle.masks.specs.Words.{Pops, has_bit};
 
@@ -36,6 +36,15 @@ impl Word50 {
         ensures { result ≡ set.empty }
     {
         Word50 { bits: 0 }
+    }
+
+    /// The set of all fifty squares.
+    pub fn full() -> Word50
+        ensures { (q : ℕ) → 1 ≤ q → q ≤ 50 → set.contains result q ≡ true }
+    {
+        Word50 {
+            bits: 0x3_ffff_ffff_ffff,
+        }
     }
 
     /// The word: bit `n` is set exactly where the square `n + 1` is in the set.

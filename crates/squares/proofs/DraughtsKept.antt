@@ -10,7 +10,10 @@ use Rattle.std.proofs.lemmas.Bool.{cases_lt}
 use Rattle.std.proofs.lemmas.List.{length-set, get_or_past}
 use Rattle.masks.specs.Words.{Numbers}
 use Rattle.squares.specs.declared.draughts.piece.DPiece.{DPiece}
+use Rattle.squares.specs.declared.sides.Side.{Side}
 use Rattle.squares.specs.declared.sides.Side.TheVariants.{First, Second}
+use Rattle.squares.specs.Sides.{same_side}
+use Rattle.std.specs.Prelude.{is_none}
 use Rattle.squares.specs.DraughtsBoard.{Board, board_of, is_of}
 use Rattle.squares.specs.DraughtsCells.{get-board_of, get-board_of-zero, board_of-put, board_of-clear}
 use Rattle.squares.specs.DraughtsMarks.{nat_eq-same}
@@ -116,3 +119,12 @@ pub cleared_none : (s : Numbers) (board : Board) → s ≡ set.empty → cleared
 cleared_none s board none =
     map.same_map nat_cmp_total nat_cmp-IsAntisymmetric _ _
     (λ q. at_cleared s board q ∙ ap (λ b. cond (not b) (map.get board q) None) (ap (λ a. set.contains a q) none ∙ set.contains-empty nat_cmp q))
+
+same_or_other : (side : Side) → not (same_side side First || same_side side Second) ≡ false
+same_or_other First = refl
+same_or_other Second = refl
+
+-- a square is empty where neither side has a piece
+pub neither_side : (cell : Option DPiece) → not (is_of First cell || is_of Second cell) ≡ is_none cell
+neither_side None = refl
+neither_side (Some q) = same_or_other q.side

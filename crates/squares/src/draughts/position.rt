@@ -1,5 +1,5 @@
 //! A position: a board and a turn.
-ghost use Rattle.std.specs.Prelude.{◌≡◌, ◌+◌, ◌<◌, ◌≤◌, ℕ, List, Option, length, not, IsTrue, ◌↔◌, ◌⊎◌, None};
+ghost use Rattle.std.specs.Prelude.{◌≡◌, ◌+◌, ◌<◌, ◌≤◌, ℕ, false, List, Option, length, not, IsTrue, ◌↔◌, ◌⊎◌, None, is_none};
 ghost use Rattle.std.specs.FinMap as map;
 ghost use Rattle.std.specs.FinSet as set;
 ghost use Rattle.squares.specs.DraughtsGeometry.{OnBoard};
@@ -135,6 +135,18 @@ impl DPos {
         ensures { (n : ℕ) → set.contains result n ≡ is_king (map.get self.now.board n) }
     {
         DSet::of_word(self.kings)
+    }
+
+    /// The empty squares of the board.
+    pub fn empty_squares(&self) -> DSet
+        ensures empty { (n : ℕ) → OnBoard n
+            → set.contains result n ≡ is_none (map.get self.now.board n) }
+        ensures off_board { (n : ℕ) → (n < 1) ⊎ (50 < n) → set.contains result n ≡ false }
+    {
+        let occupied = self.first.union(self.second);
+        let empty = Word50::full().difference(occupied);
+        empty.keeps_to_its_squares();
+        DSet::of_word(empty)
     }
 
     /// Puts a piece on a square, in place of what stands there.

@@ -1,8 +1,11 @@
 //! The line from a square to the board's edge.
 ghost use Rattle.std.specs.Prelude.{◌≡◌, ◌<◌, ◌≤◌, ℕ, List, length, take};
+ghost use Rattle.std.specs.FinSet as set;
+ghost use Rattle.std.specs.List.{find};
 ghost use Rattle.squares.specs.DraughtsGeometry.{ray};
 
 use crate::draughts::direction::Direction;
+use crate::draughts::set::DSet;
 use crate::draughts::square::Dsq;
 use std::marker::Model;
 
@@ -46,5 +49,26 @@ impl Ray {
         ensures len { length result.now ≤ 9 }
     {
         &self.squares[..self.len]
+    }
+}
+
+impl Dsq {
+    /// The first square of a set on the way in a direction, or None where none is up to the board's edge.
+    pub fn first_on(self, toward: Direction, of: DSet) -> Option<Dsq>
+        ensures { result ≡ find (set.contains of) (ray toward self) }
+    {
+        let mut at = self;
+        for _ in 0..9_u8 {
+            match at.step(toward) {
+                None => return None,
+                Some(next) => {
+                    if of.contains(next) {
+                        return Some(next);
+                    }
+                    at = next;
+                }
+            }
+        }
+        None
     }
 }

@@ -68,6 +68,15 @@ impl DSet {
         }
     }
 
+    /// The set without this square; the same set, where it has not the square.
+    pub fn without(self, square: Dsq) -> DSet
+        ensures { result ≡ set.remove self square }
+    {
+        DSet {
+            squares: self.squares.without(square.number()),
+        }
+    }
+
     /// The word of the set: bit `n - 1` is set exactly for the squares `n` of the set.
     pub fn word(&self) -> u64
         ensures { (n : ℕ) → has_bit result n ≡ set.contains self.now (n + 1) }
