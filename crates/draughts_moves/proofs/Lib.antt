@@ -1,6 +1,7 @@
 pub mod BesideLemmas
 pub mod CheckLemmas
 pub mod FirstJumpLemmas
+pub mod FoundLemmas
 pub mod GrowthLemmas
 pub mod JumpLemmas
 pub mod LegalLemmas
@@ -12,6 +13,7 @@ pub mod OrderLemmas
 pub mod OwnLemmas
 pub mod PlaceLemmas
 pub mod Prey
+pub mod QuietLemmas
 pub mod RouteLemmas
 pub mod RoutingLemmas
 pub mod StepLemmas

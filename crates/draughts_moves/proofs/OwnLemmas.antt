@@ -15,7 +15,7 @@ use Rattle.draughts_moves.specs.Search.{own_at, greatest_at, most}
 use Rattle.draughts_moves.specs.Listing.{move_cmp, captures_at, quiet_at, moves_at, moves}
 use Rattle.draughts_moves.proofs.OrderLemmas.{move_cmp-total}
 
-flat_map-filter : {A : Type 0} (f : ℕ → List A) (test : ℕ → Bool) (ns : List ℕ) → ((q : ℕ) → test q ≡ false → f q ≡ []) → flat_map f ns ≡ flat_map f (filter test ns)
+pub flat_map-filter : {A : Type 0} (f : ℕ → List A) (test : ℕ → Bool) (ns : List ℕ) → ((q : ℕ) → test q ≡ false → f q ≡ []) → flat_map f ns ≡ flat_map f (filter test ns)
 flat_map-filter f test [] none = refl
 flat_map-filter f test (n ∷ ns) none =
     elim (test n) as (λ b. test n ≡ b → f n ++ flat_map f ns ≡ flat_map f (cond b (n ∷ filter test ns) (filter test ns))) [
@@ -34,7 +34,7 @@ max-filter f test a (n ∷ ns) none =
     ] refl
 
 module _ (p : Position) (own : Squares) (are : (n : ℕ) → set.contains own n ≡ is_of p.turn (map.get p.board n)) where
-  no_own : (q : ℕ) → set.contains own q ≡ false → own_at p q ≡ None
+  pub no_own : (q : ℕ) → set.contains own q ≡ false → own_at p q ≡ None
   no_own q e =
       elim (map.get p.board q) as (λ o. is_of p.turn o ≡ false → option_and_then (λ r. cond (same_side r.side p.turn) (Some r) None) o ≡ None) [
         | None ↦ λ _. refl

@@ -25,7 +25,7 @@ pub fn own_at(position: &DPos, square: Dsq) -> Option<DPiece>
 }
 
 // The pieces of the side to move that may take something: its kings, and its men beside an enemy.
-fn may_take(position: &DPos) -> DSet
+pub(crate) fn may_take(position: &DPos) -> DSet
     ensures { (n : ℕ) → set.contains result n ≡ false → greatest_at position.now n ≡ 0 }
 {
     let own = position.squares_of(position.turn());

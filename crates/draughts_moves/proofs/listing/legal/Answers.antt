@@ -1,4 +1,4 @@
-use Rattle.std.proofs.Common.{rules, ◌≡◌, ℕ, ◌⊎◌, inl, inr, List, [], ap, sym, ◌∙◌, subst}
+use Rattle.std.proofs.Common.{rules, ◌≡◌, ℕ, ◌⊎◌, inl, inr, List, [], sym, subst, arith}
 use Rattle.std.specs.List.{flat_map, Contains}
 use Rattle.std.specs.FinMap as map
 use Rattle.std.specs.List.Sorted.{IsStrictlySortedBy}
@@ -11,15 +11,15 @@ use Rattle.squares.specs.OrderedLists.{put_all}
 use Rattle.squares.specs.PutLemmas.{put_all-sorted, put_all-in, put_all-has}
 use Rattle.draughts_moves.specs.Capture.{IsMost}
 use Rattle.draughts_moves.specs.Legal.{Legal}
-use Rattle.draughts_moves.specs.Listing.{move_cmp, moves_at, moves}
+use Rattle.draughts_moves.specs.Listing.{move_cmp, moves, quiet_list}
+use Rattle.draughts_moves.specs.Search.{most}
 use Rattle.draughts_moves.proofs.ListLemmas.{move_cmp-same, moves-sound, moves-complete}
 use Rattle.draughts_moves.proofs.OrderLemmas.{move_cmp-total}
-use Rattle.draughts_moves.proofs.OwnLemmas.{moves-own, popped_put, popped_out}
+use Rattle.draughts_moves.proofs.FoundLemmas.{sorted-none}
+use Rattle.draughts_moves.proofs.LegalLemmas.{most-HasCapture, LegalCapture-size}
+use Rattle.draughts_moves.proofs.MostLemmas.{IsMost-most}
+use Rattle.draughts_moves.proofs.QuietLemmas.{quiet-sorted, quiet-sound, quiet-listed}
 use Rattle.draughts_moves.proofs.listing.legal.Goals as goal
-
-sorted_none : IsStrictlySortedBy move_cmp []
-unfolding IsStrictlySortedBy
-sorted_none = tt
 
 members_all : (p : Position) (n : ℕ) → IsMost p n → (xs : List DMove) → xs ≡ put_all move_cmp (moves p n) [] → (m : DMove) → (Contains xs m → Legal p m) × (Legal p m → Contains xs m)
 members_all p n most xs e m =
@@ -35,35 +35,32 @@ members_all p n most xs e m =
       λ legal. In-Contains m xs (subst (λ ys. In m ys) (sym e) (put_all-has move_cmp move_cmp-total (moves p n) [] m same (moves-complete p n most m legal))),
     )
 
-pub loop-square-init : goal.loop-square-init
-loop-square-init c =
+pub returns-then-found-gt0-clause-in_order : goal.returns-then-found-gt0-clause-in_order
+returns-then-found-gt0-clause-in_order c =
     let p = c.args.position.now in
-    let own = moves-own p c.squares_of-own.result (λ n. c.squares_of-own.ensures n ∙ ap (λ side. is_of side (map.get p.board n)) c.turn.ensures) c.most-size.result in
-    let none : c.new-moves.result.items ≡ [] = search rules in
-    record {
-      listed = ap (put_all move_cmp (flat_map (moves_at p c.most-size.result) (ascending c.squares_of-own.result))) none ∙ sym (ap (λ ms. put_all move_cmp ms []) own);
-      sorted = subst (IsStrictlySortedBy move_cmp) (sym none) sorted_none;
-    }
+    let all = c.in_ok-found.ensures.moves c.if-found-gt0.true in
+    subst (IsStrictlySortedBy move_cmp) (sym all) (put_all-sorted move_cmp move_cmp-total (moves p c.in_ok-found.found.size) [] sorted-none)
 
-pub loop-square-preserved : goal.loop-square-preserved
-loop-square-preserved c =
+pub returns-then-found-gt0-clause-members : goal.returns-then-found-gt0-clause-members
+returns-then-found-gt0-clause-members c =
     let p = c.args.position.now in
-    let n = c.most-size.result in
-    let w = c.loop-square in
-    let x = c.in-Some.square in
-    record {
-      listed = popped_put (moves_at p n) w.own c.pop.new.self x w.moves.items c.moves_from.new.moves.items (put_all move_cmp (moves p n) []) c.in-Some.ensures.0 w.invariant.listed c.in_ok-moves_from.ensures;
-      sorted = subst (IsStrictlySortedBy move_cmp) (sym c.in_ok-moves_from.ensures) (put_all-sorted move_cmp move_cmp-total (moves_at p n x) w.moves.items w.invariant.sorted);
-    }
+    let found = c.in_ok-found.found in
+    members_all p found.size (subst (IsMost p) (sym c.in_ok-found.ensures.size) (IsMost-most p)) found.moves.items (c.in_ok-found.ensures.moves c.if-found-gt0.true)
 
-found : (c : goal.In_default) → c.loop-square.moves.items ≡ put_all move_cmp (moves c.args.position.now c.most-size.result) []
-found c =
-    let p = c.args.position.now in
-    let n = c.most-size.result in
-    popped_out (moves_at p n) c.loop-square.own c.loop-square.moves.items (put_all move_cmp (moves p n) []) c.in_default.ensures.1 c.loop-square.invariant.listed
+-- where nothing can be taken, the quiet moves are the legal ones
+quiet_all : (p : Position) → most p ≡ 0 → (xs : List DMove) → xs ≡ quiet_list p → (m : DMove) → (Contains xs m → Legal p m) × (Legal p m → Contains xs m)
+quiet_all p none xs e m = (
+  λ h. inr (λ c. omega (arith, none, most-HasCapture p (most p) (IsMost-most p) c), quiet-sound p m (subst (λ ys. In m ys) e (Contains-In m xs h))),
+  λ legal. elim legal [
+    | inl c ↦ absurd (omega (arith, none, c.takes, LegalCapture-size p (most p) (IsMost-most p) m.from m.to m.taken c))
+    | inr q ↦ In-Contains m xs (subst (λ ys. In m ys) (sym e) (quiet-listed p m q.1))
+  ],
+)
 
 pub returns-clause-in_order : goal.returns-clause-in_order
-returns-clause-in_order c = c.loop-square.invariant.sorted
+returns-clause-in_order c = subst (IsStrictlySortedBy move_cmp) (sym c.in_ok-moves.ensures) (quiet-sorted c.args.position.now)
 
 pub returns-clause-members : goal.returns-clause-members
-returns-clause-members c = members_all c.args.position.now c.most-size.result c.most-size.ensures.most c.loop-square.moves.items (found c)
+returns-clause-members c =
+    let p = c.args.position.now in
+    quiet_all p (omega (arith, c.if-found-gt0.false, c.in_ok-found.ensures.size)) c.in_ok-moves.moves.items c.in_ok-moves.ensures
