@@ -4,6 +4,7 @@ pub mod FirstJumpLemmas
 pub mod FoundLemmas
 pub mod GrowthLemmas
 pub mod JumpLemmas
+pub mod KingLemmas
 pub mod LegalLemmas
 pub mod ListLemmas
 pub mod MaxLemmas

@@ -42,11 +42,14 @@ fn push_quiet(position: &DPos, square: Dsq, moves: &mut Vec<DMove>) -> Result<()
     }
 }
 
+// For how many moves there is room at first: few positions have more.
+const ROOM: usize = 64;
+
 // The quiet moves in order.
 fn quiet_moves(alloc: Global, position: &DPos) -> Result<Vec<DMove>, AllocError>
     ensures { IfOk result (λ moves. moves.items ≡ quiet_list position.now) }
 {
-    let mut moves = Vec::new(alloc);
+    let mut moves = Vec::with_capacity(alloc, ROOM)?;
     let mut own = position.squares_of(position.turn());
     while let Some(square) = own.pop() {
         push_quiet(position, square, &mut moves)?;

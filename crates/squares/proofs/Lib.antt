@@ -1,5 +1,6 @@
 pub mod DraughtsAscending
 pub mod DraughtsBeside
+pub mod DraughtsEdge
 pub mod DraughtsHashed
 pub mod DraughtsKept
 pub mod DraughtsPops
@@ -8,7 +9,7 @@ pub mod DraughtsSides
 pub mod DraughtsTables
 pub mod ShogiCells
 pub mod ShogiCounts
-pub mod ShogiOrdered
-pub mod ShogiTracks
 pub mod ShogiKept
 pub mod ShogiOpened
+pub mod ShogiOrdered
+pub mod ShogiTracks

@@ -11,5 +11,5 @@ pub loop-square-init : goal.loop-square-init
 loop-square-init c =
     let p = c.args.position.now in
     let own = c.squares_of-own.result in
-    ap (λ ms. ms ++ flat_map (quiet_in_order p) (ascending own)) c.new-moves.ensures.items
+    ap (λ ms. ms ++ flat_map (quiet_in_order p) (ascending own)) c.in_ok-moves.ensures.items
     ∙ quiet-of_own p own (λ n. c.squares_of-own.ensures n ∙ ap (λ side. is_of side (map.get p.board n)) c.turn.ensures)
