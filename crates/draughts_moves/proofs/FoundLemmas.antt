@@ -173,8 +173,8 @@ module _ (b : Cells) (m : Mover) where
               | inl e ↦
                   (λ i. cond (above n positive i && nat_eq_same n taken_now e i) (move_to m.origin (m.taken, m.at) ∷ []) [])
                   ∙ sym (
-                    ap (λ c. cond c (map (move_to m.origin) (routes_of b m.piece (n - taken_now) m.taken m.at)) []) (above n positive)
-                    ∙ ap (λ k. map (move_to m.origin) (routes_of b m.piece k m.taken m.at)) (let z : n - taken_now ≡ zero = omega arith in z) ∙ here
+                  ap (λ c. cond c (map (move_to m.origin) (routes_of b m.piece (n - taken_now) m.taken m.at)) []) (above n positive)
+                  ∙ ap (λ k. map (move_to m.origin) (routes_of b m.piece k m.taken m.at)) (let z : n - taken_now ≡ zero = omega arith in z) ∙ here
                   )
               | inr d ↦
                   (λ i. cond (above n positive i && nat_eq_other n taken_now d i) (move_to m.origin (m.taken, m.at) ∷ []) [])
@@ -220,7 +220,7 @@ module _ (b : Cells) (m : Mover) where
           let here : drop i js ≡ item ∷ drop (i + 1) js = drop_more js i item h ∙ ap (λ x. x ∷ drop (i + 1) js) (sym is) in
           let one = taken_more item among in
           let w = kept-more by_jump (ends_by most) most item (drop (i + 1) js) size next moves afterwards (ends_of b (after item) next) (omega (arith, found, one)) (sym (ap (fold (λ k j. max k (by_jump j)) size) here) ∙ whole)
-              (λ less. ends_by-none most item less) (λ e. ap (ends_of b (after item)) e ∙ ends_of-after most item among (omega (arith, found, one, e))) listed in
+          (λ less. ends_by-none most item less) (λ e. ap (ends_of b (after item)) e ∙ ends_of-after most item among (omega (arith, found, one, e))) listed in
           (w.0, w.1 ∙ ap (λ xs. put_all move_cmp (flat_map (ends_by most) xs) (kept size most moves)) (sym here))
 
       pub come-back : (now then : Mover) → now ≡ record m { at = item.1; taken = set.insert m.taken item.0 } → then ≡ record now { at = m.at; taken = set.remove now.taken item.0 } → then ≡ m
@@ -276,6 +276,7 @@ module _ (p : Position) where
     where
       zero_none : (n x : ℕ) → n ≡ 0 → captured p n x ≡ []
       zero_none n x e = ap (λ k. captured p k x) e
+
       nothing : (q : ℕ) → greatest_at p q ≡ 0 → captured p (most p) q ≡ []
       nothing q e = elim (cases_lt 0 (most p)) [ inl h ↦ captured-none (most p) q (omega (arith, e)) | inr h ↦ zero_none (most p) q (omega arith) ]
 

@@ -1,3 +1,4 @@
 mod BitLemmas
+mod EndLemmas
 mod SetLemmas
 mod ShiftLemmas

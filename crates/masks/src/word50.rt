@@ -1,7 +1,7 @@
 //! A set of squares of the board of fifty.
 ghost use Rattle.std.specs.Prelude.{◌≡◌, ◌↔◌, ◌+◌, ◌-◌, ◌^◌, ◌≤◌, ℕ, false, true, ◌⊎◌, ◌<◌, IsTrue};
 ghost use Rattle.std.specs.FinSet as set;
-ghost use Rattle.masks.specs.Words.{Pops, has_bit};
+ghost use Rattle.masks.specs.Words.{IsGreatest, IsLeast, Pops, has_bit};
 
 use std::marker::Model;
 
@@ -165,6 +165,26 @@ impl Word50 {
         ensures { result ≡ set.len self }
     {
         self.bits.count_ones()
+    }
+
+    /// The least square of the set, or None where it has none.
+    pub fn least(self) -> Option<u8>
+        ensures { IsLeast self result }
+    {
+        if self.bits == 0 {
+            return None;
+        }
+        Some(self.bits.trailing_zeros() as u8 + 1)
+    }
+
+    /// The greatest square of the set, or None where it has none.
+    pub fn greatest(self) -> Option<u8>
+        ensures { IsGreatest self result }
+    {
+        if self.bits == 0 {
+            return None;
+        }
+        Some(64 - self.bits.leading_zeros() as u8)
     }
 
     /// Takes the least square out of the set, or answers None where there is none.

@@ -3,6 +3,7 @@ pub mod DraughtsBeside
 pub mod DraughtsEdge
 pub mod DraughtsHashed
 pub mod DraughtsKept
+pub mod DraughtsLines
 pub mod DraughtsPops
 pub mod DraughtsRays
 pub mod DraughtsSides

@@ -1,6 +1,6 @@
 //! A set of squares.
 ghost use Rattle.std.specs.Prelude.{◌≡◌, ◌↔◌, ◌+◌, ◌^◌, ◌<◌, ◌&&◌, ◌||◌, false, ℕ, IsTrue};
-ghost use Rattle.masks.specs.Words.{has_bit};
+ghost use Rattle.masks.specs.Words.{IsGreatest, IsLeast, has_bit};
 ghost use Rattle.std.specs.FinSet as set;
 ghost use Rattle.std.specs.Option.{option_map_or};
 ghost use Rattle.squares.specs.DraughtsGeometry.{step};
@@ -102,6 +102,28 @@ impl DSet {
             None => return None,
         };
         Dsq::new(number)
+    }
+
+    /// The least square of the set, or None where it has none.
+    pub fn least(self) -> Option<Dsq>
+        ensures { IsLeast self result }
+    {
+        self.squares.keeps_to_its_squares();
+        match self.squares.least() {
+            Some(number) => Dsq::new(number),
+            None => None,
+        }
+    }
+
+    /// The greatest square of the set, or None where it has none.
+    pub fn greatest(self) -> Option<Dsq>
+        ensures { IsGreatest self result }
+    {
+        self.squares.keeps_to_its_squares();
+        match self.squares.greatest() {
+            Some(number) => Dsq::new(number),
+            None => None,
+        }
     }
 
     /// The squares of either set.
