@@ -8,9 +8,9 @@ use Rattle.squares.specs.declared.draughts.direction.Direction.{Direction}
 use Rattle.squares.specs.declared.draughts.direction.Direction.TheVariants.{UpLeft, UpRight, DownLeft, DownRight}
 use Rattle.squares.specs.declared.draughts.piece.DPiece.{DPiece}
 use Rattle.squares.specs.DraughtsSets.{Squares}
-use Rattle.squares.specs.DraughtsGeometry.{step, line, ray, line-step, line-edge}
+use Rattle.squares.specs.DraughtsGeometry.{step, line, ray}
 use Rattle.draughts_moves.specs.Capture.{Cells}
-use Rattle.draughts_moves.specs.Search.{clear_front, is_prey, takes, king_jumps, man_jumps, line_jumps, jumps, greatest}
+use Rattle.draughts_moves.specs.Search.{clear_front, is_prey, takes, man_jumps, line_jumps, jumps, greatest}
 use Rattle.draughts_moves.proofs.RouteLemmas.{greatest-jumps}
 use Rattle.draughts_moves.proofs.WalkLemmas.{jump-edge, first_over}
 

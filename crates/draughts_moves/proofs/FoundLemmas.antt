@@ -1,5 +1,5 @@
 -- One walk finds the greatest number and lists the captures that have it.
-use Rattle.std.proofs.Common.{◌≡◌, ℕ, zero, suc, ◌+◌, ◌-◌, ◌≤◌, ◌<◌, inl, inr, Bool, true, false, cond, not, nat_eq, ◌&&◌, ◌||◌, Some, None, List, [], ◌∷◌, ◌++◌, length, get_or, drop, max, fold, refl, sym, ap, ◌∙◌, subst, arith}
+use Rattle.std.proofs.Common.{◌≡◌, ℕ, zero, suc, ◌+◌, ◌-◌, ◌≤◌, ◌<◌, inl, inr, Bool, true, false, cond, not, nat_eq, ◌&&◌, ◌||◌, Some, None, List, [], ◌∷◌, length, get_or, drop, max, fold, refl, sym, ap, ◌∙◌, subst, arith}
 use Rattle.std.specs.Prelude.{map, nat_lt}
 use Rattle.std.specs.List.{flat_map, range_with_len}
 use Rattle.std.specs.List.Sorted.{IsStrictlySortedBy}
@@ -18,9 +18,9 @@ use Rattle.squares.specs.DraughtsMarks.{nat_eq_same, nat_eq_other}
 use Rattle.squares.specs.DraughtsSets.{Squares, ascending}
 use Rattle.squares.specs.In.{In, In-get_or}
 use Rattle.squares.specs.OrderedLists.{put_all}
-use Rattle.squares.specs.PutLemmas.{put_all-append, put_all-sorted, map-flat_map}
+use Rattle.squares.specs.PutLemmas.{put_all-append, map-flat_map}
 use Rattle.draughts_moves.specs.declared.mover.Mover.{Mover}
-use Rattle.draughts_moves.specs.Capture.{Cells, Jump, without}
+use Rattle.draughts_moves.specs.Capture.{Cells, without}
 use Rattle.draughts_moves.specs.Search.{jumps, routes_of, greatest, own_at, greatest_at, most}
 use Rattle.draughts_moves.specs.Listing.{move_cmp, move_to, captures_at, quiet_at, moves_at, moves}
 use Rattle.draughts_moves.specs.Found.{kept, if_takes, ends_of, captured}

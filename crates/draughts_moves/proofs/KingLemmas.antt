@@ -1,9 +1,8 @@
 -- A king's jumps are over the first piece on its way.
-use Rattle.std.proofs.Common.{◌≡◌, ℕ, zero, suc, ◌+◌, ◌≤◌, Bool, true, false, cond, not, ◌&&◌, ◌||◌, nat_eq, inl, inr, Option, Some, None, List, [], ◌∷◌, ◌++◌, length, refl, sym, ap, ◌∙◌, subst, arith, append_assoc}
+use Rattle.std.proofs.Common.{◌≡◌, ℕ, zero, suc, ◌≤◌, true, false, cond, not, ◌&&◌, ◌||◌, nat_eq, inl, inr, Option, Some, None, List, [], ◌∷◌, ◌++◌, refl, sym, ap, ◌∙◌, arith, append_assoc}
 use Rattle.std.specs.Prelude.{map, is_none, is_some}
 use Rattle.std.specs.List.{find}
 use Rattle.std.specs.Option.{option_map_or}
-use Rattle.std.specs.Ordering.{nat_cmp, eq_by_cmp}
 use Rattle.std.specs.Cmp.{nat_cmp_total, unsigned_tied}
 use Rattle.std.specs.FinMap as finite_map
 use Rattle.std.specs.FinSet as set
@@ -14,7 +13,7 @@ use Rattle.squares.specs.declared.sides.Side.TheVariants.{First, Second}
 use Rattle.squares.specs.Sides.{same_side}
 use Rattle.squares.specs.DraughtsBoard.{Board, is_of}
 use Rattle.squares.specs.DraughtsSets.{Squares}
-use Rattle.squares.specs.DraughtsGeometry.{OnBoard, step, line, ray, line-step, line-edge}
+use Rattle.squares.specs.DraughtsGeometry.{step, line, ray}
 use Rattle.squares.specs.DraughtsOnBoard.{ray-off}
 use Rattle.squares.proofs.DraughtsEdge.{ends_within, ray-ends, ends-next, line-ends}
 use Rattle.draughts_moves.specs.Capture.{Cells, without}

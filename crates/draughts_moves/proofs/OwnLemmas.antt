@@ -1,19 +1,13 @@
 -- What belongs to the squares of the side to move is all that there is.
-use Rattle.std.proofs.Common.{◌≡◌, ℕ, Bool, true, false, cond, Option, Some, None, List, [], ◌∷◌, ◌++◌, ◌==◌, max, fold, refl, sym, ap, ◌∙◌, arith}
+use Rattle.std.proofs.Common.{◌≡◌, ℕ, Bool, true, false, cond, Some, None, List, [], ◌∷◌, ◌++◌, max, fold, refl, sym, ap, ◌∙◌, arith}
 use Rattle.std.specs.Prelude.{filter, option_and_then}
 use Rattle.std.specs.List.{flat_map, range_with_len}
-use Rattle.std.specs.Option.{option_map_or}
 use Rattle.std.specs.FinSet as set
 use Rattle.std.specs.FinMap as map
 use Rattle.squares.specs.Sides.{same_side}
-use Rattle.squares.specs.declared.draughts.moves.DMove.{DMove}
 use Rattle.squares.specs.DraughtsBoard.{Position, is_of}
 use Rattle.squares.specs.DraughtsSets.{Squares, ascending}
-use Rattle.squares.specs.OrderedLists.{put_all}
-use Rattle.squares.specs.PutLemmas.{put_all-append}
 use Rattle.draughts_moves.specs.Search.{own_at, greatest_at, most}
-use Rattle.draughts_moves.specs.Listing.{move_cmp, captures_at, quiet_at, moves_at, moves}
-use Rattle.draughts_moves.proofs.OrderLemmas.{move_cmp-total}
 
 pub flat_map-filter : {A : Type 0} (f : ℕ → List A) (test : ℕ → Bool) (ns : List ℕ) → ((q : ℕ) → test q ≡ false → f q ≡ []) → flat_map f ns ≡ flat_map f (filter test ns)
 flat_map-filter f test [] none = refl
@@ -41,32 +35,10 @@ module _ (p : Position) (own : Squares) (are : (n : ℕ) → set.contains own n 
         | Some r ↦ λ f. ap (λ c. cond c (Some r) None) f
       ] (sym (are q) ∙ e)
 
-  no_moves : (n q : ℕ) → set.contains own q ≡ false → moves_at p n q ≡ []
-  unfolding moves_at captures_at quiet_at
-  no_moves n q e = rw (no_own q e) (one (n == 0))
-    where
-      one : (b : Bool) → cond b (let none : List DMove = [] in none) [] ≡ []
-      one true = refl
-      one false = refl
-
-  pub moves-own : (n : ℕ) → moves p n ≡ flat_map (moves_at p n) (ascending own)
-  unfolding moves ascending
-  moves-own n = flat_map-filter (moves_at p n) (set.contains own) (range_with_len 1 50) (no_moves n)
-
 -- the greatest number is among the pieces of a set, where the others take nothing
 pub most-able : (p : Position) (able : Squares) → ((n : ℕ) → set.contains able n ≡ false → greatest_at p n ≡ 0) → fold (λ m x. max m (greatest_at p x)) 0 (ascending able) ≡ most p
 unfolding most ascending
 most-able p able none = max-filter (greatest_at p) (set.contains able) 0 (range_with_len 1 50) none
-
--- a loop that takes the least square out of a set and puts the moves of its piece
-pub popped_put : (f : ℕ → List DMove) (before after : Squares) (n : ℕ) (old new whole : List DMove) → ascending before ≡ n ∷ ascending after →
-    put_all move_cmp (flat_map f (ascending before)) old ≡ whole → new ≡ put_all move_cmp (f n) old → put_all move_cmp (flat_map f (ascending after)) new ≡ whole
-popped_put f before after n old new whole pop so_far step =
-    ap (put_all move_cmp (flat_map f (ascending after))) step ∙ sym (put_all-append move_cmp move_cmp-total (f n) (flat_map f (ascending after)) old)
-    ∙ sym (ap (λ ns. put_all move_cmp (flat_map f ns) old) pop) ∙ so_far
-
-pub popped_out : (f : ℕ → List DMove) (before : Squares) (old whole : List DMove) → ascending before ≡ [] → put_all move_cmp (flat_map f (ascending before)) old ≡ whole → old ≡ whole
-popped_out f before old whole none so_far = sym (ap (λ ns. put_all move_cmp (flat_map f ns) old) none) ∙ so_far
 
 -- a loop that takes the least square out of a set and keeps the greatest number
 pub popped_most : (f : ℕ → ℕ) (before after : Squares) (n old new whole : ℕ) → ascending before ≡ n ∷ ascending after →

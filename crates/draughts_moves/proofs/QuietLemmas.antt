@@ -1,12 +1,11 @@
 -- The quiet moves in order.
-use Rattle.std.proofs.Common.{◌≡◌, ℕ, zero, suc, ◌+◌, ◌≤◌, ◌<◌, Bool, true, false, cond, ◌||◌, nat_eq, inl, inr, Option, Some, None, List, [], ◌∷◌, ◌++◌, length, refl, sym, ap, ◌∙◌, subst, arith, append_assoc}
-use Rattle.std.specs.Prelude.{map, filter, nat_lt}
-use Rattle.std.specs.List.{flat_map, range_with_len, list_any, AllByRecursion}
+use Rattle.std.proofs.Common.{◌≡◌, ℕ, zero, suc, ◌+◌, ◌≤◌, ◌<◌, Bool, true, false, cond, nat_eq, inl, inr, Some, None, List, [], ◌∷◌, ◌++◌, refl, sym, ap, ◌∙◌, subst, arith, append_assoc}
+use Rattle.std.specs.Prelude.{map, filter}
+use Rattle.std.specs.List.{flat_map, range_with_len, list_any}
 use Rattle.std.specs.List.Sorted.{IsStrictlySortedBy}
 use Rattle.std.specs.Option.{option_map_or}
 use Rattle.std.specs.Cmp.Lexicographic.{slice_cmp}
 use Rattle.std.specs.Ordering.{nat_cmp, ordering_then}
-use Rattle.std.specs.declared.cmp.Ordering.{Ordering}
 use Rattle.std.specs.declared.cmp.Ordering.TheVariants.{Less, Equal}
 use Rattle.std.specs.FinMap as finite_map
 use Rattle.std.specs.FinSet as set
@@ -139,8 +138,3 @@ module _ (p : Position) where
   pub quiet-of_own : (own : Squares) → ((n : ℕ) → set.contains own n ≡ is_of p.turn (finite_map.get p.board n)) → flat_map (quiet_in_order p) (ascending own) ≡ quiet_list p
   unfolding quiet_list ascending
   quiet-of_own own are = sym (flat_map-filter (quiet_in_order p) (set.contains own) (range_with_len 1 50) (λ q e. quiet-none q (no_own p own are q e)))
-
--- a loop that takes the least square out of a set and adds the moves of each
-pub popped_added : {A : Type 0} (f : ℕ → List A) (before after : Squares) (n : ℕ) (old new whole : List A) → ascending before ≡ n ∷ ascending after → old ++ flat_map f (ascending before) ≡ whole → new ≡ old ++ f n → new ++ flat_map f (ascending after) ≡ whole
-popped_added f before after n old new whole pop so_far step =
-    ap (λ ms. ms ++ flat_map f (ascending after)) step ∙ append_assoc old (f n) (flat_map f (ascending after)) ∙ sym (ap (λ ns. old ++ flat_map f ns) pop) ∙ so_far

@@ -52,6 +52,33 @@ fn lines_go_to_the_edge(rt: HostRuntime) -> Result<(), Fail> {
     Ok(())
 }
 
+// The way up to the left from 28 is 22, 17, 11 and 6.
+#[test]
+fn a_line_meets_the_first_square_of_a_set(rt: HostRuntime) -> Result<(), Fail> {
+    let from = Dsq::new(28).ok_or("no square")?;
+    let near = Dsq::new(17).ok_or("no square")?;
+    let far = Dsq::new(6).ok_or("no square")?;
+    let both = DSet::new().with(far).with(near);
+    assert_eq!(rt; from.line(Direction::UpLeft).len(), 4);
+    assert_eq!(rt; from.first_on(Direction::UpLeft, both), Some(near));
+    assert_eq!(rt;
+        from.first_on(Direction::UpLeft, both.without(near)),
+        Some(far)
+    );
+    assert_eq!(rt; from.first_on(Direction::UpRight, both), None);
+    assert_eq!(rt; both.least(), Some(far));
+    assert_eq!(rt; both.greatest(), Some(near));
+    Ok(())
+}
+
+#[test]
+fn opening_leaves_two_rows_empty(rt: HostRuntime) {
+    let position = DPos::opening();
+    assert_eq!(rt; position.empty_squares().len(), 10);
+    assert!(rt; position.kings().is_empty());
+    assert_eq!(rt; position.squares_of(Side::First).len(), 20);
+}
+
 #[test]
 fn opening_has_twenty_men_a_side(rt: HostRuntime) -> Result<(), Fail> {
     let position = DPos::opening();

@@ -1,4 +1,4 @@
-use Rattle.std.proofs.Common.{◌≡◌, ◌||◌, true, false, length, sym, ap, ◌∙◌}
+use Rattle.std.proofs.Common.{◌||◌, length, sym, ap, ◌∙◌}
 use Rattle.std.specs.Prelude.{nat_lt}
 use Rattle.std.specs.FinMap as map
 use Rattle.std.specs.FinSet as set

@@ -1,11 +1,9 @@
-use Rattle.std.proofs.Common.{rules, ◌≡◌, ℕ, ◌⊎◌, inl, inr, List, [], sym, subst, arith}
-use Rattle.std.specs.List.{flat_map, Contains}
-use Rattle.std.specs.FinMap as map
+use Rattle.std.proofs.Common.{◌≡◌, ℕ, ◌⊎◌, inl, inr, List, [], sym, subst, arith}
+use Rattle.std.specs.List.{Contains}
 use Rattle.std.specs.List.Sorted.{IsStrictlySortedBy}
 use Rattle.std.specs.declared.cmp.Ordering.TheVariants.{Equal}
 use Rattle.squares.specs.declared.draughts.moves.DMove.{DMove}
-use Rattle.squares.specs.DraughtsBoard.{Position, is_of}
-use Rattle.squares.specs.DraughtsSets.{ascending}
+use Rattle.squares.specs.DraughtsBoard.{Position}
 use Rattle.squares.specs.In.{In, In-Contains, Contains-In}
 use Rattle.squares.specs.OrderedLists.{put_all}
 use Rattle.squares.specs.PutLemmas.{put_all-sorted, put_all-in, put_all-has}

@@ -1,4 +1,4 @@
-use Rattle.std.proofs.Common.{◌≡◌, ◌++◌, sym, ap, ◌∙◌}
+use Rattle.std.proofs.Common.{◌++◌, sym, ap, ◌∙◌}
 use Rattle.std.proofs.lemmas.List.{append-nil}
 use Rattle.draughts_moves.proofs.QuietLemmas.{quiet-own, quiet-none}
 use Rattle.draughts_moves.proofs.listing.push_quiet.Goals as goal

@@ -8,7 +8,7 @@ use Rattle.squares.specs.PutLemmas.{put_all-sorted}
 use Rattle.std.specs.List.Sorted.{IsStrictlySortedBy}
 use Rattle.draughts_moves.specs.declared.mover.Mover.{Mover}
 use Rattle.draughts_moves.specs.Capture.{without}
-use Rattle.draughts_moves.specs.Search.{jumps, greatest, prey_left}
+use Rattle.draughts_moves.specs.Search.{greatest, prey_left}
 use Rattle.draughts_moves.specs.Listing.{move_cmp}
 use Rattle.draughts_moves.specs.Found.{kept, ends_of}
 use Rattle.draughts_moves.proofs.FoundLemmas.{no_jumps, greatest-end, ends_of-end, most-begun, all-gone, gone-on, come-back, kept-sorted, after, by_jump, ends_by}

@@ -1,11 +1,11 @@
-use Rattle.std.proofs.Common.{◌≡◌, ◌+◌, [], max, nat_eq, cond, sym, ap, ◌∙◌, refl, arith}
+use Rattle.std.proofs.Common.{◌+◌, [], max, cond, sym, ap, ◌∙◌, refl, arith}
 use Rattle.std.specs.FinSet as set
 use Rattle.std.specs.Ordering.{nat_cmp}
 use Rattle.squares.specs.OrderedLists.{put_all}
 use Rattle.squares.specs.DraughtsMarks.{nat_eq_same}
 use Rattle.draughts_moves.specs.declared.mover.Mover.{Mover}
 use Rattle.draughts_moves.specs.Capture.{without}
-use Rattle.draughts_moves.specs.Search.{greatest, greatest_at}
+use Rattle.draughts_moves.specs.Search.{greatest}
 use Rattle.draughts_moves.specs.Listing.{move_cmp}
 use Rattle.draughts_moves.specs.Found.{kept, ends_of}
 use Rattle.draughts_moves.proofs.FoundLemmas.{ends_of-piece, captured-no_piece}

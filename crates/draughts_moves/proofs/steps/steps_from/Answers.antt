@@ -1,4 +1,4 @@
-use Rattle.std.proofs.Common.{◌≡◌, ◌++◌, ◌||◌, ◌==◌, sym, ap, ◌∙◌}
+use Rattle.std.proofs.Common.{◌++◌, ◌||◌, ◌==◌, sym, ap, ◌∙◌}
 use Rattle.std.specs.Cmp.{nat_cmp_total}
 use Rattle.std.specs.FinMap.{get}
 use Rattle.std.specs.FinSet as set
@@ -6,7 +6,6 @@ use Rattle.std.proofs.lemmas.List.Folds.{list_any-append}
 use Rattle.squares.specs.declared.draughts.direction.Direction.TheVariants.{UpLeft, UpRight, DownLeft, DownRight}
 use Rattle.squares.specs.DraughtsSets.{Squares}
 use Rattle.draughts_moves.specs.Search.{steps_along, steps}
-use Rattle.draughts_moves.proofs.WalkLemmas.{is_in}
 use Rattle.draughts_moves.proofs.steps.steps_from.Goals as goal
 
 pub returns : goal.returns
