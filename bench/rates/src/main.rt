@@ -2,8 +2,8 @@
 //!
 //!   rates check|has_move ROUNDS
 //!
-//! The games go from the opening by legal moves that a fixed sequence of numbers chooses, to their end or for 150 moves.
-//! Printed are how many positions there are, and how often the answer was yes.
+//! The games go from the opening by legal moves that a fixed sequence of numbers chooses, to their end or for 150
+//! moves. Printed are how many positions there are, and how often the answer was yes.
 #![tactic(auto)]
 
 use draughts_moves::{Memory, check, has_move, legal, play};

@@ -1,17 +1,26 @@
-//! The squares beside those of a set.
+//! The squares beside what can be jumped over.
 ghost use Rattle.std.specs.Prelude.{◌≡◌, ℕ};
 ghost use Rattle.std.specs.FinSet as set;
-ghost use Rattle.draughts_moves.specs.Search.{is_beside};
+ghost use Rattle.draughts_moves.specs.Search.{is_beside, next_before};
 
 use squares::{DSet, Direction};
 
-/// The squares with one of the set next to them in any of the four directions.
-pub fn all_beside(squares: DSet) -> DSet
-    ensures { (n : ℕ) → set.contains result n ≡ is_beside squares n }
+// The squares whose next square in a direction is of a set, and the square behind it empty.
+fn beside_along(squares: DSet, empty: DSet, toward: Direction) -> DSet
+    ensures { (n : ℕ) → set.contains result n ≡ next_before squares empty toward n }
 {
-    let left = squares.beside(Direction::UpLeft);
-    let right = squares.beside(Direction::UpRight);
+    let before = empty.beside(toward);
+    let near = squares.intersection(before);
+    near.beside(toward)
+}
+
+/// The squares that have, in any of the four directions, a square of the set next to them, and an empty one behind it.
+pub fn all_beside(squares: DSet, empty: DSet) -> DSet
+    ensures { (n : ℕ) → set.contains result n ≡ is_beside squares empty n }
+{
+    let left = beside_along(squares, empty, Direction::UpLeft);
+    let right = beside_along(squares, empty, Direction::UpRight);
     let up = left.union(right);
-    let up_or_left = up.union(squares.beside(Direction::DownLeft));
-    up_or_left.union(squares.beside(Direction::DownRight))
+    let up_or_left = up.union(beside_along(squares, empty, Direction::DownLeft));
+    up_or_left.union(beside_along(squares, empty, Direction::DownRight))
 }

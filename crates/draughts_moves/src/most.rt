@@ -24,13 +24,14 @@ pub fn own_at(position: &DPos, square: Dsq) -> Option<DPiece>
     }
 }
 
-// The pieces of the side to move that may take something: its kings, and its men beside an enemy.
+// The pieces of the side to move that may take something: its kings, and its men beside an enemy with an empty square
+// behind it.
 pub(crate) fn may_take(position: &DPos) -> DSet
     ensures { (n : ℕ) → set.contains result n ≡ false → greatest_at position.now n ≡ 0 }
 {
     let own = position.squares_of(position.turn());
     let enemies = position.squares_of(position.turn().other());
-    let near = all_beside(enemies);
+    let near = all_beside(enemies, position.empty_squares());
     let able = near.union(position.kings());
     own.intersection(able)
 }

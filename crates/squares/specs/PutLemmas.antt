@@ -142,9 +142,3 @@ module _ {A : Type 0} (order : A → A → Ordering) (total : IsTotalOrder order
   put_all-more f xs i x before old new h is so_far step =
       step ∙ ap (put_all order (f x)) so_far ∙ sym (put_all-append (flat_map f (take i xs)) (f x) before)
       ∙ ap (λ ms. put_all order ms before) (flat_map_more f [] (take i xs) x ∙ ap (flat_map f) (ap (λ y. take i xs ++ y ∷ []) is ∙ sym (take_more xs i x h)))
-
-  -- one more element
-  pub put_all-map_more : {B : Type 0} (g : B → A) (xs : List B) (i : ℕ) (x : B) (before old new : List A) → i < length xs → x ≡ get_or xs i x → old ≡ put_all order (map g (take i xs)) before → new ≡ put order (g x) old → new ≡ put_all order (map g (take (i + 1) xs)) before
-  put_all-map_more g xs i x before old new h is so_far step =
-      step ∙ ap (put order (g x)) so_far ∙ sym (put_all-append (map g (take i xs)) (g x ∷ []) before)
-      ∙ ap (λ ms. put_all order ms before) (sym (map-append g (take i xs) (x ∷ [])) ∙ ap (map g) (ap (λ y. take i xs ++ y ∷ []) is ∙ sym (take_more xs i x h)))
