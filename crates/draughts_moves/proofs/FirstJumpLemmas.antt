@@ -8,9 +8,9 @@ use Rattle.squares.specs.declared.draughts.direction.Direction.{Direction}
 use Rattle.squares.specs.declared.draughts.direction.Direction.TheVariants.{UpLeft, UpRight, DownLeft, DownRight}
 use Rattle.squares.specs.declared.draughts.piece.DPiece.{DPiece}
 use Rattle.squares.specs.DraughtsSets.{Squares}
-use Rattle.squares.specs.DraughtsGeometry.{step, line, ray, line-step, line-edge}
+use Rattle.squares.specs.DraughtsGeometry.{step, line, ray}
 use Rattle.draughts_moves.specs.Capture.{Cells}
-use Rattle.draughts_moves.specs.Search.{clear_front, is_prey, takes, king_jumps, man_jumps, line_jumps, jumps, greatest}
+use Rattle.draughts_moves.specs.Search.{clear_front, is_prey, takes, man_jumps, line_jumps, jumps, greatest}
 use Rattle.draughts_moves.proofs.RouteLemmas.{greatest-jumps}
 use Rattle.draughts_moves.proofs.WalkLemmas.{jump-edge, first_over}
 
@@ -38,7 +38,7 @@ abbrev first : List ℕ → Option ℕ
 first [] = None
 first (x ∷ xs) = Some x
 
-line-first : (k : ℕ) (d : Direction) (n : ℕ) → first (line (suc k) d n) ≡ step d n
+pub line-first : (k : ℕ) (d : Direction) (n : ℕ) → first (line (suc k) d n) ≡ step d n
 unfolding line
 line-first k d n = elim (step d n) as (λ o. first (option_map_or (λ m. m ∷ line k d m) o []) ≡ o) [ None ↦ refl | Some m ↦ refl ]
 
@@ -55,43 +55,13 @@ module _ (b : Cells) (p : DPiece) (t : Squares) (d : Direction) where
       ap (λ ns. any (man_jumps b p t ns)) (first_over b p t d n over e) ∙ man_first over (line 8 d over)
       ∙ ap (λ o. is_prey b p t over && option_map_or (λ l. is_none (b l)) o false) (line-first 7 d over)
 
-  pub king-none : (k n : ℕ) → step d n ≡ None → king_jumps b p t (line k d n) ≡ []
-  king-none k n e = ap (king_jumps b p t) (line-edge k d n e)
-
-  pub king-past : (k j n m : ℕ) → step d n ≡ Some m → k ≡ j + 1 → is_none (b m) ≡ true → king_jumps b p t (line k d n) ≡ king_jumps b p t (line j d m)
-  king-past k j n m e more clear =
-      ap (king_jumps b p t) (line-step k j d n m e more)
-      ∙ ap (λ c. cond c (king_jumps b p t (line j d m)) (cond (is_prey b p t m) (map (λ l. (m, l)) (clear_front b (line j d m))) [])) clear
-
   -- the landings behind an enemy
   abbrev pairs : ℕ → List ℕ → List (ℕ × ℕ)
   pairs m ns = map (λ l. (m, l)) (clear_front b ns)
 
-  any-front : (m : ℕ) (ns : List ℕ) → any (pairs m ns) ≡ option_map_or (λ l. is_none (b l)) (first ns) false
+  pub any-front : (m : ℕ) (ns : List ℕ) → any (pairs m ns) ≡ option_map_or (λ l. is_none (b l)) (first ns) false
   any-front m [] = refl
   any-front m (l ∷ ns) = elim (is_none (b l)) as (λ c. any (let xs : List (ℕ × ℕ) = map (λ x. (m, x)) (cond c (l ∷ clear_front b ns) []) in xs) ≡ c) [ true ↦ any-cons (m, l) (pairs m ns) | false ↦ refl ]
-
-  pub king-takes : (k j n m : ℕ) → step d n ≡ Some m → k ≡ suc j + 1 → is_none (b m) ≡ false → any (king_jumps b p t (line k d n)) ≡ takes b p t d m
-  king-takes k j n m e more stands =
-      ap (λ ns. any (king_jumps b p t ns)) (line-step k (suc j) d n m e more)
-      ∙ ap (λ c. any (cond c (king_jumps b p t (line (suc j) d m)) (cond (is_prey b p t m) (pairs m (line (suc j) d m)) []))) stands
-      ∙ prey (is_prey b p t m)
-    where
-      prey : (c : Bool) → any (cond c (pairs m (line (suc j) d m)) []) ≡ (c && option_map_or (λ l. is_none (b l)) (step d m) false)
-      prey true = any-front m (line (suc j) d m) ∙ ap (λ o. option_map_or (λ l. is_none (b l)) o false) (line-first j d m)
-      prey false = refl
-
-  last_king : (o : Option ℕ) → king_jumps b p t (option_map_or (λ m. m ∷ []) o []) ≡ []
-  last_king None = refl
-  last_king (Some m) =
-      elim (is_none (b m)) as (λ c. cond c [] (cond (is_prey b p t m) (pairs m []) []) ≡ []) [
-        | true ↦ refl
-        | false ↦ elim (is_prey b p t m) as (λ c. cond c (pairs m []) [] ≡ []) [ true ↦ refl | false ↦ refl ]
-      ]
-
-  pub king-last : (k n : ℕ) → k ≡ 1 → king_jumps b p t (line k d n) ≡ []
-  unfolding line
-  king-last k n e = ap (λ i. king_jumps b p t (line i d n)) e ∙ last_king (step d n)
 
 first_true : (a b c d : Bool) → a ≡ true → true ≡ (a || (b || (c || d)))
 first_true a b c d e = sym (ap (λ x. x || (b || (c || d))) e)

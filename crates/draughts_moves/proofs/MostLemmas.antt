@@ -55,11 +55,11 @@ module _ (p : Position) (x : ℕ) (q : DPiece) where
         | Some r ↦ λ e. let w = if_own r (same_side r.side p.turn) refl e in (ap Some w.0, w.1)
       ] e
 
-  greatest_at-own : own_at p x ≡ Some q → greatest_at p x ≡ greatest (without p.board x) q set.empty x
+  pub greatest_at-own : own_at p x ≡ Some q → greatest_at p x ≡ greatest (without p.board x) q set.empty x
   unfolding greatest_at
   greatest_at-own e = ap (λ o. option_map_or (λ r. greatest (without p.board x) r set.empty x) o 0) e
 
-greatest_at-none : (p : Position) (x : ℕ) → own_at p x ≡ None → greatest_at p x ≡ 0
+pub greatest_at-none : (p : Position) (x : ℕ) → own_at p x ≡ None → greatest_at p x ≡ 0
 unfolding greatest_at
 greatest_at-none p x e = ap (λ o. option_map_or (λ r. greatest (without p.board x) r set.empty x) o 0) e
 

@@ -1,8 +1,13 @@
 -- Whether there is a legal move.
-use Rattle.std.proofs.Common.{◌≡◌, ℕ, ◌<◌, Bool, true, false, ◌||◌, ◌⊎◌, inl, inr, Some, None, List, [], ◌∷◌, length, refl, ap, ◌∙◌, arith}
+use Rattle.std.proofs.Common.{◌≡◌, ℕ, ◌<◌, Bool, true, false, ◌||◌, ◌⊎◌, inl, inr, Some, None, List, [], ◌∷◌, length, nat_eq, refl, sym, ap, ◌∙◌, arith}
 use Rattle.std.specs.Prelude.{nat_lt}
 use Rattle.std.specs.Option.{option_map_or}
-use Rattle.std.specs.List.{range_with_len}
+use Rattle.std.specs.List.{range_with_len, list_any}
+use Rattle.std.specs.Ordering.{nat_cmp}
+use Rattle.std.specs.Cmp.{nat_cmp_total}
+use Rattle.std.specs.FinMap.{nat_cmp-IsAntisymmetric}
+use Rattle.squares.specs.DraughtsMarks.{nat_eq_same}
+use Rattle.squares.specs.DraughtsSets.{Squares}
 use Rattle.std.specs.FinMap as map
 use Rattle.std.specs.FinSet as set
 use Rattle.std.proofs.lemmas.Bool.{cases_lt}
@@ -44,6 +49,25 @@ In-length : {A : Type 0} (x : A) (xs : List A) → In x xs → 0 < length xs
 In-length x [] h = absurd h
 In-length x (y ∷ xs) h = omega arith
 
+-- a set of the squares of a list
+module _ (targets : Squares) (ns : List ℕ) (are : (n : ℕ) → set.contains targets n ≡ list_any (λ m. nat_eq m n) ns) where
+  pub steps-none : targets ≡ set.empty → nat_lt 0 (length ns) ≡ false
+  steps-none e =
+      elim ns as (λ ms. ((n : ℕ) → set.contains targets n ≡ list_any (λ m. nat_eq m n) ms) → nat_lt 0 (length ms) ≡ false) [
+        | [] ↦ λ _. refl
+        | n ∷ ms ↦ λ is.
+            let has : set.contains targets n ≡ true = is n ∙ ap (λ c. c || list_any (λ m. nat_eq m n) ms) (nat_eq_same n n refl) in
+            let has_not : set.contains targets n ≡ false = ap (λ s. set.contains s n) e ∙ set.contains-empty nat_cmp n in
+            cc
+      ] are
+
+  pub steps-some : (targets ≡ set.empty → ⊥) → nat_lt 0 (length ns) ≡ true
+  steps-some some =
+      elim ns as (λ ms. ((n : ℕ) → set.contains targets n ≡ list_any (λ m. nat_eq m n) ms) → nat_lt 0 (length ms) ≡ true) [
+        | [] ↦ λ is. absurd (some (set.same_set nat_cmp_total nat_cmp-IsAntisymmetric targets set.empty (λ q. is q ∙ sym (set.contains-empty nat_cmp q))))
+        | n ∷ ms ↦ λ _. test_above (length (n ∷ ms)) (omega arith)
+      ] are
+
 module _ (p : Position) where
   -- a piece on x that can go or jump
   abbrev CanGo : ℕ → Type 0
@@ -67,7 +91,7 @@ module _ (p : Position) where
             ]
       ] refl e
 
-  can_move-own : (x : ℕ) (q : DPiece) → own_at p x ≡ Some q → can_move p x ≡ (nat_lt 0 (length (steps (map.get p.board) q x)) || nat_lt 0 (length (jumps (without p.board x) q set.empty x)))
+  pub can_move-own : (x : ℕ) (q : DPiece) → own_at p x ≡ Some q → can_move p x ≡ (nat_lt 0 (length (steps (map.get p.board) q x)) || nat_lt 0 (length (jumps (without p.board x) q set.empty x)))
   unfolding can_move
   can_move-own x q own =
       ap (λ o. option_map_or (λ q. nat_lt 0 (length (steps (map.get p.board) q x)) || nat_lt 0 (length (jumps (without p.board x) q set.empty x))) o false) own

@@ -50,7 +50,7 @@ pub In-range : (a n v : ℕ) → a ≤ v → v < a + n → In v (range_with_len 
 In-range a zero v low high = absurd (omega arith)
 In-range a (suc n) v low high = elim (same_or_more a v low) [ inl e ↦ inl e | inr h ↦ inr (In-range (a + 1) n v h (omega arith)) ]
 
-at_along : (before rest : List ℕ) (v : ℕ) → AllOnBoard (before ++ v ∷ rest) → OnBoard v
+pub at_along : (before rest : List ℕ) (v : ℕ) → AllOnBoard (before ++ v ∷ rest) → OnBoard v
 at_along [] rest v h = h.0
 at_along (n ∷ before) rest v h = at_along before rest v h.1
 

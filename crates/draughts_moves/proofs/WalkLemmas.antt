@@ -1,8 +1,12 @@
 -- Walks along lines, a step at a time.
-use Rattle.std.proofs.Common.{◌≡◌, ℕ, zero, suc, ◌+◌, ◌≤◌, true, false, cond, Option, Some, None, List, [], ◌∷◌, ◌++◌, length, take, refl, sym, ap, ◌∙◌, arith}
-use Rattle.std.specs.Prelude.{is_none, is_some, ◌&&◌}
+use Rattle.std.proofs.Common.{◌≡◌, ℕ, zero, suc, ◌+◌, ◌≤◌, Bool, true, false, cond, nat_eq, inl, inr, Option, Some, None, List, [], ◌∷◌, ◌++◌, take, refl, sym, ap, ◌∙◌, arith}
+use Rattle.std.specs.Prelude.{is_none, is_some, ◌&&◌, ◌||◌, ◌==◌}
+use Rattle.std.specs.FinSet as set
+use Rattle.std.proofs.lemmas.List.{append-nil}
+use Rattle.std.specs.List.{list_any}
+use Rattle.std.proofs.lemmas.Bool.{cases_eq}
+use Rattle.squares.specs.DraughtsMarks.{contains-insert_nat, nat_eq_same, nat_eq_other}
 use Rattle.std.specs.Option.{option_map_or}
-use Rattle.std.proofs.lemmas.List.{append_assoc, append-nil, length-append}
 use Rattle.squares.specs.declared.draughts.direction.Direction.{Direction}
 use Rattle.squares.specs.declared.draughts.piece.DPiece.{DPiece}
 use Rattle.squares.specs.DraughtsSets.{Squares}
@@ -34,27 +38,51 @@ unfolding steps_along ray
 walked b q d n h = ap (clear_front b) (sym (take-line (reach q d) 9 d n h))
 
 -- The steps of a walk over empty squares.
-module _ (b : Cells) (k : ℕ) (d : Direction) (n : ℕ) (xs : List ℕ) where
-  abbrev Walk : List ℕ
-  Walk = xs ++ clear_front b (line k d n)
+module _ (b : Cells) (k : ℕ) (d : Direction) (n : ℕ) where
+  abbrev Front : List ℕ
+  Front = clear_front b (line k d n)
 
-  pub walk-edge : step d n ≡ None → xs ≡ Walk
-  walk-edge e = nothing_added xs (clear_front b (line k d n)) (ap (clear_front b) (line-edge k d n e))
+  pub walk-edge : step d n ≡ None → Front ≡ []
+  walk-edge e = ap (clear_front b) (line-edge k d n e)
 
-  pub walk-end : k ≡ 0 → xs ≡ Walk
-  walk-end e = nothing_added xs (clear_front b (line k d n)) (ap (clear_front b) (line-nothing k d n e))
+  pub walk-end : k ≡ 0 → Front ≡ []
+  walk-end e = ap (clear_front b) (line-nothing k d n e)
 
   module _ (j m : ℕ) (next : step d n ≡ Some m) (more : k ≡ j + 1) where
-    first : clear_front b (line k d n) ≡ cond (is_none (b m)) (m ∷ clear_front b (line j d m)) []
+    first : Front ≡ cond (is_none (b m)) (m ∷ clear_front b (line j d m)) []
     first = ap (clear_front b) (line-step k j d n m next more)
 
-    pub walk-stopped : is_none (b m) ≡ false → xs ≡ Walk
-    walk-stopped e = nothing_added xs (clear_front b (line k d n)) (first ∙ ap (λ c. cond c (m ∷ clear_front b (line j d m)) []) e)
+    pub walk-stopped : is_none (b m) ≡ false → Front ≡ []
+    walk-stopped e = first ∙ ap (λ c. cond c (m ∷ clear_front b (line j d m)) []) e
 
-    pub walk-on : (ys : List ℕ) → ys ≡ xs ++ m ∷ [] → is_none (b m) ≡ true → ys ++ clear_front b (line j d m) ≡ Walk
-    walk-on ys is e =
-        ap (λ zs. zs ++ clear_front b (line j d m)) is ∙ append_assoc xs (m ∷ []) (clear_front b (line j d m))
-        ∙ sym (ap (λ zs. xs ++ zs) (first ∙ ap (λ c. cond c (m ∷ clear_front b (line j d m)) []) e))
+    pub walk-on : is_none (b m) ≡ true → Front ≡ m ∷ clear_front b (line j d m)
+    walk-on e = first ∙ ap (λ c. cond c (m ∷ clear_front b (line j d m)) []) e
+
+-- whether a square is of a list
+abbrev pub is_in : ℕ → List ℕ → Bool
+is_in n ms = list_any (λ m. m == n) ms
+
+or_none : (a : Bool) → a ≡ (a || false)
+or_none true = refl
+or_none false = refl
+
+or_turned : (a c r : Bool) → ((a || c) || r) ≡ (c || (a || r))
+or_turned true true r = refl
+or_turned true false r = refl
+or_turned false true r = refl
+or_turned false false r = refl
+
+turned : (a n : ℕ) → nat_eq a n ≡ nat_eq n a
+turned a n = elim (cases_eq a n) [ inl e ↦ nat_eq_same a n e ∙ sym (nat_eq_same n a (sym e)) | inr d ↦ nat_eq_other a n d ∙ sym (nat_eq_other n a (λ e. d (sym e))) ]
+
+-- a walk that puts the squares that it comes to into a set
+pub walk-put_end : (squares : Squares) (front whole : List ℕ) (n : ℕ) → front ≡ [] → (set.contains squares n || is_in n front) ≡ is_in n whole → set.contains squares n ≡ is_in n whole
+walk-put_end squares front whole n none so_far = or_none (set.contains squares n) ∙ ap (λ ms. set.contains squares n || is_in n ms) (sym none) ∙ so_far
+
+pub walk-put_more : (squares more : Squares) (m : ℕ) (front rest whole : List ℕ) (n : ℕ) → more ≡ set.insert squares m → front ≡ m ∷ rest → (set.contains squares n || is_in n front) ≡ is_in n whole → (set.contains more n || is_in n rest) ≡ is_in n whole
+walk-put_more squares more m front rest whole n put on so_far =
+    ap (λ s. set.contains s n || is_in n rest) put ∙ ap (λ c. c || is_in n rest) (contains-insert_nat squares m n ∙ ap (λ c. c || set.contains squares n) (turned n m))
+    ∙ or_turned (nat_eq m n) (set.contains squares n) (is_in n rest) ∙ sym (ap (λ ms. set.contains squares n || is_in n ms) on) ∙ so_far
 
 -- A man's jump.
 module _ (b : Cells) (p : DPiece) (t : Squares) (d : Direction) (n : ℕ) where
@@ -99,6 +127,3 @@ some-is_none (Some a) e = refl
 pub not_some-is_none : {A : Type 0} (o : Option A) → is_some o ≡ false → is_none o ≡ true
 not_some-is_none None e = refl
 not_some-is_none (Some a) e = cc
-
-pub one_longer : (start xs ys : List ℕ) (m i : ℕ) → ys ≡ xs ++ m ∷ [] → length xs ≤ length start + i → length ys ≤ length start + (i + 1)
-one_longer start xs ys m i e h = omega (arith, ap length e, length-append xs (m ∷ []))

@@ -1,5 +1,5 @@
 -- The legal moves, computed, and their order: by from, to, and then the ascending list of the squares taken.
-use Rattle.std.specs.Prelude.{ℕ, ◌==◌, if◌then◌else◌, List, [], ◌∷◌, map}
+use Rattle.std.specs.Prelude.{ℕ, ◌==◌, if◌then◌else◌, List, [], ◌∷◌, map, filter}
 use Rattle.std.specs.Ordering.{nat_cmp}
 use Rattle.std.specs.List.{flat_map, range_with_len}
 use Rattle.std.specs.Option.{option_map_or}
@@ -11,7 +11,7 @@ use Rattle.squares.specs.DraughtsBoard.{Position}
 use Rattle.squares.specs.DraughtsSets.{Squares, ascending}
 use Rattle.squares.specs.declared.draughts.moves.DMove.{DMove}
 use Rattle.draughts_moves.specs.Capture.{without}
-use Rattle.draughts_moves.specs.Search.{own_at, routes_of, steps}
+use Rattle.draughts_moves.specs.Search.{own_at, routes_of, steps, is_step}
 
 -- what moves are ordered by
 abbrev pub key_of : DMove → List ℕ
@@ -33,6 +33,14 @@ step_to x y = record { from = x; to = y; taken = set.empty }
 -- the quiet moves of the piece on x
 unfoldable pub quiet_at : Position → ℕ → List DMove
 quiet_at p x = option_map_or (λ q. map (step_to x) (steps (finite_map.get p.board) q x)) (own_at p x) []
+
+-- the quiet moves of the piece on x by the squares that it goes to
+unfoldable pub quiet_in_order : Position → ℕ → List DMove
+quiet_in_order p x = map (step_to x) (filter (is_step p x) (range_with_len 1 50))
+
+-- the quiet moves of all pieces
+unfoldable pub quiet_list : Position → List DMove
+quiet_list p = flat_map (quiet_in_order p) (range_with_len 1 50)
 
 -- the moves of the piece on x, where the most that can be taken is n
 unfoldable pub moves_at : Position → ℕ → ℕ → List DMove

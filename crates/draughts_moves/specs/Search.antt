@@ -86,9 +86,13 @@ AreEnemies p enemies = (n : ℕ) → set.contains enemies n ≡ is_of (other p.t
 abbrev pub next_in : Squares → Direction → ℕ → Bool
 next_in s d n = option_map_or (set.contains s) (step d n) false
 
--- whether one of the four next squares is of the set
-abbrev pub is_beside : Squares → ℕ → Bool
-is_beside s n = ((next_in s UpLeft n || next_in s UpRight n) || next_in s DownLeft n) || next_in s DownRight n
+-- whether the next square in a direction is of one set, and the square behind it of another
+abbrev pub next_before : Squares → Squares → Direction → ℕ → Bool
+next_before s behind d n = option_map_or (λ m. set.contains s m && next_in behind d m) (step d n) false
+
+-- whether that is so in one of the four directions
+abbrev pub is_beside : Squares → Squares → ℕ → Bool
+is_beside s behind n = ((next_before s behind UpLeft n || next_before s behind UpRight n) || next_before s behind DownLeft n) || next_before s behind DownRight n
 
 -- the most jumps in a row of the piece on x
 unfoldable pub greatest_at : Position → ℕ → ℕ

@@ -108,7 +108,7 @@ fn is_step(position: &DPos, from: Dsq, to: Dsq) -> bool
     ensures { result ≡ is_step position.now from to }
 {
     match own_at(position, from) {
-        Some(piece) => steps_from(position, piece, from).has(to),
+        Some(piece) => steps_from(position, piece, from).contains(to),
         None => false,
     }
 }
@@ -147,7 +147,7 @@ fn can_move(position: &DPos, square: Dsq) -> bool
 {
     match own_at(position, square) {
         Some(piece) => {
-            if steps_from(position, piece, square).len() > 0 {
+            if !steps_from(position, piece, square).is_empty() {
                 return true;
             }
             can_jump(position, &Mover::new(piece, square))

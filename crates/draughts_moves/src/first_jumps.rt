@@ -5,7 +5,7 @@ ghost use Rattle.draughts_moves.specs.Capture.{without};
 ghost use Rattle.squares.specs.DraughtsGeometry.{ray, step};
 ghost use Rattle.draughts_moves.specs.Search.{takes, line_jumps, king_jumps, man_jumps, jumps};
 
-use crate::jumps::{is_prey, stands};
+use crate::jumps::{is_prey, others, stands};
 use crate::mover::Mover;
 use squares::{DPos, Direction, Dsq};
 
@@ -42,25 +42,16 @@ fn man_can_jump(position: &DPos, mover: &Mover, toward: Direction) -> bool
     }
 }
 
-// Whether a king can jump in a direction: what stands first on its way is what it can take. The ninth square of a line is at
-// the edge, so nothing that stands there is taken.
+// Whether a king can jump in a direction: what stands first on its way is what it can take.
 fn king_can_jump(position: &DPos, mover: &Mover, toward: Direction) -> bool
     ensures { result ≡ nat_lt 0 (length (king_jumps (without position.now.board mover.now.origin)
         mover.now.piece mover.now.taken (ray toward mover.now.at))) }
 {
-    let mut at = mover.at;
-    for _ in 0..8_u8 {
-        match at.step(toward) {
-            None => return false,
-            Some(next) => {
-                if stands(position, mover.origin, next).is_some() {
-                    return takes(position, mover, next, toward);
-                }
-                at = next;
-            }
-        }
+    let pieces = others(position, mover.origin);
+    match mover.at.first_on(toward, pieces) {
+        Some(over) => takes(position, mover, over, toward),
+        None => false,
     }
-    false
 }
 
 // Whether the piece can jump in a direction.

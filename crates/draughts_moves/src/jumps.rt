@@ -1,11 +1,12 @@
 //! The jumps of a piece from a square.
-ghost use Rattle.std.specs.Prelude.{◌≡◌, ◌+◌, ◌<◌, ◌≤◌, [], ◌∷◌, ◌++◌, length, map, not};
+ghost use Rattle.std.specs.Prelude.{◌≡◌, ◌+◌, ◌<◌, ◌≤◌, ℕ, [], ◌∷◌, ◌++◌, is_some, length, map, not};
+ghost use Rattle.std.specs.FinSet as set;
 ghost use Rattle.draughts_moves.specs.Capture.{without};
 ghost use Rattle.squares.specs.DraughtsGeometry.{ray};
 ghost use Rattle.draughts_moves.specs.Search.{clear_front, is_prey, king_jumps, man_jumps, line_jumps, jumps};
 
 use crate::mover::Mover;
-use squares::{DPiece, DPos, Direction, Dsq, Ray};
+use squares::{DPiece, DPos, DSet, Direction, Dsq, Side};
 use std::marker::Model;
 
 /// Jumps, each by the square jumped over and the landing.
@@ -79,37 +80,52 @@ pub(crate) fn is_prey(position: &DPos, mover: &Mover, square: Dsq) -> bool
     }
 }
 
-// Adds the landings behind an enemy, the squares of the line up to the first piece.
-fn landings(position: &DPos, origin: Dsq, over: Dsq, line: &[Dsq], jumps: &mut Jumps)
-    requires room { length jumps.old + length line.now ≤ 36 }
-    ensures added { jumps.new ≡ jumps.old
-        ++ map (λ l. (over, l)) (clear_front (without position.now.board origin) line.now) }
-    ensures room { length jumps.new ≤ length jumps.old + length line.now }
+// The squares of all pieces but the one on `origin`.
+pub(crate) fn others(position: &DPos, origin: Dsq) -> DSet
+    ensures { (n : ℕ) → set.contains result n
+        ≡ is_some (without position.now.board origin n) }
 {
-    for square in line {
-        match stands(position, origin, *square) {
-            Some(_) => return,
-            None => jumps.push(over, *square),
+    let first = position.squares_of(Side::First);
+    let all = first.union(position.squares_of(Side::Second));
+    all.without(origin)
+}
+
+// Adds the landings behind an enemy, the squares of the line up to the first piece.
+fn landings(position: &DPos, origin: Dsq, over: Dsq, toward: Direction, jumps: &mut Jumps)
+    requires room { length jumps.old + 9 ≤ 36 }
+    ensures added { jumps.new ≡ jumps.old ++ map (λ l. (over, l))
+        (clear_front (without position.now.board origin) (ray toward over)) }
+    ensures room { length jumps.new ≤ length jumps.old + 9 }
+{
+    let mut at = over;
+    for _ in 0..9_u8 {
+        match at.step(toward) {
+            None => return,
+            Some(next) => {
+                if stands(position, origin, next).is_some() {
+                    return;
+                }
+                jumps.push(over, next);
+                at = next;
+            }
         }
     }
 }
 
-// Adds a king's jumps along a line.
-fn king_jumps(position: &DPos, mover: &Mover, line: &[Dsq], jumps: &mut Jumps)
-    requires room { length jumps.old + length line.now ≤ 36 }
+// Adds a king's jumps in a direction, over the first piece on its way.
+fn king_jumps(position: &DPos, mover: &Mover, toward: Direction, jumps: &mut Jumps)
+    requires room { length jumps.old + 9 ≤ 36 }
     ensures added { jumps.new ≡ jumps.old
         ++ king_jumps (without position.now.board mover.now.origin)
-        mover.now.piece mover.now.taken line.now }
-    ensures room { length jumps.new ≤ length jumps.old + length line.now }
+        mover.now.piece mover.now.taken (ray toward mover.now.at) }
+    ensures room { length jumps.new ≤ length jumps.old + 9 }
 {
-    for (i, square) in line.iter().enumerate() {
-        match stands(position, mover.origin, *square) {
-            None => {}
-            Some(_) => {
-                if is_prey(position, mover, *square) {
-                    landings(position, mover.origin, *square, &line[i + 1..], jumps);
-                }
-                return;
+    let pieces = others(position, mover.origin);
+    match mover.at.first_on(toward, pieces) {
+        None => {}
+        Some(over) => {
+            if is_prey(position, mover, over) {
+                landings(position, mover.origin, over, toward, jumps);
             }
         }
     }
@@ -148,8 +164,7 @@ fn jumps_along(position: &DPos, mover: &Mover, toward: Direction, jumps: &mut Ju
     ensures room { length jumps.new ≤ length jumps.old + 9 }
 {
     if mover.piece.king {
-        let ray = Ray::new(mover.at, toward);
-        king_jumps(position, mover, ray.squares(), jumps);
+        king_jumps(position, mover, toward, jumps);
     } else {
         man_jumps(position, mover, toward, jumps);
     }

@@ -4,6 +4,7 @@
 mod beside;
 pub mod checking;
 mod first_jumps;
+mod found;
 pub mod jumps;
 pub mod laws;
 pub mod listing;
@@ -15,6 +16,7 @@ mod ordering;
 pub mod playing;
 mod reaches;
 pub mod routing;
+mod seeking;
 mod steps;
 
 pub use checking::{Illegal, check, has_move};

@@ -1,9 +1,10 @@
 //! The greatest number of pieces that can be taken.
-ghost use Rattle.std.specs.Prelude.{◌≡◌, ◌≤◌, not, ◌&&◌};
+ghost use Rattle.std.specs.Prelude.{◌≡◌, ◌≤◌, ℕ, false};
+ghost use Rattle.std.specs.FinSet as set;
 ghost use Rattle.draughts_moves.specs.Capture.{IsMost};
-ghost use Rattle.draughts_moves.specs.Search.{own_at, greatest_at, is_beside, AreEnemies};
+ghost use Rattle.draughts_moves.specs.Search.{own_at, greatest_at};
 
-use crate::beside::is_beside;
+use crate::beside::all_beside;
 use crate::longest::longest;
 use crate::mover::Mover;
 use squares::{DPiece, DPos, DSet, Dsq};
@@ -23,30 +24,26 @@ pub fn own_at(position: &DPos, square: Dsq) -> Option<DPiece>
     }
 }
 
-// Whether the piece is a man with no enemy beside it.
-fn is_far_man(piece: DPiece, enemies: DSet, square: Dsq) -> bool
-    ensures { result ≡ (not piece.king && not (is_beside enemies square)) }
+// The pieces of the side to move that may take something: its kings, and its men beside an enemy with an empty square
+// behind it.
+pub(crate) fn may_take(position: &DPos) -> DSet
+    ensures { (n : ℕ) → set.contains result n ≡ false → greatest_at position.now n ≡ 0 }
 {
-    if piece.king {
-        return false;
-    }
-    !is_beside(enemies, square)
+    let own = position.squares_of(position.turn());
+    let enemies = position.squares_of(position.turn().other());
+    let near = all_beside(enemies, position.empty_squares());
+    let able = near.union(position.kings());
+    own.intersection(able)
 }
 
 // The most jumps in a row of the piece on a square.
 #[tactic(auto, unfolding(crate::specs::Search::greatest_at))]
-fn greatest_at(position: &DPos, enemies: DSet, square: Dsq) -> usize
-    requires { AreEnemies position.now enemies }
+fn greatest_at(position: &DPos, square: Dsq) -> usize
     ensures value { result ≡ greatest_at position.now square }
     ensures few { result ≤ 50 }
 {
     match own_at(position, square) {
-        Some(piece) => {
-            if is_far_man(piece, enemies, square) {
-                return 0;
-            }
-            longest(position, &Mover::new(piece, square))
-        }
+        Some(piece) => { longest(position, &Mover::new(piece, square)) }
         None => 0,
     }
 }
@@ -56,10 +53,10 @@ pub fn most(position: &DPos) -> usize
     ensures most { IsMost position.now result }
     ensures few { result ≤ 50 }
 {
-    let enemies = position.squares_of(position.turn().other());
     let mut most = 0;
-    for square in &Dsq::all() {
-        most = most.max(greatest_at(position, enemies, *square));
+    let mut able = may_take(position);
+    while let Some(square) = able.pop() {
+        most = most.max(greatest_at(position, square));
     }
     most
 }

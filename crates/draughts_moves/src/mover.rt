@@ -38,4 +38,20 @@ impl Mover {
             taken: self.taken.with(over),
         }
     }
+
+    /// Makes one more jump.
+    pub fn jump(&mut self, over: Dsq, to: Dsq)
+        ensures { self.new ≡ record self.old { at = to; taken = set.insert self.old.taken over } }
+    {
+        self.at = to;
+        self.taken = self.taken.with(over);
+    }
+
+    /// Takes a jump back: what was jumped over is not taken, and the piece is where it came from.
+    pub fn take_back(&mut self, over: Dsq, from: Dsq)
+        ensures { self.new ≡ record self.old { at = from; taken = set.remove self.old.taken over } }
+    {
+        self.at = from;
+        self.taken = self.taken.without(over);
+    }
 }

@@ -1,2 +1,4 @@
 mod BitLemmas
+mod EndLemmas
 mod SetLemmas
+mod ShiftLemmas

@@ -40,6 +40,16 @@ abbrev pub Pops : ℕ → ℕ → Numbers → Option ℕ → Numbers → Type 0
 Pops first count before None after = (before ≡ set.empty) × (ascending first count before ≡ []) × (after ≡ before)
 Pops first count before (Some n) after = (ascending first count before ≡ n ∷ ascending first count after) × (after ≡ set.remove before n) × (first ≤ n) × (n < first + count) × (set.contains before n ≡ true)
 
+-- the least number of a set, if it has any
+abbrev pub IsLeast : Numbers → Option ℕ → Type 0
+IsLeast s None = s ≡ set.empty
+IsLeast s (Some n) = (set.contains s n ≡ true) × ((q : ℕ) → set.contains s q ≡ true → n ≤ q)
+
+-- the greatest number of a set, if it has any
+abbrev pub IsGreatest : Numbers → Option ℕ → Type 0
+IsGreatest s None = s ≡ set.empty
+IsGreatest s (Some n) = (set.contains s n ≡ true) × ((q : ℕ) → set.contains s q ≡ true → q ≤ n)
+
 pub nat_eq_below : (n q : ℕ) → q < n → nat_eq n q ≡ false
 nat_eq_below n q h = grind (arith, common_steps)
 
@@ -60,7 +70,7 @@ module _ (test : ℕ → Bool) where
         | false ↦ passing-below (suc first) count q (omega arith)
       ]
 
-  passing-at : (first count q : ℕ) → first ≤ q → q < first + count → list_any (λ y. nat_eq y q) (passing test first count) ≡ test q
+  pub passing-at : (first count q : ℕ) → first ≤ q → q < first + count → list_any (λ y. nat_eq y q) (passing test first count) ≡ test q
   unfolding passing
   passing-at first zero q h below = absurd (omega arith)
   passing-at first (suc count) q h below =
@@ -78,7 +88,7 @@ module _ (test : ℕ → Bool) where
             ]
       ]
 
-  passing-past : (first count q : ℕ) → first + count ≤ q → list_any (λ y. nat_eq y q) (passing test first count) ≡ false
+  pub passing-past : (first count q : ℕ) → first + count ≤ q → list_any (λ y. nat_eq y q) (passing test first count) ≡ false
   unfolding passing
   passing-past first zero q h = refl
   passing-past first (suc count) q h =

@@ -1,7 +1,7 @@
 //! A set of squares of the board of fifty.
-ghost use Rattle.std.specs.Prelude.{◌≡◌, ◌↔◌, ◌+◌, ◌≤◌, ℕ, false, ◌⊎◌, ◌<◌, IsTrue};
+ghost use Rattle.std.specs.Prelude.{◌≡◌, ◌↔◌, ◌+◌, ◌-◌, ◌^◌, ◌≤◌, ℕ, false, true, ◌⊎◌, ◌<◌, IsTrue};
 ghost use Rattle.std.specs.FinSet as set;
-ghost use Rattle.masks.specs.Words.{Pops, has_bit};
+ghost use Rattle.masks.specs.Words.{IsGreatest, IsLeast, Pops, has_bit};
 
 use std::marker::Model;
 
@@ -36,6 +36,15 @@ impl Word50 {
         ensures { result ≡ set.empty }
     {
         Word50 { bits: 0 }
+    }
+
+    /// The set of all fifty squares.
+    pub fn full() -> Word50
+        ensures { (q : ℕ) → 1 ≤ q → q ≤ 50 → set.contains result q ≡ true }
+    {
+        Word50 {
+            bits: 0x3_ffff_ffff_ffff,
+        }
     }
 
     /// The word: bit `n` is set exactly where the square `n + 1` is in the set.
@@ -121,11 +130,61 @@ impl Word50 {
         let _bits = self.bits;
     }
 
+    /// The set of a word: it has the square `n + 1` exactly where bit `n` is set.
+    pub fn of_word(bits: u64) -> Word50
+        requires { bits < 2 ^ 50 }
+        ensures { (n : ℕ) → set.contains result (n + 1) ≡ has_bit bits n }
+    {
+        Word50 { bits }
+    }
+
+    /// The squares that come so many numbers after a square of the set.
+    pub fn raised(self, by: u8) -> Word50
+        requires { by < 50 }
+        ensures moved { (q : ℕ) → by < q → q ≤ 50
+            → set.contains result q ≡ set.contains self (q - by) }
+        ensures left { (q : ℕ) → q ≤ by → set.contains result q ≡ false }
+    {
+        Word50 {
+            bits: (self.bits << u32::from(by)) & 0x3_ffff_ffff_ffff,
+        }
+    }
+
+    /// The squares that come so many numbers before a square of the set.
+    pub fn lowered(self, by: u8) -> Word50
+        requires { by < 50 }
+        ensures { (q : ℕ) → 1 ≤ q → set.contains result q ≡ set.contains self (q + by) }
+    {
+        Word50 {
+            bits: self.bits >> u32::from(by),
+        }
+    }
+
     /// How many squares the set has.
     pub fn len(self) -> u32
         ensures { result ≡ set.len self }
     {
         self.bits.count_ones()
+    }
+
+    /// The least square of the set, or None where it has none.
+    pub fn least(self) -> Option<u8>
+        ensures { IsLeast self result }
+    {
+        if self.bits == 0 {
+            return None;
+        }
+        Some(self.bits.trailing_zeros() as u8 + 1)
+    }
+
+    /// The greatest square of the set, or None where it has none.
+    pub fn greatest(self) -> Option<u8>
+        ensures { IsGreatest self result }
+    {
+        if self.bits == 0 {
+            return None;
+        }
+        Some(64 - self.bits.leading_zeros() as u8)
     }
 
     /// Takes the least square out of the set, or answers None where there is none.

@@ -31,11 +31,11 @@ and_true : (a b : Bool) → (a && b) ≡ true → (a ≡ true) × (b ≡ true)
 and_true true b e = (refl, e)
 and_true false b e = cc
 
-in_range : (a n v : ℕ) → a ≤ v → v < a + n → In v (range_with_len a n)
+pub in_range : (a n v : ℕ) → a ≤ v → v < a + n → In v (range_with_len a n)
 in_range a zero v h k = absurd (omega arith)
 in_range a (suc n) v h k = elim (cases_eq a v) [ inl e ↦ inl e | inr d ↦ inr (in_range (a + 1) n v (omega arith) (omega arith)) ]
 
-all_found : {A : Type 0} (f : A → Bool) (xs : List A) (x : A) → In x xs → list_all f xs ≡ true → f x ≡ true
+pub all_found : {A : Type 0} (f : A → Bool) (xs : List A) (x : A) → In x xs → list_all f xs ≡ true → f x ≡ true
 all_found f [] x h e = absurd h
 all_found f (y ∷ xs) x (inl same) e = ap f (sym same) ∙ (and_true (f y) (list_all f xs) e).0
 all_found f (y ∷ xs) x (inr h) e = all_found f xs x h (and_true (f y) (list_all f xs) e).1

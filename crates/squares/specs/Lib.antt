@@ -2,6 +2,7 @@ pub mod DraughtsBoard
 pub mod DraughtsCells
 pub mod DraughtsGeometry
 pub mod DraughtsHash
+pub mod DraughtsKept
 pub mod DraughtsLaws
 pub mod DraughtsMarks
 pub mod DraughtsOnBoard

@@ -11,7 +11,7 @@ use Rattle.std.specs.Cmp.{IsTotalOrder}
 use Rattle.std.specs.declared.cmp.Ordering.{Ordering}
 use Rattle.std.specs.declared.cmp.Ordering.TheVariants.{Less, Equal, Greater}
 use Rattle.squares.specs.OrderedLists.{put_by, put, put_all}
-use Rattle.squares.specs.In.{In}
+use Rattle.squares.specs.In.{In, In-cases}
 
 pub map-flat_map : {A B C : Type 0} (g : B → C) (f : A → List B) (xs : List A) → map g (flat_map f xs) ≡ flat_map (λ x. map g (f x)) xs
 map-flat_map g f [] = refl
@@ -47,14 +47,23 @@ module _ {A : Type 0} (order : A → A → Ordering) (total : IsTotalOrder order
         | Greater ↦ λ _. inl refl
       ] refl
 
-  less_all : (x : A) (ys : List A) → ((y : A) → In y ys → order x y ≡ Less) → AllByRecursion (λ y. order x y ≡ Less) ys
+  pub less_all : (x : A) (ys : List A) → ((y : A) → In y ys → order x y ≡ Less) → AllByRecursion (λ y. order x y ≡ Less) ys
   less_all x [] h = tt
   less_all x (y ∷ ys) h = (h y (inl refl), less_all x ys (λ z k. h z (inr k)))
 
-  all_less : (x y : A) (ys : List A) → AllByRecursion (λ z. order x z ≡ Less) ys → In y ys → order x y ≡ Less
+  pub all_less : (x y : A) (ys : List A) → AllByRecursion (λ z. order x z ≡ Less) ys → In y ys → order x y ≡ Less
   all_less x y [] h k = absurd k
   all_less x y (z ∷ ys) h (inl e) = ap (order x) (sym e) ∙ h.0
   all_less x y (z ∷ ys) h (inr k) = all_less x y ys h.1 k
+
+  -- a list in order before another, each of whose elements comes after all of the first
+  pub append-sorted : (xs ys : List A) → IsStrictlySortedBy order xs → IsStrictlySortedBy order ys → ((x y : A) → In x xs → In y ys → order x y ≡ Less) → IsStrictlySortedBy order (xs ++ ys)
+  unfolding IsStrictlySortedBy
+  append-sorted [] ys s t h = t
+  append-sorted (x ∷ xs) ys s t h = (
+    less_all x (xs ++ ys) (λ y k. elim (In-cases y xs ys k) [ inl a ↦ all_less x y xs s.0 a | inr b ↦ h x y (inl refl) b ]),
+    append-sorted xs ys s.1 t (λ a b k l. h a b (inr k) l),
+  )
 
   pub put-sorted : (m : A) (xs : List A) → IsStrictlySortedBy order xs → IsStrictlySortedBy order (put order m xs)
   unfolding IsStrictlySortedBy
@@ -133,9 +142,3 @@ module _ {A : Type 0} (order : A → A → Ordering) (total : IsTotalOrder order
   put_all-more f xs i x before old new h is so_far step =
       step ∙ ap (put_all order (f x)) so_far ∙ sym (put_all-append (flat_map f (take i xs)) (f x) before)
       ∙ ap (λ ms. put_all order ms before) (flat_map_more f [] (take i xs) x ∙ ap (flat_map f) (ap (λ y. take i xs ++ y ∷ []) is ∙ sym (take_more xs i x h)))
-
-  -- one more element
-  pub put_all-map_more : {B : Type 0} (g : B → A) (xs : List B) (i : ℕ) (x : B) (before old new : List A) → i < length xs → x ≡ get_or xs i x → old ≡ put_all order (map g (take i xs)) before → new ≡ put order (g x) old → new ≡ put_all order (map g (take (i + 1) xs)) before
-  put_all-map_more g xs i x before old new h is so_far step =
-      step ∙ ap (put order (g x)) so_far ∙ sym (put_all-append (map g (take i xs)) (g x ∷ []) before)
-      ∙ ap (λ ms. put_all order ms before) (sym (map-append g (take i xs) (x ∷ [])) ∙ ap (map g) (ap (λ y. take i xs ++ y ∷ []) is ∙ sym (take_more xs i x h)))

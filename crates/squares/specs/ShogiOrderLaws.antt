@@ -77,15 +77,6 @@ board_cmp-same : (a b : ShogiBoard) → is_eq (board_cmp a b) ≡ true → a ≡
 unfolding board_cmp
 board_cmp-same a b e = map.same_entries_map a b (entries-tied (map.entries a) (map.entries b) e)
 
-pub board_cmp-tied : (a b : ShogiBoard) → same_shogi_board a b ≡ eq_by_cmp board_cmp a b
-board_cmp-tied a b =
-    both_ways (same_shogi_board a b) (eq_by_cmp board_cmp a b)
-    (λ e. ap is_eq (subst (λ c. board_cmp a c ≡ Equal) (same_shogi_board-same a b e) (tied_itself board_cmp-total a)))
-    (λ e. subst (λ c. same_shogi_board a c ≡ true) (board_cmp-same a b e) (same_shogi_board-itself a))
-
-pub board_cmp-partial : IsPartialOrder same_shogi_board (as_partial_cmp board_cmp)
-board_cmp-partial = partial_order_from_agreeing_total board_cmp board_cmp-total (λ a b. refl) board_cmp-tied
-
 pub position_cmp-total : IsTotalOrder position_cmp
 unfolding position_cmp
 position_cmp-total =

@@ -1,9 +1,10 @@
 //! A position: a board and a turn.
-ghost use Rattle.std.specs.Prelude.{◌≡◌, ◌+◌, ◌<◌, ◌≤◌, ℕ, List, Option, length, not, IsTrue, ◌↔◌, ◌⊎◌, None};
+ghost use Rattle.std.specs.Prelude.{◌≡◌, ◌+◌, ◌<◌, ◌≤◌, ℕ, false, List, Option, length, not, IsTrue, ◌↔◌, ◌⊎◌, None, is_none};
 ghost use Rattle.std.specs.FinMap as map;
 ghost use Rattle.std.specs.FinSet as set;
 ghost use Rattle.squares.specs.DraughtsGeometry.{OnBoard};
-ghost use Rattle.squares.specs.DraughtsBoard.{is_of};
+ghost use Rattle.squares.specs.DraughtsBoard.{is_of, board_of};
+ghost use Rattle.squares.specs.DraughtsKept.{is_king, Marks, noted};
 ghost use Rattle.squares.specs.DraughtsSamePosition.{same_cell};
 ghost use Rattle.squares.specs.DraughtsOpening.{opening, opening_piece, man};
 ghost use Rattle.squares.specs.Sides.{other};
@@ -18,15 +19,21 @@ use std::marker::Model;
 
 /// A board, with at most one piece on each square, and the side to move. Two positions with the
 /// same pieces on the same squares and the same turn are one position.
+///
+/// Beside the cells it keeps the squares of each side's pieces, and those of the kings, as words of bits.
 #[derive(Clone, Copy, Debug)]
 pub struct DPos {
     cells: [Option<DPiece>; 50],
+    first: Word50,
+    second: Word50,
+    kings: Word50,
     turn: Side,
 }
 
 impl Model for DPos {
-    ghost use Rattle.std.specs.Prelude.{◌≡◌, length};
-    ghost use Rattle.squares.specs.DraughtsBoard.{Position, board_of};
+    ghost use Rattle.squares.specs.DraughtsBoard.{Position, board_of, is_of};
+    ghost use Rattle.squares.specs.DraughtsKept.{KeepsCells, is_king, squares_where, where_back};
+    ghost use Rattle.squares.specs.declared.sides.Side.TheVariants as side;
     ghost use Rattle.std.specs.Coded.{code_by, coded×, coded_ℕ};
     ghost use Rattle.std.specs.FinMap as finite_map;
     ghost use Rattle.std.specs.Prelude.{refl};
@@ -43,7 +50,7 @@ impl Model for DPos {
 
     ghost view = { λ p. record { board = board_of p.cells; turn = p.turn } };
 
-    ghost invariant = { λ p. length p.cells ≡ 50 };
+    ghost invariant = { λ p. KeepsCells p.cells p.first p.second p.kings };
 
     ghost use Rattle.std.specs.Prelude.{map};
     ghost use Rattle.std.specs.List.{range_with_len};
@@ -51,10 +58,19 @@ impl Model for DPos {
 
     ghost inverse = { λ p. record {
       cells = map (λ n. finite_map.get p.board n) (range_with_len 1 50);
+      first = squares_where (is_of side.First) p.board;
+      second = squares_where (is_of side.Second) p.board;
+      kings = squares_where is_king p.board;
       turn = p.turn;
     } };
 
-    ghost inverse_ok = { λ a h i. record { cells = cells_back a.cells h i; turn = a.turn } };
+    ghost inverse_ok = { λ a h i. record {
+      cells = cells_back a.cells h.has_cells i;
+      first = where_back (is_of side.First) refl a.cells a.first h.has_cells h.of_first i;
+      second = where_back (is_of side.Second) refl a.cells a.second h.has_cells h.of_second i;
+      kings = where_back is_king refl a.cells a.kings h.has_cells h.of_kings i;
+      turn = a.turn;
+    } };
 }
 
 impl DPos {
@@ -64,6 +80,9 @@ impl DPos {
     {
         DPos {
             cells: [None; 50],
+            first: Word50::new(),
+            second: Word50::new(),
+            kings: Word50::new(),
             turn,
         }
     }
@@ -80,6 +99,9 @@ impl DPos {
         }
         DPos {
             cells,
+            first: squares_in(&cells, Side::First),
+            second: squares_in(&cells, Side::Second),
+            kings: Word50::new(),
             turn: Side::First,
         }
     }
@@ -102,13 +124,29 @@ impl DPos {
     pub fn squares_of(&self, side: Side) -> DSet
         ensures { (n : ℕ) → set.contains result n ≡ is_of side (map.get self.now.board n) }
     {
-        let mut squares = Word50::new();
-        for i in 0..50 {
-            if is_of(side, self.cells[i]) {
-                squares = squares.with(i as u8 + 1);
-            }
+        match side {
+            Side::First => DSet::of_word(self.first),
+            Side::Second => DSet::of_word(self.second),
         }
-        DSet::of_word(squares)
+    }
+
+    /// The squares of the kings of both sides.
+    pub fn kings(&self) -> DSet
+        ensures { (n : ℕ) → set.contains result n ≡ is_king (map.get self.now.board n) }
+    {
+        DSet::of_word(self.kings)
+    }
+
+    /// The empty squares of the board.
+    pub fn empty_squares(&self) -> DSet
+        ensures empty { (n : ℕ) → OnBoard n
+            → set.contains result n ≡ is_none (map.get self.now.board n) }
+        ensures off_board { (n : ℕ) → (n < 1) ⊎ (50 < n) → set.contains result n ≡ false }
+    {
+        let occupied = self.first.union(self.second);
+        let empty = Word50::full().difference(occupied);
+        empty.keeps_to_its_squares();
+        DSet::of_word(empty)
     }
 
     /// Puts a piece on a square, in place of what stands there.
@@ -116,6 +154,9 @@ impl DPos {
         ensures { self.new ≡ record self.old { board = map.insert self.old.board square piece } }
     {
         self.cells[usize::from(square.number()) - 1] = Some(piece);
+        self.first = noted(self.first, square, is_of(Side::First, Some(piece)));
+        self.second = noted(self.second, square, is_of(Side::Second, Some(piece)));
+        self.kings = noted(self.kings, square, piece.king);
     }
 
     /// Takes what stands on a square off the board.
@@ -123,6 +164,9 @@ impl DPos {
         ensures { self.new ≡ record self.old { board = map.remove self.old.board square } }
     {
         self.cells[usize::from(square.number()) - 1] = None;
+        self.first = self.first.without(square.number());
+        self.second = self.second.without(square.number());
+        self.kings = self.kings.without(square.number());
     }
 
     /// Takes what stands on any square of a set off the board.
@@ -131,14 +175,9 @@ impl DPos {
           board = map.retain_keys self.old.board (λ n. not (set.contains squares n));
         } }
     {
-        if squares.is_empty() {
-            return;
-        }
-        let marks = squares.marks();
-        for i in 0..50 {
-            if marks[i] {
-                self.cells[i] = None;
-            }
+        let mut rest = squares;
+        while let Some(square) = rest.pop() {
+            self.clear(square);
         }
     }
 
@@ -208,6 +247,31 @@ fn same_cells(mine: &[Option<DPiece>], theirs: &[Option<DPiece>]) -> bool
         }
     }
     true
+}
+
+// The squares of a side's pieces among fifty cells.
+fn squares_in(cells: &[Option<DPiece>], side: Side) -> Word50
+    requires { length cells.now ≡ 50 }
+    ensures { Marks (is_of side) result (board_of cells.now) }
+{
+    let mut squares = Word50::new();
+    for i in 0..50 {
+        if is_of(side, cells[i]) {
+            squares = squares.with(i as u8 + 1);
+        }
+    }
+    squares
+}
+
+// The set with the square if it is to be there, and without it if not.
+fn noted(squares: Word50, square: Dsq, is_in: bool) -> Word50
+    ensures { result ≡ noted squares square is_in }
+{
+    if is_in {
+        squares.with(square.number())
+    } else {
+        squares.without(square.number())
+    }
 }
 
 // Whether a piece of a side stands there.

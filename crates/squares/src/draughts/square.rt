@@ -140,8 +140,8 @@ fn entry(place: usize) -> u8
     NEIGHBORS[place]
 }
 
-// Where the numbers of a direction begin, less one.
-fn place_of(toward: Direction) -> usize
+// Where the entries of a direction begin in a table, less one.
+pub(crate) fn place_of(toward: Direction) -> usize
     ensures { result ≡ place_of toward }
 {
     match toward {

@@ -52,6 +52,33 @@ fn lines_go_to_the_edge(rt: HostRuntime) -> Result<(), Fail> {
     Ok(())
 }
 
+// The way up to the left from 28 is 22, 17, 11 and 6.
+#[test]
+fn a_line_meets_the_first_square_of_a_set(rt: HostRuntime) -> Result<(), Fail> {
+    let from = Dsq::new(28).ok_or("no square")?;
+    let near = Dsq::new(17).ok_or("no square")?;
+    let far = Dsq::new(6).ok_or("no square")?;
+    let both = DSet::new().with(far).with(near);
+    assert_eq!(rt; from.line(Direction::UpLeft).len(), 4);
+    assert_eq!(rt; from.first_on(Direction::UpLeft, both), Some(near));
+    assert_eq!(rt;
+        from.first_on(Direction::UpLeft, both.without(near)),
+        Some(far)
+    );
+    assert_eq!(rt; from.first_on(Direction::UpRight, both), None);
+    assert_eq!(rt; both.least(), Some(far));
+    assert_eq!(rt; both.greatest(), Some(near));
+    Ok(())
+}
+
+#[test]
+fn opening_leaves_two_rows_empty(rt: HostRuntime) {
+    let position = DPos::opening();
+    assert_eq!(rt; position.empty_squares().len(), 10);
+    assert!(rt; position.kings().is_empty());
+    assert_eq!(rt; position.squares_of(Side::First).len(), 20);
+}
+
 #[test]
 fn opening_has_twenty_men_a_side(rt: HostRuntime) -> Result<(), Fail> {
     let position = DPos::opening();
@@ -93,24 +120,33 @@ fn hash_of(position: &DPos) -> u64 {
     state.finish()
 }
 
+// A man of First and one of Second, put in this order or in the other.
+fn two_men(first: Dsq, second: Dsq, in_order: bool) -> DPos {
+    let mut position = DPos::new(Side::First);
+    if in_order {
+        position.put(first, man(Side::First));
+        position.put(second, man(Side::Second));
+    } else {
+        position.put(second, man(Side::Second));
+        position.put(first, man(Side::First));
+    }
+    position
+}
+
 #[test]
 fn positions_are_hashed_by_what_stands_on_them(rt: HostRuntime) -> Result<(), Fail> {
     let near = Dsq::new(7).ok_or("no square")?;
     let far = Dsq::new(44).ok_or("no square")?;
-    let mut one = DPos::new(Side::First);
-    one.put(near, man(Side::First));
-    one.put(far, man(Side::Second));
+    let one = two_men(near, far, true);
     one.keeps_to_its_squares();
-    let mut same = DPos::new(Side::First);
-    same.put(far, man(Side::Second));
-    same.put(near, man(Side::First));
+    let hashed = hash_of(&one);
+    assert_eq!(rt; hashed, hash_of(&two_men(near, far, false)));
     let mut passed = one;
     passed.pass();
+    assert!(rt; hashed != hash_of(&passed));
     let mut moved = one;
     moved.clear(near);
-    assert_eq!(rt; hash_of(&one), hash_of(&same));
-    assert!(rt; hash_of(&one) != hash_of(&passed));
-    assert!(rt; hash_of(&one) != hash_of(&moved));
+    assert!(rt; hashed != hash_of(&moved));
     Ok(())
 }
 

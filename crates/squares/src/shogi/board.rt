@@ -3,6 +3,7 @@
 ghost use Rattle.std.specs.Prelude.{◌≡◌, ◌≤◌, ℕ, None, count_by, length};
 ghost use Rattle.std.specs.FinMap as map;
 ghost use Rattle.std.specs.FinSet as set;
+ghost use Rattle.squares.specs.ShogiOrder.{board_cmp};
 ghost use Rattle.squares.specs.ShogiSets.{count_on, holds_kind, holds_king, is_of};
 ghost use Rattle.squares.specs.ShogiWords.{is_side, holds};
 
@@ -131,6 +132,13 @@ impl SBoard {
     {
         count_king_cells(&self.cells, side)
     }
+
+    // Compares the two boards by what stands on their squares in turn.
+    pub(crate) fn compare(&self, other: &SBoard) -> Ordering
+        ensures { result ≡ board_cmp self.now other.now }
+    {
+        self.cells[..].cmp(&other.cells[..])
+    }
 }
 
 impl PartialEq for SBoard {
@@ -149,38 +157,6 @@ impl Eq for SBoard {
     ghost use Rattle.squares.specs.ShogiSamePosition.{same_shogi_board-equivalence};
 
     ghost laws = { same_shogi_board-equivalence };
-}
-
-impl PartialOrd for SBoard {
-    ghost use Rattle.std.specs.Ordering.{as_partial_cmp};
-    ghost use Rattle.squares.specs.ShogiOrder.{board_cmp};
-    ghost use Rattle.squares.specs.ShogiOrderLaws.{board_cmp-partial};
-
-    ghost partial_cmp = { as_partial_cmp board_cmp };
-
-    ghost laws = { board_cmp-partial };
-
-    fn partial_cmp(&self, other: &SBoard) -> Option<Ordering> {
-        Some(self.cmp(other))
-    }
-}
-
-impl Ord for SBoard {
-    ghost use Rattle.std.specs.Prelude.{refl};
-    ghost use Rattle.squares.specs.ShogiOrder.{board_cmp};
-    ghost use Rattle.squares.specs.ShogiOrderLaws.{board_cmp-total, board_cmp-tied};
-
-    ghost cmp = { board_cmp };
-
-    ghost total = { board_cmp-total };
-
-    ghost matches_partial_cmp = { λ a b. refl };
-
-    ghost matches_eq = { board_cmp-tied };
-
-    fn cmp(&self, other: &SBoard) -> Ordering {
-        self.cells[..].cmp(&other.cells[..])
-    }
 }
 
 // Whether a cell holds a piece of that kind, promoted or not.

@@ -186,7 +186,7 @@ impl Ord for SPos {
             .then(self.hands.cmp(&other.hands))
         {
             Ordering::Less => Ordering::Less,
-            Ordering::Equal => self.board.cmp(&other.board),
+            Ordering::Equal => self.board.compare(&other.board),
             Ordering::Greater => Ordering::Greater,
         }
     }

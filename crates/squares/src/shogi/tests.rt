@@ -66,39 +66,59 @@ fn a_board_keeps_what_is_put(rt: HostRuntime) -> Result<(), Fail> {
     Ok(())
 }
 
-// The set of a game has eighteen pawns, and each side one king.
+// The set of a game has eighteen pawns.
 #[test]
-fn a_position_has_two_kings_and_one_set(rt: HostRuntime) -> Result<(), Fail> {
+fn a_position_has_one_set(rt: HostRuntime) -> Result<(), Fail> {
     let position = kings_and_pawns(18)?.ok_or("eighteen pawns")?;
     assert_eq!(rt; position.turn(), Side::First);
     assert_eq!(rt; position.hands().of(Side::First).count(HandKind::Pawn), 18);
     assert_eq!(rt; position.hands().of(Side::Second).count(HandKind::Pawn), 0);
     assert_eq!(rt; position.board().count_kings(Side::Second), 1);
     assert!(rt; kings_and_pawns(19)?.is_none());
+    Ok(())
+}
+
+// Each side has one king.
+#[test]
+fn a_position_has_two_kings(rt: HostRuntime) -> Result<(), Fail> {
     let mut board = SBoard::empty();
     board.put(square(9, 9)?, piece(Side::First, Role::King));
     assert!(rt; SPos::new(board, Hands::default(), Side::First).is_none());
     Ok(())
 }
 
+// Whether a position is the one of two kings with so many pawns in First's hand.
+fn has_pawns(position: &SPos, pawns: u8) -> Result<bool, Fail> {
+    let other = kings_and_pawns(pawns)?.ok_or("a position")?;
+    Ok(*position == other)
+}
+
+// Whether a position is the one with its own hands, this board and this turn.
+fn is_on(position: &SPos, board: SBoard, turn: Side) -> Result<bool, Fail> {
+    let other = SPos::new(board, position.hands(), turn).ok_or("a position")?;
+    Ok(*position == other)
+}
+
 #[test]
-fn positions_are_the_same_by_board_hands_and_turn(rt: HostRuntime) -> Result<(), Fail> {
+fn positions_are_the_same_by_hands_and_turn(rt: HostRuntime) -> Result<(), Fail> {
     let position = kings_and_pawns(2)?.ok_or("two pawns")?;
-    let same = kings_and_pawns(2)?.ok_or("two pawns")?;
-    assert!(rt; position == same);
     assert!(rt; position.copied() == position);
-    let fewer = kings_and_pawns(1)?.ok_or("one pawn")?;
-    assert!(rt; position != fewer);
-    let board = position.board().copied();
-    let passed = SPos::new(board, position.hands(), Side::Second).ok_or("two pawns")?;
-    assert!(rt; position != passed);
+    assert!(rt; has_pawns(&position, 2)?);
+    assert!(rt; !has_pawns(&position, 1)?);
+    assert!(rt; is_on(&position, position.board().copied(), Side::First)?);
+    assert!(rt; !is_on(&position, position.board().copied(), Side::Second)?);
+    Ok(())
+}
+
+#[test]
+fn positions_are_the_same_by_board(rt: HostRuntime) -> Result<(), Fail> {
+    let position = kings_and_pawns(2)?.ok_or("two pawns")?;
     let mut moved = position.board().copied();
     assert!(rt; moved == *position.board());
     moved.clear(square(9, 9)?);
     moved.put(square(9, 8)?, piece(Side::First, Role::King));
     assert!(rt; moved != *position.board());
-    let elsewhere = SPos::new(moved, position.hands(), Side::First).ok_or("two pawns")?;
-    assert!(rt; position != elsewhere);
+    assert!(rt; !is_on(&position, moved, Side::First)?);
     Ok(())
 }
 

@@ -54,4 +54,4 @@ returns c =
     subst (λ r. same_position p r ≡ true) views (same_position-itself p))
     (λ same.
     let boards : board_of mine.cells ≡ board_of theirs.cells = ap (λ (r : Position). r.board) (c.self.view_is ∙ same_position-same p q same ∙ sym c.other.view_is) in
-    c.same_cells.ensures.1 (sym (cells_back mine.cells c.self.invariant) ∙ ap (λ b. map (λ n. get b n) (range_with_len 1 50)) boards ∙ cells_back theirs.cells c.other.invariant))
+    c.same_cells.ensures.1 (sym (cells_back mine.cells c.self.invariant.has_cells) ∙ ap (λ b. map (λ n. get b n) (range_with_len 1 50)) boards ∙ cells_back theirs.cells c.other.invariant.has_cells))

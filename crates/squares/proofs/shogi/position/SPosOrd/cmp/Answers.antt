@@ -24,7 +24,7 @@ returns-in-Equal c =
     let theirs = c.other.inside in
     let p : ShogiPosition = record { board = mine.board; hands = mine.hands; turn = mine.turn } in
     let q : ShogiPosition = record { board = theirs.board; hands = theirs.hands; turn = theirs.turn } in
-    c.cmp-in-Equal.ensures ∙ ap (λ o. ordering_then o (board_cmp p.board q.board)) (sym c.in-Equal.is) ∙ by_parts p q c.then.result (c.then.ensures ∙ (λ i. ordering_then (c.cmp.ensures i) (c.cmp-2.ensures i))) ∙ (λ i. position_cmp (c.self.view_is i) (c.other.view_is i))
+    c.compare.ensures ∙ ap (λ o. ordering_then o (board_cmp p.board q.board)) (sym c.in-Equal.is) ∙ by_parts p q c.then.result (c.then.ensures ∙ (λ i. ordering_then (c.cmp.ensures i) (c.cmp-2.ensures i))) ∙ (λ i. position_cmp (c.self.view_is i) (c.other.view_is i))
 
 pub returns-in-Greater : goal.returns-in-Greater
 returns-in-Greater c =

@@ -1,0 +1,54 @@
+//! The captures that take the most of those that a search has come to.
+ghost use Rattle.std.specs.Prelude.{◌≡◌, [], max, OnOk};
+ghost use Rattle.std.specs.FinSet as set;
+ghost use Rattle.std.specs.List.Sorted.{IsStrictlySortedBy};
+ghost use Rattle.squares.specs.OrderedLists.{put_all};
+ghost use Rattle.draughts_moves.specs.Listing.{move_cmp};
+ghost use Rattle.draughts_moves.specs.Found.{kept, if_takes};
+
+use crate::ordering::put_move;
+use squares::DMove;
+use std::alloc::{AllocError, Global};
+
+/// Captures in order, and how many pieces each of them takes.
+#[derive(Drop)]
+pub struct Found {
+    pub size: usize,
+    pub moves: Vec<DMove>,
+}
+
+impl Found {
+    /// Nothing, before a search.
+    pub fn new(alloc: Global) -> Found
+        ensures size { result.size ≡ 0 }
+        ensures moves { result.moves.items ≡ [] }
+    {
+        Found {
+            size: 0,
+            moves: Vec::new(alloc),
+        }
+    }
+
+    /// Takes in a capture, unless it takes nothing or less than those found; those that take less than it are dropped.
+    pub fn offer(&mut self, end: DMove) -> Result<(), AllocError>
+        requires { IsStrictlySortedBy move_cmp self.old.moves.items }
+        ensures size { OnOk result (self.new.size ≡ max self.old.size (set.len end.taken)) }
+        ensures moves { OnOk result (self.new.moves.items ≡ put_all move_cmp
+            (if_takes self.new.size end)
+            (kept self.old.size self.new.size self.old.moves.items)) }
+    {
+        let size = end.taken.len();
+        if size == 0 {
+            return Ok(());
+        }
+        if size < self.size {
+            return Ok(());
+        }
+        if size > self.size {
+            self.size = size;
+            self.moves.clear();
+        }
+        put_move(&mut self.moves, end)?;
+        Ok(())
+    }
+}

@@ -1,0 +1,56 @@
+-- Beside its cells a position keeps the squares of each side, and those of the kings.
+use Rattle.std.proofs.Common.{◌≡◌, ℕ, zero, suc, ◌+◌, ◌<◌, Bool, false, cond, Option, Some, None, List, length, sym, ap, ◌∙◌, arith, inl, inr}
+use Rattle.std.specs.Cmp.{nat_cmp_total}
+use Rattle.std.specs.FinMap as map
+use Rattle.std.specs.FinSet as set
+use Rattle.std.specs.FinSet.{nat_cmp-IsAntisymmetric}
+use Rattle.std.proofs.lemmas.Bool.{cases_lt}
+use Rattle.std.proofs.lemmas.List.{get_or_past}
+use Rattle.masks.specs.Words.{Numbers, passing, passing-below, passing-at, passing-past}
+use Rattle.squares.specs.declared.draughts.piece.DPiece.{DPiece}
+use Rattle.squares.specs.declared.sides.Side.TheVariants.{First, Second}
+use Rattle.squares.specs.DraughtsBoard.{Board, board_of, is_of}
+use Rattle.squares.specs.DraughtsCells.{get-board_of, get-board_of-zero}
+
+-- whether a king stands there
+abbrev pub is_king : Option DPiece → Bool
+is_king None = false
+is_king (Some q) = q.king
+
+-- the set has the squares where what stands passes the test, and no other
+abbrev pub Marks : (Option DPiece → Bool) → Numbers → Board → Type 0
+Marks test s board = (q : ℕ) → set.contains s q ≡ test (map.get board q)
+
+-- fifty cells, and the squares of each side's pieces and of the kings among them
+pub record KeepsCells (cells : List (Option DPiece)) (first second kings : Numbers) : Type 0 where
+  pub has_cells : length cells ≡ 50
+  pub of_first : Marks (is_of First) first (board_of cells)
+  pub of_second : Marks (is_of Second) second (board_of cells)
+  pub of_kings : Marks is_king kings (board_of cells)
+
+-- the set with the square if it is to be there, and without it if not
+abbrev pub noted : Numbers → ℕ → Bool → Numbers
+noted s n is_in = cond is_in (set.insert s n) (set.remove s n)
+
+-- the squares of the board where what stands passes the test
+unfoldable pub squares_where : (Option DPiece → Bool) → Board → Numbers
+squares_where test board = set.from_list (passing (λ n. test (map.get board n)) 1 50)
+
+-- the set that the board was kept with
+module _ (test : Option DPiece → Bool) (none : test None ≡ false) (cells : List (Option DPiece)) (s : Numbers) (many : length cells ≡ 50) (marks : Marks test s (board_of cells)) where
+  each : (q : ℕ) → set.contains (squares_where test (board_of cells)) q ≡ test (map.get (board_of cells) q)
+  unfolding squares_where
+  each zero =
+      set.contains-from_list_nat (passing (λ n. test (map.get (board_of cells) n)) 1 50) 0 ∙ passing-below (λ n. test (map.get (board_of cells) n)) 1 50 0 (omega arith)
+      ∙ sym (ap test (get-board_of-zero cells) ∙ none)
+  each (suc k) =
+      set.contains-from_list_nat (passing (λ n. test (map.get (board_of cells) n)) 1 50) (suc k)
+      ∙ elim (cases_lt k 50) [
+        | inl less ↦ passing-at (λ n. test (map.get (board_of cells) n)) 1 50 (suc k) (omega arith) (omega arith)
+        | inr past ↦
+            passing-past (λ n. test (map.get (board_of cells) n)) 1 50 (suc k) (omega arith)
+            ∙ sym (ap test (get-board_of cells (suc k) k (omega arith) ∙ get_or_past cells k None (omega arith)) ∙ none)
+      ]
+
+  pub where_back : squares_where test (board_of cells) ≡ s
+  where_back = set.same_set nat_cmp_total nat_cmp-IsAntisymmetric _ _ (λ q. each q ∙ sym (marks q))
