@@ -12,8 +12,8 @@ use Rattle.pdn.specs.MoveValue.{move_reading}
 use Rattle.pdn.specs.ReadFen.{IsFen, HasFenFault}
 use Rattle.pdn.specs.ReadMove.{HasReadFault}
 use Rattle.pdn.proofs.Proved.{reading-err, fen-one, fen-well}
-use Rattle.rules_next.specs.Line.{position_after, IsLegalLine, IsPlayedLine}
-use Rattle.rules_next.proofs.Proved.{check-at}
+use Rattle.club_rules.specs.Line.{position_after, IsLegalLine, IsPlayedLine}
+use Rattle.club_rules.proofs.Proved.{check-at}
 use Rattle.club_games.specs.Draughts.{draughts, refused_by, text_refusal, move_read}
 use Rattle.club_games.specs.DraughtsLaws.{last-is, line-fen}
 

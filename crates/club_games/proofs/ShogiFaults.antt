@@ -17,10 +17,10 @@ use Rattle.sfen.specs.SfenGrammar.{IsSfenText, IsRefused}
 use Rattle.sfen.specs.UsiReading.{usi_reading, usi_reach}
 use Rattle.sfen.specs.UsiText.{IsNoUsi}
 use Rattle.sfen.proofs.Proved.{refused-here, stands-for-one, not-refused}
-use Rattle.rules_next.specs.declared.names.GameKind.TheVariants as game
-use Rattle.rules_next.specs.declared.refusals.MoveRefusal.TheVariants.{BadText}
-use Rattle.rules_next.specs.Line.{position_after, IsLegalLine, IsPlayedLine}
-use Rattle.rules_next.proofs.Proved.{check-at}
+use Rattle.club_rules.specs.declared.names.GameKind.TheVariants as game
+use Rattle.club_rules.specs.declared.refusals.MoveRefusal.TheVariants.{BadText}
+use Rattle.club_rules.specs.Line.{position_after, IsLegalLine, IsPlayedLine}
+use Rattle.club_rules.proofs.Proved.{check-at}
 use Rattle.club_games.specs.Shogi.{shogi, refused_by, move_read}
 use Rattle.club_games.specs.ShogiLaws.{last-is, line-text}
 

@@ -18,12 +18,12 @@ use Rattle.pdn.specs.declared.faults.PdnFault.{PdnFault}
 use Rattle.pdn.specs.declared.faults.PdnFault.TheVariants as fault
 use Rattle.pdn.specs.FenText.{fen_text}
 use Rattle.pdn.specs.MoveValue.{Reading, move_reading, move_text}
-use Rattle.rules_next.specs.declared.names.GameKind.TheVariants as game
-use Rattle.rules_next.specs.declared.names.EndName.{EndName}
-use Rattle.rules_next.specs.declared.names.EndName.TheVariants as name
-use Rattle.rules_next.specs.declared.refusals.MoveRefusal.{MoveRefusal}
-use Rattle.rules_next.specs.declared.refusals.MoveRefusal.TheVariants.{NoSuchMove, MustCapture, NotLongest, BadText, Ambiguous}
-use Rattle.rules_next.specs.GameRules.{GameRules}
+use Rattle.club_rules.specs.declared.names.GameKind.TheVariants as game
+use Rattle.club_rules.specs.declared.names.EndName.{EndName}
+use Rattle.club_rules.specs.declared.names.EndName.TheVariants as name
+use Rattle.club_rules.specs.declared.refusals.MoveRefusal.{MoveRefusal}
+use Rattle.club_rules.specs.declared.refusals.MoveRefusal.TheVariants.{NoSuchMove, MustCapture, NotLongest, BadText, Ambiguous}
+use Rattle.club_rules.specs.GameRules.{GameRules}
 
 abbrev pub refusal_of : Illegal → MoveRefusal
 refusal_of illegal.NoSuchMove = NoSuchMove game.Draughts

@@ -41,10 +41,10 @@ use Rattle.pdn.specs.Laws.{IsOnBoard}
 use Rattle.pdn.specs.ReadFen.{IsFen}
 use Rattle.pdn.specs.MoveValue.{move_reading, move_text}
 use Rattle.pdn.proofs.Proved.{text-is, reads-back, reading-ok, fen-back, fen-one, Route-on}
-use Rattle.rules_next.specs.GameRules.{GameRules, ply_limit}
-use Rattle.rules_next.specs.Line.{position_after, positions, IsLegalLine, track_after}
-use Rattle.rules_next.specs.Line as game_line
-use Rattle.rules_next.specs.Laws.{FirstStarts, TurnPasses, ReadsBack, SameIs, SamePositionIs, EndsAtLimit, TextsTellPositions, TracksTellEnds, NumbersGiveTracks, TracksGiveNumbers, NumbersAreFew}
+use Rattle.club_rules.specs.GameRules.{GameRules, ply_limit}
+use Rattle.club_rules.specs.Line.{position_after, positions, IsLegalLine, track_after}
+use Rattle.club_rules.specs.Line as game_line
+use Rattle.club_rules.specs.Laws.{FirstStarts, TurnPasses, ReadsBack, SameIs, SamePositionIs, EndsAtLimit, TextsTellPositions, TracksTellEnds, NumbersGiveTracks, TracksGiveNumbers, NumbersAreFew}
 use Rattle.club_games.specs.Draughts.{draughts, refused_by, move_read, same_move}
 
 -- ---- legal moves

@@ -19,12 +19,12 @@ use Rattle.sfen.specs.SfenGrammar.{same_hand_kind}
 use Rattle.sfen.specs.SfenText.{position_text}
 use Rattle.sfen.specs.UsiReading.{usi_reach, usi_reading}
 use Rattle.sfen.specs.UsiText.{usi_text}
-use Rattle.rules_next.specs.declared.names.GameKind.TheVariants as game
-use Rattle.rules_next.specs.declared.names.EndName.{EndName}
-use Rattle.rules_next.specs.declared.names.EndName.TheVariants as name
-use Rattle.rules_next.specs.declared.refusals.MoveRefusal.{MoveRefusal}
-use Rattle.rules_next.specs.declared.refusals.MoveRefusal.TheVariants.{NoSuchMove, NotInHand, MustPromote, DeadDrop, TwoPawns, KingAttacked, DropMate, BadText}
-use Rattle.rules_next.specs.GameRules.{GameRules}
+use Rattle.club_rules.specs.declared.names.GameKind.TheVariants as game
+use Rattle.club_rules.specs.declared.names.EndName.{EndName}
+use Rattle.club_rules.specs.declared.names.EndName.TheVariants as name
+use Rattle.club_rules.specs.declared.refusals.MoveRefusal.{MoveRefusal}
+use Rattle.club_rules.specs.declared.refusals.MoveRefusal.TheVariants.{NoSuchMove, NotInHand, MustPromote, DeadDrop, TwoPawns, KingAttacked, DropMate, BadText}
+use Rattle.club_rules.specs.GameRules.{GameRules}
 
 abbrev pub refusal_of : Illegal → MoveRefusal
 refusal_of illegal.NoSuchMove = NoSuchMove game.Shogi

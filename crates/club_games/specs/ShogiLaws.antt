@@ -39,10 +39,10 @@ use Rattle.sfen.specs.SfenText.{position_text}
 use Rattle.sfen.specs.UsiReading.{usi_reach}
 use Rattle.sfen.specs.UsiText.{IsOnBoard, usi_text}
 use Rattle.sfen.proofs.Proved.{usi_reading-text, position-alone, stands-for-one}
-use Rattle.rules_next.specs.GameRules.{GameRules, ply_limit}
-use Rattle.rules_next.specs.Line.{position_after, positions, IsLegalLine, track_after, FirstStands}
-use Rattle.rules_next.specs.Line as game_line
-use Rattle.rules_next.specs.Laws.{FirstStarts, TurnPasses, ReadsBack, SameIs, SamePositionIs, EndsAtLimit, TextsTellPositions, TracksTellEnds, NumbersGiveTracks, TracksGiveNumbers, NumbersAreFew}
+use Rattle.club_rules.specs.GameRules.{GameRules, ply_limit}
+use Rattle.club_rules.specs.Line.{position_after, positions, IsLegalLine, track_after, FirstStands}
+use Rattle.club_rules.specs.Line as game_line
+use Rattle.club_rules.specs.Laws.{FirstStarts, TurnPasses, ReadsBack, SameIs, SamePositionIs, EndsAtLimit, TextsTellPositions, TracksTellEnds, NumbersGiveTracks, TracksGiveNumbers, NumbersAreFew}
 use Rattle.club_games.specs.Shogi.{shogi, refused_by, move_read, same_choice, same_move}
 
 -- ---- legal moves

@@ -3,10 +3,10 @@
 ghost use Rattle.std.specs.Prelude.{◌≡◌};
 ghost use Rattle.club_games.specs.Draughts.{draughts, refusal_of};
 
+use club_rules::{EndName, GameKind, MoveRefusal, Rules};
 use draughts_draws::{DEnd, Fault, Tail};
 use draughts_moves::Illegal;
 use pdn::PdnFault;
-use rules_next::{EndName, GameKind, MoveRefusal, Rules};
 use squares::{DMove, DPos, Memory, Score, Side};
 use std::alloc::Global;
 

@@ -3,7 +3,7 @@
 ghost use Rattle.std.specs.Prelude.{◌≡◌};
 ghost use Rattle.club_games.specs.Shogi.{shogi, refusal_of, same_move};
 
-use rules_next::{EndName, GameKind, MoveRefusal, Rules};
+use club_rules::{EndName, GameKind, MoveRefusal, Rules};
 use sfen::SfenFault;
 use shogi_moves::Illegal;
 use shogi_repetition::{Fault, SEnd, Tail};

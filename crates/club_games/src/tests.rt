@@ -1,6 +1,6 @@
 use crate::{Draughts, Shogi};
+use club_rules::{GameKind, Memory, MoveRefusal, Rules};
 use draughts_draws::DEnd;
-use rules_next::{GameKind, Memory, MoveRefusal, Rules};
 use shogi_repetition::SEnd;
 use squares::{Score, Side};
 use std::alloc::Global;

@@ -2,8 +2,8 @@
 use Rattle.std.specs.Prelude.{◌≡◌, ◌≤◌, ◌+◌, ◌↔◌, ℕ, List, length, Option, Some, IsSome, Ok, true}
 use Rattle.squares.specs.declared.sides.Side.TheVariants.{First}
 use Rattle.squares.specs.Sides.{other}
-use Rattle.rules_next.specs.GameRules.{GameRules, ply_limit}
-use Rattle.rules_next.specs.Line.{position_after, IsLegalLine, IsPlayedLine, line_track, line_numbers, times_stood, FirstStands}
+use Rattle.club_rules.specs.GameRules.{GameRules, ply_limit}
+use Rattle.club_rules.specs.Line.{position_after, IsLegalLine, IsPlayedLine, line_track, line_numbers, times_stood, FirstStands}
 
 module _ {P M E T : Type 0} (rules : GameRules P M E T) where
   -- First moves first

@@ -1,5 +1,0 @@
-pub mod EndName
-pub mod GameRules
-pub mod Laws
-pub mod Line
-pub mod MoveRefusal
