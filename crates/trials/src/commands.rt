@@ -18,14 +18,14 @@ fn text(alloc: Global, letters: &str) -> Result<String, Fail> {
 
 /// Who gives a command: the officer, or one who shows this key.
 #[derive(Clone, Copy)]
-enum By<'a> {
+pub(crate) enum By<'a> {
     Officer,
     Key(&'a str),
 }
 
 /// A command, by its values.
 #[derive(Clone, Copy)]
-enum Given<'a> {
+pub(crate) enum Given<'a> {
     Member(&'a str, &'a str),
     Event(&'a str, GameKind, u64, u64),
     Seat(&'a str, &'a str, &'a str, &'a str),
@@ -111,7 +111,7 @@ fn serve<R: Abort + AllocGlobal>(
 }
 
 // Serves the commands in turn.
-fn serve_all<R: Abort + AllocGlobal>(
+pub(crate) fn serve_all<R: Abort + AllocGlobal>(
     rt: &R,
     club: Club<MemStore>,
     script: &[(u64, By<'_>, Given<'_>, &str)],
@@ -123,7 +123,7 @@ fn serve_all<R: Abort + AllocGlobal>(
     Ok(club)
 }
 
-fn opened(alloc: Global) -> Result<Club<MemStore>, Fail> {
+pub(crate) fn opened(alloc: Global) -> Result<Club<MemStore>, Fail> {
     match create(alloc, Connection::open_in_memory(alloc)?) {
         Ok(club) => Ok(club),
         Err(unopened) => Err(Fail::from(unopened.fault)),
