@@ -87,8 +87,8 @@ fn reopened(alloc: Global, club: Club<MemStore>) -> Result<(Club<MemStore>, Tabl
     Ok((adopted(alloc, conn)?, before, after))
 }
 
-// Gives the command at the moment, which must come to that. Giving the club up and taking it again changes nothing.
-fn serve<R: Abort + AllocGlobal>(
+// Gives the command at the moment, which must come to that.
+pub(crate) fn give<R: Abort + AllocGlobal>(
     rt: &R,
     club: Club<MemStore>,
     seconds: u64,
@@ -105,22 +105,41 @@ fn serve<R: Abort + AllocGlobal>(
     let mut club = club;
     let outcome = club.apply(alloc, &who, &given.command(alloc)?, moment)?;
     assert_eq!(rt; told(alloc, &outcome)?.as_str(), wanted);
-    let (club, before, after) = reopened(alloc, club)?;
-    assert!(rt; before == after, "{wanted}");
     Ok(club)
 }
 
-// Serves the commands in turn.
-pub(crate) fn serve_all<R: Abort + AllocGlobal>(
+// Giving the club up and taking it again changes nothing.
+fn stays<R: Abort + AllocGlobal>(rt: &R, club: Club<MemStore>) -> Result<Club<MemStore>, Fail> {
+    let (club, before, after) = reopened(rt.alloc(), club)?;
+    assert!(rt; before == after);
+    Ok(club)
+}
+
+// Serves the commands in turn, each to a club that was just taken.
+fn serve_all<R: Abort + AllocGlobal>(
     rt: &R,
     club: Club<MemStore>,
     script: &[(u64, By<'_>, Given<'_>, &str)],
 ) -> Result<Club<MemStore>, Fail> {
     let mut club = club;
     for (seconds, by, given, wanted) in script {
-        club = serve(rt, club, *seconds, *by, *given, wanted)?;
+        club = give(rt, club, *seconds, *by, *given, wanted)?;
+        club = stays(rt, club)?;
     }
     Ok(club)
+}
+
+/// Serves the commands in turn to one club, which is then given up and taken again.
+pub(crate) fn serve_at_once<R: Abort + AllocGlobal>(
+    rt: &R,
+    club: Club<MemStore>,
+    script: &[(u64, By<'_>, Given<'_>, &str)],
+) -> Result<Club<MemStore>, Fail> {
+    let mut club = club;
+    for (seconds, by, given, wanted) in script {
+        club = give(rt, club, *seconds, *by, *given, wanted)?;
+    }
+    stays(rt, club)
 }
 
 pub(crate) fn opened(alloc: Global) -> Result<Club<MemStore>, Fail> {
