@@ -73,7 +73,8 @@ cp c.db before.db
 if [ -e c.db-wal ]; then cp c.db-wal before.db-wal; fi
 at 0 'accepted ply 2 19-23' move 1 2 19-23
 at 1 'refused 11 MustCapture' move 1 3 33-29
-at 1 'refused 20 BadText 2' move 1 3 28x19
+at 1 'refused 10 NoSuchMove' move 1 3 28x17
+at 1 'refused 20 BadText 3' move 1 3 28x
 says 1 'refused 60 OutOfTime' --now 1066 c.db move 1 3 28x19
 at 3 'store 70 Foreign' init
 says 3 'store 73 Store' --now 1000 nowhere/c.db init
@@ -157,4 +158,9 @@ same_log() {
 if command -v gcc > /dev/null 2>&1; then
     if refused_memory; then echo 'ok a move with its memory refused in turn'; else echo 'not ok a move with its memory refused in turn' && bad=1; fi
 fi
+at 0 'accepted ply 3 28x19' move 1 3 28x19
+at 0 'repeated ply 3 28x19' move 1 3 28:19
+at 0 'accepted ply 4 14x23' move 1 4 14x23
+reads '3|28x19
+4|14x23' 'SELECT ply, text FROM moves WHERE ply > 2 ORDER BY ply'
 exit $bad

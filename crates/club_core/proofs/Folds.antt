@@ -1,7 +1,7 @@
 -- Only an accepted request changes the state, so the others can be left out; and it raises the last moment.
 use Rattle.std.proofs.Common.{◌≡◌, ℕ, ◌≤◌, List, [], ◌∷◌, Option, Some, None, Bool, true, false, refl, ap, ◌∙◌, sym, arith}
 use Rattle.std.specs.Prelude.{max, if◌then◌else◌}
-use Rattle.club_rules.specs.GameRules.{GameRules}
+use Rattle.club_core.specs.ClubRules.{ClubRules}
 use Rattle.club_core.specs.declared.requests.Caller.{Caller}
 use Rattle.club_core.specs.declared.requests.Caller.TheVariants.{Officer, Member}
 use Rattle.club_core.specs.Outcome.{Outcome, accepted, repeated, refused, map_outcome, by_officer}
@@ -17,14 +17,14 @@ unmoved s (accepted new reply) kept = cc
 unmoved s (repeated reply) kept = refl
 unmoved s (refused refusal) kept = refl
 
-module _ {DP DM DE SP SM SE : Type 0} (d : GameRules DP DM DE) (h : GameRules SP SM SE) where
-  taken : (s : State DM SM) (r : Request) (rs : List Request) (b : Bool) → is_accepted (step d h s r) ≡ b → fold d h (next d h s r) (accepted_of d h (next d h s r) rs) ≡ fold d h (next d h s r) rs → fold d h s (if b then r ∷ accepted_of d h (next d h s r) rs else accepted_of d h (next d h s r) rs) ≡ fold d h (next d h s r) rs
+module _ {DP DM DE DT SP SM SE ST : Type 0} (kinds : ClubRules DP DM DE DT SP SM SE ST) where
+  taken : (s : State DM SM) (r : Request) (rs : List Request) (b : Bool) → is_accepted (step kinds s r) ≡ b → fold kinds (next kinds s r) (accepted_of kinds (next kinds s r) rs) ≡ fold kinds (next kinds s r) rs → fold kinds s (if b then r ∷ accepted_of kinds (next kinds s r) rs else accepted_of kinds (next kinds s r) rs) ≡ fold kinds (next kinds s r) rs
   taken s r rs true is rest = rest
-  taken s r rs false kept rest = ap (λ t. fold d h t (accepted_of d h (next d h s r) rs)) (sym (unmoved s (step d h s r) kept)) ∙ rest
+  taken s r rs false kept rest = ap (λ t. fold kinds t (accepted_of kinds (next kinds s r) rs)) (sym (unmoved s (step kinds s r) kept)) ∙ rest
 
-  pub folds-accepted : (s : State DM SM) (rs : List Request) → fold d h s (accepted_of d h s rs) ≡ fold d h s rs
+  pub folds-accepted : (s : State DM SM) (rs : List Request) → fold kinds s (accepted_of kinds s rs) ≡ fold kinds s rs
   folds-accepted s [] = refl
-  folds-accepted s (r ∷ rs) = taken s r rs (is_accepted (step d h s r)) refl (folds-accepted (next d h s r) rs)
+  folds-accepted s (r ∷ rs) = taken s r rs (is_accepted (step kinds s r)) refl (folds-accepted (next kinds s r) rs)
 
   -- whatever stands after the outcome has at least that moment
   raises : (s : State DM SM) {T : Type 0} (f : T → State DM SM) (o : Outcome T) → ((t : T) → s.last ≤ (f t).last) → s.last ≤ (state_after s (map_outcome f o)).last
@@ -36,21 +36,21 @@ module _ {DP DM DE SP SM SE : Type 0} (d : GameRules DP DM DE) (h : GameRules SP
   officer-raises s f Officer o above = raises s f o above
   officer-raises s f (Member id) o above = omega arith
 
-  game-raises : (s : State DM SM) (moment id : ℕ) (who : Caller) (command : GameCommand) (g : Option (AnyGame DM SM)) → s.last ≤ moment → s.last ≤ (state_after s (step_game d h s moment id who command g)).last
+  game-raises : (s : State DM SM) (moment id : ℕ) (who : Caller) (command : GameCommand) (g : Option (AnyGame DM SM)) → s.last ≤ moment → s.last ≤ (state_after s (step_game kinds s moment id who command g)).last
   game-raises s moment id who command None above = omega arith
-  game-raises s moment id who command (Some (draughts g)) above = raises s _ (game_step d (terms_at (place s.events g.event)) g moment who command) (λ t. above)
-  game-raises s moment id who command (Some (shogi g)) above = raises s _ (game_step h (terms_at (place s.events g.event)) g moment who command) (λ t. above)
+  game-raises s moment id who command (Some (draughts g)) above = raises s _ (game_step kinds.draughts (terms_at (place s.events g.event)) g moment who command) (λ t. above)
+  game-raises s moment id who command (Some (shogi g)) above = raises s _ (game_step kinds.shogi (terms_at (place s.events g.event)) g moment who command) (λ t. above)
 
-  command-raises : (s : State DM SM) (moment : ℕ) (who : Caller) (command : Command) → s.last ≤ moment → s.last ≤ (state_after s (step_command d h s moment who command)).last
+  command-raises : (s : State DM SM) (moment : ℕ) (who : Caller) (command : Command) → s.last ≤ moment → s.last ≤ (state_after s (step_command kinds s moment who command)).last
   command-raises s moment who (add_member name key) above = officer-raises s _ who (member_step s.members name key) (λ t. above)
   command-raises s moment who (add_event event) above = officer-raises s _ who (event_step s.events event) (λ t. above)
   command-raises s moment who (seat key event first second) above =
       officer-raises s _ who (seat_step s.members s.events (game_under s.games key) _ key event first second) (λ t. above)
   command-raises s moment who (on_game id command) above = game-raises s moment id who command (place s.games id) above
 
-  by-raises : (s : State DM SM) (moment : ℕ) (who : Option Caller) (command : Command) → s.last ≤ moment → s.last ≤ (state_after s (step_by d h s moment who command)).last
+  by-raises : (s : State DM SM) (moment : ℕ) (who : Option Caller) (command : Command) → s.last ≤ moment → s.last ≤ (state_after s (step_by kinds s moment who command)).last
   by-raises s moment None command above = omega arith
   by-raises s moment (Some who) command above = command-raises s moment who command above
 
-  pub next-raises : (s : State DM SM) (r : Request) → s.last ≤ (next d h s r).last
+  pub next-raises : (s : State DM SM) (r : Request) → s.last ≤ (next kinds s r).last
   next-raises s r = by-raises s (max r.moment s.last) (caller_of s.members r.who) r.command (omega arith)

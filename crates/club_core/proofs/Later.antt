@@ -4,6 +4,7 @@ use Rattle.std.specs.Prelude.{max, slice_get}
 use Rattle.squares.specs.declared.sides.Side.{Side}
 use Rattle.club_rules.specs.declared.refusals.MoveRefusal.{MoveRefusal}
 use Rattle.club_rules.specs.GameRules.{GameRules}
+use Rattle.club_core.specs.ClubRules.{ClubRules}
 use Rattle.club_core.specs.declared.requests.Caller.{Caller}
 use Rattle.club_core.specs.declared.requests.Caller.TheVariants.{Officer, Member}
 use Rattle.club_core.specs.declared.refusals.Refusal.{Refusal}
@@ -144,11 +145,11 @@ unless-accepted None None x t reply is = (refl, refl, is)
 pub accepted-same : {T : Type 0} (t u : T) (a b : Reply) → accepted t a ≡ accepted u b → (t ≡ u) × (a ≡ b)
 accepted-same t u a b is = (cc, cc)
 
-pub record WasPlayed {P M E : Type 0} (laws : GameRules P M E) (terms : Terms) (game : Game M) (moment : ℕ) (new : Game M) : Type 0 where
+pub record WasPlayed {P M E T : Type 0} (laws : GameRules P M E T) (terms : Terms) (game : Game M) (moment : ℕ) (new : Game M) : Type 0 where
   pub made : M
   pub is : new ≡ played game made moment
 
-module _ {P M E : Type 0} (laws : GameRules P M E) (terms : Terms) (game : Game M) (moment : ℕ) where
+module _ {P M E T : Type 0} (laws : GameRules P M E T) (terms : Terms) (game : Game M) (moment : ℕ) where
   plays-played : (o : Result M MoveRefusal) (new : Game M) (reply : Reply) → plays laws terms game moment o ≡ accepted new reply → WasPlayed laws terms game moment new
   plays-played (Err refusal) new reply is = cc
   plays-played (Ok m) new reply is = record { made = m; is = sym (accepted-same _ new _ reply is).0 }
@@ -166,20 +167,20 @@ module _ {P M E : Type 0} (laws : GameRules P M E) (terms : Terms) (game : Game 
 played-later : {M : Type 0} (game : Game M) (m : M) (moment : ℕ) → IsLaterGame game (played game m moment)
 played-later game m moment = record { key = refl; event = refl; first = refl; second = refl; start = refl; entries = (record { made = m; moment = moment } ∷ [], refl) }
 
-was-played-later : {P M E : Type 0} (laws : GameRules P M E) (terms : Terms) (game : Game M) (moment : ℕ) (new : Game M) → WasPlayed laws terms game moment new → IsLaterGame game new
+was-played-later : {P M E T : Type 0} (laws : GameRules P M E T) (terms : Terms) (game : Game M) (moment : ℕ) (new : Game M) → WasPlayed laws terms game moment new → IsLaterGame game new
 was-played-later laws terms game moment new was = rw was.is (played-later game was.made moment)
 
-module _ {DP DM DE SP SM SE : Type 0} (d : GameRules DP DM DE) (h : GameRules SP SM SE) where
-  step-game-later : (s : State DM SM) (moment id : ℕ) (who : Caller) (command : GameCommand) (g : Option (AnyGame DM SM)) → place s.games id ≡ g → IsLater s (state_after s (step_game d h s moment id who command g))
+module _ {DP DM DE DT SP SM SE ST : Type 0} (kinds : ClubRules DP DM DE DT SP SM SE ST) where
+  step-game-later : (s : State DM SM) (moment id : ℕ) (who : Caller) (command : GameCommand) (g : Option (AnyGame DM SM)) → place s.games id ≡ g → IsLater s (state_after s (step_game kinds s moment id who command g))
   step-game-later s moment id who command None at = later-refl s
   step-game-later s moment id who command (Some (draughts game)) at =
-      outcome-later (λ t. IsLater s t) s (λ new. with_game s moment id (draughts new)) (game_step d (terms_at (place s.events game.event)) game moment who command) (later-refl s)
-      (λ new reply is. game-later s moment id (draughts game) (draughts new) at (was-played-later d _ game moment new (caller-played d (terms_at (place s.events game.event)) game moment who command new reply is)))
+      outcome-later (λ t. IsLater s t) s (λ new. with_game s moment id (draughts new)) (game_step kinds.draughts (terms_at (place s.events game.event)) game moment who command) (later-refl s)
+      (λ new reply is. game-later s moment id (draughts game) (draughts new) at (was-played-later kinds.draughts _ game moment new (caller-played kinds.draughts (terms_at (place s.events game.event)) game moment who command new reply is)))
   step-game-later s moment id who command (Some (shogi game)) at =
-      outcome-later (λ t. IsLater s t) s (λ new. with_game s moment id (shogi new)) (game_step h (terms_at (place s.events game.event)) game moment who command) (later-refl s)
-      (λ new reply is. game-later s moment id (shogi game) (shogi new) at (was-played-later h _ game moment new (caller-played h (terms_at (place s.events game.event)) game moment who command new reply is)))
+      outcome-later (λ t. IsLater s t) s (λ new. with_game s moment id (shogi new)) (game_step kinds.shogi (terms_at (place s.events game.event)) game moment who command) (later-refl s)
+      (λ new reply is. game-later s moment id (shogi game) (shogi new) at (was-played-later kinds.shogi _ game moment new (caller-played kinds.shogi (terms_at (place s.events game.event)) game moment who command new reply is)))
 
-  command-later : (s : State DM SM) (moment : ℕ) (who : Caller) (command : Command) → IsLater s (state_after s (step_command d h s moment who command))
+  command-later : (s : State DM SM) (moment : ℕ) (who : Caller) (command : Command) → IsLater s (state_after s (step_command kinds s moment who command))
   command-later s moment who (add_member name key) =
       officer-later (λ t. IsLater s t) s (with_members s moment) who (member_step s.members name key) (later-refl s)
       (λ all reply is.
@@ -197,14 +198,14 @@ module _ {DP DM DE SP SM SE : Type 0} (d : GameRules DP DM DE) (h : GameRules SP
       (λ pairing reply is. new-game-later s moment key pairing)
   command-later s moment who (on_game id command) = step-game-later s moment id who command (place s.games id) refl
 
-  by-later : (s : State DM SM) (moment : ℕ) (who : Option Caller) (command : Command) → IsLater s (state_after s (step_by d h s moment who command))
+  by-later : (s : State DM SM) (moment : ℕ) (who : Option Caller) (command : Command) → IsLater s (state_after s (step_by kinds s moment who command))
   by-later s moment None command = later-refl s
   by-later s moment (Some who) command = command-later s moment who command
 
   -- each request leads to a later state
-  pub next-later : (s : State DM SM) (r : Request) → IsLater s (next d h s r)
+  pub next-later : (s : State DM SM) (r : Request) → IsLater s (next kinds s r)
   next-later s r = by-later s (max r.moment s.last) (caller_of s.members r.who) r.command
 
-  pub fold-later : (s : State DM SM) (rs : List Request) → IsLater s (fold d h s rs)
+  pub fold-later : (s : State DM SM) (rs : List Request) → IsLater s (fold kinds s rs)
   fold-later s [] = later-refl s
-  fold-later s (r ∷ rs) = later-trans s (next d h s r) (fold d h (next d h s r) rs) (next-later s r) (fold-later (next d h s r) rs)
+  fold-later s (r ∷ rs) = later-trans s (next kinds s r) (fold kinds (next kinds s r) rs) (next-later s r) (fold-later (next kinds s r) rs)

@@ -11,6 +11,7 @@ use Rattle.club_rules.specs.declared.refusals.MoveRefusal.{MoveRefusal}
 use Rattle.club_rules.specs.declared.names.GameKind.{GameKind}
 use Rattle.club_rules.specs.declared.names.GameKind.TheVariants.{Draughts, Shogi}
 use Rattle.club_rules.specs.GameRules.{GameRules}
+use Rattle.club_core.specs.ClubRules.{ClubRules}
 use Rattle.club_core.specs.declared.rows.OutsideEnd.TheVariants.{Time}
 use Rattle.club_core.specs.declared.requests.Caller.{Caller}
 use Rattle.club_core.specs.declared.requests.Caller.TheVariants.{Officer, Member}
@@ -24,6 +25,7 @@ use Rattle.club_core.specs.Game.{Game, Entry, Clocks, spend, spend_all, clocks_o
 use Rattle.club_core.specs.Step.{GameCommand, move, played, checked, plays, step_move, by_side, game_step, move_refusal, repeat_of, move_at, side_of_member, officer_side}
 use Rattle.club_core.specs.State.{AnyGame, draughts, shogi, State, Command, add_member, add_event, seat, on_game, Request, state_after, place, kind_at, key_of, has_key, keyed_at, pairing_of, game_under, seated, seated_as, caller_of, with_members, with_events, with_new_game, with_game, step_game, step_command, step_by, next}
 use Rattle.club_core.specs.LegalState.{Each, IsLegalMember, IsLegalEvent, IsGameOf, IsLegalIn, IsLegalState}
+use Rattle.club_core.proofs.PlayedLines.{IsPlayedLine-none}
 use Rattle.club_core.proofs.Played.{outside-alone, score-none}
 use Rattle.club_core.proofs.Lists.{bytes_eq-same, place-append, is_some-append, each-append, each-set, find_id-found, find_id-none, list_any-false, are_apart-append, are_apart_if_any-append, are_apart_if_any-set}
 use Rattle.club_core.proofs.Legals.{AreRules, none-holds, not-some, allowed-running, allowed-in_time, checked-legal, legal-played}
@@ -76,7 +78,7 @@ nat_le-false : (a b : ℕ) → nat_le a b ≡ false → b < a
 nat_le-false a b is = grind (arith, nat_tests)
 
 -- a game of one state is a game of a later one that has kept its events and members
-module _ {DM SM P M E : Type 0} (laws : GameRules P M E) (kind : GameKind) (s t : State DM SM) (events : (id : ℕ) (e : Event) → place s.events id ≡ Some e → place t.events id ≡ Some e) (members : (id : ℕ) → IsSome (place s.members id) → IsSome (place t.members id)) (later : s.last ≤ t.last) where
+module _ {DM SM P M E T : Type 0} (laws : GameRules P M E T) (kind : GameKind) (s t : State DM SM) (events : (id : ℕ) (e : Event) → place s.events id ≡ Some e → place t.events id ≡ Some e) (members : (id : ℕ) → IsSome (place s.members id) → IsSome (place t.members id)) (later : s.last ≤ t.last) where
   later-game : (game : Game M) → IsGameOf laws kind s game → IsGameOf laws kind t game
   later-game game of =
       record {
@@ -109,7 +111,7 @@ module _ {DM SM : Type 0} where
   fresh-key games key none = find_id-none (has_key key) games (no-game-under games key none)
 
 -- a game that was just seated is legal
-module _ {DM SM P M E : Type 0} (laws : GameRules P M E) (kind : GameKind) (t : State DM SM) where
+module _ {DM SM P M E T : Type 0} (laws : GameRules P M E T) (kind : GameKind) (t : State DM SM) where
   seated-game : (key : List ℕ) (pairing : Pairing) (moment : ℕ) (e : Event) → place t.events pairing.event ≡ Some e → e.game ≡ kind → IsSome (place t.members pairing.first) → IsSome (place t.members pairing.second) → pairing.first ≢ pairing.second → is_name key ≡ true → moment ≤ t.last → IsGameOf laws kind t (seated {M = M} (Some key) pairing moment)
   seated-game key pairing moment e found of_kind is_first is_second apart named now =
       record {
@@ -117,8 +119,7 @@ module _ {DM SM P M E : Type 0} (laws : GameRules P M E) (kind : GameKind) (t : 
         in_event = found;
         of_kind = of_kind;
         legal = record {
-          line = tt;
-          running_before = λ n inside. absurd (omega (arith, inside));
+          line = IsPlayedLine-none laws laws.start;
           plies = omega arith;
           timely = tt;
           outside_alone = λ some. cc;
@@ -145,16 +146,16 @@ since-within increment side [] c last within each = within
 since-within increment side (e ∷ es) c last within each =
     since-within increment (other side) es (spend increment side e.moment c) last (rw (spend-since increment side e.moment c) (each 0 e refl)) (λ n x at. each (suc n) x at)
 
-module _ {DP DM DE SP SM SE : Type 0} (d : GameRules DP DM DE) (h : GameRules SP SM SE) where
-  later-any : (s t : State DM SM) → ((id : ℕ) (e : Event) → place s.events id ≡ Some e → place t.events id ≡ Some e) → ((id : ℕ) → IsSome (place s.members id) → IsSome (place t.members id)) → s.last ≤ t.last → (g : AnyGame DM SM) → IsLegalIn d h s g → IsLegalIn d h t g
-  later-any s t events members later (draughts game) of = later-game d Draughts s t events members later game of
-  later-any s t events members later (shogi game) of = later-game h Shogi s t events members later game of
+module _ {DP DM DE DT SP SM SE ST : Type 0} (kinds : ClubRules DP DM DE DT SP SM SE ST) where
+  later-any : (s t : State DM SM) → ((id : ℕ) (e : Event) → place s.events id ≡ Some e → place t.events id ≡ Some e) → ((id : ℕ) → IsSome (place s.members id) → IsSome (place t.members id)) → s.last ≤ t.last → (g : AnyGame DM SM) → IsLegalIn kinds s g → IsLegalIn kinds t g
+  later-any s t events members later (draughts game) of = later-game kinds.draughts Draughts s t events members later game of
+  later-any s t events members later (shogi game) of = later-game kinds.shogi Shogi s t events members later game of
 
   abbrev IsLegal : State DM SM → Type 0
-  IsLegal s = IsLegalState d h s
+  IsLegal s = IsLegalState kinds s
 
   -- a member is added
-  members-added : (s : State DM SM) (moment : ℕ) (name key : List ℕ) → s.last ≤ moment → moment ≤ last_moment → IsLegalState d h s → member_refusal s.members name key ≡ None → IsLegalState d h (with_members s moment (s.members ++ record { name = name; key = key } ∷ []))
+  members-added : (s : State DM SM) (moment : ℕ) (name key : List ℕ) → s.last ≤ moment → moment ≤ last_moment → IsLegalState kinds s → member_refusal s.members name key ≡ None → IsLegalState kinds (with_members s moment (s.members ++ record { name = name; key = key } ∷ []))
   members-added s moment name key later within legal allowed =
       let tests = none-holds (member_tests s.members name key) allowed in
       let good = both-true (is_name name) (is_member_key key) (not-false _ tests.1.0) in
@@ -174,7 +175,7 @@ module _ {DP DM DE SP SM SE : Type 0} (d : GameRules DP DM DE) (h : GameRules SP
       }
 
   -- an event is added
-  events-added : (s : State DM SM) (moment : ℕ) (event : Event) → s.last ≤ moment → moment ≤ last_moment → IsLegalState d h s → event_refusal s.events event ≡ None → IsLegalState d h (with_events s moment (s.events ++ event ∷ []))
+  events-added : (s : State DM SM) (moment : ℕ) (event : Event) → s.last ≤ moment → moment ≤ last_moment → IsLegalState kinds s → event_refusal s.events event ≡ None → IsLegalState kinds (with_events s moment (s.events ++ event ∷ []))
   events-added s moment event later within legal allowed =
       let tests = none-holds (event_tests s.events event) allowed in
       let good : has_good_values event ≡ true = not-false _ tests.1.0 in
@@ -198,12 +199,12 @@ module _ {DP DM DE SP SM SE : Type 0} (d : GameRules DP DM DE) (h : GameRules SP
   key-seated Draughts key pairing moment = refl
   key-seated Shogi key pairing moment = refl
 
-  any-seated : (kind : GameKind) (t : State DM SM) (key : List ℕ) (pairing : Pairing) (moment : ℕ) (e : Event) → place t.events pairing.event ≡ Some e → e.game ≡ kind → IsSome (place t.members pairing.first) → IsSome (place t.members pairing.second) → pairing.first ≢ pairing.second → is_name key ≡ true → moment ≤ t.last → IsLegalIn d h t (seated_as kind (Some key) pairing moment)
-  any-seated Draughts t = seated-game d Draughts t
-  any-seated Shogi t = seated-game h Shogi t
+  any-seated : (kind : GameKind) (t : State DM SM) (key : List ℕ) (pairing : Pairing) (moment : ℕ) (e : Event) → place t.events pairing.event ≡ Some e → e.game ≡ kind → IsSome (place t.members pairing.first) → IsSome (place t.members pairing.second) → pairing.first ≢ pairing.second → is_name key ≡ true → moment ≤ t.last → IsLegalIn kinds t (seated_as kind (Some key) pairing moment)
+  any-seated Draughts t = seated-game kinds.draughts Draughts t
+  any-seated Shogi t = seated-game kinds.shogi Shogi t
 
   -- two members are seated for a game
-  game-seated : (s : State DM SM) (moment : ℕ) (key : List ℕ) (event first second : ℕ) (e : Event) → s.last ≤ moment → moment ≤ last_moment → IsLegalState d h s → place s.events event ≡ Some e → IsSome (place s.members first) → IsSome (place s.members second) → first ≢ second → is_name key ≡ true → length s.games < most_games → ((n : ℕ) (g : AnyGame DM SM) → slice_get s.games n ≡ Some g → has_key key g ≡ false) → IsLegalState d h (with_new_game s moment key (record { event = event; first = first; second = second }))
+  game-seated : (s : State DM SM) (moment : ℕ) (key : List ℕ) (event first second : ℕ) (e : Event) → s.last ≤ moment → moment ≤ last_moment → IsLegalState kinds s → place s.events event ≡ Some e → IsSome (place s.members first) → IsSome (place s.members second) → first ≢ second → is_name key ≡ true → length s.games < most_games → ((n : ℕ) (g : AnyGame DM SM) → slice_get s.games n ≡ Some g → has_key key g ≡ false) → IsLegalState kinds (with_new_game s moment key (record { event = event; first = first; second = second }))
   game-seated s moment key event first second e later within legal found is_first is_second apart named room fresh =
       record {
         last = within;
@@ -214,7 +215,7 @@ module _ {DP DM DE SP SM SE : Type 0} (d : GameRules DP DM DE) (h : GameRules SP
         events = legal.events;
         event_count = legal.event_count;
         event_names = legal.event_names;
-        games = each-append (IsLegalIn d h (with_new_game s moment key (record { event = event; first = first; second = second }))) s.games _ (λ n g at. later-any s _ (λ id e is. is) (λ id is. is) later g (legal.games n g at)) (rw found (any-seated e.game _ key _ moment e found refl is_first is_second apart named (omega arith)));
+        games = each-append (IsLegalIn kinds (with_new_game s moment key (record { event = event; first = first; second = second }))) s.games _ (λ n g at. later-any s _ (λ id e is. is) (λ id is. is) later g (legal.games n g at)) (rw found (any-seated e.game _ key _ moment e found refl is_first is_second apart named (omega arith)));
         game_count = let count : length (s.games ++ seated_as (kind_at (place s.events event)) (Some key) (record { event = event; first = first; second = second }) moment ∷ []) ≡ length s.games + 1 = simp length-append in omega (arith, count, room);
         game_keys = are_apart_if_any-append (λ g. key_of g) s.games _ legal.game_keys (λ n g b at has new. false-true _ (rw has at (fresh n g at)) (bytes_eq-same b key (some-same b key (sym new ∙ key-seated (kind_at (place s.events event)) key _ moment))));
       }
@@ -222,7 +223,7 @@ module _ {DP DM DE SP SM SE : Type 0} (d : GameRules DP DM DE) (h : GameRules SP
   found-some : {A : Type 0} (test : A → Bool) (xs : List A) (id : ℕ) → find_id test xs ≡ Some id → IsSome (place xs id)
   found-some test xs id is = let (x, at, _) = find_id-found test xs id is in rw at refl
 
-  pair-kept : (s : State DM SM) (moment : ℕ) (key : List ℕ) (event : ℕ) (e : Event) (first second : Option ℕ) → s.last ≤ moment → moment ≤ last_moment → IsLegalState d h s → place s.events event ≡ Some e → ((id : ℕ) → first ≡ Some id → IsSome (place s.members id)) → ((id : ℕ) → second ≡ Some id → IsSome (place s.members id)) → seat_refusal (game_under s.games key) (length s.games) key first second ≡ None → IsLegalState d h (state_after s (map_outcome (with_new_game s moment key) (pair event first second (length s.games))))
+  pair-kept : (s : State DM SM) (moment : ℕ) (key : List ℕ) (event : ℕ) (e : Event) (first second : Option ℕ) → s.last ≤ moment → moment ≤ last_moment → IsLegalState kinds s → place s.events event ≡ Some e → ((id : ℕ) → first ≡ Some id → IsSome (place s.members id)) → ((id : ℕ) → second ≡ Some id → IsSome (place s.members id)) → seat_refusal (game_under s.games key) (length s.games) key first second ≡ None → IsLegalState kinds (state_after s (map_outcome (with_new_game s moment key) (pair event first second (length s.games))))
   pair-kept s moment key event e None second later within legal found is_first is_second allowed = legal
   pair-kept s moment key event e (Some a) None later within legal found is_first is_second allowed = legal
   pair-kept s moment key event e (Some a) (Some b) later within legal found is_first is_second allowed =
@@ -232,15 +233,15 @@ module _ {DP DM DE SP SM SE : Type 0} (d : GameRules DP DM DE) (h : GameRules SP
       (λ same. false-true _ (not-true _ good.1) (eq-eqb a b same))
       good.0 (nat_le-false _ _ tests.1.1.0) (fresh-key s.games key tests.0)
 
-  seat-kept : (s : State DM SM) (moment : ℕ) (key : List ℕ) (event first second : Option ℕ) → s.last ≤ moment → moment ≤ last_moment → IsLegalState d h s → ((id : ℕ) → event ≡ Some id → (e : Event) × (place s.events id ≡ Some e)) → ((id : ℕ) → first ≡ Some id → IsSome (place s.members id)) → ((id : ℕ) → second ≡ Some id → IsSome (place s.members id)) → IsLegalState d h (state_after s (map_outcome (with_new_game s moment key) (seat_found event first second (game_under s.games key) (length s.games) key)))
+  seat-kept : (s : State DM SM) (moment : ℕ) (key : List ℕ) (event first second : Option ℕ) → s.last ≤ moment → moment ≤ last_moment → IsLegalState kinds s → ((id : ℕ) → event ≡ Some id → (e : Event) × (place s.events id ≡ Some e)) → ((id : ℕ) → first ≡ Some id → IsSome (place s.members id)) → ((id : ℕ) → second ≡ Some id → IsSome (place s.members id)) → IsLegalState kinds (state_after s (map_outcome (with_new_game s moment key) (seat_found event first second (game_under s.games key) (length s.games) key)))
   seat-kept s moment key None first second later within legal found is_first is_second = legal
   seat-kept s moment key (Some event) first second later within legal found is_first is_second =
       let (e, at) = found event refl in
-      kept-unless (IsLegalState d h) s (with_new_game s moment key) (same_seats event first second (game_under s.games key)) (seat_refusal (game_under s.games key) (length s.games) key first second) (pair event first second (length s.games)) legal
+      kept-unless (IsLegalState kinds) s (with_new_game s moment key) (same_seats event first second (game_under s.games key)) (seat_refusal (game_under s.games key) (length s.games) key first second) (pair event first second (length s.games)) legal
       (pair-kept s moment key event e first second later within legal at is_first is_second)
 
   -- a game is changed
-  game-changed : (s : State DM SM) (moment id : ℕ) (old new : AnyGame DM SM) → s.last ≤ moment → moment ≤ last_moment → IsLegalState d h s → place s.games id ≡ Some old → key_of new ≡ key_of old → IsLegalIn d h (with_game s moment id new) new → IsLegalState d h (with_game s moment id new)
+  game-changed : (s : State DM SM) (moment id : ℕ) (old new : AnyGame DM SM) → s.last ≤ moment → moment ≤ last_moment → IsLegalState kinds s → place s.games id ≡ Some old → key_of new ≡ key_of old → IsLegalIn kinds (with_game s moment id new) new → IsLegalState kinds (with_game s moment id new)
   game-changed s moment zero old new later within legal at same legal_new = cc
   game-changed s moment (suc k) old new later within legal at same legal_new =
       let before : suc k - 1 ≡ k = omega arith in
@@ -253,13 +254,13 @@ module _ {DP DM DE SP SM SE : Type 0} (d : GameRules DP DM DE) (h : GameRules SP
         events = legal.events;
         event_count = legal.event_count;
         event_names = legal.event_names;
-        games = each-set (IsLegalIn d h (with_game s moment (suc k) new)) s.games (suc k - 1) new (λ n g is. later-any s _ (λ id e is. is) (λ id is. is) later g (legal.games n g is)) legal_new;
+        games = each-set (IsLegalIn kinds (with_game s moment (suc k) new)) s.games (suc k - 1) new (λ n g is. later-any s _ (λ id e is. is) (λ id is. is) later g (legal.games n g is)) legal_new;
         game_count = rw length-set legal.game_count;
         game_keys = are_apart_if_any-set (λ g. key_of g) s.games (suc k - 1) new old (rw before at) same legal.game_keys;
       }
 
 -- a move in a game of one kind
-module _ {DP DM DE SP SM SE P M E : Type 0} (d : GameRules DP DM DE) (h : GameRules SP SM SE) (laws : GameRules P M E) (are_rules : AreRules laws) (kind : GameKind) (wrap : Game M → AnyGame DM SM) (wrap_key : (g : Game M) → key_of (wrap g) ≡ g.key) (wrap_legal : (t : State DM SM) (g : Game M) → IsGameOf laws kind t g → IsLegalIn d h t (wrap g)) (s : State DM SM) (moment id : ℕ) (game : Game M) (later : s.last ≤ moment) (within : moment ≤ last_moment) (legal : IsLegalState d h s) (at : place s.games id ≡ Some (wrap game)) (of : IsGameOf laws kind s game) where
+module _ {DP DM DE DT SP SM SE ST P M E T : Type 0} (kinds : ClubRules DP DM DE DT SP SM SE ST) (laws : GameRules P M E T) (are_rules : AreRules laws) (kind : GameKind) (wrap : Game M → AnyGame DM SM) (wrap_key : (g : Game M) → key_of (wrap g) ≡ g.key) (wrap_legal : (t : State DM SM) (g : Game M) → IsGameOf laws kind t g → IsLegalIn kinds t (wrap g)) (s : State DM SM) (moment id : ℕ) (game : Game M) (later : s.last ≤ moment) (within : moment ≤ last_moment) (legal : IsLegalState kinds s) (at : place s.games id ≡ Some (wrap game)) (of : IsGameOf laws kind s game) where
   played-of : (m : M) → result_of laws game ≡ None → moment - (clocks_of game of.event.terms).since ≤ left_of (turn_of laws game) (clocks_of game of.event.terms) → laws.check (last_position laws game) m ≡ Ok tt → IsGameOf laws kind (with_game s moment id (wrap (played game m moment))) (played game m moment)
   played-of m running in_time ok =
       let since : (clocks_of game of.event.terms).since ≤ s.last = since-within of.event.terms.increment First game.entries _ s.last of.start of.entries in
@@ -277,22 +278,22 @@ module _ {DP DM DE SP SM SE P M E : Type 0} (d : GameRules DP DM DE) (h : GameRu
         lost_by_time = λ is. let none : None ≡ Some Time = sym no_outside ∙ is in absurd cc;
       }
 
-  plays-kept : (read : Result M MoveRefusal) (o : Result M MoveRefusal) → checked laws (last_position laws game) read ≡ o → result_of laws game ≡ None → moment - (clocks_of game of.event.terms).since ≤ left_of (turn_of laws game) (clocks_of game of.event.terms) → IsLegalState d h (state_after s (map_outcome (λ new. with_game s moment id (wrap new)) (plays laws of.event.terms game moment o)))
+  plays-kept : (read : Result M MoveRefusal) (o : Result M MoveRefusal) → checked laws (last_position laws game) read ≡ o → result_of laws game ≡ None → moment - (clocks_of game of.event.terms).since ≤ left_of (turn_of laws game) (clocks_of game of.event.terms) → IsLegalState kinds (state_after s (map_outcome (λ new. with_game s moment id (wrap new)) (plays laws of.event.terms game moment o)))
   plays-kept read (Err refusal) is running in_time = legal
   plays-kept read (Ok m) is running in_time =
-      game-changed d h s moment id (wrap game) (wrap (played game m moment)) later within legal at (wrap_key (played game m moment) ∙ sym (wrap_key game))
+      game-changed kinds s moment id (wrap game) (wrap (played game m moment)) later within legal at (wrap_key (played game m moment) ∙ sym (wrap_key game))
       (wrap_legal _ (played game m moment) (played-of m running in_time (checked-legal laws of.event.terms game moment (last_position laws game) read m is)))
 
-  move-kept : (side : Side) (ply : ℕ) (text : List ℕ) → IsLegalState d h (state_after s (map_outcome (λ new. with_game s moment id (wrap new)) (step_move laws of.event.terms game moment side ply text)))
+  move-kept : (side : Side) (ply : ℕ) (text : List ℕ) → IsLegalState kinds (state_after s (map_outcome (λ new. with_game s moment id (wrap new)) (step_move laws of.event.terms game moment side ply text)))
   move-kept side ply text =
-      kept-unless (IsLegalState d h) s (λ new. with_game s moment id (wrap new)) (repeat_of laws of.event.terms game ply (move_at game ply) side text) (move_refusal laws of.event.terms game moment side ply text) _ legal
+      kept-unless (IsLegalState kinds) s (λ new. with_game s moment id (wrap new)) (repeat_of laws of.event.terms game ply (move_at game ply) side text) (move_refusal laws of.event.terms game moment side ply text) _ legal
       (λ allowed. plays-kept (laws.read_move (last_position laws game) text) _ refl (allowed-running laws of.event.terms game moment side ply text allowed) (allowed-in_time laws of.event.terms game moment side ply text allowed))
 
-  side-kept : (o : Option Side) (command : GameCommand) → IsLegalState d h (state_after s (map_outcome (λ new. with_game s moment id (wrap new)) (by_side laws of.event.terms game moment o command)))
+  side-kept : (o : Option Side) (command : GameCommand) → IsLegalState kinds (state_after s (map_outcome (λ new. with_game s moment id (wrap new)) (by_side laws of.event.terms game moment o command)))
   side-kept None command = legal
   side-kept (Some side) (move ply text) = move-kept side ply text
 
-  caller-kept : (who : Caller) (command : GameCommand) → IsLegalState d h (state_after s (map_outcome (λ new. with_game s moment id (wrap new)) (game_step laws of.event.terms game moment who command)))
+  caller-kept : (who : Caller) (command : GameCommand) → IsLegalState kinds (state_after s (map_outcome (λ new. with_game s moment id (wrap new)) (game_step laws of.event.terms game moment who command)))
   caller-kept Officer command = side-kept (officer_side laws of.event.terms game moment command) command
   caller-kept (Member member) command = side-kept (side_of_member game.first game.second member) command
 
@@ -300,36 +301,36 @@ pub in-place : {A : Type 0} (P : A → Type 0) (xs : List A) (id : ℕ) (x : A) 
 in-place P xs zero x each at = cc
 in-place P xs (suc n) x each at = each n x at
 
-module _ {DP DM DE SP SM SE : Type 0} (d : GameRules DP DM DE) (h : GameRules SP SM SE) (are_draughts : AreRules d) (are_shogi : AreRules h) (s : State DM SM) (moment : ℕ) (later : s.last ≤ moment) (within : moment ≤ last_moment) (legal : IsLegalState d h s) where
-  game-kept : (id : ℕ) (who : Caller) (command : GameCommand) (g : Option (AnyGame DM SM)) → place s.games id ≡ g → IsLegalState d h (state_after s (step_game d h s moment id who command g))
+module _ {DP DM DE DT SP SM SE ST : Type 0} (kinds : ClubRules DP DM DE DT SP SM SE ST) (are_draughts : AreRules kinds.draughts) (are_shogi : AreRules kinds.shogi) (s : State DM SM) (moment : ℕ) (later : s.last ≤ moment) (within : moment ≤ last_moment) (legal : IsLegalState kinds s) where
+  game-kept : (id : ℕ) (who : Caller) (command : GameCommand) (g : Option (AnyGame DM SM)) → place s.games id ≡ g → IsLegalState kinds (state_after s (step_game kinds s moment id who command g))
   game-kept id who command None at = legal
   game-kept id who command (Some (draughts game)) at =
-      let of : IsGameOf d Draughts s game = in-place (IsLegalIn d h s) s.games id (draughts game) legal.games at in
-      rw of.in_event (caller-kept d h d are_draughts Draughts draughts (λ g. refl) (λ t g is. is) s moment id game later within legal at of who command)
+      let of : IsGameOf kinds.draughts Draughts s game = in-place (IsLegalIn kinds s) s.games id (draughts game) legal.games at in
+      rw of.in_event (caller-kept kinds kinds.draughts are_draughts Draughts draughts (λ g. refl) (λ t g is. is) s moment id game later within legal at of who command)
   game-kept id who command (Some (shogi game)) at =
-      let of : IsGameOf h Shogi s game = in-place (IsLegalIn d h s) s.games id (shogi game) legal.games at in
-      rw of.in_event (caller-kept d h h are_shogi Shogi shogi (λ g. refl) (λ t g is. is) s moment id game later within legal at of who command)
+      let of : IsGameOf kinds.shogi Shogi s game = in-place (IsLegalIn kinds s) s.games id (shogi game) legal.games at in
+      rw of.in_event (caller-kept kinds kinds.shogi are_shogi Shogi shogi (λ g. refl) (λ t g is. is) s moment id game later within legal at of who command)
 
-  command-kept : (who : Caller) (command : Command) → IsLegalState d h (state_after s (step_command d h s moment who command))
+  command-kept : (who : Caller) (command : Command) → IsLegalState kinds (state_after s (step_command kinds s moment who command))
   command-kept who (add_member name key) =
-      kept-officer (IsLegalState d h) s (with_members s moment) who (member_step s.members name key) legal
-      (kept-unless (IsLegalState d h) s (with_members s moment) (same_member s.members name key) (member_refusal s.members name key) _ legal (members-added d h s moment name key later within legal))
+      kept-officer (IsLegalState kinds) s (with_members s moment) who (member_step s.members name key) legal
+      (kept-unless (IsLegalState kinds) s (with_members s moment) (same_member s.members name key) (member_refusal s.members name key) _ legal (members-added kinds s moment name key later within legal))
   command-kept who (add_event event) =
-      kept-officer (IsLegalState d h) s (with_events s moment) who (event_step s.events event) legal
-      (kept-unless (IsLegalState d h) s (with_events s moment) (same_event s.events event) (event_refusal s.events event) _ legal (events-added d h s moment event later within legal))
+      kept-officer (IsLegalState kinds) s (with_events s moment) who (event_step s.events event) legal
+      (kept-unless (IsLegalState kinds) s (with_events s moment) (same_event s.events event) (event_refusal s.events event) _ legal (events-added kinds s moment event later within legal))
   command-kept who (seat key event first second) =
-      kept-officer (IsLegalState d h) s (with_new_game s moment key) who (seat_step s.members s.events (game_under s.games key) (length s.games) key event first second) legal
-      (seat-kept d h s moment key (find_id (has_event_name event) s.events) (find_id (has_member_name first) s.members) (find_id (has_member_name second) s.members) later within legal
+      kept-officer (IsLegalState kinds) s (with_new_game s moment key) who (seat_step s.members s.events (game_under s.games key) (length s.games) key event first second) legal
+      (seat-kept kinds s moment key (find_id (has_event_name event) s.events) (find_id (has_member_name first) s.members) (find_id (has_member_name second) s.members) later within legal
       (λ id is. let (e, at, _) = find_id-found (has_event_name event) s.events id is in (e, at))
-      (λ id is. found-some d h (has_member_name first) s.members id is)
-      (λ id is. found-some d h (has_member_name second) s.members id is))
+      (λ id is. found-some kinds (has_member_name first) s.members id is)
+      (λ id is. found-some kinds (has_member_name second) s.members id is))
   command-kept who (on_game id command) = game-kept id who command (place s.games id) refl
 
-  by-kept : (who : Option Caller) (command : Command) → IsLegalState d h (state_after s (step_by d h s moment who command))
+  by-kept : (who : Option Caller) (command : Command) → IsLegalState kinds (state_after s (step_by kinds s moment who command))
   by-kept None command = legal
   by-kept (Some who) command = command-kept who command
 
-module _ {DP DM DE SP SM SE : Type 0} (d : GameRules DP DM DE) (h : GameRules SP SM SE) (are_draughts : AreRules d) (are_shogi : AreRules h) where
-  pub next-legal : (s : State DM SM) (r : Request) → r.moment ≤ last_moment → IsLegalState d h s → IsLegalState d h (next d h s r)
+module _ {DP DM DE DT SP SM SE ST : Type 0} (kinds : ClubRules DP DM DE DT SP SM SE ST) (are_draughts : AreRules kinds.draughts) (are_shogi : AreRules kinds.shogi) where
+  pub next-legal : (s : State DM SM) (r : Request) → r.moment ≤ last_moment → IsLegalState kinds s → IsLegalState kinds (next kinds s r)
   next-legal s r within legal =
-      by-kept d h are_draughts are_shogi s (max r.moment s.last) (omega arith) (let before = legal.last in omega (arith, within, before)) legal (caller_of s.members r.who) r.command
+      by-kept kinds are_draughts are_shogi s (max r.moment s.last) (omega arith) (let before = legal.last in omega (arith, within, before)) legal (caller_of s.members r.who) r.command

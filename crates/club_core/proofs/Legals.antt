@@ -11,7 +11,6 @@ use Rattle.squares.specs.Sides.{other}
 use Rattle.club_rules.specs.declared.refusals.MoveRefusal.{MoveRefusal}
 use Rattle.club_rules.specs.GameRules.{GameRules, ply_limit}
 use Rattle.club_rules.specs.Line.{IsLegalLine}
-use Rattle.club_rules.proofs.Lines.{IsLegalLine-append}
 use Rattle.club_core.specs.declared.rows.OutsideEnd.{OutsideEnd}
 use Rattle.club_core.specs.declared.rows.OutsideEnd.TheVariants.{Agreed, Recorded}
 use Rattle.club_core.specs.declared.refusals.Refusal.{Refusal}
@@ -20,10 +19,11 @@ use Rattle.club_core.specs.Outcome.{first_refusal}
 use Rattle.club_core.specs.Game.{Game, Clocks, turns, spend, spend_all, moves_of, clocks_of, last_position, rule_end, end_of, turn_of, result_of, end_with, left_of, side_after}
 use Rattle.club_core.specs.Legal.{IsTimely, IsLegalGame}
 use Rattle.club_core.specs.Step.{played, checked, checked_as, move_tests, move_refusal}
+use Rattle.club_core.proofs.PlayedLines.{IsPlayedLine-append}
 use Rattle.club_core.proofs.Played.{moves_of-played, turn-of-game, outside-alone, score-none}
 
 -- the laws that the rules of a game keep
-pub record AreRules {P M E : Type 0} (laws : GameRules P M E) : Type 0 where
+pub record AreRules {P M E T : Type 0} (laws : GameRules P M E T) : Type 0 where
   pub first_starts : laws.turn laws.start ≡ First
   pub turn_passes : (p : P) (m : M) → laws.check p m ≡ Ok tt → laws.turn (laws.play p m) ≡ other (laws.turn p)
   pub same_is : (a b : M) → (laws.same a b ≡ true) ↔ (a ≡ b)
@@ -55,11 +55,11 @@ pub not-some : {A : Type 0} (o : Option A) → is_some o ≡ false → o ≡ Non
 not-some None is = refl
 not-some (Some x) is = cc
 
-no-rule-end : {E : Type 0} (e : Option E) (o : Option OutsideEnd) → end_with e o ≡ None → e ≡ None
+pub no-rule-end : {E : Type 0} (e : Option E) (o : Option OutsideEnd) → end_with e o ≡ None → e ≡ None
 no-rule-end (Some e) o is = cc
 no-rule-end None o is = refl
 
-module _ {P M E : Type 0} (laws : GameRules P M E) (terms : Terms) (game : Game M) (moment : ℕ) where
+module _ {P M E T : Type 0} (laws : GameRules P M E T) (terms : Terms) (game : Game M) (moment : ℕ) where
   -- where a new move is allowed, the game is running
   pub allowed-running : (side : Side) (ply : ℕ) (text : List ℕ) → move_refusal laws terms game moment side ply text ≡ None → result_of laws game ≡ None
   allowed-running side ply text allowed =
@@ -80,11 +80,7 @@ module _ {P M E : Type 0} (laws : GameRules P M E) (terms : Terms) (game : Game 
           let e : n ≡ m = cc in
           rw (← e) at
 
-module _ {P M E : Type 0} (laws : GameRules P M E) (are_rules : AreRules laws) (terms : Terms) (game : Game M) (legal : IsLegalGame laws terms game) where
-  judged-at : (n : ℕ) → rule_end laws game ≡ None → (n ≡ length game.entries) ⊎ (n < length game.entries) → laws.judge laws.start (map (λ e. e.made) (take n game.entries)) ≡ None
-  judged-at n running (inl all) = rw (all, take-length game.entries) running
-  judged-at n running (inr inside) = legal.running_before n inside
-
+module _ {P M E T : Type 0} (laws : GameRules P M E T) (are_rules : AreRules laws) (terms : Terms) (game : Game M) (legal : IsLegalGame laws terms game) where
   room : rule_end laws game ≡ None → length game.entries < ply_limit
   room running = below (eq-or-lt_of_le legal.plies)
     where
@@ -92,7 +88,7 @@ module _ {P M E : Type 0} (laws : GameRules P M E) (are_rules : AreRules laws) (
       below (inr less) = less
       below (inl all) =
           let count : length (map (λ e. e.made) game.entries) ≡ length game.entries = simp length-map in
-          let ended : IsSome (rule_end laws game) = are_rules.ends_at_limit (map (λ e. e.made) game.entries) legal.line (count ∙ all) in
+          let ended : IsSome (rule_end laws game) = are_rules.ends_at_limit (map (λ e. e.made) game.entries) legal.line.legal (count ∙ all) in
           let none : false ≡ true = rw running at ended in
           absurd cc
 
@@ -104,13 +100,10 @@ module _ {P M E : Type 0} (laws : GameRules P M E) (are_rules : AreRules laws) (
       let no_outside : game.outside ≡ None = outside-alone (rule_end laws game) game.outside no_end in
       let count : length (game.entries ++ record { made = m; moment = moment } ∷ []) ≡ length game.entries + 1 = simp length-append in
       let below : length game.entries < ply_limit = room no_rule in
-      let side : turn_of laws game ≡ side_after (length game.entries) = turn-of-game laws are_rules.turn_passes are_rules.first_starts game legal.line in
+      let side : turn_of laws game ≡ side_after (length game.entries) = turn-of-game laws are_rules.turn_passes are_rules.first_starts game legal.line.legal in
       let moments : length (map (λ e. e.moment) game.entries) ≡ length game.entries = simp length-map in
       record {
-        line = rw (moves_of-played game m moment) (IsLegalLine-append laws laws.start (moves_of game) m legal.line ok);
-        running_before = λ n inside.
-            let within : n ≤ length game.entries = omega (arith, count, inside) in
-            rw (take-append-le n game.entries (record { made = m; moment = moment } ∷ []) within) (judged-at n no_rule (eq-or-lt_of_le within));
+        line = rw (moves_of-played game m moment) (IsPlayedLine-append laws laws.start (moves_of game) m legal.line no_rule ok);
         plies = omega (arith, count, below);
         timely =
             rw (map-append (λ e. e.moment) game.entries (record { made = m; moment = moment } ∷ []))

@@ -1,5 +1,6 @@
 pub mod Finds
 pub mod Turns
+pub mod PlayedLines
 pub mod Played
 pub mod Folds
 pub mod Lists

@@ -1,5 +1,5 @@
 -- What follows from a game that one more move was played in, and from a move that was played before.
-use Rattle.std.proofs.Common.{◌≡◌, ◌≢◌, ℕ, zero, suc, ◌+◌, ◌-◌, ◌<◌, ◌≤◌, List, [], ◌∷◌, ◌++◌, length, map, take, Option, Some, None, Ok, true, ◌&&◌, refl, ap, sym, ◌∙◌, arith, add-one, sub-one, length-append}
+use Rattle.std.proofs.Common.{◌≡◌, ◌≢◌, ℕ, zero, suc, ◌+◌, ◌-◌, ◌<◌, ◌≤◌, List, [], ◌∷◌, ◌++◌, length, map, take, Option, Some, None, Ok, true, ◌&&◌, refl, ap, sym, subst, ◌∙◌, arith, add-one, sub-one, length-append}
 use Rattle.std.specs.Prelude.{slice_get}
 use Rattle.std.specs.Option.{option_map}
 use Rattle.std.proofs.Math.Seq.{take-length}
@@ -28,7 +28,7 @@ spend_all-append increment s [] m c = refl
 spend_all-append increment s (x ∷ ms) m c = spend_all-append increment (other s) ms m (spend increment s x c)
 
 -- on a legal line the side to move is the one after that many plies
-pub turn-is : {P M E : Type 0} (game_rules : GameRules P M E) → ((p : P) (m : M) → game_rules.check p m ≡ Ok tt → game_rules.turn (game_rules.play p m) ≡ other (game_rules.turn p)) → (p : P) (ms : List M) → IsLegalLine game_rules p ms → game_rules.turn (position_after game_rules p ms) ≡ turns (length ms) (game_rules.turn p)
+pub turn-is : {P M E T : Type 0} (game_rules : GameRules P M E T) → ((p : P) (m : M) → game_rules.check p m ≡ Ok tt → game_rules.turn (game_rules.play p m) ≡ other (game_rules.turn p)) → (p : P) (ms : List M) → IsLegalLine game_rules p ms → game_rules.turn (position_after game_rules p ms) ≡ turns (length ms) (game_rules.turn p)
 turn-is game_rules passes p [] line = refl
 turn-is game_rules passes p (m ∷ ms) line = turn-is game_rules passes (game_rules.play p m) ms line.1 ∙ ap (turns (length ms)) (passes p m line.0)
 
@@ -65,7 +65,7 @@ outside-alone (Some e) o none = cc
 outside-alone None (Some o) none = cc
 outside-alone None None none = refl
 
-pub score-none : {P M E : Type 0} (game_rules : GameRules P M E) (e : Option (GameEnd E)) (turn : Side) → score_with game_rules e turn ≡ None → e ≡ None
+pub score-none : {P M E T : Type 0} (game_rules : GameRules P M E T) (e : Option (GameEnd E)) (turn : Side) → score_with game_rules e turn ≡ None → e ≡ None
 score-none game_rules None turn none = refl
 score-none game_rules (Some e) turn none = cc
 
@@ -77,7 +77,7 @@ at-end : {A : Type 0} (xs : List A) (x : A) → slice_get (xs ++ x ∷ []) (leng
 at-end [] x = refl
 at-end (y ∷ xs) x = at-end xs x
 
-module _ {P M E : Type 0} (game_rules : GameRules P M E) (game : Game M) (m : M) (moment : ℕ) where
+module _ {P M E T : Type 0} (game_rules : GameRules P M E T) (game : Game M) (m : M) (moment : ℕ) where
   pub last-played : last_position game_rules (played game m moment) ≡ game_rules.play (last_position game_rules game) m
   last-played = ap (position_after game_rules game_rules.start) (moves_of-played game m moment) ∙ position_after-append game_rules game_rules.start (moves_of game) m
 
@@ -97,7 +97,7 @@ module _ {P M E : Type 0} (game_rules : GameRules P M E) (game : Game M) (m : M)
       rw (moves_of-played game m moment, ← count) (at-end (moves_of game) m)
 
 -- the laws of the rules: First moves first, and a legal move passes the turn
-module _ {P M E : Type 0} (game_rules : GameRules P M E) (passes : (p : P) (n : M) → game_rules.check p n ≡ Ok tt → game_rules.turn (game_rules.play p n) ≡ other (game_rules.turn p)) (starts : game_rules.turn game_rules.start ≡ First) (game : Game M) (line : IsLegalLine game_rules game_rules.start (map (λ e. e.made) game.entries)) where
+module _ {P M E T : Type 0} (game_rules : GameRules P M E T) (passes : (p : P) (n : M) → game_rules.check p n ≡ Ok tt → game_rules.turn (game_rules.play p n) ≡ other (game_rules.turn p)) (starts : game_rules.turn game_rules.start ≡ First) (game : Game M) (line : IsLegalLine game_rules game_rules.start (map (λ e. e.made) game.entries)) where
   pub turn-of-game : turn_of game_rules game ≡ side_after (length game.entries)
   turn-of-game =
       let turn : turn_of game_rules game ≡ turns (length (moves_of game)) (game_rules.turn game_rules.start) = turn-is game_rules passes game_rules.start (moves_of game) line in
@@ -122,7 +122,7 @@ module _ {P M E : Type 0} (game_rules : GameRules P M E) (passes : (p : P) (n : 
       rw (before, after, count, turn-of-game) refl
 
 -- what the view shows of a ply that was played
-module _ {R P M E : Type 0} (game_rules : GameRules P M E) (terms : Terms) (game : Game M) (asked : Asked R P M E) where
+module _ {R P M E T : Type 0} (game_rules : GameRules P M E T) (terms : Terms) (game : Game M) (asked : Asked R P M E T) where
   asked-some : (ply : ℕ) (o : Option M) → move_at game ply ≡ o → IsAsked game_rules terms game ply o (Some asked) → (n : ℕ) × (ply ≡ suc n) × (slice_get (moves_of game) n ≡ Some asked.made) × (asked.before ≡ last_position game_rules (game_at game n))
   asked-some ply None at shown = absurd shown
   asked-some zero (Some m) at shown = cc
@@ -174,12 +174,19 @@ rule_in-end_with (Some e) o = refl
 rule_in-end_with None (Some o) = refl
 rule_in-end_with None None = refl
 
+module _ {P M E T : Type 0} (game_rules : GameRules P M E T) (terms : Terms) (game : Game M) (legal : IsLegalGame game_rules terms game) where
+  -- the rules gave no end to a proper beginning of a legal game
+  pub running-before : (plies : ℕ) → plies < length game.entries → rule_end game_rules (game_at game plies) ≡ None
+  running-before plies inside =
+      let count : length (moves_of game) ≡ length game.entries = simp length-map in
+      subst (λ ms. game_rules.judge game_rules.start ms ≡ None) (take-map (λ e. e.made) plies game.entries) (legal.line.unended plies (omega (arith, count, inside)))
+
 -- the end at a ply that was played
-module _ {R P M E : Type 0} (game_rules : GameRules P M E) (terms : Terms) (game : Game M) (legal : IsLegalGame game_rules terms game) (asked : Asked R P M E) where
+module _ {R P M E T : Type 0} (game_rules : GameRules P M E T) (terms : Terms) (game : Game M) (legal : IsLegalGame game_rules terms game) (asked : Asked R P M E T) where
   pub asked-legal : (ply : ℕ) → IsAsked game_rules terms game ply (move_at game ply) (Some asked) → game_rules.check asked.before asked.made ≡ Ok tt
   asked-legal ply shown =
       let (n, _, at, before) = asked-some game_rules terms game asked ply (move_at game ply) refl shown in
-      rw (before, ← take-map (λ e. e.made) n game.entries) (check-at game_rules game_rules.start (moves_of game) n asked.made legal.line at)
+      rw (before, ← take-map (λ e. e.made) n game.entries) (check-at game_rules game_rules.start (moves_of game) n asked.made legal.line.legal at)
 
   -- at the last ply it is that of the row
   pub end-last : (ply : ℕ) → ply ≡ length game.entries → rule_in (end_of game_rules game) ≡ rule_end game_rules (game_at game ply)
@@ -191,4 +198,4 @@ module _ {R P M E : Type 0} (game_rules : GameRules P M E) (terms : Terms) (game
       let (n, is, at, _) = asked-some game_rules terms game asked ply (move_at game ply) refl shown in
       let inside : n < length (moves_of game) = slice_get_within (moves_of game) n asked.made at in
       let count : length (moves_of game) ≡ length game.entries = simp length-map in
-      sym (legal.running_before ply (omega (arith, is, add-one n)))
+      sym (running-before game_rules terms game legal ply (omega (arith, is, add-one n)))

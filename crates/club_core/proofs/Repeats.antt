@@ -13,6 +13,7 @@ use Rattle.club_rules.specs.declared.refusals.MoveRefusal.{MoveRefusal}
 use Rattle.club_rules.specs.declared.names.GameKind.{GameKind}
 use Rattle.club_rules.specs.declared.names.GameKind.TheVariants.{Draughts, Shogi}
 use Rattle.club_rules.specs.GameRules.{GameRules}
+use Rattle.club_core.specs.ClubRules.{ClubRules}
 use Rattle.club_rules.specs.Line.{IsLegalLine}
 use Rattle.club_core.specs.declared.requests.Caller.{Caller}
 use Rattle.club_core.specs.declared.requests.Caller.TheVariants.{Officer, Member}
@@ -167,7 +168,7 @@ module _ {DM SM : Type 0} (s t : State DM SM) (moment again : ℕ) where
       rw (by.0, in_event, has_first, has_second, under, same, was.answer) refl
 
 -- the answer to a move shows nothing of later entries
-reply-same : {P M E : Type 0} (laws : GameRules P M E) (terms : Terms) (a b : Game M) (ply : ℕ) (m : M) → a.start ≡ b.start → take (ply - 1) a.entries ≡ take (ply - 1) b.entries → take ply a.entries ≡ take ply b.entries → reply_of_move laws terms a ply m ≡ reply_of_move laws terms b ply m
+reply-same : {P M E T : Type 0} (laws : GameRules P M E T) (terms : Terms) (a b : Game M) (ply : ℕ) (m : M) → a.start ≡ b.start → take (ply - 1) a.entries ≡ take (ply - 1) b.entries → take ply a.entries ≡ take ply b.entries → reply_of_move laws terms a ply m ≡ reply_of_move laws terms b ply m
 reply-same laws terms a b ply m start before after = rw (start, before, after) refl
 
 take-then : {A : Type 0} (xs : List A) (x : A) (more : List A) → take (length xs) ((xs ++ x ∷ []) ++ more) ≡ xs
@@ -187,7 +188,7 @@ take-then-whole xs x more =
 next-ply : (ply n : ℕ) → (ply == 0 || nat_lt (n + 1) ply) ≡ false → nat_le ply n ≡ false → ply ≡ n + 1
 next-ply ply n within above = grind (arith, nat_tests)
 
-module _ {P M E : Type 0} (laws : GameRules P M E) (terms : Terms) (game : Game M) (moment : ℕ) where
+module _ {P M E T : Type 0} (laws : GameRules P M E T) (terms : Terms) (game : Game M) (moment : ℕ) where
   plays-accepted : (o : Result M MoveRefusal) (new : Game M) (reply : Reply) → plays laws terms game moment o ≡ accepted new reply → (m : M) × (o ≡ Ok m) × (played game m moment ≡ new) × (reply_of_move laws terms (played game m moment) (length game.entries + 1) m ≡ reply)
   plays-accepted (Err refusal) new reply is = cc
   plays-accepted (Ok m) new reply is =
@@ -202,7 +203,7 @@ module _ {P M E : Type 0} (laws : GameRules P M E) (terms : Terms) (game : Game 
       read-as n m (Err refusal) is = cc
       read-as n m (Ok u) is = cc
 
-module _ {P M E : Type 0} (laws : GameRules P M E) (are_rules : AreRules laws) (terms : Terms) (game : Game M) (line : IsLegalLine laws laws.start (map (λ e. e.made) game.entries)) (moment again : ℕ) where
+module _ {P M E T : Type 0} (laws : GameRules P M E T) (are_rules : AreRules laws) (terms : Terms) (game : Game M) (line : IsLegalLine laws laws.start (map (λ e. e.made) game.entries)) (moment again : ℕ) where
   repeat-later : (m : M) (side : Side) (text : List ℕ) (more : List (Entry M)) (later : Game M) → later.start ≡ game.start → later.entries ≡ (game.entries ++ record { made = m; moment = moment } ∷ []) ++ more → same_side side (turn_of laws game) ≡ true → laws.read_move (last_position laws game) text ≡ Ok m → repeat_of laws terms later (length game.entries + 1) (move_at later (length game.entries + 1)) side text ≡ Some (reply_of_move laws terms (played game m moment) (length game.entries + 1) m)
   repeat-later m side text more later start entries turn read =
       let e : Entry M = record { made = m; moment = moment } in
@@ -247,7 +248,7 @@ module _ {P M E : Type 0} (laws : GameRules P M E) (are_rules : AreRules laws) (
       ap (λ o. by_side laws terms later again o command) side ∙ side-again (side_of_member game.first game.second id) command new reply is later since
 
 -- a command on a game of one kind
-module _ {DP DM DE SP SM SE P M E : Type 0} (d : GameRules DP DM DE) (h : GameRules SP SM SE) (laws : GameRules P M E) (are_rules : AreRules laws) (kind : GameKind) (wrap : Game M → AnyGame DM SM) (unwrap : (g : Game M) (new : AnyGame DM SM) → IsLaterAny (wrap g) new → (later : Game M) × (new ≡ wrap later) × IsLaterGame g later) where
+module _ {DP DM DE DT SP SM SE ST P M E T : Type 0} (kinds : ClubRules DP DM DE DT SP SM SE ST) (laws : GameRules P M E T) (are_rules : AreRules laws) (kind : GameKind) (wrap : Game M → AnyGame DM SM) (unwrap : (g : Game M) (new : AnyGame DM SM) → IsLaterAny (wrap g) new → (later : Game M) × (new ≡ wrap later) × IsLaterGame g later) where
   game-later : (s t : State DM SM) (moment again id : ℕ) (who : Caller) (command : GameCommand) (game new : Game M) (reply : Reply) → IsGameOf laws kind s game → game_step laws (terms_at (place s.events game.event)) game moment who command ≡ accepted new reply → Begins s.events t.events → (any : AnyGame DM SM) → place t.games id ≡ Some any → IsLaterAny (wrap new) any → (later : Game M) × (place t.games id ≡ Some (wrap later)) × (map_outcome (λ game. with_game t again id (wrap game)) (game_step laws (terms_at (place t.events later.event)) later again who command) ≡ repeated reply)
   game-later s t moment again id who command game new reply of step_is events any stands any_later =
       let (later, any_is, is_later) = unwrap new any any_later in
@@ -257,7 +258,7 @@ module _ {DP DM DE SP SM SE P M E : Type 0} (d : GameRules DP DM DE) (h : GameRu
       let terms : terms_at (place t.events later.event) ≡ terms_at (place s.events game.event) = rw (event, found, of.in_event) refl in (
         later,
         rw (← any_is) stands,
-        rw (terms, caller-again laws are_rules (terms_at (place s.events game.event)) game of.legal.line moment again who command new reply step_is later is_later) refl,
+        rw (terms, caller-again laws are_rules (terms_at (place s.events game.event)) game of.legal.line.legal moment again who command new reply step_is later is_later) refl,
       )
 
   game-again : (s t : State DM SM) (moment again id : ℕ) (who : Caller) (command : GameCommand) (game : Game M) (after : State DM SM) (reply : Reply) → place s.games id ≡ Some (wrap game) → IsGameOf laws kind s game → map_outcome (λ new. with_game s moment id (wrap new)) (game_step laws (terms_at (place s.events game.event)) game moment who command) ≡ accepted after reply → IsLater after t → (later : Game M) × (place t.games id ≡ Some (wrap later)) × (map_outcome (λ new. with_game t again id (wrap new)) (game_step laws (terms_at (place t.events later.event)) later again who command) ≡ repeated reply)
@@ -278,19 +279,19 @@ unwrap-shogi : {DM SM : Type 0} (g : Game SM) (new : AnyGame DM SM) → IsLaterA
 unwrap-shogi g (shogi later) is = (later, refl, is)
 unwrap-shogi g (draughts later) is = absurd is
 
-module _ {DP DM DE SP SM SE : Type 0} (d : GameRules DP DM DE) (h : GameRules SP SM SE) (are_draughts : AreRules d) (are_shogi : AreRules h) where
-  on-game-again : (s t : State DM SM) (moment again id : ℕ) (who : Caller) (command : GameCommand) (g : Option (AnyGame DM SM)) (after : State DM SM) (reply : Reply) → IsLegalState d h s → place s.games id ≡ g → step_game d h s moment id who command g ≡ accepted after reply → IsLater after t → step_game d h t again id who command (place t.games id) ≡ repeated reply
+module _ {DP DM DE DT SP SM SE ST : Type 0} (kinds : ClubRules DP DM DE DT SP SM SE ST) (are_draughts : AreRules kinds.draughts) (are_shogi : AreRules kinds.shogi) where
+  on-game-again : (s t : State DM SM) (moment again id : ℕ) (who : Caller) (command : GameCommand) (g : Option (AnyGame DM SM)) (after : State DM SM) (reply : Reply) → IsLegalState kinds s → place s.games id ≡ g → step_game kinds s moment id who command g ≡ accepted after reply → IsLater after t → step_game kinds t again id who command (place t.games id) ≡ repeated reply
   on-game-again s t moment again id who command None after reply legal at is since = cc
   on-game-again s t moment again id who command (Some (draughts game)) after reply legal at is since =
-      let of : IsGameOf d Draughts s game = in-place (IsLegalIn d h s) s.games id (draughts game) legal.games at in
-      let (later, stands, so) = game-again d h d are_draughts Draughts draughts unwrap-draughts s t moment again id who command game after reply at of is since in
+      let of : IsGameOf kinds.draughts Draughts s game = in-place (IsLegalIn kinds s) s.games id (draughts game) legal.games at in
+      let (later, stands, so) = game-again kinds kinds.draughts are_draughts Draughts draughts unwrap-draughts s t moment again id who command game after reply at of is since in
       rw stands so
   on-game-again s t moment again id who command (Some (shogi game)) after reply legal at is since =
-      let of : IsGameOf h Shogi s game = in-place (IsLegalIn d h s) s.games id (shogi game) legal.games at in
-      let (later, stands, so) = game-again d h h are_shogi Shogi shogi unwrap-shogi s t moment again id who command game after reply at of is since in
+      let of : IsGameOf kinds.shogi Shogi s game = in-place (IsLegalIn kinds s) s.games id (shogi game) legal.games at in
+      let (later, stands, so) = game-again kinds kinds.shogi are_shogi Shogi shogi unwrap-shogi s t moment again id who command game after reply at of is since in
       rw stands so
 
-  command-again : (s t : State DM SM) (moment again : ℕ) (who : Caller) (command : Command) (after : State DM SM) (reply : Reply) → IsLegalState d h s → step_command d h s moment who command ≡ accepted after reply → IsLater after t → step_command d h t again who command ≡ repeated reply
+  command-again : (s t : State DM SM) (moment again : ℕ) (who : Caller) (command : Command) (after : State DM SM) (reply : Reply) → IsLegalState kinds s → step_command kinds s moment who command ≡ accepted after reply → IsLater after t → step_command kinds t again who command ≡ repeated reply
   command-again s t moment again who (add_member name key) after reply legal is since = member-again s t moment again who name key after reply is since
   command-again s t moment again who (add_event event) after reply legal is since = event-again s t moment again who event after reply is since
   command-again s t moment again who (seat key event first second) after reply legal is since = seat-again s t moment again who key event first second after reply is since
@@ -306,14 +307,14 @@ module _ {DP DM DE SP SM SE : Type 0} (d : GameRules DP DM DE) (h : GameRules SP
       let (id, found, member) = found-later (find_id (has_member_key key) all) who is in
       rw (find-later (has_member_key key) all more id begins found, member) refl
 
-  by-again : (s t : State DM SM) (moment again : ℕ) (who later_who : Option Caller) (command : Command) (after : State DM SM) (reply : Reply) → IsLegalState d h s → ((c : Caller) → who ≡ Some c → later_who ≡ Some c) → step_by d h s moment who command ≡ accepted after reply → IsLater after t → step_by d h t again later_who command ≡ repeated reply
+  by-again : (s t : State DM SM) (moment again : ℕ) (who later_who : Option Caller) (command : Command) (after : State DM SM) (reply : Reply) → IsLegalState kinds s → ((c : Caller) → who ≡ Some c → later_who ≡ Some c) → step_by kinds s moment who command ≡ accepted after reply → IsLater after t → step_by kinds t again later_who command ≡ repeated reply
   by-again s t moment again None later_who command after reply legal same is since = cc
   by-again s t moment again (Some who) later_who command after reply legal same is since = rw (same who refl) (command-again s t moment again who command after reply legal is since)
 
-  pub answers-again : (s after : State DM SM) (r : Request) (reply : Reply) (between : List Request) (moment : ℕ) → IsLegalState d h s → step d h s r ≡ accepted after reply → step d h (fold d h after between) (record r { moment = moment }) ≡ repeated reply
+  pub answers-again : (s after : State DM SM) (r : Request) (reply : Reply) (between : List Request) (moment : ℕ) → IsLegalState kinds s → step kinds s r ≡ accepted after reply → step kinds (fold kinds after between) (record r { moment = moment }) ≡ repeated reply
   answers-again s after r reply between moment legal is =
-      let t = fold d h after between in
-      let stands : next d h s r ≡ after = ap (state_after s) is in
-      let to_after : IsLater s after = rw (← stands) (next-later d h s r) in
-      let to_t : IsLater s t = later-trans s after t to_after (fold-later d h after between) in
-      by-again s t (max r.moment s.last) (max moment t.last) (caller_of s.members r.who) (caller_of t.members r.who) r.command after reply legal (λ c. caller-later s.members t.members r.who c to_t.members) is (fold-later d h after between)
+      let t = fold kinds after between in
+      let stands : next kinds s r ≡ after = ap (state_after s) is in
+      let to_after : IsLater s after = rw (← stands) (next-later kinds s r) in
+      let to_t : IsLater s t = later-trans s after t to_after (fold-later kinds after between) in
+      by-again s t (max r.moment s.last) (max moment t.last) (caller_of s.members r.who) (caller_of t.members r.who) r.command after reply legal (λ c. caller-later s.members t.members r.who c to_t.members) is (fold-later kinds after between)

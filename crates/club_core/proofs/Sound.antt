@@ -12,11 +12,12 @@ use Rattle.club_core.specs.declared.rows.Asked.{Asked}
 use Rattle.club_core.specs.declared.rows.GameView.{GameView}
 use Rattle.club_core.specs.Limits.{is_budget, is_increment, most_plies}
 use Rattle.club_core.specs.Events.{Terms}
-use Rattle.club_core.specs.Game.{Game, Clocks, spend, spend_all, clocks_of}
+use Rattle.club_core.specs.Game.{Game, Clocks, spend, spend_all, clocks_of, rule_end, end_of, turn_of}
 use Rattle.club_core.specs.Legal.{IsLegalGame}
 use Rattle.club_core.specs.Step.{move_at}
 use Rattle.club_core.specs.View.{IsAsked, Shows, ShowsPly, IsSound, terms_of}
-use Rattle.club_core.proofs.Played.{asked-legal}
+use Rattle.club_core.proofs.Legals.{no-rule-end}
+use Rattle.club_core.proofs.Played.{asked-legal, score-none}
 
 le-true : (a b : ℕ) → nat_le a b ≡ true → a ≤ b
 le-true a b is = grind (arith, nat_tests)
@@ -36,11 +37,11 @@ left-at-most increment side (m ∷ ms) c most =
     let here = spend-left increment side m c in
     (omega (arith, rest.0, here.0, most), omega (arith, rest.1, here.1, most))
 
-asked-sound : {R P M E : Type 0} (laws : GameRules P M E) (terms : Terms) (game : Game M) → IsLegalGame laws terms game → (ply : ℕ) (o : Option (Asked R P M E)) → IsAsked laws terms game ply (move_at game ply) o → IfSome o (λ a. laws.check a.before a.made ≡ Ok tt)
+asked-sound : {R P M E T : Type 0} (laws : GameRules P M E T) (terms : Terms) (game : Game M) → IsLegalGame laws terms game → (ply : ℕ) (o : Option (Asked R P M E T)) → IsAsked laws terms game ply (move_at game ply) o → IfSome o (λ a. laws.check a.before a.made ≡ Ok tt)
 asked-sound laws terms game legal ply None shown = tt
 asked-sound laws terms game legal ply (Some asked) shown = asked-legal laws terms game legal asked ply shown
 
-pub shown-sound : {R P M E : Type 0} (laws : GameRules P M E) (game : Game M) (view : GameView R P M E) (ply : ℕ) → IsTrue (is_budget view.budget) → IsTrue (is_increment view.increment) → IsLegalGame laws (terms_of view) game → Shows laws game view → ShowsPly laws game ply view → IsSound laws view
+pub shown-sound : {R P M E T : Type 0} (laws : GameRules P M E T) (game : Game M) (view : GameView R P M E T) (ply : ℕ) → IsTrue (is_budget view.budget) → IsTrue (is_increment view.increment) → IsLegalGame laws (terms_of view) game → Shows laws game view → ShowsPly laws game ply view → IsSound laws view
 shown-sound laws game view ply budget increment legal shows shows_ply =
     let most : view.increment ≤ 2592000 = le-true view.increment 2592000 increment in
     let starts : view.budget ≤ 31536000 = budget-at-most view.budget budget in
@@ -51,6 +52,9 @@ shown-sound laws game view ply budget increment legal shows shows_ply =
     let plies : length game.entries ≤ most_plies = legal.plies in
     record {
       line = rw shows.line legal.line;
+      running = λ none.
+          let no_end : end_of laws game ≡ None = score-none laws (end_of laws game) (turn_of laws game) (sym shows.row.result ∙ none) in
+          rw shows.line (no-rule-end (rule_end laws game) game.outside no_end);
       position = shows.position ∙ ap (position_after laws laws.start) (sym shows.line);
       asked = asked-sound laws (terms_of view) game legal ply view.asked shows_ply;
       plies = rw shows.row.plies legal.plies;

@@ -89,7 +89,7 @@ end_with (Some e) outside = Some (Rule e)
 end_with None (Some o) = Some (Outside o)
 end_with None None = None
 
-module _ {P M E : Type 0} (rules : GameRules P M E) where
+module _ {P M E T : Type 0} (rules : GameRules P M E T) where
   abbrev pub end_score : Side → GameEnd E → Score
   end_score turn (Rule e) = rules.outcome e turn
   end_score turn (Outside o) = outside_score o turn
@@ -98,7 +98,7 @@ module _ {P M E : Type 0} (rules : GameRules P M E) where
   score_with None turn = None
   score_with (Some e) turn = Some (end_score turn e)
 
-module _ {P M E : Type 0} (rules : GameRules P M E) (game : Game M) where
+module _ {P M E T : Type 0} (rules : GameRules P M E T) (game : Game M) where
   abbrev pub last_position : P
   last_position = position_after rules rules.start (moves_of game)
 

@@ -5,7 +5,7 @@ use Rattle.squares.specs.declared.sides.Side.TheVariants.{First}
 use Rattle.squares.specs.declared.sides.Score.{Score}
 use Rattle.squares.specs.Sides.{other}
 use Rattle.club_rules.specs.GameRules.{GameRules}
-use Rattle.club_rules.specs.Line.{IsLegalLine}
+use Rattle.club_rules.specs.Line.{IsPlayedLine}
 use Rattle.club_core.specs.declared.rows.OutsideEnd.TheVariants.{Agreed, Recorded}
 use Rattle.club_core.specs.declared.rows.Offer.{Offer}
 use Rattle.club_core.specs.Limits.{most_plies}
@@ -19,7 +19,7 @@ IsTimely increment side (m ∷ ms) c =
     (c.since ≤ m) × (m - c.since ≤ left_of side c) × IsTimely increment (other side) ms (spend increment side m c)
 
 -- an offer of a draw that may stand: at the next ply of a running game whose players may agree on a draw
-pub record IsOffer {P M E : Type 0} (rules : GameRules P M E) (game : Game M) (offer : Offer) : Type 0 where
+pub record IsOffer {P M E T : Type 0} (rules : GameRules P M E T) (game : Game M) (offer : Offer) : Type 0 where
   pub allowed : rules.has_draw_offers ≡ true
   pub next_ply : offer.ply ≡ length game.entries + 1
   pub no_rule_end : rule_end rules game ≡ None
@@ -30,11 +30,8 @@ pub record IsRecorded {M : Type 0} (game : Game M) : Type 0 where
   pub no_offer : game.offer ≡ None
   pub at_once : (n : ℕ) (e : Entry M) → slice_get game.entries n ≡ Some e → e.moment ≡ game.start
 
-pub record IsLegalGame {P M E : Type 0} (rules : GameRules P M E) (terms : Terms) (game : Game M) : Type 0 where
-  -- each move is legal in its position
-  pub line : IsLegalLine rules rules.start (moves_of game)
-  -- no proper beginning of the line has an end by the rules
-  pub running_before : (plies : ℕ) → plies < length game.entries → rule_end rules (game_at game plies) ≡ None
+pub record IsLegalGame {P M E T : Type 0} (rules : GameRules P M E T) (terms : Terms) (game : Game M) : Type 0 where
+  pub line : IsPlayedLine rules rules.start (moves_of game)
   pub plies : length game.entries ≤ most_plies
   pub timely : IsTimely terms.increment First (moments_of game) (opening_clocks game terms)
   -- an end from outside stands only where the rules gave none

@@ -3,6 +3,7 @@ use Rattle.std.specs.Prelude.{◌≡◌, ◌+◌, ◌<◌, ◌≤◌, ℕ, List,
 use Rattle.club_rules.specs.declared.names.GameKind.{GameKind}
 use Rattle.club_rules.specs.declared.names.GameKind.TheVariants.{Draughts, Shogi}
 use Rattle.club_rules.specs.GameRules.{GameRules}
+use Rattle.club_core.specs.ClubRules.{ClubRules}
 use Rattle.club_core.specs.declared.rows.OutsideEnd.TheVariants.{Time}
 use Rattle.club_core.specs.Limits.{last_moment, most_members, most_events, most_games, is_name, is_member_key, is_budget, is_increment}
 use Rattle.club_core.specs.Members.{Member}
@@ -34,7 +35,7 @@ pub record IsLegalEvent (e : Event) : Type 0 where
   pub increment : IsTrue (is_increment e.terms.increment)
 
 -- a game of the club, of an event in its kind and between two members
-pub record IsGameOf {DM SM P M E : Type 0} (rules : GameRules P M E) (kind : GameKind) (s : State DM SM) (game : Game M) : Type 0 where
+pub record IsGameOf {DM SM P M E T : Type 0} (rules : GameRules P M E T) (kind : GameKind) (s : State DM SM) (game : Game M) : Type 0 where
   pub event : Event
   pub in_event : place s.events game.event ≡ Some event
   pub of_kind : event.game ≡ kind
@@ -48,12 +49,12 @@ pub record IsGameOf {DM SM P M E : Type 0} (rules : GameRules P M E) (kind : Gam
   -- the last second of a side that lost by time is gone
   pub lost_by_time : game.outside ≡ Some Time → (clocks_of game event.terms).since + left_of (turn_of rules game) (clocks_of game event.terms) < s.last
 
-module _ {DP DM DE SP SM SE : Type 0} (draughts_rules : GameRules DP DM DE) (shogi_rules : GameRules SP SM SE) where
+module _ {DP DM DE DT SP SM SE ST : Type 0} (rules : ClubRules DP DM DE DT SP SM SE ST) where
   abbrev pub IsLegalIn : State DM SM → AnyGame DM SM → Type 0
-  IsLegalIn s (draughts game) = IsGameOf draughts_rules Draughts s game
-  IsLegalIn s (shogi game) = IsGameOf shogi_rules Shogi s game
+  IsLegalIn s (draughts game) = IsGameOf rules.draughts Draughts s game
+  IsLegalIn s (shogi game) = IsGameOf rules.shogi Shogi s game
 
-pub record IsLegalState {DP DM DE SP SM SE : Type 0} (draughts_rules : GameRules DP DM DE) (shogi_rules : GameRules SP SM SE) (s : State DM SM) : Type 0 where
+pub record IsLegalState {DP DM DE DT SP SM SE ST : Type 0} (rules : ClubRules DP DM DE DT SP SM SE ST) (s : State DM SM) : Type 0 where
   pub last : s.last ≤ last_moment
   pub members : Each IsLegalMember s.members
   pub member_count : length s.members ≤ most_members
@@ -62,6 +63,6 @@ pub record IsLegalState {DP DM DE SP SM SE : Type 0} (draughts_rules : GameRules
   pub events : Each IsLegalEvent s.events
   pub event_count : length s.events ≤ most_events
   pub event_names : AreApart (λ e. e.name) s.events
-  pub games : Each (IsLegalIn draughts_rules shogi_rules s) s.games
+  pub games : Each (IsLegalIn rules s) s.games
   pub game_count : length s.games ≤ most_games
   pub game_keys : AreApartIfAny (λ g. key_of g) s.games

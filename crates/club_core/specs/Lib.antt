@@ -2,6 +2,7 @@ pub mod Limits
 pub mod Refusal
 pub mod Outcome
 pub mod Members
+pub mod ClubRules
 pub mod Events
 pub mod Seats
 pub mod Game

@@ -1,6 +1,8 @@
 -- The refusals of commands: their numbers, their names and how they are written.
 use Rattle.std.specs.Prelude.{List, [], ℕ, ◌++◌, codes, decimal}
-use Rattle.club_rules.specs.MoveRefusal.{move_refusal_number, move_refusal_name, move_refusal_tail}
+use Rattle.club_rules.specs.MoveRefusal.{move_refusal_number, move_refusal_name}
+use Rattle.club_rules.specs.declared.refusals.MoveRefusal.{MoveRefusal}
+use Rattle.club_rules.specs.declared.refusals.MoveRefusal.TheVariants.{BadText, Ambiguous}
 use Rattle.club_core.specs.declared.refusals.Refusal.{Refusal}
 use Rattle.club_core.specs.declared.refusals.Refusal.TheVariants.{UnknownKey, NotAllowed, UnknownEvent, UnknownGame, NotAPlayer, GameOver, WrongPly, Conflict, NotYourTurn, OutOfTime, NameTaken, BadValue, Full, Play}
 
@@ -18,7 +20,7 @@ refusal_number OutOfTime = 60
 refusal_number NameTaken = 64
 refusal_number BadValue = 65
 refusal_number Full = 66
-refusal_number (Play refusal) = move_refusal_number refusal
+refusal_number (Play ply refusal) = move_refusal_number refusal
 
 abbrev pub refusal_name : Refusal → List ℕ
 refusal_name UnknownKey = codes "UnknownKey"
@@ -34,11 +36,17 @@ refusal_name OutOfTime = codes "OutOfTime"
 refusal_name NameTaken = codes "NameTaken"
 refusal_name BadValue = codes "BadValue"
 refusal_name Full = codes "Full"
-refusal_name (Play refusal) = move_refusal_name refusal
+refusal_name (Play ply refusal) = move_refusal_name refusal
+
+-- the offset of a text that is no move's, and the ply of one that several moves fit
+abbrev pub play_tail : ℕ → MoveRefusal → List ℕ
+play_tail ply (BadText game offset) = codes " " ++ decimal offset
+play_tail ply Ambiguous = codes " " ++ decimal ply
+play_tail ply _ = []
 
 -- the numbers that follow the name, each after a blank
 abbrev pub refusal_tail : Refusal → List ℕ
-refusal_tail (Play refusal) = move_refusal_tail refusal
+refusal_tail (Play ply refusal) = play_tail ply refusal
 refusal_tail UnknownKey = []
 refusal_tail NotAllowed = []
 refusal_tail UnknownEvent = []

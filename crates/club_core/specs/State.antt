@@ -3,7 +3,7 @@ use Rattle.std.specs.Prelude.{ℕ, zero, suc, ◌-◌, List, [], ◌∷◌, ◌+
 use Rattle.std.specs.Str.{bytes_eq}
 use Rattle.club_rules.specs.declared.names.GameKind.{GameKind}
 use Rattle.club_rules.specs.declared.names.GameKind.TheVariants.{Draughts, Shogi}
-use Rattle.club_rules.specs.GameRules.{GameRules}
+use Rattle.club_core.specs.ClubRules.{ClubRules}
 use Rattle.club_core.specs.declared.requests.Caller.{Caller}
 use Rattle.club_core.specs.declared.requests.Caller.TheVariants.{Officer, Member}
 use Rattle.club_core.specs.declared.refusals.Refusal.TheVariants.{UnknownKey, UnknownGame}
@@ -145,15 +145,15 @@ module _ {DM SM : Type 0} (s : State DM SM) (moment : ℕ) where
   abbrev pub with_game : ℕ → AnyGame DM SM → State DM SM
   with_game id game = record s { last = moment; games = slice_set s.games (id - 1) game }
 
-module _ {DP DM DE SP SM SE : Type 0} (draughts_rules : GameRules DP DM DE) (shogi_rules : GameRules SP SM SE) where
+module _ {DP DM DE DT SP SM SE ST : Type 0} (rules : ClubRules DP DM DE DT SP SM SE ST) where
   abbrev pub step_game : State DM SM → ℕ → ℕ → Caller → GameCommand → Option (AnyGame DM SM) → Outcome (State DM SM)
   step_game s moment id who command None = refused UnknownGame
   step_game s moment id who command (Some (draughts g)) =
       map_outcome (λ new. with_game s moment id (draughts new))
-      (game_step draughts_rules (terms_at (place s.events g.event)) g moment who command)
+      (game_step rules.draughts (terms_at (place s.events g.event)) g moment who command)
   step_game s moment id who command (Some (shogi g)) =
       map_outcome (λ new. with_game s moment id (shogi new))
-      (game_step shogi_rules (terms_at (place s.events g.event)) g moment who command)
+      (game_step rules.shogi (terms_at (place s.events g.event)) g moment who command)
 
   -- a command of a caller, at the effective moment
   abbrev pub step_command : State DM SM → ℕ → Caller → Command → Outcome (State DM SM)

@@ -32,7 +32,7 @@ abbrev pub move_at : {M : Type 0} → Game M → ℕ → Option M
 move_at game zero = None
 move_at game (suc n) = slice_get (moves_of game) n
 
-module _ {P M E : Type 0} (rules : GameRules P M E) where
+module _ {P M E T : Type 0} (rules : GameRules P M E T) where
   abbrev pub checked_as : M → Result (Unit {0}) MoveRefusal → Result M MoveRefusal
   checked_as m (Ok _) = Ok m
   checked_as m (Err refusal) = Err refusal
@@ -47,7 +47,7 @@ module _ {P M E : Type 0} (rules : GameRules P M E) where
   reads_as (Ok read) m = rules.same read m
   reads_as (Err refusal) m = false
 
-module _ {P M E : Type 0} (rules : GameRules P M E) (terms : Terms) (game : Game M) (ply : ℕ) where
+module _ {P M E T : Type 0} (rules : GameRules P M E T) (terms : Terms) (game : Game M) (ply : ℕ) where
   -- what the answer to the move of that ply shows: a function of the entries up to it
   abbrev pub reply_of_move : M → Reply
   reply_of_move m =
@@ -70,7 +70,7 @@ module _ {P M E : Type 0} (rules : GameRules P M E) (terms : Terms) (game : Game
   repeat_of None side text = None
   repeat_of (Some m) side text = if repeats m side text then Some (reply_of_move m) else None
 
-module _ {P M E : Type 0} (rules : GameRules P M E) (terms : Terms) (game : Game M) (moment : ℕ) where
+module _ {P M E T : Type 0} (rules : GameRules P M E T) (terms : Terms) (game : Game M) (moment : ℕ) where
   abbrev pub is_over : Bool
   is_over = is_some (result_of rules game)
 
@@ -97,7 +97,7 @@ module _ {P M E : Type 0} (rules : GameRules P M E) (terms : Terms) (game : Game
 
   -- plays the move that was read and checked
   abbrev pub plays : Result M MoveRefusal → Outcome (Game M)
-  plays (Err refusal) = refused (Play refusal)
+  plays (Err refusal) = refused (Play (length game.entries + 1) refusal)
   plays (Ok m) = accepted (played game m moment) (reply_of_move rules terms (played game m moment) (length game.entries + 1) m)
 
   abbrev pub step_move : Side → ℕ → List ℕ → Outcome (Game M)

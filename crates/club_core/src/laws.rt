@@ -2,6 +2,7 @@
 
 ghost use Rattle.std.specs.Prelude.{ℕ, IsTrue};
 ghost use Rattle.club_core.specs.Limits.{is_budget, is_increment};
+ghost use Rattle.club_core.specs.ClubRules.{both};
 ghost use Rattle.club_core.specs.Game.{Game};
 ghost use Rattle.club_core.specs.Legal.{IsLegalGame};
 ghost use Rattle.club_core.specs.View.{Shows, ShowsPly, IsSound, terms_of};
@@ -12,28 +13,28 @@ use club_rules::Rules;
 
 /// The requests that were accepted lead alone to the same state.
 pub fn accepted_suffice<D: Rules, S: Rules>()
-    ensures { FoldsAccepted D.rules S.rules }
+    ensures { FoldsAccepted (both D.rules S.rules) }
 {}
 
 /// A request that is refused or repeated leaves the state.
 pub fn others_leave<D: Rules, S: Rules>()
-    ensures { LeavesState D.rules S.rules }
+    ensures { LeavesState (both D.rules S.rules) }
 {}
 
 /// The moment of the last accepted request never falls.
 pub fn moments_rise<D: Rules, S: Rules>()
-    ensures { NeverFalls D.rules S.rules }
+    ensures { NeverFalls (both D.rules S.rules) }
 {}
 
 /// A request, at a moment that there is, leaves a legal state legal.
 pub fn requests_keep_legal<D: Rules, S: Rules>()
-    ensures { KeepsLegal D.rules S.rules }
+    ensures { KeepsLegal (both D.rules S.rules) }
 {}
 
 /// An accepted command that comes again from the one who gave it is repeated with the same answer, at any moment and
 /// whatever requests stand between.
 pub fn repeats_answer_again<D: Rules, S: Rules>()
-    ensures { AnswersAgain D.rules S.rules }
+    ensures { AnswersAgain (both D.rules S.rules) }
 {}
 
 /// A view that shows a legal game of an event is sound, so that a command can be decided over it.

@@ -329,7 +329,10 @@ fn play_move<R: Rules>(
     };
     let made = match read_legal::<R>(alloc, &view.position, text)? {
         Ok(made) => made,
-        Err(refusal) => return Ok(Decision::Refused(Refusal::Play(refusal))),
+        Err(refusal) => {
+            let ply = view.row.plies + 1;
+            return Ok(Decision::Refused(Refusal::Play { ply, refusal }));
+        }
     };
     let decision = accept_move(alloc, view, side, made, clock.left, moment)?;
     Ok(decision)

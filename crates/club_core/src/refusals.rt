@@ -36,8 +36,8 @@ pub enum Refusal {
     BadValue,
     /// The club holds no more of these.
     Full,
-    /// The text or the move is refused by the rules of the game.
-    Play(MoveRefusal),
+    /// The text or the move of that ply is refused by the rules of the game.
+    Play { ply: u32, refusal: MoveRefusal },
 }
 
 impl Refusal {
@@ -59,7 +59,7 @@ impl Refusal {
             Refusal::NameTaken => 64,
             Refusal::BadValue => 65,
             Refusal::Full => 66,
-            Refusal::Play(refusal) => refusal.number(),
+            Refusal::Play { ply: _, refusal } => refusal.number(),
         }
     }
 
@@ -81,12 +81,13 @@ impl Refusal {
             Refusal::NameTaken => "NameTaken",
             Refusal::BadValue => "BadValue",
             Refusal::Full => "Full",
-            Refusal::Play(refusal) => refusal.name(),
+            Refusal::Play { ply: _, refusal } => refusal.name(),
         }
     }
 }
 
-/// Writes the number, the name and then the refusal's numbers, parted by blanks: `58 Conflict`, `20 BadText 2`.
+/// Writes the number, the name and then the refusal's numbers, parted by blanks: `58 Conflict`, `20 BadText 2`,
+/// and `21 Ambiguous 5` for a text of ply 5 that two or more captures fit.
 impl fmt::Display for Refusal {
     ghost use Rattle.std.specs.Prelude.{Some};
 
@@ -97,7 +98,14 @@ impl fmt::Display for Refusal {
         let name = self.name();
         write!(f, "{number} {name}")?;
         match self {
-            Refusal::Play(MoveRefusal::BadText(offset)) => write!(f, " {offset}"),
+            Refusal::Play {
+                ply: _,
+                refusal: MoveRefusal::BadText(_, offset),
+            } => write!(f, " {offset}"),
+            Refusal::Play {
+                ply,
+                refusal: MoveRefusal::Ambiguous,
+            } => write!(f, " {ply}"),
             _ => Ok(()),
         }
     }

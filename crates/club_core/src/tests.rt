@@ -152,9 +152,16 @@ fn values_are_read(rt: HostRuntime) {
 fn refusals_are_written(rt: HostRuntime) -> Result<(), Fail> {
     let conflict = format!(in rt.alloc(); "{}", Refusal::Conflict)?;
     assert_eq!(rt; conflict.as_str(), "58 Conflict");
-    let text = format!(in rt.alloc(); "{}", Refusal::Play(MoveRefusal::BadText(2)))?;
+    let play = |refusal| Refusal::Play { ply: 5, refusal };
+    let bad = play(MoveRefusal::BadText(GameKind::Draughts, 2));
+    let text = format!(in rt.alloc(); "{}", bad)?;
     assert_eq!(rt; text.as_str(), "20 BadText 2");
-    let capture = format!(in rt.alloc(); "{}", Refusal::Play(MoveRefusal::MustCapture))?;
+    let capture = format!(in rt.alloc(); "{}", play(MoveRefusal::MustCapture))?;
     assert_eq!(rt; capture.as_str(), "11 MustCapture");
+    let ambiguous = format!(in rt.alloc(); "{}", play(MoveRefusal::Ambiguous))?;
+    assert_eq!(rt; ambiguous.as_str(), "21 Ambiguous 5");
+    let none = play(MoveRefusal::NoSuchMove(GameKind::Shogi));
+    let shogi = format!(in rt.alloc(); "{}", none)?;
+    assert_eq!(rt; shogi.as_str(), "13 NoSuchMove");
     Ok(())
 }

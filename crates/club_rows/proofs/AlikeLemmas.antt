@@ -93,7 +93,7 @@ ends-alike (Recorded s) Resigned is scores = let e : 99 ≡ 115 = ap third_lette
 ends-alike (Recorded s) Agreed is scores = let e : 82 ≡ 65 = ap first_letter is in absurd (omega (arith, e))
 ends-alike (Recorded s) Time is scores = let e : 82 ≡ 84 = ap first_letter is in absurd (omega (arith, e))
 
-module _ {P M E : Type 0} (rules : GameRules P M E) where
+module _ {P M E T : Type 0} (rules : GameRules P M E T) where
   outsides-alike : (e : Option E) (turn : Side) (a b : Option OutsideEnd) → (IsSome a → e ≡ None) → (IsSome b → e ≡ None)
       → or_null (λ x. Text (end_name_text rules x)) (end_with e a) ≡ or_null (λ x. Text (end_name_text rules x)) (end_with e b)
       → or_null (λ s. Text (score_text s)) (score_with rules (end_with e a) turn) ≡ or_null (λ s. Text (score_text s)) (score_with rules (end_with e b) turn)
@@ -140,7 +140,7 @@ module _ {P M E : Type 0} (rules : GameRules P M E) where
         let p = seventeen-parts _ _ _ _ _ _ _ _ _ _ _ _ _ _ _ _ _ _ _ _ _ _ _ _ _ _ _ _ _ _ _ _ _ _ row in
         let start : g.start ≡ h.start = numbers-alike _ _ p.p5 in
         let key : g.key ≡ h.key = sym (option_map-itself g.key) ∙ (same-texts (λ t. t) (λ t. t) g.key h.key p.p1 ∙ option_map-itself h.key) in
-        let entries : g.entries ≡ h.entries = entries-alike (at_start g) g.entries h.entries one.line other.line (moves ∙ rows-alike rules terms id (at_start h) (at_start g) h.entries (sym start) refl) in
+        let entries : g.entries ≡ h.entries = entries-alike (at_start g) g.entries h.entries one.line.legal other.line.legal (moves ∙ rows-alike rules terms id (at_start h) (at_start g) h.entries (sym start) refl) in
         let ruled : rule_end rules g ≡ rule_end rules h = ap (λ es. rules.judge rules.start (map (λ x. x.made) es)) entries in
         let turn : turn_of rules g ≡ turn_of rules h = ap (λ es. rules.turn (position_after rules rules.start (map (λ x. x.made) es))) entries in
         let outside : g.outside ≡ h.outside =

@@ -18,14 +18,14 @@ use Rattle.club_rows.specs.Tables.{move_rows}
 use Rattle.club_rows.specs.Asked.{IsAskedOf}
 use Rattle.club_rows.proofs.WholeLemmas.{row-left, rows-count}
 
-rows-length : {P M E : Type 0} (rules : GameRules P M E) (terms : Terms) (id : ℕ) (game : Game M) (rows : List MoveRow) → map move_cells rows ≡ move_rows rules terms id game → length rows ≡ length game.entries
+rows-length : {P M E T : Type 0} (rules : GameRules P M E T) (terms : Terms) (id : ℕ) (game : Game M) (rows : List MoveRow) → map move_cells rows ≡ move_rows rules terms id game → length rows ≡ length game.entries
 rows-length rules terms id game rows are =
     let count : length (map move_cells rows) ≡ length rows = simp length-map in
     sym count ∙ (ap length are ∙ rows-count rules terms id (record game { entries = [] }) game.entries)
 
-module _ {R P M E : Type 0} (rules : GameRules P M E) (laws : AreRules rules) (terms : Terms) (id : ℕ) (game : Game M) (legal : IsLegalGame rules terms game) (rows : List MoveRow) (are : map move_cells rows ≡ move_rows rules terms id game) (line : List M) (line_is : line ≡ moves_of game) where
+module _ {R P M E T : Type 0} (rules : GameRules P M E T) (laws : AreRules rules) (terms : Terms) (id : ℕ) (game : Game M) (legal : IsLegalGame rules terms game) (rows : List MoveRow) (are : map move_cells rows ≡ move_rows rules terms id game) (line : List M) (line_is : line ≡ moves_of game) where
   -- what the row of a ply gives is what the game gives
-  shows-some : (ply : ℕ) (a : Asked R P M E) → IsAskedOf rules line rows ply a → (o : Option M) → move_at game ply ≡ o → IsAsked rules terms game ply o (Some a)
+  shows-some : (ply : ℕ) (a : Asked R P M E T) → IsAskedOf rules line rows ply a → (o : Option M) → move_at game ply ≡ o → IsAsked rules terms game ply o (Some a)
   shows-some zero a of o at = absurd (omega (arith, of.counted))
   shows-some (suc k) a of o at =
       let before : suc k - 1 ≡ k = omega arith in
@@ -42,7 +42,7 @@ module _ {R P M E : Type 0} (rules : GameRules P M E) (laws : AreRules rules) (t
       same-pos m n is = cc
 
   -- a ply that was played is shown
-  shows-none : (asked : Option (Asked R P M E)) → asked ≡ None → (ply : ℕ) → (1 ≤ ply → ply ≤ 600 → (made : M) (row : MoveRow) (left : ℕ) → slice_get line (ply - 1) ≡ Some made → slice_get rows (ply - 1) ≡ Some row → row.left ≢ pos left) → (o : Option M) → move_at game ply ≡ o → IsAsked rules terms game ply o asked
+  shows-none : (asked : Option (Asked R P M E T)) → asked ≡ None → (ply : ℕ) → (1 ≤ ply → ply ≤ 600 → (made : M) (row : MoveRow) (left : ℕ) → slice_get line (ply - 1) ≡ Some made → slice_get rows (ply - 1) ≡ Some row → row.left ≢ pos left) → (o : Option M) → move_at game ply ≡ o → IsAsked rules terms game ply o asked
   shows-none (Some a) empty ply none o at = cc
   shows-none None empty ply none None at = tt
   shows-none None empty zero none (Some m) at = cc
@@ -60,6 +60,6 @@ module _ {R P M E : Type 0} (rules : GameRules P M E) (laws : AreRules rules) (t
       row-got (r ∷ rs) zero inside = (r, refl)
       row-got (r ∷ rs) (suc k) inside = row-got rs k (omega (arith, inside))
 
-  pub shows-ply : (ply : ℕ) (asked : Option (Asked R P M E)) → ((a : Asked R P M E) → asked ≡ Some a → IsAskedOf rules line rows ply a) → (asked ≡ None → 1 ≤ ply → ply ≤ 600 → (made : M) (row : MoveRow) (left : ℕ) → slice_get line (ply - 1) ≡ Some made → slice_get rows (ply - 1) ≡ Some row → row.left ≢ pos left) → IsAsked rules terms game ply (move_at game ply) asked
+  pub shows-ply : (ply : ℕ) (asked : Option (Asked R P M E T)) → ((a : Asked R P M E T) → asked ≡ Some a → IsAskedOf rules line rows ply a) → (asked ≡ None → 1 ≤ ply → ply ≤ 600 → (made : M) (row : MoveRow) (left : ℕ) → slice_get line (ply - 1) ≡ Some made → slice_get rows (ply - 1) ≡ Some row → row.left ≢ pos left) → IsAsked rules terms game ply (move_at game ply) asked
   shows-ply ply (Some a) some none = shows-some ply a (some a refl) (move_at game ply) refl
   shows-ply ply None some none = shows-none None refl ply (none refl) (move_at game ply) refl

@@ -9,12 +9,11 @@ use Rattle.sqlite_value.specs.declared.value.Value.TheVariants.{Int}
 use Rattle.sqlite.specs.Order.{Row, column}
 use Rattle.squares.specs.declared.draughts.moves.DMove.{DMove}
 use Rattle.club_rules.specs.declared.names.GameKind.TheVariants.{Draughts, Shogi}
-use Rattle.club_rules.specs.Draughts as rules
 use Rattle.club_rules.specs.GameRules.{GameRules}
 use Rattle.club_core.specs.Events.{Event, Terms}
 use Rattle.club_core.specs.Game.{Entry, Game}
 use Rattle.club_core.specs.LegalState.{Each, AreApartIfAny, IsGameOf, IsLegalIn}
-use Rattle.club_core.specs.State.{AnyGame, draughts, shogi, place, terms_at, key_of}
+use Rattle.club_core.specs.State.{draughts, shogi, place, terms_at, key_of}
 use Rattle.club_core.proofs.Lists.{each-append}
 use Rattle.club_core.proofs.LegalSteps.{in-place}
 use Rattle.store_tables.specs.Cells.{move_cells, game_cells}
@@ -22,7 +21,7 @@ use Rattle.store_tables.specs.declared.rows.GameRecord.{GameRecord}
 use Rattle.store_tables.specs.declared.rows.MoveRow.{MoveRow}
 use Rattle.store_tables.specs.declared.rows.Rows.{Rows}
 use Rattle.club_rows.specs.Audit.{HasPeople, IsGameAt, AreGames}
-use Rattle.club_rows.specs.Club.{ClubState, IsClub, IsStoredAs}
+use Rattle.club_rows.specs.Club.{both_games, ClubGame, ClubState, IsClub, IsStoredAs}
 use Rattle.club_rows.specs.Tables.{entry_rows, with_entry, gathered_from, numbered_from, row_of_game, rows_of_moves}
 use Rattle.club_rows.proofs.PlacedLemmas.{numbered-at, numbered-back, numbered-length, numbered-append}
 use Rattle.club_rows.proofs.ToldLemmas.{IsToldBy, columns-told}
@@ -84,22 +83,22 @@ other-cells : (z : ℤ) (rows : List MoveRow) → ((r : MoveRow) → slice_get r
 other-cells z [] other = tt
 other-cells z (r ∷ rs) other = λ same. other r refl (let e : Int r.game ≡ Int z = same in cc)
 
-entries-begin : {P M E : Type 0} (laws : GameRules P M E) (terms : Terms) (id : ℕ) (game : Game M) (es : List (Entry M)) → AllByRecursion (BeginsWith (pos id)) (entry_rows laws terms id game es)
+entries-begin : {P M E T : Type 0} (laws : GameRules P M E T) (terms : Terms) (id : ℕ) (game : Game M) (es : List (Entry M)) → AllByRecursion (BeginsWith (pos id)) (entry_rows laws terms id game es)
 entries-begin laws terms id game [] = tt
 entries-begin laws terms id game (e ∷ es) = (refl, entries-begin laws terms id (with_entry game e) es)
 
 module _ (events : List Event) where
-  moves-begin : (id : ℕ) (any : AnyGame DMove DMove) → AllByRecursion (BeginsWith (pos id)) (rows_of_moves rules.draughts rules.draughts events id any)
-  moves-begin id (draughts g) = entries-begin rules.draughts (terms_at (place events g.event)) id (record g { entries = [] }) g.entries
-  moves-begin id (shogi g) = entries-begin rules.draughts (terms_at (place events g.event)) id (record g { entries = [] }) g.entries
+  moves-begin : (id : ℕ) (any : ClubGame) → AllByRecursion (BeginsWith (pos id)) (rows_of_moves both_games events id any)
+  moves-begin id (draughts g) = entries-begin both_games.draughts (terms_at (place events g.event)) id (record g { entries = [] }) g.entries
+  moves-begin id (shogi g) = entries-begin both_games.shogi (terms_at (place events g.event)) id (record g { entries = [] }) g.entries
 
   other-append : (m n : ℕ) (a b : List Row) → m ≢ n → AllByRecursion (BeginsWith (pos n)) a → BeginsOther (pos m) b → BeginsOther (pos m) (a ++ b)
   other-append m n [] b apart begins others = others
   other-append m n (x ∷ a) b apart begins others = λ same. apart (let e : Int (pos m) ≡ Int (pos n) = sym same ∙ begins.0 in cc)
 
-  others-begin : (m n : ℕ) (games : List (AnyGame DMove DMove)) → m < n → BeginsOther (pos m) (gathered_from (rows_of_moves rules.draughts rules.draughts events) n games)
+  others-begin : (m n : ℕ) (games : List ClubGame) → m < n → BeginsOther (pos m) (gathered_from (rows_of_moves both_games events) n games)
   others-begin m n [] later = tt
-  others-begin m n (g ∷ gs) later = other-append m n (rows_of_moves rules.draughts rules.draughts events n g) _ (λ same. omega (arith, same, later)) (moves-begin n g) (others-begin m (suc n) gs (omega (arith, later)))
+  others-begin m n (g ∷ gs) later = other-append m n (rows_of_moves both_games events n g) _ (λ same. omega (arith, same, later)) (moves-begin n g) (others-begin m (suc n) gs (omega (arith, later)))
 
 gathered-append : {A : Type 0} (rows : ℕ → A → List Row) (n : ℕ) (xs : List A) (x : A) → gathered_from rows n (xs ++ x ∷ []) ≡ gathered_from rows n xs ++ rows (n + length xs) x
 gathered-append rows n [] x = append-nil (rows n x) ∙ ap (λ m. rows m x) (let e : n ≡ n + 0 = omega arith in e)
@@ -111,15 +110,15 @@ gathered-append rows n (y ∷ ys) x =
 
 -- so many games have been shown by the rows, and these moves are left
 pub record WereShown (s : ClubState) (games : List GameRecord) (moves : List MoveRow) (index : ℕ) (rest : List MoveRow) : Type 0 where
-  pub shown : List (AnyGame DMove DMove)
+  pub shown : List ClubGame
   pub count : length shown ≡ index
-  pub legal : Each (IsLegalIn rules.draughts rules.draughts s) shown
-  pub rows_are : map game_cells (take index games) ≡ numbered_from (row_of_game rules.draughts rules.draughts s.events) 1 shown
-  pub moves_are : map move_cells moves ≡ gathered_from (rows_of_moves rules.draughts rules.draughts s.events) 1 shown ++ map move_cells rest
+  pub legal : Each (IsLegalIn both_games s) shown
+  pub rows_are : map game_cells (take index games) ≡ numbered_from (row_of_game both_games s.events) 1 shown
+  pub moves_are : map move_cells moves ≡ gathered_from (rows_of_moves both_games s.events) 1 shown ++ map move_cells rest
 
 -- the moves that are left are those of the later games
-abbrev pub AreLeft : ClubState → List (AnyGame DMove DMove) → ℕ → List MoveRow → Type 0
-AreLeft s games index rest = map move_cells rest ≡ gathered_from (rows_of_moves rules.draughts rules.draughts s.events) (index + 1) (drop index games)
+abbrev pub AreLeft : ClubState → List ClubGame → ℕ → List MoveRow → Type 0
+AreLeft s games index rest = map move_cells rest ≡ gathered_from (rows_of_moves both_games s.events) (index + 1) (drop index games)
 
 module _ (s : ClubState) where
   pub shown-start : (games : List GameRecord) (moves : List MoveRow) → WereShown s games moves 0 moves
@@ -127,41 +126,41 @@ module _ (s : ClubState) where
 
   pub shown-more : (games : List GameRecord) (moves : List MoveRow) (index : ℕ) (rest own others : List MoveRow) (row : GameRecord) → WereShown s games moves index rest → slice_get games index ≡ Some row → rest ≡ own ++ others → (g : Game DMove) × IsGameAt s (index + 1) row own g → WereShown s games moves (index + 1) others
   shown-more games moves index rest own others row was at parts (g, is) =
-      let any : AnyGame DMove DMove = draughts g in
+      let any : ClubGame = draughts g in
       let place_is : 1 + length was.shown ≡ index + 1 = ap (λ n. 1 + n) was.count ∙ same-step index in
       record {
         shown = was.shown ++ any ∷ [];
         count = length-append was.shown (any ∷ []) ∙ ap (λ n. n + 1) was.count;
-        legal = each-append (IsLegalIn rules.draughts rules.draughts s) was.shown any was.legal is.legal;
+        legal = each-append (IsLegalIn both_games s) was.shown any was.legal is.legal;
         rows_are =
             ap (λ n. map game_cells (take n games)) (sym (suc-step index))
             ∙ (ap (map game_cells) (take-got games index row at)
             ∙ (map-append game_cells (take index games) (row ∷ [])
             ∙ ((λ i. was.rows_are i ++ is.row_is i ∷ [])
-            ∙ (ap (λ n. numbered_from (row_of_game rules.draughts rules.draughts s.events) 1 was.shown ++ row_of_game rules.draughts rules.draughts s.events n any ∷ []) (sym place_is)
-            ∙ sym (numbered-append (row_of_game rules.draughts rules.draughts s.events) 1 was.shown any)))));
+            ∙ (ap (λ n. numbered_from (row_of_game both_games s.events) 1 was.shown ++ row_of_game both_games s.events n any ∷ []) (sym place_is)
+            ∙ sym (numbered-append (row_of_game both_games s.events) 1 was.shown any)))));
         moves_are =
             was.moves_are
-            ∙ (ap (λ ms. gathered_from (rows_of_moves rules.draughts rules.draughts s.events) 1 was.shown ++ ms) (ap (map move_cells) parts ∙ map-append move_cells own others)
-            ∙ (sym (append_assoc (gathered_from (rows_of_moves rules.draughts rules.draughts s.events) 1 was.shown) (map move_cells own) (map move_cells others))
+            ∙ (ap (λ ms. gathered_from (rows_of_moves both_games s.events) 1 was.shown ++ ms) (ap (map move_cells) parts ∙ map-append move_cells own others)
+            ∙ (sym (append_assoc (gathered_from (rows_of_moves both_games s.events) 1 was.shown) (map move_cells own) (map move_cells others))
             ∙ ap (λ ms. ms ++ map move_cells others)
-            (ap (λ ms. gathered_from (rows_of_moves rules.draughts rules.draughts s.events) 1 was.shown ++ ms) (is.moves_are ∙ ap (λ n. rows_of_moves rules.draughts rules.draughts s.events n any) (sym place_is))
-            ∙ sym (gathered-append (rows_of_moves rules.draughts rules.draughts s.events) 1 was.shown any))));
+            (ap (λ ms. gathered_from (rows_of_moves both_games s.events) 1 was.shown ++ ms) (is.moves_are ∙ ap (λ n. rows_of_moves both_games s.events n any) (sym place_is))
+            ∙ sym (gathered-append (rows_of_moves both_games s.events) 1 was.shown any))));
       }
 
-  pub shown-all : (games : List GameRecord) (moves : List MoveRow) (index : ℕ) (rest : List MoveRow) → WereShown s games moves index rest → length games ≤ index → length rest ≡ 0 → (shown : List (AnyGame DMove DMove)) × AreGames s shown games moves
+  pub shown-all : (games : List GameRecord) (moves : List MoveRow) (index : ℕ) (rest : List MoveRow) → WereShown s games moves index rest → length games ≤ index → length rest ≡ 0 → (shown : List ClubGame) × AreGames s shown games moves
   shown-all games moves index (m ∷ rest) was past none = absurd (omega arith)
   shown-all games moves index [] was past none = (
     was.shown,
     record {
       rows_are = ap (map game_cells) (sym (take_all index games past)) ∙ was.rows_are;
-      moves_are = was.moves_are ∙ append-nil (gathered_from (rows_of_moves rules.draughts rules.draughts s.events) 1 was.shown);
+      moves_are = was.moves_are ∙ append-nil (gathered_from (rows_of_moves both_games s.events) 1 was.shown);
       legal = was.legal;
     },
   )
 
   -- each game is one of draughts
-  draughts-alone : (rows : Rows) → HasPeople s rows → (any : AnyGame DMove DMove) → IsLegalIn rules.draughts rules.draughts s any → (g : Game DMove) × (any ≡ draughts g) × IsGameOf rules.draughts Draughts s g
+  draughts-alone : (rows : Rows) → HasPeople s rows → (any : ClubGame) → IsLegalIn both_games s any → (g : Game DMove) × (any ≡ draughts g) × IsGameOf both_games.draughts Draughts s g
   draughts-alone rows people (draughts g) legal = (g, refl, legal)
   draughts-alone rows people (shogi g) legal =
       let of = in-place (λ x. x.game ≡ Draughts) s.events g.event legal.event people.events.of_draughts legal.in_event in
@@ -169,16 +168,16 @@ module _ (s : ClubState) where
       absurd cc
 
   -- the next row is that of the next game, the moves that begin with it are the game's, and the others are left
-  pub left-more : (rows : Rows) → HasPeople s rows → (all : List (AnyGame DMove DMove)) (games : List GameRecord) (moves : List MoveRow) → AreGames s all games moves → (index : ℕ) (rest own others : List MoveRow) (row : GameRecord) → AreLeft s all index rest → slice_get games index ≡ Some row → rest ≡ own ++ others
+  pub left-more : (rows : Rows) → HasPeople s rows → (all : List ClubGame) (games : List GameRecord) (moves : List MoveRow) → AreGames s all games moves → (index : ℕ) (rest own others : List MoveRow) (row : GameRecord) → AreLeft s all index rest → slice_get games index ≡ Some row → rest ≡ own ++ others
       → Each (λ r. r.game ≡ row.id) own → ((r : MoveRow) → slice_get others 0 ≡ Some r → r.game ≢ row.id)
       → (index < length all) × ((g : Game DMove) × IsGameAt s (index + 1) row own g) × AreLeft s all (index + 1) others
   left-more rows people all games moves are index rest own others row left at parts of_game of_others =
-      let (any, stands, cells) = numbered-at game_cells (row_of_game rules.draughts rules.draughts s.events) 1 games all are.rows_are index row at in
+      let (any, stands, cells) = numbered-at game_cells (row_of_game both_games s.events) 1 games all are.rows_are index row at in
       let (g, is_draughts, legal) = draughts-alone rows people any (are.legal index any stands) in
-      let row_is : game_cells row ≡ row_of_game rules.draughts rules.draughts s.events (index + 1) (draughts g) = cells ∙ (λ i. row_of_game rules.draughts rules.draughts s.events (same-step index i) (is_draughts i)) in
-      let told : IsToldBy rules.draughts (index + 1) g row = columns-told rules.draughts (terms_at (place s.events g.event)) (index + 1) g row row_is in
+      let row_is : game_cells row ≡ row_of_game both_games s.events (index + 1) (draughts g) = cells ∙ (λ i. row_of_game both_games s.events (same-step index i) (is_draughts i)) in
+      let told : IsToldBy both_games.draughts (index + 1) g row = columns-told both_games.draughts (terms_at (place s.events g.event)) (index + 1) g row row_is in
       let id : row.id ≡ pos (index + 1) = told.numbers.id in
-      let rows_of = rows_of_moves rules.draughts rules.draughts s.events in
+      let rows_of = rows_of_moves both_games s.events in
       let whole : map move_cells own ++ map move_cells others ≡ rows_of (index + 1) any ++ gathered_from rows_of (suc (index + 1)) (drop (suc index) all) =
       sym (map-append move_cells own others) ∙ (sym (ap (map move_cells) parts) ∙ (left ∙ ap (gathered_from rows_of (index + 1)) (drop-got all index any stands))) in
       let split = split-once (pos (index + 1)) (map move_cells own) (map move_cells others) (rows_of (index + 1) any) (gathered_from rows_of (suc (index + 1)) (drop (suc index) all))
@@ -192,9 +191,9 @@ module _ (s : ClubState) where
         split.1 ∙ (λ i. gathered_from rows_of (suc-step (index + 1) i) (drop (suc-step index i) all)),
       )
 
-  pub left-none : (all : List (AnyGame DMove DMove)) (games : List GameRecord) (moves : List MoveRow) → AreGames s all games moves → (index : ℕ) (rest : List MoveRow) → AreLeft s all index rest → length games ≤ index → length rest ≡ 0
+  pub left-none : (all : List ClubGame) (games : List GameRecord) (moves : List MoveRow) → AreGames s all games moves → (index : ℕ) (rest : List MoveRow) → AreLeft s all index rest → length games ≤ index → length rest ≡ 0
   left-none all games moves are index rest left past =
-      none rest (left ∙ ap (gathered_from (rows_of_moves rules.draughts rules.draughts s.events) (index + 1)) (drop-past all index (omega (arith, numbered-length game_cells (row_of_game rules.draughts rules.draughts s.events) 1 games all are.rows_are, past))))
+      none rest (left ∙ ap (gathered_from (rows_of_moves both_games s.events) (index + 1)) (drop-past all index (omega (arith, numbered-length game_cells (row_of_game both_games s.events) 1 games all are.rows_are, past))))
     where
       none : (rest : List MoveRow) → map move_cells rest ≡ [] → length rest ≡ 0
       none [] is = refl
@@ -205,22 +204,22 @@ module _ (s : ClubState) where
 abbrev pub key_in : GameRecord → Option (List ℕ)
 key_in r = option_map (λ s. string_bytes s) r.key
 
-module _ (s : ClubState) (games : List (AnyGame DMove DMove)) (rows : List GameRecord) (rows_are : map game_cells rows ≡ numbered_from (row_of_game rules.draughts rules.draughts s.events) 1 games) where
-  key-told : (id : ℕ) (row : GameRecord) (any : AnyGame DMove DMove) → game_cells row ≡ row_of_game rules.draughts rules.draughts s.events id any → key_in row ≡ key_of any
-  key-told id row (draughts g) cells = let told = columns-told rules.draughts (terms_at (place s.events g.event)) id g row cells in told.key
-  key-told id row (shogi g) cells = let told = columns-told rules.draughts (terms_at (place s.events g.event)) id g row cells in told.key
+module _ (s : ClubState) (games : List ClubGame) (rows : List GameRecord) (rows_are : map game_cells rows ≡ numbered_from (row_of_game both_games s.events) 1 games) where
+  key-told : (id : ℕ) (row : GameRecord) (any : ClubGame) → game_cells row ≡ row_of_game both_games s.events id any → key_in row ≡ key_of any
+  key-told id row (draughts g) cells = let told = columns-told both_games.draughts (terms_at (place s.events g.event)) id g row cells in told.key
+  key-told id row (shogi g) cells = let told = columns-told both_games.shogi (terms_at (place s.events g.event)) id g row cells in told.key
 
   -- keys of the games are apart where those of the rows are
   pub keys-of : AreApartIfAny key_in rows → AreApartIfAny key_of games
   keys-of apart i j x y b one two first second =
-      let (r, here, cells) = numbered-back game_cells (row_of_game rules.draughts rules.draughts s.events) 1 rows games rows_are i x one in
-      let (q, there, cells') = numbered-back game_cells (row_of_game rules.draughts rules.draughts s.events) 1 rows games rows_are j y two in
+      let (r, here, cells) = numbered-back game_cells (row_of_game both_games s.events) 1 rows games rows_are i x one in
+      let (q, there, cells') = numbered-back game_cells (row_of_game both_games s.events) 1 rows games rows_are j y two in
       apart i j r q b here there (key-told (1 + i) r x cells ∙ first) (key-told (1 + j) q y cells' ∙ second)
 
   pub keys-in : AreApartIfAny key_of games → AreApartIfAny key_in rows
   keys-in apart i j x y b one two first second =
-      let (g, here, cells) = numbered-at game_cells (row_of_game rules.draughts rules.draughts s.events) 1 rows games rows_are i x one in
-      let (h, there, cells') = numbered-at game_cells (row_of_game rules.draughts rules.draughts s.events) 1 rows games rows_are j y two in
+      let (g, here, cells) = numbered-at game_cells (row_of_game both_games s.events) 1 rows games rows_are i x one in
+      let (h, there, cells') = numbered-at game_cells (row_of_game both_games s.events) 1 rows games rows_are j y two in
       apart i j g h b here there (sym (key-told (1 + i) x g cells) ∙ first) (sym (key-told (1 + j) y h cells') ∙ second)
 
 -- ---- all tables
@@ -239,7 +238,7 @@ games-of s rows club stored = record { rows_are = stored.games; moves_are = stor
 
 pub games-count : (s : ClubState) (rows : Rows) → IsClub s → IsStoredAs s rows → length rows.games.items ≤ 5000
 games-count s rows club stored =
-    let same = numbered-length game_cells (row_of_game rules.draughts rules.draughts s.events) 1 rows.games.items s.games stored.games in
+    let same = numbered-length game_cells (row_of_game both_games s.events) 1 rows.games.items s.games stored.games in
     let most = club.legal.game_count in
     omega (arith, same, most)
 
@@ -247,7 +246,7 @@ pub keys-apart : (s : ClubState) (rows : Rows) → IsClub s → IsStoredAs s row
 keys-apart s rows club stored = keys-in s s.games rows.games.items stored.games club.legal.game_keys
 
 -- a game of a club is a game of a club with the same members and events
-game-elsewhere : (s : ClubState) (games : List (AnyGame DMove DMove)) (any : AnyGame DMove DMove) → IsLegalIn rules.draughts rules.draughts s any → IsLegalIn rules.draughts rules.draughts (record s { games = games }) any
+game-elsewhere : (s : ClubState) (games : List ClubGame) (any : ClubGame) → IsLegalIn both_games s any → IsLegalIn both_games (record s { games = games }) any
 game-elsewhere s games (draughts g) of = record {
   event = of.event;
   in_event = of.in_event;
@@ -274,7 +273,7 @@ game-elsewhere s games (shogi g) of = record {
 }
 
 -- the rows that were tested are those of a legal club
-pub club-of : (s : ClubState) (rows : Rows) → HasPeople s rows → (games : List (AnyGame DMove DMove)) → AreGames s games rows.games.items rows.moves.items → length rows.games.items ≤ 5000 → AreApartIfAny key_in rows.games.items
+pub club-of : (s : ClubState) (rows : Rows) → HasPeople s rows → (games : List ClubGame) → AreGames s games rows.games.items rows.moves.items → length rows.games.items ≤ 5000 → AreApartIfAny key_in rows.games.items
     → rows.challenges.items ≡ [] → rows.seen.items ≡ [] → rows.scores.items ≡ [] → (t : ClubState) × IsClub t × IsStoredAs t rows
 club-of s rows people games are few apart challenges seen scores =
     let t : ClubState = record s { games = games } in (
@@ -290,7 +289,7 @@ club-of s rows people games are few apart challenges seen scores =
           event_count = people.events.count;
           event_names = people.events.names;
           games = λ n any at. game-elsewhere s games any (are.legal n any at);
-          game_count = omega (arith, numbered-length game_cells (row_of_game rules.draughts rules.draughts s.events) 1 rows.games.items games are.rows_are, few);
+          game_count = omega (arith, numbered-length game_cells (row_of_game both_games s.events) 1 rows.games.items games are.rows_are, few);
           game_keys = keys-of s games rows.games.items are.rows_are apart;
         };
         kinds = people.events.of_draughts;

@@ -6,7 +6,8 @@ use Rattle.sqlite_value.specs.declared.value.Value.TheVariants.{Int, Text}
 use Rattle.sqlite.specs.Order.{Row}
 use Rattle.club_rules.specs.declared.names.GameKind.{GameKind}
 use Rattle.club_rules.specs.declared.names.GameKind.TheVariants.{Draughts, Shogi}
-use Rattle.club_rules.specs.GameRules.{GameRules}
+use Rattle.club_rules.specs.Laws.{ReadsBack}
+use Rattle.club_core.specs.ClubRules.{ClubRules}
 use Rattle.club_core.specs.Members.{Member}
 use Rattle.club_core.specs.Events.{Terms, Event}
 use Rattle.club_core.specs.Game.{Game}
@@ -76,20 +77,20 @@ events-alike id d e is =
 
 -- ---- games
 
-module _ {DP DM DE SP SM SE : Type 0} (one : GameRules DP DM DE) (two : GameRules SP SM SE)
-    (reads-one : (p : DP) (m : DM) → one.check p m ≡ Ok tt → one.read_move p (one.write_move p m) ≡ Ok m)
-    (reads-two : (p : SP) (m : SM) → two.check p m ≡ Ok tt → two.read_move p (two.write_move p m) ≡ Ok m) where
+module _ {DP DM DE DT SP SM SE ST : Type 0} (kinds : ClubRules DP DM DE DT SP SM SE ST)
+    (reads-draughts : ReadsBack kinds.draughts)
+    (reads-shogi : ReadsBack kinds.shogi) where
   module _ (events : List Event) where
     -- a game that is legal by the terms of its event, which is of its kind
     abbrev Stands : AnyGame DM SM → Type 0
-    Stands (draughts g) = IsLegalGame one (terms_at (place events g.event)) g × (kind_at (place events g.event) ≡ Draughts)
-    Stands (shogi g) = IsLegalGame two (terms_at (place events g.event)) g × (kind_at (place events g.event) ≡ Shogi)
+    Stands (draughts g) = IsLegalGame kinds.draughts (terms_at (place events g.event)) g × (kind_at (place events g.event) ≡ Draughts)
+    Stands (shogi g) = IsLegalGame kinds.shogi (terms_at (place events g.event)) g × (kind_at (place events g.event) ≡ Shogi)
 
     abbrev row : ℕ → AnyGame DM SM → Row
-    row = row_of_game one two events
+    row = row_of_game kinds events
 
     abbrev rows : ℕ → AnyGame DM SM → List Row
-    rows = rows_of_moves one two events
+    rows = rows_of_moves kinds events
 
     same-event : (id e f : ℕ) (v0 v1 : Value) (vs ws : List Value) (w0 w1 : Value) → ◌≡◌ {A = Row} (v0 ∷ v1 ∷ number e ∷ vs) (w0 ∷ w1 ∷ number f ∷ ws) → e ≡ f
     same-event id e f v0 v1 vs ws w0 w1 is = numbers-alike e f (heads-alike _ _ _ _ (tails-alike _ _ _ _ (tails-alike _ _ _ _ is)))
@@ -104,18 +105,18 @@ module _ {DP DM DE SP SM SE : Type 0} (one : GameRules DP DM DE) (two : GameRule
         let event : g.event ≡ h.event = same-event id g.event h.event _ _ _ _ _ _ is in
         let terms : terms_at (place events h.event) ≡ terms_at (place events g.event) = ap (λ n. terms_at (place events n)) (sym event) in
         ap draughts
-        (games-alike one reads-one (terms_at (place events g.event)) id g h this.0
-        (subst (λ t. IsLegalGame one t h) terms that.0)
-        (is ∙ ap (λ t. game_row one t id h) terms)
-        (moves ∙ ap (λ t. move_rows one t id h) terms))
+        (games-alike kinds.draughts reads-draughts (terms_at (place events g.event)) id g h this.0
+        (subst (λ t. IsLegalGame kinds.draughts t h) terms that.0)
+        (is ∙ ap (λ t. game_row kinds.draughts t id h) terms)
+        (moves ∙ ap (λ t. move_rows kinds.draughts t id h) terms))
     any-alike id (shogi g) (shogi h) this that is moves =
         let event : g.event ≡ h.event = same-event id g.event h.event _ _ _ _ _ _ is in
         let terms : terms_at (place events h.event) ≡ terms_at (place events g.event) = ap (λ n. terms_at (place events n)) (sym event) in
         ap shogi
-        (games-alike two reads-two (terms_at (place events g.event)) id g h this.0
-        (subst (λ t. IsLegalGame two t h) terms that.0)
-        (is ∙ ap (λ t. game_row two t id h) terms)
-        (moves ∙ ap (λ t. move_rows two t id h) terms))
+        (games-alike kinds.shogi reads-shogi (terms_at (place events g.event)) id g h this.0
+        (subst (λ t. IsLegalGame kinds.shogi t h) terms that.0)
+        (is ∙ ap (λ t. game_row kinds.shogi t id h) terms)
+        (moves ∙ ap (λ t. move_rows kinds.shogi t id h) terms))
     any-alike id (draughts g) (shogi h) this that is moves = absurd (no-kind g.event h.event (same-event id g.event h.event _ _ _ _ _ _ is) this.1 that.1)
     any-alike id (shogi g) (draughts h) this that is moves = absurd (no-kind h.event g.event (sym (same-event id g.event h.event _ _ _ _ _ _ is)) that.1 this.1)
 
@@ -131,8 +132,8 @@ module _ {DP DM DE SP SM SE : Type 0} (one : GameRules DP DM DE) (two : GameRule
     plies-alike id (shogi g) (shogi h) is = let p = seventeen-parts _ _ _ _ _ _ _ _ _ _ _ _ _ _ _ _ _ _ _ _ _ _ _ _ _ _ _ _ _ _ _ _ _ _ is in numbers-alike _ _ p.p7
 
     rows-long : (id : ℕ) (x : AnyGame DM SM) → length (rows id x) ≡ plies x
-    rows-long id (draughts g) = rows-count one (terms_at (place events g.event)) id (at_start g) g.entries
-    rows-long id (shogi g) = rows-count two (terms_at (place events g.event)) id (at_start g) g.entries
+    rows-long id (draughts g) = rows-count kinds.draughts (terms_at (place events g.event)) id (at_start g) g.entries
+    rows-long id (shogi g) = rows-count kinds.shogi (terms_at (place events g.event)) id (at_start g) g.entries
 
     all-alike : (id : ℕ) (xs ys : List (AnyGame DM SM)) → Each Stands xs → Each Stands ys → numbered_from row id xs ≡ numbered_from row id ys → gathered_from rows id xs ≡ gathered_from rows id ys → xs ≡ ys
     all-alike id [] [] these those is moves = refl
@@ -148,21 +149,21 @@ module _ {DP DM DE SP SM SE : Type 0} (one : GameRules DP DM DE) (two : GameRule
         in
         λ i. head i ∷ tail i
 
-  stands-draughts : (s : State DM SM) (g : Game DM) → IsGameOf one Draughts s g → Stands s.events (draughts g)
+  stands-draughts : (s : State DM SM) (g : Game DM) → IsGameOf kinds.draughts Draughts s g → Stands s.events (draughts g)
   stands-draughts s g is =
       let terms : is.event.terms ≡ terms_at (place s.events g.event) = sym (ap terms_at is.in_event) in
-      (subst (λ t. IsLegalGame one t g) terms is.legal, ap kind_at is.in_event ∙ is.of_kind)
+      (subst (λ t. IsLegalGame kinds.draughts t g) terms is.legal, ap kind_at is.in_event ∙ is.of_kind)
 
-  stands-shogi : (s : State DM SM) (g : Game SM) → IsGameOf two Shogi s g → Stands s.events (shogi g)
+  stands-shogi : (s : State DM SM) (g : Game SM) → IsGameOf kinds.shogi Shogi s g → Stands s.events (shogi g)
   stands-shogi s g is =
       let terms : is.event.terms ≡ terms_at (place s.events g.event) = sym (ap terms_at is.in_event) in
-      (subst (λ t. IsLegalGame two t g) terms is.legal, ap kind_at is.in_event ∙ is.of_kind)
+      (subst (λ t. IsLegalGame kinds.shogi t g) terms is.legal, ap kind_at is.in_event ∙ is.of_kind)
 
-  all-stand : (s : State DM SM) → IsLegalState one two s → Each (Stands s.events) s.games
+  all-stand : (s : State DM SM) → IsLegalState kinds s → Each (Stands s.events) s.games
   all-stand s legal n (draughts g) at = stands-draughts s g (legal.games n (draughts g) at)
   all-stand s legal n (shogi g) at = stands-shogi s g (legal.games n (shogi g) at)
 
-  pub clubs-alike : (s t : State DM SM) → IsLegalState one two s → IsLegalState one two t → ((n : ℕ) → tables_of one two s n ≡ tables_of one two t n) → s ≡ t
+  pub clubs-alike : (s t : State DM SM) → IsLegalState kinds s → IsLegalState kinds t → ((n : ℕ) → tables_of kinds s n ≡ tables_of kinds t n) → s ≡ t
   clubs-alike s t this that same =
       let last : s.last ≡ t.last = numbers-alike _ _ (heads-alike _ _ _ _ (tails-alike _ _ _ _ (tails-alike _ _ _ _ (heads-alike _ _ _ _ (same 0))))) in
       let members : s.members ≡ t.members = numbered-alike member_row members-alike 1 s.members t.members (same 1) in
@@ -170,7 +171,7 @@ module _ {DP DM DE SP SM SE : Type 0} (one : GameRules DP DM DE) (two : GameRule
       let games : s.games ≡ t.games =
       all-alike s.events 1 s.games t.games (all-stand s this)
       (subst (λ es. Each (Stands es) t.games) (sym events) (all-stand t that))
-      (same 10 ∙ ap (λ es. numbered_from (row_of_game one two es) 1 t.games) (sym events))
-      (same 8 ∙ ap (λ es. gathered_from (rows_of_moves one two es) 1 t.games) (sym events))
+      (same 10 ∙ ap (λ es. numbered_from (row_of_game kinds es) 1 t.games) (sym events))
+      (same 8 ∙ ap (λ es. gathered_from (rows_of_moves kinds es) 1 t.games) (sym events))
       in
       λ i. record { last = last i; members = members i; events = events i; games = games i }

@@ -8,9 +8,9 @@ use Rattle.squares.specs.declared.draughts.moves.DMove.{DMove}
 use Rattle.squares.specs.declared.sides.Side.{Side}
 use Rattle.squares.specs.declared.sides.Side.TheVariants.{First, Second}
 use Rattle.squares.specs.Sides.{other}
-use Rattle.club_rules.specs.declared.draughts.DraughtsEnd.{DraughtsEnd}
+use Rattle.draughts_draws.specs.declared.ends.DEnd.{DEnd}
+use Rattle.draughts_draws.specs.declared.tails.Tail.{Tail}
 use Rattle.club_rules.specs.declared.names.GameKind.TheVariants.{Draughts}
-use Rattle.club_rules.specs.Draughts.{draughts}
 use Rattle.club_rules.specs.GameRules.{GameRules}
 use Rattle.club_core.specs.declared.rows.GameEnd.TheVariants.{Outside}
 use Rattle.club_core.specs.declared.rows.GameView.{GameView}
@@ -32,7 +32,7 @@ use Rattle.store_tables.specs.declared.rows.MoveRow.{MoveRow}
 use Rattle.store_tables.specs.declared.rows.Rows.{Rows}
 use Rattle.store_tables.specs.Cells.{member_cells}
 use Rattle.club_rows.specs.Audit.{AreMembers, AreEvents, GivesTerms, HasPeople, NamesEvent, IsWithin, IsGameAt}
-use Rattle.club_rows.specs.Club.{ClubState}
+use Rattle.club_rows.specs.Club.{both_games, ClubState}
 use Rattle.club_rows.specs.Replay.{terms_with}
 use Rattle.club_rows.specs.Shown.{AreRowsOf}
 use Rattle.club_rows.specs.Tables.{event_row, member_row, game_row, move_rows}
@@ -121,7 +121,7 @@ end-outside None None end is = cc
 
 -- ---- one game by its view
 
-module _ {R P M E : Type 0} (rules : GameRules P M E) (terms : Terms) (game : Game M) (view : GameView R P M E) (shows : Shows rules game view) (terms_are : terms_of view ≡ terms) where
+module _ {R P M E T : Type 0} (rules : GameRules P M E T) (terms : Terms) (game : Game M) (view : GameView R P M E T) (shows : Shows rules game view) (terms_are : terms_of view ≡ terms) where
   row-of : IsRowOf rules terms game view.row
   row-of = subst (λ t. IsRowOf rules t game view.row) terms_are shows.row
 
@@ -164,12 +164,12 @@ terms-are e row id budget increment parts gives =
 
 module _ (s : ClubState) (rows : Rows) (people : HasPeople s rows) (index : ℕ) (row : GameRecord) (moves : List MoveRow) where
   -- the rows of a game whose view is sound, and within the last moment, are those of a game of the club
-  pub game-shown : {R : Type 0} (event first second : ℕ) (e : EventRow) (budget increment : ℕ) (view : GameView R Position DMove DraughtsEnd) → NamesEvent rows row event first second e → GivesTerms e budget increment → row.id ≡ pos (index + 1)
-      → (id : ℕ) × (game : Game DMove) × AreRowsOf draughts (terms_with budget increment) id row moves game × (terms_of view ≡ terms_with budget increment) × Shows draughts game view
-      → IsWithin draughts view s.last → (g : Game DMove) × IsGameAt s (index + 1) row moves g
+  pub game-shown : {R : Type 0} (event first second : ℕ) (e : EventRow) (budget increment : ℕ) (view : GameView R Position DMove DEnd Tail) → NamesEvent rows row event first second e → GivesTerms e budget increment → row.id ≡ pos (index + 1)
+      → (id : ℕ) × (game : Game DMove) × AreRowsOf both_games.draughts (terms_with budget increment) id row moves game × (terms_of view ≡ terms_with budget increment) × Shows both_games.draughts game view
+      → IsWithin both_games.draughts view s.last → (g : Game DMove) × IsGameAt s (index + 1) row moves g
   game-shown event first second e budget increment view named gives id_is (id, game, are, terms_are, shows) within =
       let terms = terms_with budget increment in
-      let told : IsToldBy draughts id game row = columns-told draughts terms id game row are.row in
+      let told : IsToldBy both_games.draughts id game row = columns-told both_games.draughts terms id game row are.row in
       let id_same : id ≡ index + 1 = same-pos _ _ (sym told.numbers.id ∙ id_is) in
       let event_same : game.event ≡ event = same-pos _ _ (sym told.numbers.event ∙ named.event_is) in
       let first_same : game.first ≡ first = same-pos _ _ (sym told.numbers.first ∙ named.first_is) in
@@ -185,22 +185,22 @@ module _ (s : ClubState) (rows : Rows) (people : HasPeople s rows) (index : ℕ)
             event = known;
             in_event = stands;
             of_kind = in-place (λ x. x.game ≡ Draughts) s.events event known people.events.of_draughts at;
-            legal = subst (λ t. IsLegalGame draughts t game) (sym same) are.legal;
+            legal = subst (λ t. IsLegalGame both_games.draughts t game) (sym same) are.legal;
             first = subst (λ n. IsSome (place s.members n)) (sym first_same) (placed-some s.members first named.first_low (omega (arith, named.first_high, count)));
             second = subst (λ n. IsSome (place s.members n)) (sym second_same) (placed-some s.members second named.second_low (omega (arith, named.second_high, count)));
             key = are.fits.key;
-            start = start-within draughts terms game view shows terms_are s.last are.legal within.since;
-            entries = entries-within draughts terms game view shows terms_are s.last are.legal within.since;
-            lost_by_time = subst (λ t. game.outside ≡ Some Time → (clocks_of game t).since + left_of (turn_of draughts game) (clocks_of game t) < s.last) (sym same) (time-lost draughts terms game view shows terms_are s.last are.legal within);
+            start = start-within both_games.draughts terms game view shows terms_are s.last are.legal within.since;
+            entries = entries-within both_games.draughts terms game view shows terms_are s.last are.legal within.since;
+            lost_by_time = subst (λ t. game.outside ≡ Some Time → (clocks_of game t).since + left_of (turn_of both_games.draughts game) (clocks_of game t) < s.last) (sym same) (time-lost both_games.draughts terms game view shows terms_are s.last are.legal within);
           };
-          row_is = are.row ∙ (λ i. game_row draughts (sym by i) (id_same i) game);
-          moves_are = are.moves ∙ (λ i. move_rows draughts (sym by i) (id_same i) game);
+          row_is = are.row ∙ (λ i. game_row both_games.draughts (sym by i) (id_same i) game);
+          moves_are = are.moves ∙ (λ i. move_rows both_games.draughts (sym by i) (id_same i) game);
         },
       )
 
   module _ (g : Game DMove) (is : IsGameAt s (index + 1) row moves g) where
-    told-at : IsToldBy draughts (index + 1) g row
-    told-at = columns-told draughts (terms_at (place s.events g.event)) (index + 1) g row is.row_is
+    told-at : IsToldBy both_games.draughts (index + 1) g row
+    told-at = columns-told both_games.draughts (terms_at (place s.events g.event)) (index + 1) g row is.row_is
 
     pub id-at : row.id ≡ pos (index + 1)
     id-at = told-at.numbers.id
@@ -248,7 +248,7 @@ module _ (s : ClubState) (rows : Rows) (people : HasPeople s rows) (index : ℕ)
       by-terms = ap terms_at is.legal.in_event ∙ known-terms
 
       -- the rows are those of a legal game by these seconds
-      pub rows-of : index < 5000 → AreRowsOf draughts (terms_with budget increment) (index + 1) row moves g
+      pub rows-of : index < 5000 → AreRowsOf both_games.draughts (terms_with budget increment) (index + 1) row moves g
       rows-of low =
           let one = some-placed s.members g.first is.legal.first in
           let two = some-placed s.members g.second is.legal.second in
@@ -259,7 +259,7 @@ module _ (s : ClubState) (rows : Rows) (people : HasPeople s rows) (index : ℕ)
           record {
             budget = gives.has_budget;
             increment = gives.has_increment;
-            legal = subst (λ t. IsLegalGame draughts t g) known-terms is.legal.legal;
+            legal = subst (λ t. IsLegalGame both_games.draughts t g) known-terms is.legal.legal;
             fits = record {
               id = omega (arith, low);
               event = omega (arith, three.1, events);
@@ -269,12 +269,12 @@ module _ (s : ClubState) (rows : Rows) (people : HasPeople s rows) (index : ℕ)
               start = omega (arith, is.legal.start, last);
               entries = λ n x at. let most : x.moment ≤ s.last = is.legal.entries n x at in omega (arith, most, last);
             };
-            row = is.row_is ∙ ap (λ t. game_row draughts t (index + 1) g) by-terms;
-            moves = is.moves_are ∙ ap (λ t. move_rows draughts t (index + 1) g) by-terms;
+            row = is.row_is ∙ ap (λ t. game_row both_games.draughts t (index + 1) g) by-terms;
+            moves = is.moves_are ∙ ap (λ t. move_rows both_games.draughts t (index + 1) g) by-terms;
           }
 
       -- a view that shows the game is within the club's last moment
-      pub shown-within : {R : Type 0} (view : GameView R Position DMove DraughtsEnd) → (terms_of view ≡ terms_with budget increment) × Shows draughts g view → IsWithin draughts view s.last
+      pub shown-within : {R : Type 0} (view : GameView R Position DMove DEnd Tail) → (terms_of view ≡ terms_with budget increment) × Shows both_games.draughts g view → IsWithin both_games.draughts view s.last
       shown-within view (terms_are, shows) =
-          view-within draughts (terms_with budget increment) g view shows terms_are s.last is.legal.start is.legal.entries
-          (subst (λ t. g.outside ≡ Some Time → (clocks_of g t).since + left_of (turn_of draughts g) (clocks_of g t) < s.last) known-terms is.legal.lost_by_time)
+          view-within both_games.draughts (terms_with budget increment) g view shows terms_are s.last is.legal.start is.legal.entries
+          (subst (λ t. g.outside ≡ Some Time → (clocks_of g t).since + left_of (turn_of both_games.draughts g) (clocks_of g t) < s.last) known-terms is.legal.lost_by_time)

@@ -13,6 +13,9 @@ pub mod ReplayLemmas
 pub mod RowLemmas
 pub mod SameLemmas
 pub mod ShownLemmas
+pub mod PlainTexts
+pub mod DraughtsTexts
+pub mod ShogiTexts
 pub mod TextLemmas
 pub mod ToldLemmas
 pub mod WholeLemmas

@@ -3,7 +3,7 @@ use Rattle.std.proofs.Common.{ℕ, zero, suc, List, [], ◌∷◌, take}
 use Rattle.club_rules.specs.GameRules.{GameRules}
 use Rattle.club_rules.specs.Line.{IsLegalLine}
 
-module _ {P M E : Type 0} (rules : GameRules P M E) where
+module _ {P M E T : Type 0} (rules : GameRules P M E T) where
   -- each beginning of a legal line is legal
   pub IsLegalLine-take : (n : ℕ) (p : P) (ms : List M) → IsLegalLine rules p ms → IsLegalLine rules p (take n ms)
   IsLegalLine-take zero p ms line = tt

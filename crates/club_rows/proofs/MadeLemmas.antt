@@ -11,7 +11,7 @@ use Rattle.club_rows.proofs.WholeLemmas.{rows-append, rows-alike}
 same-moved : (a b : MoveReply) → ◌≡◌ {A = Reply} (moved a) (moved b) → a ≡ b
 same-moved a b is = cc
 
-pub made-last : {P M E : Type 0} (rules : GameRules P M E) → AreRules rules → MadeRowIsLast rules
+pub made-last : {P M E T : Type 0} (rules : GameRules P M E T) → AreRules rules → MadeRowIsLast rules
 made-last rules laws terms id game m moment reply line is =
     let shown = sym is ∙ reply-played rules laws.turn_passes laws.first_starts game line m moment terms in
     let row : made_row id reply moment ≡ entry_row rules terms id game (record { made = m; moment = moment }) = ap (λ r. made_row id r moment) (same-moved reply _ shown) in

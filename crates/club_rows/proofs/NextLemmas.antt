@@ -9,7 +9,7 @@ use Rattle.squares.specs.declared.sides.Side.TheVariants.{First, Second}
 use Rattle.squares.specs.Sides.{other}
 use Rattle.club_rules.specs.GameRules.{GameRules}
 use Rattle.club_rules.specs.Line.{IsLegalLine, position_after}
-use Rattle.club_rules.proofs.Lines.{position_after-append}
+use Rattle.club_rules.proofs.Proved.{position_after-append}
 use Rattle.club_core.specs.Events.{Terms}
 use Rattle.club_core.specs.Game.{Entry, Game, Clocks, spend, clocks_of, moves_of, left_of, left_after, last_position, turn_of}
 use Rattle.club_core.proofs.Legals.{AreRules}
@@ -19,7 +19,7 @@ use Rattle.club_rows.specs.Tables.{with_entry}
 use Rattle.club_rows.specs.Replay.{IsNext, Follows, Replays, left_in, clocks_replayed}
 use Rattle.club_rows.specs.declared.replay.Replayed.{Replayed}
 
-pub left-replayed : {R P M E : Type 0} (game : Replayed R P M E) (side : Side) → left_in game side ≡ left_of side (clocks_replayed game)
+pub left-replayed : {R P M E T : Type 0} (game : Replayed R P M E T) (side : Side) → left_in game side ≡ left_of side (clocks_replayed game)
 left-replayed game First = refl
 left-replayed game Second = refl
 
@@ -42,7 +42,7 @@ pub record AreSix (a b d e : ℤ) (c f : List ℕ) (a' b' d' e' : ℤ) (c' f' : 
 pub six-parts : (a b d e : ℤ) (c f : List ℕ) (a' b' d' e' : ℤ) (c' f' : List ℕ) → ◌≡◌ {A = Row} (Int a ∷ Int b ∷ Text c ∷ Int d ∷ Int e ∷ Text f ∷ []) (Int a' ∷ Int b' ∷ Text c' ∷ Int d' ∷ Int e' ∷ Text f' ∷ []) → AreSix a b d e c f a' b' d' e' c' f'
 six-parts a b d e c f a' b' d' e' c' f' is = record { a_is = cc; b_is = cc; c_is = cc; d_is = cc; e_is = cc; f_is = cc }
 
-module _ {R P M E : Type 0} (rules : GameRules P M E) (laws : AreRules rules) (terms : Terms) (id : ℕ) (game : Game M) (line : IsLegalLine rules rules.start (moves_of game)) (replayed : Replayed R P M E) (is : Replays rules terms game replayed) (row : MoveRow) where
+module _ {R P M E T : Type 0} (rules : GameRules P M E T) (laws : AreRules rules) (terms : Terms) (id : ℕ) (game : Game M) (line : IsLegalLine rules rules.start (moves_of game)) (replayed : Replayed R P M E T) (is : Replays rules terms game replayed) (row : MoveRow) where
   turn-is : rules.turn replayed.position ≡ turn_of rules game
   turn-is = ap rules.turn is.position
 
@@ -105,7 +105,7 @@ module _ {R P M E : Type 0} (rules : GameRules P M E) (laws : AreRules rules) (t
       }
 
   -- what is replayed with the next move more is the game with the entry more
-  pub replays-more : (new : Replayed R P M E) (e : Entry M) (turn : Side) (left : ℕ) → turn ≡ rules.turn replayed.position → left ≡ left_after (left_in replayed (rules.turn replayed.position)) terms.increment (e.moment - replayed.since) → new.line.items ≡ replayed.line.items ++ e.made ∷ [] → new.position ≡ rules.play replayed.position e.made → left_in new turn ≡ left → left_in new (other turn) ≡ left_in replayed (other turn) → new.since ≡ e.moment → Replays rules terms (with_entry game e) new
+  pub replays-more : (new : Replayed R P M E T) (e : Entry M) (turn : Side) (left : ℕ) → turn ≡ rules.turn replayed.position → left ≡ left_after (left_in replayed (rules.turn replayed.position)) terms.increment (e.moment - replayed.since) → new.line.items ≡ replayed.line.items ++ e.made ∷ [] → new.position ≡ rules.play replayed.position e.made → left_in new turn ≡ left → left_in new (other turn) ≡ left_in replayed (other turn) → new.since ≡ e.moment → Replays rules terms (with_entry game e) new
   replays-more new e turn left turn_is left_is line_is position_is mover rest since =
       let before : replayed.since ≡ (clocks_of game terms).since = since-is in
       record {
@@ -121,6 +121,6 @@ module _ {R P M E : Type 0} (rules : GameRules P M E) (laws : AreRules rules) (t
       clocks-are : (a b : Clocks) → a.left_first ≡ b.left_first → a.left_second ≡ b.left_second → a.since ≡ b.since → a ≡ b
       clocks-are a b first second since = λ i. record { left_first = first i; left_second = second i; since = since i }
 
-      clocks-more : (new old : Replayed R P M E) (turn : Side) (increment moment left : ℕ) → left ≡ left_after (left_in old turn) increment (moment - old.since) → left_in new turn ≡ left → left_in new (other turn) ≡ left_in old (other turn) → new.since ≡ moment → clocks_replayed new ≡ spend increment turn moment (clocks_replayed old)
+      clocks-more : (new old : Replayed R P M E T) (turn : Side) (increment moment left : ℕ) → left ≡ left_after (left_in old turn) increment (moment - old.since) → left_in new turn ≡ left → left_in new (other turn) ≡ left_in old (other turn) → new.since ≡ moment → clocks_replayed new ≡ spend increment turn moment (clocks_replayed old)
       clocks-more new old First increment moment left left_is mover rest since = clocks-are (clocks_replayed new) (spend increment First moment (clocks_replayed old)) (mover ∙ left_is) rest since
       clocks-more new old Second increment moment left left_is mover rest since = clocks-are (clocks_replayed new) (spend increment Second moment (clocks_replayed old)) rest (mover ∙ left_is) since

@@ -25,7 +25,7 @@ pub or_null-same : {A B C : Type 0} (put : B → Value) (f : A → B) (g : C →
 or_null-same put f g a c same = sym (or_null-map put f a) ∙ (ap (or_null put) same ∙ or_null-map put g c)
 
 -- a stored row by its numbers and its texts
-pub record-cells : {P M E : Type 0} (rules : GameRules P M E) (terms : Terms) (game : Game M) (id : ℕ) (row : GameRow E) (r : GameRecord)
+pub record-cells : {P M E T : Type 0} (rules : GameRules P M E T) (terms : Terms) (game : Game M) (id : ℕ) (row : GameRow E) (r : GameRecord)
     → HasNumbersOf id row r
     → option_map (λ s. string_bytes s) r.key ≡ option_map (λ s. string_bytes s) row.key
     → option_map (λ s. string_bytes s) r.end ≡ option_map (end_name_text rules) row.end
@@ -33,7 +33,7 @@ pub record-cells : {P M E : Type 0} (rules : GameRules P M E) (terms : Terms) (g
     → string_bytes r.position ≡ string_bytes row.position
     → IsRowOf rules terms game row
     → game_cells r ≡ game_row rules terms id game
-record-cells {P} {M} {E} rules terms game id row r of key_is end_is result_is position_is is =
+record-cells {P} {M} {E} {T} rules terms game id row r of key_is end_is result_is position_is is =
     let int = λ (z w : ℤ) (e : z ≡ w). ap (λ (x : ℤ). Int x) e in
     let nat = λ (m n : ℕ) (e : m ≡ n). ap number e in
     let key = or_null-same Text (λ s. string_bytes s) (λ s. string_bytes s) r.key row.key key_is ∙ (sym (or_null-map Text (λ s. string_bytes s) row.key) ∙ ap (or_null Text) is.key) in

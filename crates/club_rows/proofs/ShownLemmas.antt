@@ -31,7 +31,7 @@ games-are a b key event first second start entries offer outside =
     λ i. record { key = key i; event = event i; first = first i; second = second i; start = start i; entries = entries i; offer = offer i; outside = outside i }
 
 -- what is known of a view that was made of rows
-pub record WasViewed {R P M E : Type 0} (rules : GameRules P M E) (terms : Terms) (stored : GameRecord) (moves : List MoveRow) (given : Numbers) (replayed : Replayed R P M E) (view : GameView R P M E) : Type 0 where
+pub record WasViewed {R P M E T : Type 0} (rules : GameRules P M E T) (terms : Terms) (stored : GameRecord) (moves : List MoveRow) (given : Numbers) (replayed : Replayed R P M E T) (view : GameView R P M E T) : Type 0 where
   pub budget : IsTrue (is_budget terms.budget)
   pub increment : IsTrue (is_increment terms.increment)
   pub has : HasNumbers stored given.game given.event given.first given.second given.start
@@ -43,7 +43,7 @@ pub record WasViewed {R P M E : Type 0} (rules : GameRules P M E) (terms : Terms
   pub terms_are : terms_of view ≡ terms
   pub sound : IsSound rules view
 
-module _ {R P M E : Type 0} (rules : GameRules P M E) (terms : Terms) (stored : GameRecord) (moves : List MoveRow) (given : Numbers) (replayed : Replayed R P M E) (view : GameView R P M E) (known : WasViewed rules terms stored moves given replayed view) where
+module _ {R P M E T : Type 0} (rules : GameRules P M E T) (terms : Terms) (stored : GameRecord) (moves : List MoveRow) (given : Numbers) (replayed : Replayed R P M E T) (view : GameView R P M E T) (known : WasViewed rules terms stored moves given replayed view) where
   abbrev shown_game : Game M
   shown_game = game_told known.told known.was.entries
 
@@ -59,7 +59,7 @@ module _ {R P M E : Type 0} (rules : GameRules P M E) (terms : Terms) (stored : 
   ruled-is : known.told.ruled ≡ rule_end rules shown_game
   ruled-is = known.is_told.ruled ∙ ap (rules.judge rules.start) known.was.replays.line
 
-  pub shown-sound : (s : Shown R P M E) → StandsAs rules stored given.game view s → IsSoundIfShown rules terms stored moves s
+  pub shown-sound : (s : Shown R P M E T) → StandsAs rules stored given.game view s → IsSoundIfShown rules terms stored moves s
   shown-sound shown.WrongMoves stands = tt
   shown-sound shown.WrongGame stands = tt
   shown-sound (shown.Game v) stands =
@@ -150,7 +150,7 @@ module _ {R P M E : Type 0} (rules : GameRules P M E) (terms : Terms) (stored : 
     row-it : IsRowOf rules terms game view.row
     row-it = subst (λ x. IsRowOf rules terms x view.row) game-same row-of
 
-    pub shown-complete : (s : Shown R P M E) → StandsAs rules stored given.game view s → ShowsGame rules terms game s
+    pub shown-complete : (s : Shown R P M E T) → StandsAs rules stored given.game view s → ShowsGame rules terms game s
     shown-complete shown.WrongMoves stands = stands
     shown-complete shown.WrongGame stands =
         stands terms game row-it (row-stands rules terms game view.row row-it ∙ legal-stands rules terms game is.legal is.fits.key)

@@ -28,7 +28,7 @@ use Rattle.club_rows.specs.Told.{HasNumbers, may_have_key, may_have_offer, may_h
 use Rattle.club_rows.proofs.SameLemmas.{seventeen-parts, same-int, same-texts, same-ints, option_map-itself}
 
 -- what the columns of the row of a game are
-pub record IsToldBy {P M E : Type 0} (rules : GameRules P M E) (id : ℕ) (game : Game M) (stored : GameRecord) : Type 0 where
+pub record IsToldBy {P M E T : Type 0} (rules : GameRules P M E T) (id : ℕ) (game : Game M) (stored : GameRecord) : Type 0 where
   pub numbers : HasNumbers stored id game.event game.first game.second game.start
   pub key : option_map (λ s. string_bytes s) stored.key ≡ game.key
   pub offer_side : stored.offer_side ≡ option_map (λ o. pos (side_number o.side)) game.offer
@@ -66,7 +66,7 @@ none-is_some (Some x) is = cc
 eqb-false : (a b : ℕ) → a ≢ b → nat_eq a b ≡ false
 eqb-false a b apart = elim (nat_eq a b) as (λ v. nat_eq a b ≡ v → v ≡ false) [ true ↦ λ is. absurd (apart (eqb-true a b is)) | false ↦ λ is. refl ] refl
 
-module _ {P M E : Type 0} (rules : GameRules P M E) where
+module _ {P M E T : Type 0} (rules : GameRules P M E T) where
   pub columns-told : (terms : Terms) (id : ℕ) (game : Game M) (stored : GameRecord) → game_cells stored ≡ game_row rules terms id game → IsToldBy rules id game stored
   columns-told terms id game stored is =
       let p = seventeen-parts _ _ _ _ _ _ _ _ _ _ _ _ _ _ _ _ _ _ _ _ _ _ _ _ _ _ _ _ _ _ _ _ _ _ is in
@@ -130,7 +130,7 @@ stays-at-once increment side [] c start is each = is
 stays-at-once increment side (m ∷ ms) c start is each =
     stays-at-once increment (other side) ms (spend increment side m c) start (spend-since increment side m c ∙ each zero m refl) (λ n x at. each (suc n) x at)
 
-module _ {P M E : Type 0} (rules : GameRules P M E) (terms : Terms) (game : Game M) where
+module _ {P M E T : Type 0} (rules : GameRules P M E T) (terms : Terms) (game : Game M) where
   pub recorded-at_once : IsTimely terms.increment First (moments_of game) (opening_clocks game terms) → (clocks_of game terms).since ≡ game.start → (n : ℕ) (e : Entry M) → slice_get game.entries n ≡ Some e → e.moment ≡ game.start
   recorded-at_once timely since n e at =
       all-at-once terms.increment First (moments_of game) (opening_clocks game terms) timely (omega (arith, since)) n e.moment (slice_get-map (λ x. x.moment) game.entries n ∙ ap (option_map (λ x. x.moment)) at)
@@ -201,7 +201,6 @@ module _ {P M E : Type 0} (rules : GameRules P M E) (terms : Terms) (game : Game
       let head = and-both _ _ front.0 in (
         record {
           line = moves.line;
-          running_before = moves.running_before;
           plies = moves.plies;
           timely = moves.timely;
           outside_alone = alone;

@@ -11,7 +11,7 @@ use Rattle.squares.specs.Sides.{other}
 use Rattle.club_rules.specs.declared.refusals.MoveRefusal.{MoveRefusal}
 use Rattle.club_rules.specs.GameRules.{GameRules}
 use Rattle.club_rules.specs.Line.{IsLegalLine, position_after}
-use Rattle.club_rules.proofs.Lines.{check-at}
+use Rattle.club_rules.proofs.Proved.{check-at}
 use Rattle.club_core.specs.declared.rows.OutsideEnd.{OutsideEnd}
 use Rattle.club_core.specs.Limits.{last_moment}
 use Rattle.club_core.specs.Events.{Terms}
@@ -19,7 +19,8 @@ use Rattle.club_core.specs.Game.{Entry, Game, Clocks, spend, spend_all, turns, s
 use Rattle.club_core.specs.Legal.{IsTimely, IsLegalGame}
 use Rattle.club_core.proofs.Legals.{AreRules, legal-played}
 use Rattle.club_core.proofs.Lists.{each-append}
-use Rattle.club_core.proofs.Played.{turn-of-game}
+use Rattle.club_core.proofs.Played.{turn-of-game, running-before}
+use Rattle.club_core.proofs.PlayedLines.{IsPlayedLine-none}
 use Rattle.store_tables.specs.Cells.{move_cells}
 use Rattle.store_tables.specs.declared.rows.MoveRow.{MoveRow}
 use Rattle.club_rows.specs.Tables.{entry_row, entry_rows, move_rows, with_entry}
@@ -40,7 +41,7 @@ timely-at increment side (x ∷ ms) (suc k) m c timely at = timely-at increment 
 pub take-got : {A : Type 0} (xs : List A) (k : ℕ) (x : A) → slice_get xs k ≡ Some x → take (k + 1) xs ≡ take k xs ++ x ∷ []
 take-got xs k x at = take_more xs k x (slice_get_within xs k x at) ∙ ap (λ y. take k xs ++ y ∷ []) (get_or_from_slice_get xs k x x at)
 
-module _ {P M E : Type 0} (rules : GameRules P M E) (terms : Terms) (id : ℕ) where
+module _ {P M E T : Type 0} (rules : GameRules P M E T) (terms : Terms) (id : ℕ) where
   abbrev pub row_at : ℕ → List (Entry M) → Entry M → Row
   row_at start es e = entry_row rules terms id (game_from start es) e
 
@@ -89,7 +90,7 @@ module _ {P M E : Type 0} (rules : GameRules P M E) (terms : Terms) (id : ℕ) w
         let made : slice_get (moves_of game) k ≡ Some e.made = slice_get-map (λ x. x.made) game.entries k ∙ ap (option_map (λ x. x.made)) got.1 in
         let moment : slice_get (moments_of game) k ≡ Some e.moment = slice_get-map (λ x. x.moment) game.entries k ∙ ap (option_map (λ x. x.moment)) got.1 in
         let before = take k game.entries in
-        let line : IsLegalLine rules rules.start (map (λ x. x.made) before) = subst (IsLegalLine rules rules.start) (take-map (λ x. x.made) k game.entries) (IsLegalLine-take rules k rules.start (moves_of game) legal.line) in
+        let line : IsLegalLine rules rules.start (map (λ x. x.made) before) = subst (IsLegalLine rules rules.start) (take-map (λ x. x.made) k game.entries) (IsLegalLine-take rules k rules.start (moves_of game) legal.line.legal) in
         let count : length before ≡ k = length-take-le k game.entries (omega arith) in
         let turn : turn_of rules (game_from from before) ≡ turns k First = turn-of-game rules laws.turn_passes laws.first_starts (game_from from before) line ∙ ap (λ n. turns n First) count in
         let clocks : spend_all terms.increment First (take k (moments_of game)) (opening_clocks game terms) ≡ clocks_of (game_from from before) terms =
@@ -98,8 +99,8 @@ module _ {P M E : Type 0} (rules : GameRules P M E) (terms : Terms) (id : ℕ) w
           e,
           got.1,
           record {
-            running = legal.running_before k inside;
-            legal = subst (λ l. rules.check (position_after rules rules.start l) e.made ≡ Ok tt) (take-map (λ x. x.made) k game.entries) (check-at rules rules.start (moves_of game) k e.made legal.line made);
+            running = running-before rules terms game legal k inside;
+            legal = subst (λ l. rules.check (position_after rules rules.start l) e.made ≡ Ok tt) (take-map (λ x. x.made) k game.entries) (check-at rules rules.start (moves_of game) k e.made legal.line.legal made);
             later = subst (λ c. c.since ≤ e.moment) clocks timely.0;
             in_time = subst (λ s. e.moment - (clocks_of (game_from from before) terms).since ≤ left_of s (clocks_of (game_from from before) terms)) (sym turn) (subst (λ c. e.moment - c.since ≤ left_of (turns k First) c) clocks timely.1);
             moment = is.moments k e got.1;
@@ -109,15 +110,14 @@ module _ {P M E : Type 0} (rules : GameRules P M E) (terms : Terms) (id : ℕ) w
 
     module _ {R : Type 0} where
       -- nothing was replayed
-      pub was-start : (replayed : Replayed R P M E) → Replays rules terms (game_from from []) replayed → WasReplayed rules terms id from rows 0 replayed
+      pub was-start : (replayed : Replayed R P M E T) → Replays rules terms (game_from from []) replayed → WasReplayed rules terms id from rows 0 replayed
       was-start replayed replays =
           record {
             entries = [];
             replays = replays;
             played = record {
               legal = record {
-                line = tt;
-                running_before = λ n inside. absurd (omega (arith, inside));
+                line = IsPlayedLine-none rules rules.start;
                 plies = omega arith;
                 timely = tt;
                 outside_alone = λ some. absurd (absent OutsideEnd some);
@@ -138,7 +138,7 @@ module _ {P M E : Type 0} (rules : GameRules P M E) (terms : Terms) (id : ℕ) w
           absent A is = cc
 
       -- one row more was replayed
-      pub was-more : ((p : P) (m : M) → rules.check p m ≡ Ok tt → rules.read_move p (rules.write_move p m) ≡ Ok m) → (plies : ℕ) (old new : Replayed R P M E) (row : MoveRow) (e : Entry M) → (was : WasReplayed rules terms id from rows plies old) → plies < 600 → slice_get rows plies ≡ Some row → Follows rules terms id (game_from from was.entries) row e → Replays rules terms (with_entry (game_from from was.entries) e) new → WasReplayed rules terms id from rows (plies + 1) new
+      pub was-more : ((p : P) (m : M) → rules.check p m ≡ Ok tt → rules.read_move p (rules.write_move p m) ≡ Ok m) → (plies : ℕ) (old new : Replayed R P M E T) (row : MoveRow) (e : Entry M) → (was : WasReplayed rules terms id from rows plies old) → plies < 600 → slice_get rows plies ≡ Some row → Follows rules terms id (game_from from was.entries) row e → Replays rules terms (with_entry (game_from from was.entries) e) new → WasReplayed rules terms id from rows (plies + 1) new
       was-more reads_back plies old new row e was room at follows replays =
           let before = game_from from was.entries in
           let running : result_of rules before ≡ None = ap (λ o. score_with rules (end_with o None) (turn_of rules before)) follows.running in
@@ -167,12 +167,12 @@ module _ {P M E : Type 0} (rules : GameRules P M E) (terms : Terms) (id : ℕ) w
           }
 
       -- where the next row shows no entry, no game has these rows
-      pub was-none : (plies : ℕ) (old : Replayed R P M E) (row : MoveRow) → (was : WasReplayed rules terms id from rows plies old) → slice_get rows plies ≡ Some row → ((e : Entry M) → Follows rules terms id (game_from from was.entries) row e → ⊥) → (game : Game M) → IsPlayedAs rules terms id from rows game → ⊥
+      pub was-none : (plies : ℕ) (old : Replayed R P M E T) (row : MoveRow) → (was : WasReplayed rules terms id from rows plies old) → slice_get rows plies ≡ Some row → ((e : Entry M) → Follows rules terms id (game_from from was.entries) row e → ⊥) → (game : Game M) → IsPlayedAs rules terms id from rows game → ⊥
       was-none plies old row was at none game is =
           let got = played-follows game plies row is at in
           none got.0 (subst (λ es. Follows rules terms id (game_from from es) row got.0) (was.only game is) got.2)
 
-module _ {P M E : Type 0} (rules : GameRules P M E) (terms : Terms) (id : ℕ) where
+module _ {P M E T : Type 0} (rules : GameRules P M E T) (terms : Terms) (id : ℕ) where
   pub rows-count : (game : Game M) (es : List (Entry M)) → length (entry_rows rules terms id game es) ≡ length es
   rows-count game [] = refl
   rows-count game (e ∷ es) = ap suc (rows-count (with_entry game e) es)
@@ -191,7 +191,7 @@ module _ {P M E : Type 0} (rules : GameRules P M E) (terms : Terms) (id : ℕ) w
       let e = got.0 in
       let before = take k game.entries in
       let inside : k < length game.entries = slice_get_within game.entries k e got.1 in
-      let line : IsLegalLine rules rules.start (map (λ x. x.made) before) = subst (IsLegalLine rules rules.start) (take-map (λ x. x.made) k game.entries) (IsLegalLine-take rules k rules.start (moves_of game) legal.line) in
+      let line : IsLegalLine rules rules.start (map (λ x. x.made) before) = subst (IsLegalLine rules rules.start) (take-map (λ x. x.made) k game.entries) (IsLegalLine-take rules k rules.start (moves_of game) legal.line.legal) in
       let count : length before ≡ k = length-take-le k game.entries (omega arith) in
       let turn : turn_of rules (game_from game.start before) ≡ side_after k = turn-of-game rules laws.turn_passes laws.first_starts (game_from game.start before) line ∙ ap side_after count in
       let taken : before ++ e ∷ [] ≡ take (suc k) game.entries = sym (take-got game.entries k e got.1) ∙ ap (λ n. take n game.entries) (add-one k) in
@@ -199,7 +199,7 @@ module _ {P M E : Type 0} (rules : GameRules P M E) (terms : Terms) (id : ℕ) w
       parts.e_is ∙ (ap (λ s. pos (left_of s (clocks_of (game_from game.start (before ++ e ∷ [])) terms))) turn ∙ ap (λ es. pos (left_of (side_after k) (clocks_of (game_from game.start es) terms))) taken)
 
 -- the rows of a game's moves depend on its start and its entries alone
-pub rows-alike : {P M E : Type 0} (rules : GameRules P M E) (terms : Terms) (id : ℕ) (a b : Game M) (es : List (Entry M)) → a.start ≡ b.start → a.entries ≡ b.entries → entry_rows rules terms id a es ≡ entry_rows rules terms id b es
+pub rows-alike : {P M E T : Type 0} (rules : GameRules P M E T) (terms : Terms) (id : ℕ) (a b : Game M) (es : List (Entry M)) → a.start ≡ b.start → a.entries ≡ b.entries → entry_rows rules terms id a es ≡ entry_rows rules terms id b es
 rows-alike rules terms id a b [] start entries = refl
 rows-alike rules terms id a b (e ∷ es) start entries =
     let head : entry_row rules terms id a e ≡ entry_row rules terms id b e = λ i. entry_row rules terms id (game_from (start i) (entries i)) e in

@@ -6,7 +6,7 @@ use Rattle.club_core.specs.declared.rows.Asked.{Asked}
 use Rattle.store_tables.specs.declared.rows.MoveRow.{MoveRow}
 
 -- the move at the ply, the seconds of its row, and the position before it
-pub record IsAskedOf {R P M E : Type 0} (rules : GameRules P M E) (line : List M) (rows : List MoveRow) (ply : ℕ) (asked : Asked R P M E) : Type 0 where
+pub record IsAskedOf {R P M E T : Type 0} (rules : GameRules P M E T) (line : List M) (rows : List MoveRow) (ply : ℕ) (asked : Asked R P M E T) : Type 0 where
   pub at : asked.ply ≡ ply
   pub counted : 1 ≤ ply
   pub made : slice_get line (ply - 1) ≡ Some asked.made

@@ -2,7 +2,6 @@
 use Rattle.std.specs.Prelude.{◌≡◌, ◌≢◌, ◌+◌, ◌<◌, ◌≤◌, ℕ, pos, List, map, length, Some, IsTrue, string_bytes}
 use Rattle.squares.specs.declared.draughts.moves.DMove.{DMove}
 use Rattle.club_rules.specs.declared.names.GameKind.TheVariants.{Draughts}
-use Rattle.club_rules.specs.Draughts.{draughts}
 use Rattle.club_rules.specs.GameRules.{GameRules}
 use Rattle.club_core.specs.declared.rows.GameEnd.TheVariants.{Outside}
 use Rattle.club_core.specs.declared.rows.GameView.{GameView}
@@ -12,7 +11,7 @@ use Rattle.club_core.specs.Members.{Member}
 use Rattle.club_core.specs.Events.{Event}
 use Rattle.club_core.specs.Game.{Game, left_of}
 use Rattle.club_core.specs.LegalState.{Each, AreApart, IsLegalMember, IsLegalEvent, IsGameOf, IsLegalIn}
-use Rattle.club_core.specs.State.{AnyGame, place, terms_at}
+use Rattle.club_core.specs.State.{place, terms_at}
 use Rattle.club_core.specs.View.{clocks_in}
 use Rattle.store_tables.specs.Cells.{member_cells, event_cells, move_cells, game_cells}
 use Rattle.store_tables.specs.declared.rows.MemberRow.{MemberRow}
@@ -20,7 +19,7 @@ use Rattle.store_tables.specs.declared.rows.EventRow.{EventRow}
 use Rattle.store_tables.specs.declared.rows.MoveRow.{MoveRow}
 use Rattle.store_tables.specs.declared.rows.GameRecord.{GameRecord}
 use Rattle.store_tables.specs.declared.rows.Rows.{Rows}
-use Rattle.club_rows.specs.Club.{ClubState}
+use Rattle.club_rows.specs.Club.{ClubState, ClubGame, both_games}
 use Rattle.club_rows.specs.Tables.{member_row, event_row, game_row, move_rows, numbered_from, gathered_from, row_of_game, rows_of_moves}
 
 -- ---- members
@@ -95,18 +94,18 @@ pub record NamesEvent (rows : Rows) (game : GameRecord) (event first second : �
   pub second_high : second ≤ length rows.members.items
 
 -- the clocks run from no later than the last moment, and a side that lost by its time had run out of it before then
-pub record IsWithin {R P M E : Type 0} (rules : GameRules P M E) (view : GameView R P M E) (last : ℕ) : Type 0 where
+pub record IsWithin {R P M E T : Type 0} (rules : GameRules P M E T) (view : GameView R P M E T) (last : ℕ) : Type 0 where
   pub since : view.row.since ≤ last
   pub lost_by_time : view.row.end ≡ Some (Outside Time) → view.row.since + left_of (rules.turn view.position) (clocks_in view.row) < last
 
 -- the rows are those of this game of the club, which has this id
 pub record IsGameAt (s : ClubState) (id : ℕ) (row : GameRecord) (moves : List MoveRow) (game : Game DMove) : Type 0 where
-  pub legal : IsGameOf draughts Draughts s game
-  pub row_is : game_cells row ≡ game_row draughts (terms_at (place s.events game.event)) id game
-  pub moves_are : map move_cells moves ≡ move_rows draughts (terms_at (place s.events game.event)) id game
+  pub legal : IsGameOf both_games.draughts Draughts s game
+  pub row_is : game_cells row ≡ game_row both_games.draughts (terms_at (place s.events game.event)) id game
+  pub moves_are : map move_cells moves ≡ move_rows both_games.draughts (terms_at (place s.events game.event)) id game
 
 -- the rows are those of these games of the club
-pub record AreGames (s : ClubState) (games : List (AnyGame DMove DMove)) (rows : List GameRecord) (moves : List MoveRow) : Type 0 where
-  pub rows_are : map game_cells rows ≡ numbered_from (row_of_game draughts draughts s.events) 1 games
-  pub moves_are : map move_cells moves ≡ gathered_from (rows_of_moves draughts draughts s.events) 1 games
-  pub legal : Each (IsLegalIn draughts draughts s) games
+pub record AreGames (s : ClubState) (games : List ClubGame) (rows : List GameRecord) (moves : List MoveRow) : Type 0 where
+  pub rows_are : map game_cells rows ≡ numbered_from (row_of_game both_games s.events) 1 games
+  pub moves_are : map move_cells moves ≡ gathered_from (rows_of_moves both_games s.events) 1 games
+  pub legal : Each (IsLegalIn both_games s) games

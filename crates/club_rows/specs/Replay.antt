@@ -3,7 +3,7 @@ use Rattle.std.specs.Prelude.{◌≡◌, ◌≤◌, ◌+◌, ◌-◌, ◌*◌, �
 use Rattle.squares.specs.declared.sides.Side.{Side}
 use Rattle.squares.specs.declared.sides.Side.TheVariants.{First, Second}
 use Rattle.club_rules.specs.GameRules.{GameRules}
-use Rattle.club_rules.specs.Line.{IsLegalLine, position_after}
+use Rattle.club_rules.specs.Line.{IsPlayedLine, position_after}
 use Rattle.club_core.specs.Limits.{last_moment}
 use Rattle.club_core.specs.Events.{Terms}
 use Rattle.club_core.specs.Legal.{IsLegalGame}
@@ -16,13 +16,13 @@ use Rattle.club_rows.specs.declared.replay.Terms as given
 use Rattle.club_rows.specs.declared.replay.Replayed.{Replayed}
 
 -- the seconds that a side has left
-abbrev pub left_in : {R P M E : Type 0} → Replayed R P M E → Side → ℕ
+abbrev pub left_in : {R P M E T : Type 0} → Replayed R P M E T → Side → ℕ
 left_in game First = game.left_first
 left_in game Second = game.left_second
 
--- The line is legal, its last position stands, and so many plies were played by clocks of these terms.
-pub record IsReplayed {R P M E : Type 0} (rules : GameRules P M E) (increment plies : ℕ) (game : Replayed R P M E) : Type 0 where
-  pub line : IsLegalLine rules rules.start game.line.items
+-- The line is played by the rules, its last position stands, and so many plies were played by clocks of these terms.
+pub record IsReplayed {R P M E T : Type 0} (rules : GameRules P M E T) (increment plies : ℕ) (game : Replayed R P M E T) : Type 0 where
+  pub line : IsPlayedLine rules rules.start game.line.items
   pub position : game.position ≡ position_after rules rules.start game.line.items
   pub plies_are : length game.line.items ≡ plies
   pub room_first : game.left_first ≤ 31536000 + increment * plies
@@ -34,17 +34,17 @@ terms_given t = record { budget = t.budget; increment = t.increment }
 abbrev pub terms_with : ℕ → ℕ → Terms
 terms_with budget increment = record { budget = budget; increment = increment }
 
-abbrev pub clocks_replayed : {R P M E : Type 0} → Replayed R P M E → Clocks
+abbrev pub clocks_replayed : {R P M E T : Type 0} → Replayed R P M E T → Clocks
 clocks_replayed r = record { left_first = r.left_first; left_second = r.left_second; since = r.since }
 
 -- what was replayed is this game, as far as its moves go
-pub record Replays {R P M E : Type 0} (rules : GameRules P M E) (terms : Terms) (game : Game M) (replayed : Replayed R P M E) : Type 0 where
+pub record Replays {R P M E T : Type 0} (rules : GameRules P M E T) (terms : Terms) (game : Game M) (replayed : Replayed R P M E T) : Type 0 where
   pub line : replayed.line.items ≡ moves_of game
   pub position : replayed.position ≡ last_position rules game
   pub clocks : clocks_replayed replayed ≡ clocks_of game terms
 
 -- a move at that moment is in time, and the row has the moment and the seconds that are left after it
-pub record TakesTime {R P M E : Type 0} (game : Replayed R P M E) (turn : Side) (increment : ℕ) (row : MoveRow) (moment after : ℕ) : Type 0 where
+pub record TakesTime {R P M E T : Type 0} (game : Replayed R P M E T) (turn : Side) (increment : ℕ) (row : MoveRow) (moment after : ℕ) : Type 0 where
   pub last : moment ≤ last_moment
   pub later : game.since ≤ moment
   pub in_time : moment - game.since ≤ left_in game turn
@@ -53,7 +53,7 @@ pub record TakesTime {R P M E : Type 0} (game : Replayed R P M E) (turn : Side) 
   pub left_is : row.left ≡ pos after
 
 -- The move may be played next, at that moment and with so many seconds left after it, and the row shows it.
-pub record IsNext {R P M E : Type 0} (rules : GameRules P M E) (increment id : ℕ) (game : Replayed R P M E) (stored : MoveRow) (made : M) (moment left : ℕ) : Type 0 where
+pub record IsNext {R P M E T : Type 0} (rules : GameRules P M E T) (increment id : ℕ) (game : Replayed R P M E T) (stored : MoveRow) (made : M) (moment left : ℕ) : Type 0 where
   pub running : rules.judge rules.start game.line.items ≡ None
   pub legal : rules.check game.position made ≡ Ok tt
   pub time : TakesTime game (rules.turn game.position) increment stored moment left
@@ -63,7 +63,7 @@ pub record IsNext {R P M E : Type 0} (rules : GameRules P M E) (increment id : �
   pub position_is : string_bytes stored.position ≡ rules.write_position (rules.play game.position made)
 
 -- the row is that of an entry that may be played next, at a moment that there is
-pub record Follows {P M E : Type 0} (rules : GameRules P M E) (terms : Terms) (id : ℕ) (game : Game M) (stored : MoveRow) (e : Entry M) : Type 0 where
+pub record Follows {P M E T : Type 0} (rules : GameRules P M E T) (terms : Terms) (id : ℕ) (game : Game M) (stored : MoveRow) (e : Entry M) : Type 0 where
   pub running : rule_end rules game ≡ None
   pub legal : rules.check (last_position rules game) e.made ≡ Ok tt
   pub later : (clocks_of game terms).since ≤ e.moment
@@ -77,14 +77,14 @@ game_from start entries =
     record { key = None; event = 0; first = 0; second = 1; start = start; entries = entries; offer = None; outside = None }
 
 -- the rows are those of the moves of this legal game, which starts at that moment
-pub record IsPlayedAs {P M E : Type 0} (rules : GameRules P M E) (terms : Terms) (id from : ℕ) (rows : List MoveRow) (game : Game M) : Type 0 where
+pub record IsPlayedAs {P M E T : Type 0} (rules : GameRules P M E T) (terms : Terms) (id from : ℕ) (rows : List MoveRow) (game : Game M) : Type 0 where
   pub legal : IsLegalGame rules terms game
   pub start : game.start ≡ from
   pub moments : Each (λ e. e.moment ≤ last_moment) game.entries
   pub moves : map move_cells rows ≡ move_rows rules terms id game
 
 -- So many of the rows were replayed: they are those of a legal game, and of no other entries.
-pub record WasReplayed {R P M E : Type 0} (rules : GameRules P M E) (terms : Terms) (id from : ℕ) (rows : List MoveRow) (plies : ℕ) (replayed : Replayed R P M E) : Type 0 where
+pub record WasReplayed {R P M E T : Type 0} (rules : GameRules P M E T) (terms : Terms) (id from : ℕ) (rows : List MoveRow) (plies : ℕ) (replayed : Replayed R P M E T) : Type 0 where
   pub entries : List (Entry M)
   pub replays : Replays rules terms (game_from from entries) replayed
   pub played : IsPlayedAs rules terms id from (take plies rows) (game_from from entries)

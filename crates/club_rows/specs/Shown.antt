@@ -27,7 +27,7 @@ pub record FitsTables {M : Type 0} (number : ℕ) (game : Game M) : Type 0 where
   pub entries : Each (λ e. e.moment ≤ last_moment) game.entries
 
 -- the rows are those of this legal game, which has this id and is played by these terms
-pub record AreRowsOf {P M E : Type 0} (rules : GameRules P M E) (terms : Terms) (id : ℕ) (stored : GameRecord) (stored_moves : List MoveRow) (game : Game M) : Type 0 where
+pub record AreRowsOf {P M E T : Type 0} (rules : GameRules P M E T) (terms : Terms) (id : ℕ) (stored : GameRecord) (stored_moves : List MoveRow) (game : Game M) : Type 0 where
   pub budget : IsTrue (is_budget terms.budget)
   pub increment : IsTrue (is_increment terms.increment)
   pub legal : IsLegalGame rules terms game
@@ -36,22 +36,22 @@ pub record AreRowsOf {P M E : Type 0} (rules : GameRules P M E) (terms : Terms) 
   pub moves : map move_cells stored_moves ≡ move_rows rules terms id game
 
 -- a view is shown, by these terms, and it shows the game
-abbrev pub ShowsGame : {R P M E : Type 0} → GameRules P M E → Terms → Game M → Shown R P M E → Type 0
+abbrev pub ShowsGame : {R P M E T : Type 0} → GameRules P M E T → Terms → Game M → Shown R P M E T → Type 0
 ShowsGame rules terms game (shown.Game view) = (terms_of view ≡ terms) × Shows rules game view
 ShowsGame rules terms game shown.WrongMoves = ⊥
 ShowsGame rules terms game shown.WrongGame = ⊥
 
 -- where a view is shown, the rows are those of a legal game that it shows
-abbrev pub IsSoundIfShown : {R P M E : Type 0} → GameRules P M E → Terms → GameRecord → List MoveRow → Shown R P M E → Type 0
-IsSoundIfShown {R} {P} {M} {E} rules terms row moves (shown.Game view) =
+abbrev pub IsSoundIfShown : {R P M E T : Type 0} → GameRules P M E T → Terms → GameRecord → List MoveRow → Shown R P M E T → Type 0
+IsSoundIfShown {R} {P} {M} {E} {T} rules terms row moves (shown.Game view) =
     (id : ℕ) × (game : Game M) × AreRowsOf rules terms id row moves game × (terms_of view ≡ terms) × Shows rules game view × IsSound rules view
 IsSoundIfShown rules terms row moves shown.WrongMoves = Unit {0}
 IsSoundIfShown rules terms row moves shown.WrongGame = Unit {0}
 
 -- a view is shown where its row may stand and is the one that is stored under that id
-abbrev pub StandsAs : {R P M E : Type 0} → GameRules P M E → GameRecord → ℕ → GameView R P M E → Shown R P M E → Type 0
-StandsAs {R} {P} {M} {E} rules stored id view (shown.Game v) =
+abbrev pub StandsAs : {R P M E T : Type 0} → GameRules P M E T → GameRecord → ℕ → GameView R P M E T → Shown R P M E T → Type 0
+StandsAs {R} {P} {M} {E} {T} rules stored id view (shown.Game v) =
     (v ≡ view) × (may_stand rules.has_draw_offers view.row ≡ true) × ((terms : Terms) (game : Game M) → IsRowOf rules terms game view.row → game_cells stored ≡ game_row rules terms id game)
 StandsAs rules stored id view shown.WrongMoves = ⊥
-StandsAs {R} {P} {M} {E} rules stored id view shown.WrongGame =
+StandsAs {R} {P} {M} {E} {T} rules stored id view shown.WrongGame =
     (terms : Terms) (game : Game M) → IsRowOf rules terms game view.row → may_stand rules.has_draw_offers view.row ≡ true → game_cells stored ≡ game_row rules terms id game → ⊥

@@ -10,6 +10,7 @@ use Rattle.squares.specs.Sides.{score_text}
 use Rattle.club_rules.specs.declared.names.GameKind.{GameKind}
 use Rattle.club_rules.specs.declared.names.GameKind.TheVariants.{Draughts, Shogi}
 use Rattle.club_rules.specs.GameRules.{GameRules}
+use Rattle.club_core.specs.ClubRules.{ClubRules}
 use Rattle.club_rules.specs.EndName.{end_text}
 use Rattle.club_core.specs.declared.rows.OutsideEnd.{OutsideEnd}
 use Rattle.club_core.specs.declared.rows.OutsideEnd.TheVariants.{Resigned, Agreed, Time, Recorded}
@@ -41,7 +42,7 @@ outside_text Time = codes "Time"
 outside_text (Recorded score) = codes "Recorded"
 
 -- the name of an end
-abbrev pub end_name_text : {P M E : Type 0} → GameRules P M E → GameEnd E → List ℕ
+abbrev pub end_name_text : {P M E T : Type 0} → GameRules P M E T → GameEnd E → List ℕ
 end_name_text rules (Rule e) = end_text (rules.end_name e)
 end_name_text rules (Outside o) = outside_text o
 
@@ -55,7 +56,7 @@ with_entry game e = record game { entries = game.entries ++ e ∷ [] }
 abbrev pub at_start : {M : Type 0} → Game M → Game M
 at_start game = record game { entries = [] }
 
-module _ {P M E : Type 0} (rules : GameRules P M E) (terms : Terms) (id : ℕ) where
+module _ {P M E T : Type 0} (rules : GameRules P M E T) (terms : Terms) (id : ℕ) where
   -- the row of the game that has this id
   abbrev pub game_row : Game M → Row
   game_row game =
@@ -116,15 +117,15 @@ abbrev pub gathered_from : {A : Type 0} → (ℕ → A → List Row) → ℕ →
 gathered_from rows id [] = []
 gathered_from rows id (x ∷ xs) = rows id x ++ gathered_from rows (suc id) xs
 
-module _ {DP DM DE SP SM SE : Type 0} (draughts_rules : GameRules DP DM DE) (shogi_rules : GameRules SP SM SE) where
+module _ {DP DM DE DT SP SM SE ST : Type 0} (rules : ClubRules DP DM DE DT SP SM SE ST) where
   module _ (events : List Event) where
     abbrev pub row_of_game : ℕ → AnyGame DM SM → Row
-    row_of_game id (draughts g) = game_row draughts_rules (terms_at (place events g.event)) id g
-    row_of_game id (shogi g) = game_row shogi_rules (terms_at (place events g.event)) id g
+    row_of_game id (draughts g) = game_row rules.draughts (terms_at (place events g.event)) id g
+    row_of_game id (shogi g) = game_row rules.shogi (terms_at (place events g.event)) id g
 
     abbrev pub rows_of_moves : ℕ → AnyGame DM SM → List Row
-    rows_of_moves id (draughts g) = move_rows draughts_rules (terms_at (place events g.event)) id g
-    rows_of_moves id (shogi g) = move_rows shogi_rules (terms_at (place events g.event)) id g
+    rows_of_moves id (draughts g) = move_rows rules.draughts (terms_at (place events g.event)) id g
+    rows_of_moves id (shogi g) = move_rows rules.shogi (terms_at (place events g.event)) id g
 
   -- The rows of each table by its number: 0 meta, 1 members, 4 events, 8 moves, 10 games. Ids count from 1. Challenges, seen and scores have no row yet.
   abbrev pub tables_of : State DM SM → Content
@@ -137,6 +138,6 @@ module _ {DP DM DE SP SM SE : Type 0} (draughts_rules : GameRules DP DM DE) (sho
       else []))))
 
 -- a legal state of a club that plays draughts alone so far
-pub record IsLegalClub {DP DM DE SP SM SE : Type 0} (draughts_rules : GameRules DP DM DE) (shogi_rules : GameRules SP SM SE) (s : State DM SM) : Type 0 where
-  pub legal : IsLegalState draughts_rules shogi_rules s
+pub record IsLegalClub {DP DM DE DT SP SM SE ST : Type 0} (rules : ClubRules DP DM DE DT SP SM SE ST) (s : State DM SM) : Type 0 where
+  pub legal : IsLegalState rules s
   pub kinds : Each (λ e. e.game ≡ Draughts) s.events

@@ -74,7 +74,7 @@ may_stand allowed row =
     && may_have_end (is_some row.key) (is_some row.offer) row.start row.since row.end
 
 -- what is told is what the stored row says, beside the end that the rules give to the line
-pub record IsTold {P M E : Type 0} (rules : GameRules P M E) (stored : GameRecord) (given : Numbers) (line : List M) (told : Told E) : Type 0 where
+pub record IsTold {P M E T : Type 0} (rules : GameRules P M E T) (stored : GameRecord) (given : Numbers) (line : List M) (told : Told E) : Type 0 where
   pub key : option_map (λ s. string_bytes s) told.key ≡ option_map (λ s. string_bytes s) stored.key
   pub numbers : told.numbers ≡ given
   pub ruled : told.ruled ≡ rules.judge rules.start line

@@ -6,10 +6,9 @@ ghost use Rattle.squares.specs.declared.draughts.moves.DMove.{DMove};
 ghost use Rattle.club_core.specs.Game.{Game, left_of};
 ghost use Rattle.club_core.specs.LegalState.{Each, AreApartIfAny};
 ghost use Rattle.club_core.specs.Limits.{most_games};
-ghost use Rattle.club_core.specs.State.{AnyGame};
 ghost use Rattle.club_core.specs.View.{clocks_in};
 ghost use Rattle.club_rows.specs.Audit.{HasPeople, NamesEvent, IsWithin, IsGameAt, AreGames};
-ghost use Rattle.club_rows.specs.Club.{ClubState, IsClub, IsStoredAs};
+ghost use Rattle.club_rows.specs.Club.{ClubGame, ClubState, IsClub, IsStoredAs};
 
 use crate::numbers::moment;
 use crate::people::{are_events, are_members, is_place, terms_of};
@@ -17,7 +16,8 @@ use crate::view::{Shown, view_of};
 use clocks::Moment;
 use club_core::values::MOST_GAMES;
 use club_core::{GameEnd, GameView, OutsideEnd};
-use club_rules::{Draughts, Memory, Rules};
+use club_games::Draughts;
+use club_rules::{Memory, Rules};
 use squares::Side;
 use std::alloc::Global;
 use std::collections::HashSet;
@@ -146,8 +146,8 @@ fn wrong_by_game(
 fn wrong_by_games(alloc: Global, rows: &Rows, last: Moment) -> Result<Option<Table>, Memory>
     requires { rows.now.meta.last ≡ pos last }
     ensures sound { IfOk result (λ wrong. wrong ≡ None → (s : ClubState) → HasPeople s rows.now →
-        (games : List (AnyGame DMove DMove)) × AreGames s games rows.now.games.items rows.now.moves.items) }
-    ensures complete { IfOk result (λ wrong. (s : ClubState) → HasPeople s rows.now → (games : List (AnyGame DMove DMove)) →
+        (games : List ClubGame) × AreGames s games rows.now.games.items rows.now.moves.items) }
+    ensures complete { IfOk result (λ wrong. (s : ClubState) → HasPeople s rows.now → (games : List ClubGame) →
         AreGames s games rows.now.games.items rows.now.moves.items → length games ≤ most_games → wrong ≡ None) }
 {
     let mut rest = rows.moves.as_slice();

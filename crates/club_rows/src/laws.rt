@@ -1,6 +1,7 @@
 //! Laws of the tables: each is what a function with an empty body ensures.
 
 ghost use Rattle.std.specs.Prelude.{◌≡◌, ℕ};
+ghost use Rattle.club_core.specs.ClubRules.{both};
 ghost use Rattle.club_core.specs.LegalState.{IsLegalState};
 ghost use Rattle.club_core.specs.State.{State};
 ghost use Rattle.club_rows.specs.Made.{MadeRowIsLast};
@@ -15,6 +16,6 @@ pub fn made_row_is_last<R: Rules>()
 
 /// The tables tell the club: two legal states with the same tables are one.
 pub fn tables_tell_the_club<R: Rules, Q: Rules>()
-    ensures { (s t : State R.Move Q.Move) → IsLegalState R.rules Q.rules s → IsLegalState R.rules Q.rules t →
-        ((n : ℕ) → tables_of R.rules Q.rules s n ≡ tables_of R.rules Q.rules t n) → s ≡ t }
+    ensures { (s t : State R.Move Q.Move) → IsLegalState (both R.rules Q.rules) s → IsLegalState (both R.rules Q.rules) t →
+        ((n : ℕ) → tables_of (both R.rules Q.rules) s n ≡ tables_of (both R.rules Q.rules) t n) → s ≡ t }
 {}

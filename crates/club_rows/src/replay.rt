@@ -2,7 +2,7 @@
 
 ghost use Rattle.std.specs.Prelude.{◌≡◌, ◌≢◌, ◌≤◌, ◌<◌, ◌+◌, ◌++◌, ◌∷◌, [], ◌*◌, ◌^◌, ℕ, IfOk, IfSome, IsTrue, None, Ok, length, is_some};
 ghost use Rattle.squares.specs.Sides.{other};
-ghost use Rattle.club_rules.specs.Line.{IsLegalLine};
+ghost use Rattle.club_rules.specs.Line.{IsPlayedLine};
 ghost use Rattle.club_core.specs.Limits.{is_budget, is_increment};
 ghost use Rattle.club_core.specs.Game.{Game, Entry};
 ghost use Rattle.club_rows.specs.Tables.{with_entry};
@@ -133,7 +133,7 @@ fn clock_after<R: Rules>(
 
 // Whether the rules have ended the game.
 fn is_ended<R: Rules>(alloc: Global, game: &Replayed<R>) -> Result<bool, Memory>
-    requires { IsLegalLine R.rules R.rules.start game.now.line.items }
+    requires { IsPlayedLine R.rules R.rules.start game.now.line.items }
     ensures { IfOk result (λ ended. ended ≡ is_some (R.rules.judge R.rules.start game.now.line.items)) }
 {
     let end = R::judge(alloc, &R::start(), &game.line)?;
@@ -151,7 +151,7 @@ fn next_of<R: Rules>(
     requires increment { increment ≤ 2592000 }
     requires room { game.now.left_first + game.now.left_second < 2 ^ 62 }
     requires plies { length game.now.line.items < 600 }
-    requires line { IsLegalLine R.rules R.rules.start game.now.line.items }
+    requires line { IsPlayedLine R.rules R.rules.start game.now.line.items }
     ensures some { IfOk result (λ found. IfSome found (λ next. IsNext R.rules increment id game.now row.now next.made next.moment next.left)) }
     ensures after { IfOk result (λ found. IfSome found (λ next. next.position ≡ R.rules.play game.now.position next.made)) }
     ensures turn { IfOk result (λ found. IfSome found (λ next. next.turn ≡ R.rules.turn game.now.position)) }

@@ -2,12 +2,12 @@
 
 ghost use Rattle.std.specs.Prelude.{IfOk};
 ghost use Rattle.club_core.specs.View.{IsSound};
-ghost use Rattle.club_rules.specs.Draughts.{draughts};
+ghost use Rattle.club_games.specs.Draughts.{draughts};
 
 use crate::{Shown, Terms, ask, move_row, record_of, view_of, wrong_table};
 use clocks::Moment;
 use club_core::{Answer, Caller, Decision, GameView, Move, Moved, decide};
-use club_rules::Draughts;
+use club_games::Draughts;
 use std::alloc::Global;
 use std::test::Fail;
 use store_tables::{EventRow, GameRecord, MemberRow, MetaRow, MoveRow, Rows, Table};

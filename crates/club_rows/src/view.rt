@@ -4,7 +4,7 @@ ghost use Rattle.std.specs.Prelude.{◌≡◌, ◌≢◌, ◌≤◌, ◌<◌, �
 ghost use Rattle.std.specs.Option.{option_map};
 ghost use Rattle.squares.specs.declared.sides.Score.{Score};
 ghost use Rattle.squares.specs.Sides.{score_text};
-ghost use Rattle.club_rules.specs.Line.{IsLegalLine};
+ghost use Rattle.club_rules.specs.Line.{IsPlayedLine};
 ghost use Rattle.club_core.specs.declared.rows.Offer.{Offer};
 ghost use Rattle.club_core.specs.declared.rows.OutsideEnd.{OutsideEnd};
 ghost use Rattle.club_core.specs.declared.rows.OutsideEnd.TheVariants.{Recorded};
@@ -184,7 +184,7 @@ fn told_in<R: Rules>(
     numbers: Numbers,
     game: &Replayed<R>,
 ) -> Result<Told<R::End>, Memory>
-    requires { IsLegalLine R.rules R.rules.start game.now.line.items }
+    requires { IsPlayedLine R.rules R.rules.start game.now.line.items }
     ensures key { IfOk result (λ t. option_map (λ s. string_bytes s) t.key ≡ option_map (λ s. string_bytes s) row.now.key) }
     ensures numbers { IfOk result (λ t. t.numbers ≡ numbers) }
     ensures ruled { IfOk result (λ t. t.ruled ≡ R.rules.judge R.rules.start game.now.line.items) }
@@ -218,7 +218,7 @@ fn with_told<R: Rules>(
     requires increment { terms.increment ≤ 2592000 }
     requires plies { length game.line.items ≤ 600 }
     requires game { IsReplayed R.rules terms.increment (length game.line.items) game }
-    ensures sound { IfOk result (λ view. IsSound R.rules view) }
+    ensures sound { IfOk result (λ view. told.ruled ≡ R.rules.judge R.rules.start game.line.items → IsSound R.rules view) }
     ensures first { IfOk result (λ view. view.row.left_first < 2 ^ 63) }
     ensures second { IfOk result (λ view. view.row.left_second < 2 ^ 63) }
     ensures terms { IfOk result (λ view. terms_of view ≡ terms_given terms) }

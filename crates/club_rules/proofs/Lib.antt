@@ -1,2 +1,2 @@
-pub mod FenLemmas
 pub mod Lines
+pub mod Proved

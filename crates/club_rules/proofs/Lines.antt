@@ -5,7 +5,7 @@ use Rattle.squares.specs.Sides.{other}
 use Rattle.club_rules.specs.GameRules.{GameRules}
 use Rattle.club_rules.specs.Line.{position_after, IsLegalLine}
 
-module _ {P M E : Type 0} (game_rules : GameRules P M E) where
+module _ {P M E T : Type 0} (game_rules : GameRules P M E T) where
   -- the position after one more move
   pub position_after-append : (p : P) (ms : List M) (m : M) → position_after game_rules p (ms ++ m ∷ []) ≡ game_rules.play (position_after game_rules p ms) m
   position_after-append p [] m = refl

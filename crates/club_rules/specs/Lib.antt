@@ -1,9 +1,5 @@
-pub mod Draughts
-pub mod DraughtsLaws
-pub mod DraughtsPlayed
 pub mod EndName
-pub mod Fen
 pub mod GameRules
+pub mod Laws
 pub mod Line
 pub mod MoveRefusal
-pub mod QuietText

@@ -1,14 +1,13 @@
 //! The trait of a game's rules.
 
-ghost use Rattle.std.specs.Prelude.{◌≡◌, List, ℕ, Option, Result, Some, None, Ok, Err, IfOk, IfErr, Bool, true, IsTrue, IsSome, length, ◌↔◌, string_bytes};
-ghost use Rattle.squares.specs.declared.sides.Side.TheVariants.{First};
-ghost use Rattle.squares.specs.Sides.{other};
-ghost use Rattle.club_rules.specs.Line.{IsLegalLine};
-ghost use Rattle.club_rules.specs.GameRules.{GameRules, ply_limit};
+ghost use Rattle.std.specs.Prelude.{◌≡◌, ◌<◌, IfOk, Ok, string_bytes};
+ghost use Rattle.club_rules.specs.GameRules.{GameRules};
+ghost use Rattle.club_rules.specs.Laws.{FirstStarts, TurnPasses, ReadsBack, SameIs, SamePositionIs, EndsAtLimit, IsPositionRead, TextsTellPositions, TracksTellEnds, NumbersGiveTracks, TracksGiveNumbers, NumbersAreFew};
+ghost use Rattle.club_rules.specs.Line.{IsPlayedLine};
 
 use crate::names::EndName;
-use crate::refusals::{Memory, MoveRefusal};
-use squares::{Score, Side};
+use crate::refusals::MoveRefusal;
+use squares::{Memory, Score, Side};
 use std::alloc::Global;
 
 /// The rules of a game: where it starts, which moves are legal and what they do, how moves and
@@ -21,7 +20,10 @@ pub trait Rules {
 
     type End: Copy + Drop;
 
-    ghost rules: { GameRules Self.Position Self.Move Self.End };
+    /// What a line leaves behind, by which its last ply is judged without the plies before it.
+    type Track: Copy + Drop;
+
+    ghost rules: { GameRules Self.Position Self.Move Self.End Self.Track };
 
     /// The position in which each game of the club starts.
     fn start() -> Self::Position
@@ -44,7 +46,7 @@ pub trait Rules {
         requires { rules.check position.now made.now ≡ Ok tt }
         ensures { result ≡ rules.play position.now made.now };
 
-    /// The move that a text stands for in a position. The move need not be legal.
+    /// The move that a text stands for in a position, or why it is refused. The move need not be legal.
     fn read_move(
         alloc: Global,
         position: &Self::Position,
@@ -65,14 +67,53 @@ pub trait Rules {
     fn write_position(alloc: Global, position: &Self::Position) -> Result<String, Memory>
         ensures { IfOk result (λ text. string_bytes text ≡ rules.write_position position.now) };
 
+    /// The position of a text: what is written of a position on a line from the start is read as that position. A text
+    /// that is no position's gives none.
+    fn read_position(alloc: Global, text: &str) -> Result<Option<Self::Position>, Memory>
+        ensures { IfOk result (IsPositionRead rules text.now) };
+
     /// The end that the rules give after the last of these moves, if there is one.
     fn judge(
         alloc: Global,
         start: &Self::Position,
         moves: &[Self::Move],
     ) -> Result<Option<Self::End>, Memory>
-        requires { IsLegalLine rules start.now moves.now }
+        requires { IsPlayedLine rules start.now moves.now }
         ensures { IfOk result (λ end. end ≡ rules.judge start.now moves.now) };
+
+    /// The track of a line without a move.
+    fn track_start(position: &Self::Position) -> Self::Track
+        ensures { result ≡ rules.track_start position.now };
+
+    /// The track of the line with one move more, made in its last position and leading to the one after it.
+    fn track_next(
+        track: Self::Track,
+        before: &Self::Position,
+        made: &Self::Move,
+        after: &Self::Position,
+    ) -> Self::Track
+        requires first { (rules.track_numbers track).0 < 4294967295 }
+        requires second { (rules.track_numbers track).1 < 4294967295 }
+        ensures { result ≡ rules.track_next track before.now made.now after.now };
+
+    /// The end of a line with this track, whose last position stood so often after so many plies, and first after the
+    /// ply `first`.
+    fn track_end(
+        track: Self::Track,
+        position: &Self::Position,
+        plies: usize,
+        times: usize,
+        first: usize,
+    ) -> Option<Self::End>
+        ensures { result ≡ rules.track_end track position.now plies times first };
+
+    /// The two numbers by which a track is stored.
+    fn track_numbers(track: &Self::Track) -> (u32, u32)
+        ensures { result ≡ rules.track_numbers track.now };
+
+    /// The track of two numbers.
+    fn track_of(first: u32, second: u32) -> Self::Track
+        ensures { result ≡ rules.track_of first second };
 
     /// The score of an end, by the side to move after it.
     fn outcome(end: &Self::End, turn: Side) -> Score
@@ -87,20 +128,35 @@ pub trait Rules {
         ensures { result ≡ rules.has_draw_offers };
 
     /// First moves first.
-    ghost first_starts: { rules.turn rules.start ≡ First };
+    ghost first_starts: { FirstStarts rules };
 
     /// A legal move gives the turn to the other side.
-    ghost turn_passes: { (p : Self.Position) (m : Self.Move) → rules.check p m ≡ Ok tt →
-        rules.turn (rules.play p m) ≡ other (rules.turn p) };
+    ghost turn_passes: { TurnPasses rules };
 
     /// What is written is read as that move.
-    ghost reads_back: { (p : Self.Position) (m : Self.Move) → rules.check p m ≡ Ok tt →
-        rules.read_move p (rules.write_move p m) ≡ Ok m };
+    ghost reads_back: { ReadsBack rules };
 
     /// Two moves are the same exactly if they are equal.
-    ghost same_is: { (a b : Self.Move) → (rules.same a b ≡ true) ↔ (a ≡ b) };
+    ghost same_is: { SameIs rules };
 
-    /// No game goes on after 600 plies.
-    ghost ends_at_limit: { (ms : List Self.Move) → IsLegalLine rules rules.start ms → length ms ≡ ply_limit →
-        IsSome (rules.judge rules.start ms) };
+    /// Two positions are the same exactly if they are equal.
+    ghost same_position_is: { SamePositionIs rules };
+
+    /// No game goes on after the last ply.
+    ghost ends_at_limit: { EndsAtLimit rules };
+
+    /// Positions on lines from the start are one where their texts are.
+    ghost texts_tell_positions: { TextsTellPositions rules };
+
+    /// A line's track tells its end.
+    ghost tracks_tell_ends: { TracksTellEnds rules };
+
+    /// A track is its two numbers.
+    ghost numbers_give_tracks: { NumbersGiveTracks rules };
+
+    /// Any two numbers are a track's.
+    ghost tracks_give_numbers: { TracksGiveNumbers rules };
+
+    /// The two numbers of a line grow by one a ply at most.
+    ghost numbers_are_few: { NumbersAreFew rules };
 }

@@ -112,7 +112,9 @@ fn the_first_path(rt: HostRuntime) -> Result<(), Fail> {
         REFUSED,
         "refused 11 MustCapture",
     )?;
-    let conn = says(&rt, conn, "move 1 3 28x19", REFUSED, "refused 20 BadText 2")?;
+    let conn = says(&rt, conn, "move 1 3 28x", REFUSED, "refused 20 BadText 3")?;
+    let conn = says(&rt, conn, "move 1 3 28:19", DONE, "accepted ply 3 28x19")?;
+    let conn = says(&rt, conn, "move 1 3 28x19", DONE, "repeated ply 3 28x19")?;
     let _conn = says(&rt, conn, "init", FAULT, "store 70 Foreign")?;
     Ok(())
 }

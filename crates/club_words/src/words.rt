@@ -115,7 +115,7 @@ fn move_words<'a>(alloc: Global) -> Result<clap::Command<'a>, AllocError> {
         .arg(word(
             alloc,
             "TEXT",
-            "The move: in draughts the squares left and come to, as 32-28",
+            "The move: in draughts the squares left and come to, as 32-28, or 28x19 for a capture",
         ))
 }
 

@@ -14,6 +14,7 @@ pub mod OrderLemmas
 pub mod OwnLemmas
 pub mod PlaceLemmas
 pub mod Prey
+pub mod Proved
 pub mod QuietLemmas
 pub mod RouteLemmas
 pub mod RoutingLemmas

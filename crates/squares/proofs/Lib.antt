@@ -8,6 +8,7 @@ pub mod DraughtsPops
 pub mod DraughtsRays
 pub mod DraughtsSides
 pub mod DraughtsTables
+pub mod Proved
 pub mod ShogiCells
 pub mod ShogiCounts
 pub mod ShogiKept

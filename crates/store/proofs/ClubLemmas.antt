@@ -9,7 +9,6 @@ use Rattle.sqlite.specs.Table.{Table as Definition}
 use Rattle.sqlite.specs.Tree.{Trees}
 use Rattle.sqlite_rules.specs.Lists.{Has}
 use Rattle.squares.specs.declared.draughts.moves.DMove.{DMove}
-use Rattle.club_rules.specs.Draughts as rules
 use Rattle.club_core.specs.Events.{Event}
 use Rattle.club_core.specs.State.{AnyGame, draughts, shogi}
 use Rattle.store_tables.specs.Cells.{meta_cells, member_cells, event_cells, challenge_cells, move_cells, game_cells, seen_cells, score_cells}
@@ -23,7 +22,7 @@ use Rattle.store_tables.specs.declared.names.Table.{Table}
 use Rattle.store_tables.specs.declared.names.Table.TheVariants.{Members, Events, Challenges, Moves, Games, Seen, Scores, Meta}
 use Rattle.store_tables.specs.declared.rows.Rows.{Rows}
 use Rattle.store_tables.proofs.Laws.{in_order, one_list, places_rise}
-use Rattle.club_rows.specs.Club.{ClubState, IsClub, IsStoredAs}
+use Rattle.club_rows.specs.Club.{ClubGame, both_games, ClubState, IsClub, IsStoredAs}
 use Rattle.club_rows.specs.Tables.{member_row, event_row, numbered_from, row_of_game, tables_of}
 use Rattle.club_rows.proofs.TextLemmas.{members-typed, events-typed, moves-typed, games-typed}
 use Rattle.store.proofs.FoundLemmas.{moved}
@@ -42,11 +41,11 @@ skip true x y same = same refl
 skip false x y same = refl
 
 -- the rows of a club are the content that it has
-pub club_content : (s : ClubState) (rows : Rows) → IsStoredAs s rows → rows.meta.id ≡ pos 1 → rows.meta.schema ≡ pos 1 → content_of rows ≡ tables_of rules.draughts rules.draughts s
+pub club_content : (s : ClubState) (rows : Rows) → IsStoredAs s rows → rows.meta.id ≡ pos 1 → rows.meta.schema ≡ pos 1 → content_of rows ≡ tables_of both_games s
 club_content s rows stored id schema = λ i t. at t i
   where
     made : Content
-    made = tables_of rules.draughts rules.draughts s
+    made = tables_of both_games s
 
     later : ℕ → List Row
     later t = cond (t == 8) (made 8) (cond (t == 10) (made 10) [])
@@ -91,7 +90,7 @@ module _ {R A : Type 0} (cells : R → Row) (row : ℕ → A → Row) (id : R �
   ids_are : (rows : List R) (xs : List A) → map cells rows ≡ numbered_from row 1 xs → ArePlaces (map id rows)
   ids_are rows xs are k low = ids_from 1 rows xs are k low ∙ ap pos (one-more k)
 
-row_id : (events : List Event) (n : ℕ) (any : AnyGame DMove DMove) → column (row_of_game rules.draughts rules.draughts events n any) 0 ≡ Int (pos n)
+row_id : (events : List Event) (n : ℕ) (any : ClubGame) → column (row_of_game both_games events n any) 0 ≡ Int (pos n)
 row_id events n (draughts g) = refl
 row_id events n (shogi g) = refl
 
@@ -103,7 +102,7 @@ pub stored_places : (s : ClubState) (rows : Rows) → IsStoredAs s rows → (t :
 stored_places s rows stored Members = ids_are member_cells member_row (λ r. r.id) (λ r n x is. same-int _ _ (ap (λ c. column c 0) is)) rows.members.items s.members stored.members
 stored_places s rows stored Events = ids_are event_cells event_row (λ r. r.id) (λ r n x is. same-int _ _ (ap (λ c. column c 0) is)) rows.events.items s.events stored.events
 stored_places s rows stored Games =
-    ids_are game_cells (row_of_game rules.draughts rules.draughts s.events) (λ r. r.id) (λ r n x is. same-int _ _ (ap (λ c. column c 0) is ∙ row_id s.events n x)) rows.games.items s.games stored.games
+    ids_are game_cells (row_of_game both_games s.events) (λ r. r.id) (λ r n x is. same-int _ _ (ap (λ c. column c 0) is ∙ row_id s.events n x)) rows.games.items s.games stored.games
 stored_places s rows stored Challenges = tt
 stored_places s rows stored Moves = tt
 stored_places s rows stored Seen = tt
@@ -122,7 +121,7 @@ begin_places row first xs k low = numbered_begin row first 1 xs k low ∙ ap (λ
 -- ---- types
 
 -- the rows of a legal club have the types of their columns
-pub club_typed : (s : ClubState) → IsClub s → (t : Table) → HasTypes t (tables_of rules.draughts rules.draughts s)
+pub club_typed : (s : ClubState) → IsClub s → (t : Table) → HasTypes t (tables_of both_games s)
 club_typed s club Members = members-typed s club
 club_typed s club Events = events-typed s club
 club_typed s club Challenges = tt
@@ -132,16 +131,16 @@ club_typed s club Seen = tt
 club_typed s club Scores = tt
 club_typed s club Meta = record { schema = pos 1; last = pos s.last; is = refl }
 
-one_schema : (s : ClubState) (n last : ℤ) → Has (tables_of rules.draughts rules.draughts s 0) (Int (pos 1) ∷ Int n ∷ Int last ∷ []) → n ≡ pos 1
+one_schema : (s : ClubState) (n last : ℤ) → Has (tables_of both_games s 0) (Int (pos 1) ∷ Int n ∷ Int last ∷ []) → n ≡ pos 1
 one_schema s n last (inl is) = cc
 one_schema s n last (inr none) = absurd none
 
 -- a database with the tables of a legal club is blamed for nothing
-pub good_fault : (s : ClubState) → IsClub s → (db : Database) → Holds db (tables_of rules.draughts rules.draughts s) → (fault : OpenFault) → NamesTable db fault ⊎ (NamesSchema db fault ⊎ NamesRows db fault) → (fault ≡ Store) ⊎ (fault ≡ Memory)
+pub good_fault : (s : ClubState) → IsClub s → (db : Database) → Holds db (tables_of both_games s) → (fault : OpenFault) → NamesTable db fault ⊎ (NamesSchema db fault ⊎ NamesRows db fault) → (fault ≡ Store) ⊎ (fault ≡ Memory)
 good_fault s club db holds fault (inl (inl store)) = inl store
 good_fault s club db holds fault (inl (inr (inl memory))) = inr memory
-good_fault s club db holds fault (inl (inr (inr (t, named, wrong)))) = absurd (wrong (tables_of rules.draughts rules.draughts s) holds (club_typed s club t))
-good_fault s club db holds fault (inr (inl (n, named, other, has))) = absurd (let (last, at) = has (tables_of rules.draughts rules.draughts s) holds in other (one_schema s n last at))
+good_fault s club db holds fault (inl (inr (inr (t, named, wrong)))) = absurd (wrong (tables_of both_games s) holds (club_typed s club t))
+good_fault s club db holds fault (inr (inl (n, named, other, has))) = absurd (let (last, at) = has (tables_of both_games s) holds in other (one_schema s n last at))
 good_fault s club db holds fault (inr (inr (t, named, none))) = absurd (none s club holds)
 
 -- ---- what was read
@@ -160,9 +159,9 @@ one_last last moment schema id (inl is) = cc
 one_last last moment schema id (inr none) = absurd none
 
 -- the rows that were read of a legal club are those that it is stored as
-pub club_read : (s : ClubState) → IsClub s → (rows : Rows) (old new : State) → Holds old.now (tables_of rules.draughts rules.draughts s) → AreRead rows old new → HaveIds rows → IsStoredAs s rows
+pub club_read : (s : ClubState) → IsClub s → (rows : Rows) (old new : State) → Holds old.now (tables_of both_games s) → AreRead rows old new → HaveIds rows → IsStoredAs s rows
 club_read s club rows old new holds read ids =
-    let made = tables_of rules.draughts rules.draughts s in
+    let made = tables_of both_games s in
     let db = old.now.trees in
     let t = holds.tables in
     record {
@@ -171,7 +170,7 @@ club_read s club rows old new holds read ids =
       events = ids_read (events 4) (map event_cells rows.events.items) (made 4) old new read.events ids.events t.1.1.0.rows (begin_places event_row (λ n x. refl) s.events);
       challenges = none_read challenge_cells rows.challenges.items (moved (challenges 6) db (map challenge_cells rows.challenges.items) (made 6) read.challenges.keeps t.1.1.1.0.rows);
       moves = moves_are s club (map move_cells rows.moves.items) old new holds read.moves;
-      games = ids_read (games 10) (map game_cells rows.games.items) (made 10) old new read.games ids.games t.1.1.1.1.1.0.rows (begin_places (row_of_game rules.draughts rules.draughts s.events) (row_id s.events) s.games);
+      games = ids_read (games 10) (map game_cells rows.games.items) (made 10) old new read.games ids.games t.1.1.1.1.1.0.rows (begin_places (row_of_game both_games s.events) (row_id s.events) s.games);
       seen = none_read seen_cells rows.seen.items (moved (seen 12) db (map seen_cells rows.seen.items) (made 12) read.seen.keeps t.1.1.1.1.1.1.0.rows);
       scores = none_read score_cells rows.scores.items (moved (scores 14) db (map score_cells rows.scores.items) (made 14) read.scores.keeps t.1.1.1.1.1.1.1.0.rows);
     }

@@ -16,8 +16,8 @@ use Rattle.sqlite_value.specs.Keys.{first_key}
 use Rattle.sqlite_value.proofs.OrderLemmas.{value_cmp_total, value_cmp-Text, value_cmp-Null}
 use Rattle.sqlite_rules.specs.Lists.{Has}
 use Rattle.squares.specs.declared.draughts.moves.DMove.{DMove}
+use Rattle.squares.specs.declared.shogi.moves.SMove.{SMove}
 use Rattle.club_rules.specs.declared.names.GameKind.TheVariants.{Draughts, Shogi}
-use Rattle.club_rules.specs.Draughts as rules
 use Rattle.club_rules.specs.GameRules.{GameRules}
 use Rattle.club_core.specs.Events.{Terms}
 use Rattle.club_core.specs.Members.{find_id}
@@ -41,7 +41,7 @@ use Rattle.store_tables.specs.Contents.{AreThose}
 use Rattle.store_tables.specs.declared.rows.GameRecord.{GameRecord}
 use Rattle.store_tables.specs.declared.rows.MoveRow.{MoveRow}
 use Rattle.store_tables.proofs.Laws.{equal_cmp, equal_from}
-use Rattle.club_rows.specs.Club.{ClubState, IsClub, tables}
+use Rattle.club_rows.specs.Club.{ClubGame, both_games, ClubState, IsClub, tables}
 use Rattle.store.specs.Steps.{game_in, HaveSame, IsRecordOf}
 use Rattle.store.proofs.PutSame.{numbered_had, numbered_has, gathered_had, gathered_has, ids_same as same_ids, ids_agree, one_line, AreAtPlaces}
 use Rattle.store.proofs.NextRows.{entry_rows_at, move_rows_had, first_of_game, moves_had}
@@ -56,16 +56,16 @@ text_same (Some k) key same = ap Some (exact_bytes k key (sym (value_cmp-Text k 
 text_itself : (o : Option (List ℕ)) (key : List ℕ) → o ≡ Some key → equal Binary (or_null Text o) (Text key) ≡ true
 text_itself o key is = subst (λ p. equal Binary (or_null Text p) (Text key) ≡ true) (sym is) (equal_from (Text key) (Text key) refl refl (tied_itself value_cmp_total (Text key)))
 
-key_column : (s : ClubState) (id : ℕ) (g : AnyGame DMove DMove) → column (game_in s id g) 1 ≡ or_null Text (key_of g)
+key_column : (s : ClubState) (id : ℕ) (g : ClubGame) → column (game_in s id g) 1 ≡ or_null Text (key_of g)
 key_column s id (club.draughts g) = refl
 key_column s id (club.shogi g) = refl
 
-key_same : (s : ClubState) (id : ℕ) (g : AnyGame DMove DMove) (key : List ℕ) (z : Row) → z ≡ game_in s id g → same_key (1 ∷ []) z (Null ∷ Text key ∷ []) ≡ true → key_of g ≡ Some key
+key_same : (s : ClubState) (id : ℕ) (g : ClubGame) (key : List ℕ) (z : Row) → z ≡ game_in s id g → same_key (1 ∷ []) z (Null ∷ Text key ∷ []) ≡ true → key_of g ≡ Some key
 unfolding first_key
 key_same s id g key z is same =
     text_same (key_of g) key (subst (λ v. equal Binary v (Text key) ≡ true) (ap (λ w. column w 1) is ∙ key_column s id g) (and_parts _ true same).0)
 
-key_alike : (s : ClubState) (id : ℕ) (g : AnyGame DMove DMove) (key : List ℕ) → key_of g ≡ Some key → same_key (1 ∷ []) (game_in s id g) (Null ∷ Text key ∷ []) ≡ true
+key_alike : (s : ClubState) (id : ℕ) (g : ClubGame) (key : List ℕ) → key_of g ≡ Some key → same_key (1 ∷ []) (game_in s id g) (Null ∷ Text key ∷ []) ≡ true
 unfolding first_key
 key_alike s id g key is = and_from _ true (subst (λ v. equal Binary v (Text key) ≡ true) (sym (key_column s id g)) (text_itself (key_of g) key is)) refl
 
@@ -82,7 +82,7 @@ place_next xs n = let e : 1 + n ≡ suc n = omega arith in ap (place xs) e
 -- ---- the game under a key
 
 module _ (s : ClubState) (is_club : IsClub s) (key : List ℕ) where
-  found_under : (n : ℕ) (g : AnyGame DMove DMove) (o : Option ℕ) → slice_get s.games n ≡ Some g → key_of g ≡ Some key → find_id (has_key key) s.games ≡ o → keyed_at s.games o ≡ keyed_game (Some g) (1 + n)
+  found_under : (n : ℕ) (g : ClubGame) (o : Option ℕ) → slice_get s.games n ≡ Some g → key_of g ≡ Some key → find_id (has_key key) s.games ≡ o → keyed_at s.games o ≡ keyed_game (Some g) (1 + n)
   found_under n g None at keyed is = absurd (true≢false (sym (has_itself key (key_of g) keyed) ∙ find_id-none (has_key key) s.games is n g at))
   found_under n g (Some id) at keyed is =
       let (x, stands, passes) = find_id-found (has_key key) s.games id is in
@@ -91,7 +91,7 @@ module _ (s : ClubState) (is_club : IsClub s) (key : List ℕ) where
       let id_next : id ≡ 1 + n = omega (arith, id_is, same) in
       ap (keyed_at s.games) (ap Some id_next) ∙ ap (λ p. keyed_game p (1 + n)) (place_next s.games n ∙ at)
 
-  pub under_some : (found : List Row) (z : Row) (k : KeyedGame) → AreThose (1 ∷ []) (Null ∷ Text key ∷ []) (tables s 10) found → Has found z → ((id : ℕ) (g : AnyGame DMove DMove) → z ≡ game_in s id g → Some k ≡ keyed_game (Some g) id) → Some k ≡ game_under s.games key
+  pub under_some : (found : List Row) (z : Row) (k : KeyedGame) → AreThose (1 ∷ []) (Null ∷ Text key ∷ []) (tables s 10) found → Has found z → ((id : ℕ) (g : ClubGame) → z ≡ game_in s id g → Some k ≡ keyed_game (Some g) id) → Some k ≡ game_under s.games key
   under_some found z k those has tells =
       let those_z = those.sound z has in
       let (n, g, at, is) = numbered_had (game_in s) 1 s.games z those_z.0 in
@@ -110,10 +110,10 @@ module _ (s : ClubState) (is_club : IsClub s) (key : List ℕ) where
 -- ---- the game of an id
 
 module _ (s : ClubState) (is_club : IsClub s) where
-  pub is_draughts : (id : ℕ) (g : AnyGame DMove DMove) → place s.games id ≡ Some g → (old : Game DMove) × (g ≡ club.draughts old)
+  pub is_draughts : (id : ℕ) (g : ClubGame) → place s.games id ≡ Some g → (old : Game DMove) × (g ≡ club.draughts old)
   is_draughts id (club.draughts old) at = (old, refl)
   is_draughts id (club.shogi old) at =
-      let of : IsGameOf rules.draughts Shogi s old = in-place (IsLegalIn rules.draughts rules.draughts s) s.games id (club.shogi old) is_club.legal.games at in
+      let of : IsGameOf both_games.shogi Shogi s old = in-place (IsLegalIn both_games s) s.games id (club.shogi old) is_club.legal.games at in
       let one : of.event.game ≡ Draughts = in-place (λ e. e.game ≡ Draughts) s.events old.event of.event is_club.kinds of.in_event in
       let other : of.event.game ≡ Shogi = of.of_kind in
       cc
@@ -122,7 +122,7 @@ module _ (s : ClubState) (is_club : IsClub s) where
   id_some id found z those has =
       let those_z = those.sound z has in
       let (n, g, at, is) = numbered_had (game_in s) 1 s.games z those_z.0 in
-      let first : column z 0 ≡ number (1 + n) = ap (λ w. column w 0) is ∙ first_of_game rules.draughts rules.draughts s.events (1 + n) g in
+      let first : column z 0 ≡ number (1 + n) = ap (λ w. column w 0) is ∙ first_of_game both_games s.events (1 + n) g in
       let same : 1 + n ≡ id = same_ids z (number id ∷ []) (1 + n) id first refl those_z.1 in
       let stands : place s.games id ≡ Some g = ap (place s.games) (sym same) ∙ (place_next s.games n ∙ at) in
       let (old, g_is) = is_draughts id g stands in
@@ -131,18 +131,18 @@ module _ (s : ClubState) (is_club : IsClub s) where
   pub id_none : (id : ℕ) (found : List Row) → AreThose (0 ∷ []) (number id ∷ []) (tables s 10) found → found ≡ [] → place s.games id ≡ None
   id_none id found those none = nothing (place s.games id) refl
     where
-      nothing : (o : Option (AnyGame DMove DMove)) → place s.games id ≡ o → o ≡ None
+      nothing : (o : Option ClubGame) → place s.games id ≡ o → o ≡ None
       nothing None at = refl
       nothing (Some g) at =
           let (n, id_is, there) = place_at s.games id g at in
-          let first : column (game_in s (1 + n) g) 0 ≡ number id = first_of_game rules.draughts rules.draughts s.events (1 + n) g ∙ ap number (sym id_is) in
+          let first : column (game_in s (1 + n) g) 0 ≡ number id = first_of_game both_games s.events (1 + n) g ∙ ap number (sym id_is) in
           absurd (subst (λ l. Has l (game_in s (1 + n) g)) none (those.complete (game_in s (1 + n) g) (numbered_has (game_in s) 1 s.games n g there) (ids_agree (game_in s (1 + n) g) (number id ∷ []) id first refl)))
 
   -- a number that no column holds is no game's
   pub past_none : (id : ℕ) → (SFits w64 (pos id) → ⊥) → place s.games id ≡ None
   past_none id past = nothing (place s.games id) refl
     where
-      nothing : (o : Option (AnyGame DMove DMove)) → place s.games id ≡ o → o ≡ None
+      nothing : (o : Option ClubGame) → place s.games id ≡ o → o ≡ None
       nothing None at = refl
       nothing (Some g) at =
           let (n, id_is, there) = place_at s.games id g at in
@@ -151,22 +151,22 @@ module _ (s : ClubState) (is_club : IsClub s) where
           absurd (past (omega (arith, ints, most)))
 
   -- the rows of the moves of a game
-  pub moves_those : (id : ℕ) (old : Game DMove) (found : List Row) → place s.games id ≡ Some (club.draughts old) → AreThose (0 ∷ []) (number id ∷ []) (tables s 8) found → HaveSame found (move_rows rules.draughts (terms_at (place s.events old.event)) id old)
+  pub moves_those : (id : ℕ) (old : Game DMove) (found : List Row) → place s.games id ≡ Some (club.draughts old) → AreThose (0 ∷ []) (number id ∷ []) (tables s 8) found → HaveSame found (move_rows both_games.draughts (terms_at (place s.events old.event)) id old)
   moves_those id old found at those =
-      let rows = rows_of_moves rules.draughts rules.draughts s.events in
+      let rows = rows_of_moves both_games s.events in
       let (m, id_is, there) = place_at s.games id (club.draughts old) at in
       record {
         there = λ z has.
             let those_z = those.sound z has in
             let (n, g, stands, in_rows) = gathered_had rows 1 s.games z those_z.0 in
-            let same : 1 + n ≡ id = same_ids z (number id ∷ []) (1 + n) id (moves_had rules.draughts rules.draughts s.events (1 + n) g z in_rows) refl those_z.1 in
+            let same : 1 + n ≡ id = same_ids z (number id ∷ []) (1 + n) id (moves_had both_games s.events (1 + n) g z in_rows) refl those_z.1 in
             let n_is : n ≡ m = omega (arith, same, id_is) in
             let here : slice_get s.games n ≡ Some (club.draughts old) = subst (λ k. slice_get s.games k ≡ Some (club.draughts old)) (sym n_is) there in
             let g_is : g ≡ club.draughts old = cc in
             subst₂ (λ k x. Has (rows k x) z) same g_is in_rows;
         back = λ z has.
             those.complete z (gathered_has rows 1 s.games m (club.draughts old) z there (subst (λ k. Has (rows k (club.draughts old)) z) id_is has))
-            (ids_agree z (number id ∷ []) id (move_rows_had rules.draughts (terms_at (place s.events old.event)) id old z has).0 refl);
+            (ids_agree z (number id ∷ []) id (move_rows_had both_games.draughts (terms_at (place s.events old.event)) id old z has).0 refl);
       }
 
   within_place : {A : Type 0} (xs : List A) (id : ℕ) (o : Option A) → place xs id ≡ o → IsSome o → id ≤ length xs
@@ -176,7 +176,7 @@ module _ (s : ClubState) (is_club : IsClub s) where
       let within : n < length xs = slice_get_within xs n x there in
       omega (arith, id_is, within)
 
-  pub is_record : (id : ℕ) (old : Game DMove) (row : GameRecord) → place s.games id ≡ Some (club.draughts old) → game_cells row ≡ game_in s id (club.draughts old) → IsRecordOf rules.draughts (terms_at (place s.events old.event)) id row old
+  pub is_record : (id : ℕ) (old : Game DMove) (row : GameRecord) → place s.games id ≡ Some (club.draughts old) → game_cells row ≡ game_in s id (club.draughts old) → IsRecordOf both_games.draughts (terms_at (place s.events old.event)) id row old
   is_record id old row at cells =
       let game = game_is s id old is_club at in
       let id_most : id ≤ length s.games = within_place s.games id (Some (club.draughts old)) at refl in
@@ -202,14 +202,14 @@ module _ (s : ClubState) (is_club : IsClub s) where
 
 -- ---- the view of a game
 
-places_of : {P M E : Type 0} (laws : GameRules P M E) (terms : Terms) (id : ℕ) (game : Game M) → AreAtPlaces 1 (move_rows laws terms id game)
+places_of : {P M E T : Type 0} (laws : GameRules P M E T) (terms : Terms) (id : ℕ) (game : Game M) → AreAtPlaces 1 (move_rows laws terms id game)
 places_of laws terms id game n z at =
     let same : 0 + (1 + n) ≡ 1 + n = omega arith in
     entry_rows_at laws terms id (at_start game) game.entries n z at ∙ ap number same
 
-module _ {R P M E : Type 0} (laws : GameRules P M E) (terms : Terms) (row : GameRecord) (moves : List MoveRow) where
+module _ {R P M E T : Type 0} (laws : GameRules P M E T) (terms : Terms) (row : GameRecord) (moves : List MoveRow) where
   -- where a view is shown, rows of moves that are those of the game are in their order
-  pub view_shows : (s : Shown R P M E) (view : GameView R P M E) → s ≡ shown.Game view → IsSoundIfShown laws terms row moves s → ((id : ℕ) (game : Game M) → AreRowsOf laws terms id row moves game → ShowsGame laws terms game s)
+  pub view_shows : (s : Shown R P M E T) (view : GameView R P M E T) → s ≡ shown.Game view → IsSoundIfShown laws terms row moves s → ((id : ℕ) (game : Game M) → AreRowsOf laws terms id row moves game → ShowsGame laws terms game s)
       → (id : ℕ) (game : Game M) → IsRecordOf laws terms id row game → HaveSame (map move_cells moves) (move_rows laws terms id game) → (map move_cells moves ≡ move_rows laws terms id game) × (terms_of view ≡ terms) × Shows laws game view
   view_shows s view is sound complete id game of same =
       let (other_id, other, rows, terms_is, shows, is_sound) = subst (IsSoundIfShown laws terms row moves) is sound in
@@ -223,10 +223,10 @@ module _ {R P M E : Type 0} (laws : GameRules P M E) (terms : Terms) (row : Game
 int_same : (a b : ℤ) → ◌≡◌ {A = Value} (Int a) (Int b) → a ≡ b
 int_same a b is = cc
 
-pub row_id : {P M E : Type 0} (laws : GameRules P M E) (terms : Terms) (id : ℕ) (game : Game M) (row : GameRecord) → game_cells row ≡ game_row laws terms id game → row.id ≡ pos id
+pub row_id : {P M E T : Type 0} (laws : GameRules P M E T) (terms : Terms) (id : ℕ) (game : Game M) (row : GameRecord) → game_cells row ≡ game_row laws terms id game → row.id ≡ pos id
 row_id laws terms id game row cells = int_same row.id (pos id) (ap (λ w. column w 0) cells)
 
-pub ids_same : (k : KeyedGame) (id : ℕ) (old : Game DMove) → Some k ≡ keyed_game {DM = DMove} {SM = DMove} (Some (club.draughts old)) id → (k.id ≡ id) × (k.pairing.event ≡ old.event)
+pub ids_same : (k : KeyedGame) (id : ℕ) (old : Game DMove) → Some k ≡ keyed_game {DM = DMove} {SM = SMove} (Some (club.draughts old)) id → (k.id ≡ id) × (k.pairing.event ≡ old.event)
 ids_same k id old is =
     let e : k ≡ record { id = id; pairing = record { event = old.event; first = old.first; second = old.second } } = cc in
     (ap (λ x. x.id) e, ap (λ x. x.pairing.event) e)

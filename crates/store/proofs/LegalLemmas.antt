@@ -3,7 +3,7 @@ use Rattle.std.proofs.Common.{◌≡◌, ℕ, ◌≤◌, ◌∷◌, [], ◌++◌
 use Rattle.std.specs.Prelude.{if◌then◌else◌, max}
 use Rattle.club_rules.specs.declared.names.GameKind.{GameKind}
 use Rattle.club_rules.specs.declared.names.GameKind.TheVariants.{Draughts, Shogi}
-use Rattle.club_rules.specs.GameRules.{GameRules}
+use Rattle.club_core.specs.ClubRules.{ClubRules}
 use Rattle.club_core.specs.declared.requests.Caller.{Caller}
 use Rattle.club_core.specs.declared.requests.Caller.TheVariants.{Officer, Member}
 use Rattle.club_core.specs.declared.refusals.Refusal.{Refusal}
@@ -20,11 +20,11 @@ use Rattle.club_core.proofs.Lists.{each-append}
 use Rattle.club_core.proofs.Legals.{AreRules}
 use Rattle.club_core.proofs.LegalSteps.{next-legal}
 use Rattle.club_rows.specs.Tables.{IsLegalClub}
-use Rattle.club_rows.specs.Club.{ClubState, IsClub}
+use Rattle.club_rows.specs.Club.{both_games, ClubState, IsClub}
 use Rattle.store.specs.Steps.{club_next}
-use Rattle.store.proofs.PlayedLemmas.{draughts_laws}
+use Rattle.store.proofs.PlayedLemmas.{draughts_laws, shogi_laws}
 
-abbrev Alone : {M : Type 0} → State M M → Type 0
+abbrev Alone : {DM SM : Type 0} → State DM SM → Type 0
 Alone s = Each (λ e. e.game ≡ Draughts) s.events
 
 -- what is not refused for its values is of draughts
@@ -38,14 +38,14 @@ values_pass true b x y rest is = cc
 values_pass false true x y rest is = cc
 values_pass false false x y rest is = refl
 
-module _ {P M E : Type 0} (laws : GameRules P M E) (s : State M M) (alone : Alone s) where
+module _ {DP DM DE DT SP SM SE ST : Type 0} (kinds : ClubRules DP DM DE DT SP SM SE ST) (s : State DM SM) (alone : Alone s) where
   -- what leaves the events
-  after : {T : Type 0} (f : T → State M M) (o : Outcome T) → ((t : T) → Alone (f t)) → Alone (state_after s (map_outcome f o))
+  after : {T : Type 0} (f : T → State DM SM) (o : Outcome T) → ((t : T) → Alone (f t)) → Alone (state_after s (map_outcome f o))
   after f (accepted t r) so = so t
   after f (repeated r) so = alone
   after f (refused refusal) so = alone
 
-  by_officer_alone : {T : Type 0} (f : T → State M M) (who : Caller) (o : Outcome T) → ((t : T) → Alone (f t)) → Alone (state_after s (by_officer who (map_outcome f o)))
+  by_officer_alone : {T : Type 0} (f : T → State DM SM) (who : Caller) (o : Outcome T) → ((t : T) → Alone (f t)) → Alone (state_after s (by_officer who (map_outcome f o)))
   by_officer_alone f Officer o so = after f o so
   by_officer_alone f (Member id) o so = alone
 
@@ -55,12 +55,12 @@ module _ {P M E : Type 0} (laws : GameRules P M E) (s : State M M) (alone : Alon
   added moment Officer event None (Some why) reply is = alone
   added moment Officer event None None reply is = each-append (λ e. e.game ≡ Draughts) s.events event alone (is refl)
 
-  in_game : (moment id : ℕ) (who : Caller) (command : GameCommand) (g : Option (AnyGame M M)) → Alone (state_after s (step_game laws laws s moment id who command g))
+  in_game : (moment id : ℕ) (who : Caller) (command : GameCommand) (g : Option (AnyGame DM SM)) → Alone (state_after s (step_game kinds s moment id who command g))
   in_game moment id who command None = alone
-  in_game moment id who command (Some (draughts g)) = after _ (game_step laws (terms_at (place s.events g.event)) g moment who command) (λ t. alone)
-  in_game moment id who command (Some (shogi g)) = after _ (game_step laws (terms_at (place s.events g.event)) g moment who command) (λ t. alone)
+  in_game moment id who command (Some (draughts g)) = after _ (game_step kinds.draughts (terms_at (place s.events g.event)) g moment who command) (λ t. alone)
+  in_game moment id who command (Some (shogi g)) = after _ (game_step kinds.shogi (terms_at (place s.events g.event)) g moment who command) (λ t. alone)
 
-  by_caller : (moment : ℕ) (who : Caller) (command : Command) → Alone (state_after s (step_command laws laws s moment who command))
+  by_caller : (moment : ℕ) (who : Caller) (command : Command) → Alone (state_after s (step_command kinds s moment who command))
   by_caller moment who (add_member name key) = by_officer_alone (with_members s moment) who (member_step s.members name key) (λ t. alone)
   by_caller moment who (add_event event) =
       added moment who event (same_event s.events event) (event_refusal s.events event) _
@@ -68,15 +68,15 @@ module _ {P M E : Type 0} (laws : GameRules P M E) (s : State M M) (alone : Alon
   by_caller moment who (seat key event first second) = by_officer_alone (with_new_game s moment key) who (seat_step s.members s.events (game_under s.games key) _ key event first second) (λ t. alone)
   by_caller moment who (on_game id command) = in_game moment id who command (place s.games id)
 
-  by : (moment : ℕ) (who : Option Caller) (command : Command) → Alone (state_after s (step_by laws laws s moment who command))
+  by : (moment : ℕ) (who : Option Caller) (command : Command) → Alone (state_after s (step_by kinds s moment who command))
   by moment None command = alone
   by moment (Some who) command = by_caller moment who command
 
-next_legal : {P M E : Type 0} (laws : GameRules P M E) → AreRules laws → (s : State M M) (r : Request) → r.moment ≤ last_moment → IsLegalClub laws laws s → IsLegalClub laws laws (next laws laws s r)
-next_legal laws are s r within club = record {
-  legal = next-legal laws laws are are s r within club.legal;
-  kinds = by laws s club.kinds (max r.moment s.last) (caller_of s.members r.who) r.command;
+next_legal : {DP DM DE DT SP SM SE ST : Type 0} (kinds : ClubRules DP DM DE DT SP SM SE ST) → AreRules kinds.draughts → AreRules kinds.shogi → (s : State DM SM) (r : Request) → r.moment ≤ last_moment → IsLegalClub kinds s → IsLegalClub kinds (next kinds s r)
+next_legal kinds are_draughts are_shogi s r within club = record {
+  legal = next-legal kinds are_draughts are_shogi s r within club.legal;
+  kinds = by kinds s club.kinds (max r.moment s.last) (caller_of s.members r.who) r.command;
 }
 
 pub club_stays : (s : ClubState) (r : Request) → r.moment ≤ last_moment → IsClub s → IsClub (club_next s r)
-club_stays s r within club = next_legal _ draughts_laws s r within club
+club_stays s r within club = next_legal both_games draughts_laws shogi_laws s r within club

@@ -8,14 +8,13 @@ use Rattle.std.proofs.lemmas.List.Recursion.{is_count_by}
 use Rattle.std.proofs.lemmas.Bool.{cases_Bool}
 use Rattle.sqlite.specs.Tree.{Trees}
 use Rattle.sqlite.specs.State.{State, Opens, IsLive}
-use Rattle.club_rules.specs.Draughts as rules
 use Rattle.club_core.specs.declared.requests.Request as given_request
 use Rattle.club_core.specs.declared.answers.Outcome as given_outcome
 use Rattle.club_core.specs.Answer.{answered, outcome_of, request_of}
 use Rattle.club_core.specs.Outcome.{Outcome, accepted, repeated, refused}
 use Rattle.club_core.specs.State.{Request, opening_state, is_accepted}
 use Rattle.club_core.proofs.Folds.{folds-accepted}
-use Rattle.club_rows.specs.Club.{ClubState, IsClub, tables}
+use Rattle.club_rows.specs.Club.{both_games, ClubState, IsClub, tables}
 use Rattle.store_tables.specs.Contents.{Content}
 use Rattle.store_tables.specs.Club.{IsExactly, Leaves}
 use Rattle.store.specs.declared.club.run.Run.{Run}
@@ -49,7 +48,7 @@ one_more s (r ∷ rs) (suc j) (suc n) e =
     elim (cases_Bool (is_accepted (club_step s r))) [ inl took ↦ rw took (omega (arith, more.0), omega (arith, more.1)) | inr left ↦ rw left more ]
 
 after : (s : ClubState) (rs : List Request) (j : ℕ) → club_fold s (take j rs) ≡ club_fold s (take (Counted s rs j) (club_accepted s rs))
-after s rs j = sym (folds-accepted rules.draughts rules.draughts s (take j rs)) ∙ ap (club_fold s) (sym (first_accepted s rs j))
+after s rs j = sym (folds-accepted both_games s (take j rs)) ∙ ap (club_fold s) (sym (first_accepted s rs j))
 
 -- where so many were answered as accepted, the state after these, or after one more, is one that the session leads to
 leads_on : (s : ClubState) (rs : List Request) (j a : ℕ) (whole : Bool) → a ≡ Counted s rs j → LeadsOn s (record { requests = rs; returned = a; is_whole = whole }) (club_fold s (take j rs))

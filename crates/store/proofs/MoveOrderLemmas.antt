@@ -28,7 +28,6 @@ use Rattle.sqlite_rules.specs.Lists.{Has}
 use Rattle.sqlite_rules.proofs.ListLemmas.{all_has, all_from}
 use Rattle.sqlite_rules.proofs.TableLemmas.{int_is}
 use Rattle.squares.specs.declared.draughts.moves.DMove.{DMove}
-use Rattle.club_rules.specs.Draughts as rules
 use Rattle.club_rules.specs.GameRules.{GameRules}
 use Rattle.club_core.specs.Events.{Event, Terms}
 use Rattle.club_core.specs.Game.{Entry, Game}
@@ -41,7 +40,7 @@ use Rattle.store_tables.specs.Reading.{by_columns, rising}
 use Rattle.store_tables.specs.Tables.{club_schema, moves}
 use Rattle.store_tables.proofs.Laws.{pairs_turned}
 use Rattle.store_tables.proofs.Laws.{differ_ints, equal_from}
-use Rattle.club_rows.specs.Club.{ClubState, IsClub}
+use Rattle.club_rows.specs.Club.{ClubGame, both_games, ClubState, IsClub}
 use Rattle.club_rows.specs.Tables.{entry_row, entry_rows, with_entry, gathered_from, rows_of_moves, tables_of}
 use Rattle.club_rows.proofs.TextLemmas.{moves-typed}
 use Rattle.store_sql.specs.Read.{IsReadAs}
@@ -140,7 +139,7 @@ record IsLater (n : ℕ) (row : Row) : Type 0 where
   pub later : n ≤ game
   pub game_is : column row 0 ≡ Int (pos game)
 
-module _ {P M E : Type 0} (laws : GameRules P M E) (terms : Terms) (id : ℕ) where
+module _ {P M E T : Type 0} (laws : GameRules P M E T) (terms : Terms) (id : ℕ) where
   plies_from : (n : ℕ) (game : Game M) (es : List (Entry M)) → n ≤ length game.entries + 1 → AllByRecursion (IsFrom id n) (entry_rows laws terms id game es)
   plies_from n game [] low = tt
   plies_from n game (e ∷ es) low = (
@@ -159,29 +158,29 @@ module _ {P M E : Type 0} (laws : GameRules P M E) (terms : Terms) (id : ℕ) wh
       )
 
 module _ (events : List Event) where
-  abbrev rows_of : ℕ → AnyGame DMove DMove → List Row
-  rows_of = rows_of_moves rules.draughts rules.draughts events
+  abbrev rows_of : ℕ → ClubGame → List Row
+  rows_of = rows_of_moves both_games events
 
-  game_rise : (id : ℕ) (any : AnyGame DMove DMove) → IsAscending Before (rows_of id any)
-  game_rise id (draughts g) = entries_rise rules.draughts (terms_at (place events g.event)) id (record g { entries = [] }) g.entries
-  game_rise id (shogi g) = entries_rise rules.draughts (terms_at (place events g.event)) id (record g { entries = [] }) g.entries
+  game_rise : (id : ℕ) (any : ClubGame) → IsAscending Before (rows_of id any)
+  game_rise id (draughts g) = entries_rise both_games.draughts (terms_at (place events g.event)) id (record g { entries = [] }) g.entries
+  game_rise id (shogi g) = entries_rise both_games.shogi (terms_at (place events g.event)) id (record g { entries = [] }) g.entries
 
-  game_begins : (id : ℕ) (any : AnyGame DMove DMove) → AllByRecursion (IsFrom id 0) (rows_of id any)
-  game_begins id (draughts g) = plies_from rules.draughts (terms_at (place events g.event)) id 0 (record g { entries = [] }) g.entries (omega arith)
-  game_begins id (shogi g) = plies_from rules.draughts (terms_at (place events g.event)) id 0 (record g { entries = [] }) g.entries (omega arith)
+  game_begins : (id : ℕ) (any : ClubGame) → AllByRecursion (IsFrom id 0) (rows_of id any)
+  game_begins id (draughts g) = plies_from both_games.draughts (terms_at (place events g.event)) id 0 (record g { entries = [] }) g.entries (omega arith)
+  game_begins id (shogi g) = plies_from both_games.shogi (terms_at (place events g.event)) id 0 (record g { entries = [] }) g.entries (omega arith)
 
   all_append : (Q : Row → Type 0) (a b : List Row) → AllByRecursion Q a → AllByRecursion Q b → AllByRecursion Q (a ++ b)
   all_append Q [] b one two = two
   all_append Q (x ∷ a) b one two = (one.0, all_append Q a b one.1 two)
 
-  games_begin : (m n : ℕ) (games : List (AnyGame DMove DMove)) → m ≤ n → AllByRecursion (IsLater m) (gathered_from rows_of n games)
+  games_begin : (m n : ℕ) (games : List ClubGame) → m ≤ n → AllByRecursion (IsLater m) (gathered_from rows_of n games)
   games_begin m n [] low = tt
   games_begin m n (g ∷ gs) low =
       all_append (IsLater m) (rows_of n g) (gathered_from rows_of (suc n) gs)
       (all_weaker (IsFrom n 0) (IsLater m) (λ row from. record { game = n; later = low; game_is = from.game_is }) (rows_of n g) (game_begins n g))
       (games_begin m (suc n) gs (omega (arith, low)))
 
-  games_rise : (n : ℕ) (games : List (AnyGame DMove DMove)) → IsAscending Before (gathered_from rows_of n games)
+  games_rise : (n : ℕ) (games : List ClubGame) → IsAscending Before (gathered_from rows_of n games)
   games_rise n [] = tt
   games_rise n (g ∷ gs) =
       ascending-append Before (rows_of n g) (gathered_from rows_of (suc n) gs) (game_rise n g) (games_rise (suc n) gs)
@@ -265,10 +264,10 @@ module _ (trees : Trees) (sound : IsSound club_schema trees) (apart : AreApart (
       (ascending-map Apart (cells (moves 8)) (trees 8) (turned keys_apart (trees 8) (λ r h. h) apart.apart)))
 
 -- the moves that were read are those of the club, in their order
-pub moves_are : (s : ClubState) → IsClub s → (rows : List Row) (old new : State) → Holds old.now (tables_of rules.draughts rules.draughts s) → IsReadAs (moves 8) 2 rows old new → rows ≡ tables_of rules.draughts rules.draughts s 8
+pub moves_are : (s : ClubState) → IsClub s → (rows : List Row) (old new : State) → Holds old.now (tables_of both_games s) → IsReadAs (moves 8) 2 rows old new → rows ≡ tables_of both_games s 8
 moves_are s club rows old new holds read =
-    let made = tables_of rules.draughts rules.draughts s 8 in
-    let stored : Stores (moves 8) old.now.trees (tables_of rules.draughts rules.draughts s) = holds.tables.1.1.1.1.0 in
+    let made = tables_of both_games s 8 in
+    let stored : Stores (moves 8) old.now.trees (tables_of both_games s) = holds.tables.1.1.1.1.0 in
     let sound = subst (λ schema. IsSound schema old.now.trees) holds.schema holds.sound in
     let ints : (r : Row) → Has (old.now.trees 8) r → IsInt (column r 1) × IsInt (column r 2) = λ r h. let typed = all_has IsMove made (cells (moves 8) r) (moves-typed s club) (stored.rows.only r h) in (typed.game, typed.ply) in
     one_rising rows made (shown_rise old.now.trees sound read.apart ints rows read.once read.sorted) (games_rise s.events 1 s.games)

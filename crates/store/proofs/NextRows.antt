@@ -6,6 +6,7 @@ use Rattle.sqlite_rules.specs.Lists.{Has}
 use Rattle.club_rules.specs.declared.names.GameKind.{GameKind}
 use Rattle.club_rules.specs.declared.names.GameKind.TheVariants.{Draughts, Shogi}
 use Rattle.club_rules.specs.GameRules.{GameRules}
+use Rattle.club_core.specs.ClubRules.{ClubRules}
 use Rattle.club_core.specs.Members.{Member}
 use Rattle.club_core.specs.Events.{Event, Terms}
 use Rattle.club_core.specs.Seats.{Pairing}
@@ -30,7 +31,7 @@ puts moment members events games moves content =
 
 -- ---- the rows of the moves of a game
 
-module _ {P M E : Type 0} (rules : GameRules P M E) (terms : Terms) (id : ℕ) where
+module _ {P M E T : Type 0} (rules : GameRules P M E T) (terms : Terms) (id : ℕ) where
   -- a row of one of so many plies
   pub entry_rows_had : (game : Game M) (es : List (Entry M)) (z : Row) → Has (entry_rows rules terms id game es) z → (column z 0 ≡ number id) × ((k : ℕ) × (column z 1 ≡ number k) × (k ≤ length game.entries + length es))
   entry_rows_had game [] z h = absurd h
@@ -58,17 +59,17 @@ module _ {P M E : Type 0} (rules : GameRules P M E) (terms : Terms) (id : ℕ) w
 
 -- ---- the tables
 
-module _ {DP DM DE SP SM SE : Type 0} (d : GameRules DP DM DE) (h : GameRules SP SM SE) where
-  pub first_of_game : (events : List Event) (id : ℕ) (g : AnyGame DM SM) → column (row_of_game d h events id g) 0 ≡ number id
+module _ {DP DM DE DT SP SM SE ST : Type 0} (kinds : ClubRules DP DM DE DT SP SM SE ST) where
+  pub first_of_game : (events : List Event) (id : ℕ) (g : AnyGame DM SM) → column (row_of_game kinds events id g) 0 ≡ number id
   first_of_game events id (draughts g) = refl
   first_of_game events id (shogi g) = refl
 
-  pub moves_had : (events : List Event) (id : ℕ) (g : AnyGame DM SM) (z : Row) → Has (rows_of_moves d h events id g) z → column z 0 ≡ number id
-  moves_had events id (draughts g) z has = (move_rows_had d (terms_at (place events g.event)) id g z has).0
-  moves_had events id (shogi g) z has = (move_rows_had h (terms_at (place events g.event)) id g z has).0
+  pub moves_had : (events : List Event) (id : ℕ) (g : AnyGame DM SM) (z : Row) → Has (rows_of_moves kinds events id g) z → column z 0 ≡ number id
+  moves_had events id (draughts g) z has = (move_rows_had kinds.draughts (terms_at (place events g.event)) id g z has).0
+  moves_had events id (shogi g) z has = (move_rows_had kinds.shogi (terms_at (place events g.event)) id g z has).0
 
   -- a member more
-  pub member_next : (s : State DM SM) (m : Member) (moment : ℕ) → AreSame (puts moment (member_row (1 + length s.members) m ∷ []) [] [] [] (tables_of d h s)) (tables_of d h (with_members s moment (s.members ++ m ∷ [])))
+  pub member_next : (s : State DM SM) (m : Member) (moment : ℕ) → AreSame (puts moment (member_row (1 + length s.members) m ∷ []) [] [] [] (tables_of kinds s)) (tables_of kinds (with_members s moment (s.members ++ m ∷ [])))
   member_next s m moment = (
     one_replaced (meta_row s.last) (meta_row moment) 1 refl refl,
     (
@@ -78,16 +79,16 @@ module _ {DP DM DE SP SM SE : Type 0} (d : GameRules DP DM DE) (h : GameRules SP
   )
 
   -- the rows of a legal game stay where an event is added
-  game_stays : (s : State DM SM) (e : Event) (g : AnyGame DM SM) → IsLegalIn d h s g → (id : ℕ) → row_of_game d h s.events id g ≡ row_of_game d h (s.events ++ e ∷ []) id g
-  game_stays s e (draughts g) of id = ap (λ o. game_row d (terms_at o) id g) (of.in_event ∙ sym (place-append s.events (e ∷ []) g.event of.event of.in_event))
-  game_stays s e (shogi g) of id = ap (λ o. game_row h (terms_at o) id g) (of.in_event ∙ sym (place-append s.events (e ∷ []) g.event of.event of.in_event))
+  game_stays : (s : State DM SM) (e : Event) (g : AnyGame DM SM) → IsLegalIn kinds s g → (id : ℕ) → row_of_game kinds s.events id g ≡ row_of_game kinds (s.events ++ e ∷ []) id g
+  game_stays s e (draughts g) of id = ap (λ o. game_row kinds.draughts (terms_at o) id g) (of.in_event ∙ sym (place-append s.events (e ∷ []) g.event of.event of.in_event))
+  game_stays s e (shogi g) of id = ap (λ o. game_row kinds.shogi (terms_at o) id g) (of.in_event ∙ sym (place-append s.events (e ∷ []) g.event of.event of.in_event))
 
-  moves_stay : (s : State DM SM) (e : Event) (g : AnyGame DM SM) → IsLegalIn d h s g → (id : ℕ) → rows_of_moves d h s.events id g ≡ rows_of_moves d h (s.events ++ e ∷ []) id g
-  moves_stay s e (draughts g) of id = ap (λ o. move_rows d (terms_at o) id g) (of.in_event ∙ sym (place-append s.events (e ∷ []) g.event of.event of.in_event))
-  moves_stay s e (shogi g) of id = ap (λ o. move_rows h (terms_at o) id g) (of.in_event ∙ sym (place-append s.events (e ∷ []) g.event of.event of.in_event))
+  moves_stay : (s : State DM SM) (e : Event) (g : AnyGame DM SM) → IsLegalIn kinds s g → (id : ℕ) → rows_of_moves kinds s.events id g ≡ rows_of_moves kinds (s.events ++ e ∷ []) id g
+  moves_stay s e (draughts g) of id = ap (λ o. move_rows kinds.draughts (terms_at o) id g) (of.in_event ∙ sym (place-append s.events (e ∷ []) g.event of.event of.in_event))
+  moves_stay s e (shogi g) of id = ap (λ o. move_rows kinds.shogi (terms_at o) id g) (of.in_event ∙ sym (place-append s.events (e ∷ []) g.event of.event of.in_event))
 
   -- an event more
-  pub event_next : (s : State DM SM) (e : Event) (moment : ℕ) → Each (IsLegalIn d h s) s.games → AreSame (puts moment [] (event_row (1 + length s.events) e ∷ []) [] [] (tables_of d h s)) (tables_of d h (with_events s moment (s.events ++ e ∷ [])))
+  pub event_next : (s : State DM SM) (e : Event) (moment : ℕ) → Each (IsLegalIn kinds s) s.games → AreSame (puts moment [] (event_row (1 + length s.events) e ∷ []) [] [] (tables_of kinds s)) (tables_of kinds (with_events s moment (s.events ++ e ∷ [])))
   event_next s e moment legal = (
     one_replaced (meta_row s.last) (meta_row moment) 1 refl refl,
     (
@@ -97,9 +98,9 @@ module _ {DP DM DE SP SM SE : Type 0} (d : GameRules DP DM DE) (h : GameRules SP
         (
           same_itself _,
           (
-            same_by _ _ (gathered_alike (rows_of_moves d h s.events) (rows_of_moves d h (s.events ++ e ∷ [])) 1 s.games (λ n g at. moves_stay s e g (legal n g at))),
+            same_by _ _ (gathered_alike (rows_of_moves kinds s.events) (rows_of_moves kinds (s.events ++ e ∷ [])) 1 s.games (λ n g at. moves_stay s e g (legal n g at))),
             (
-              same_by _ _ (numbered_alike (row_of_game d h s.events) (row_of_game d h (s.events ++ e ∷ [])) 1 s.games (λ n g at. game_stays s e g (legal n g at))),
+              same_by _ _ (numbered_alike (row_of_game kinds s.events) (row_of_game kinds (s.events ++ e ∷ [])) 1 s.games (λ n g at. game_stays s e g (legal n g at))),
               (same_itself _, (same_itself _, tt)),
             ),
           ),
@@ -109,11 +110,11 @@ module _ {DP DM DE SP SM SE : Type 0} (d : GameRules DP DM DE) (h : GameRules SP
   )
 
   -- a game more
-  no_moves : (events : List Event) (kind : GameKind) (key : Option (List ℕ)) (pairing : Pairing) (moment id : ℕ) → rows_of_moves d h events id (seated_as kind key pairing moment) ≡ []
+  no_moves : (events : List Event) (kind : GameKind) (key : Option (List ℕ)) (pairing : Pairing) (moment id : ℕ) → rows_of_moves kinds events id (seated_as kind key pairing moment) ≡ []
   no_moves events Draughts key pairing moment id = refl
   no_moves events Shogi key pairing moment id = refl
 
-  pub seat_next : (s : State DM SM) (key : List ℕ) (pairing : Pairing) (moment : ℕ) → AreSame (puts moment [] [] (row_of_game d h s.events (1 + length s.games) (seated_as (kind_at (place s.events pairing.event)) (Some key) pairing moment) ∷ []) [] (tables_of d h s)) (tables_of d h (with_new_game s moment key pairing))
+  pub seat_next : (s : State DM SM) (key : List ℕ) (pairing : Pairing) (moment : ℕ) → AreSame (puts moment [] [] (row_of_game kinds s.events (1 + length s.games) (seated_as (kind_at (place s.events pairing.event)) (Some key) pairing moment) ∷ []) [] (tables_of kinds s)) (tables_of kinds (with_new_game s moment key pairing))
   seat_next s key pairing moment =
       let new : AnyGame DM SM = seated_as (kind_at (place s.events pairing.event)) (Some key) pairing moment in (
         one_replaced (meta_row s.last) (meta_row moment) 1 refl refl,
@@ -124,9 +125,9 @@ module _ {DP DM DE SP SM SE : Type 0} (d : GameRules DP DM DE) (h : GameRules SP
             (
               same_itself _,
               (
-                nothing_added (rows_of_moves d h s.events) s.games new (no_moves s.events (kind_at (place s.events pairing.event)) (Some key) pairing moment),
+                nothing_added (rows_of_moves kinds s.events) s.games new (no_moves s.events (kind_at (place s.events pairing.event)) (Some key) pairing moment),
                 (
-                  row_added (row_of_game d h s.events) (first_of_game s.events) s.games new (row_of_game d h s.events (1 + length s.games) new) refl,
+                  row_added (row_of_game kinds s.events) (first_of_game s.events) s.games new (row_of_game kinds s.events (1 + length s.games) new) refl,
                   (same_itself _, (same_itself _, tt)),
                 ),
               ),
@@ -140,15 +141,15 @@ module _ {DP DM DE SP SM SE : Type 0} (d : GameRules DP DM DE) (h : GameRules SP
   plies_of (draughts g) = length g.entries
   plies_of (shogi g) = length g.entries
 
-  ply_had : (events : List Event) (id : ℕ) (g : AnyGame DM SM) (z : Row) → Has (rows_of_moves d h events id g) z → (k : ℕ) × (column z 1 ≡ number k) × (k ≤ plies_of g)
-  ply_had events id (draughts g) z has = (move_rows_had d (terms_at (place events g.event)) id g z has).1
-  ply_had events id (shogi g) z has = (move_rows_had h (terms_at (place events g.event)) id g z has).1
+  ply_had : (events : List Event) (id : ℕ) (g : AnyGame DM SM) (z : Row) → Has (rows_of_moves kinds events id g) z → (k : ℕ) × (column z 1 ≡ number k) × (k ≤ plies_of g)
+  ply_had events id (draughts g) z has = (move_rows_had kinds.draughts (terms_at (place events g.event)) id g z has).1
+  ply_had events id (shogi g) z has = (move_rows_had kinds.shogi (terms_at (place events g.event)) id g z has).1
 
   module _ (s : State DM SM) (n : ℕ) (old new : AnyGame DM SM) (row : Row) (ply : ℕ)
       (at : slice_get s.games n ≡ Some old)
-      (grown : rows_of_moves d h s.events (1 + n) new ≡ rows_of_moves d h s.events (1 + n) old ++ row ∷ [])
+      (grown : rows_of_moves kinds s.events (1 + n) new ≡ rows_of_moves kinds s.events (1 + n) old ++ row ∷ [])
       (first : column row 0 ≡ number (1 + n)) (second : column row 1 ≡ number ply) (later : plies_of old < ply) where
-    fresh : (m : ℕ) (g : AnyGame DM SM) (z : Row) → slice_get s.games m ≡ Some g → Has (rows_of_moves d h s.events (1 + m) g) z → same_key (0 ∷ 1 ∷ []) z row ≡ false
+    fresh : (m : ℕ) (g : AnyGame DM SM) (z : Row) → slice_get s.games m ≡ Some g → Has (rows_of_moves kinds s.events (1 + m) g) z → same_key (0 ∷ 1 ∷ []) z row ≡ false
     fresh m g z stands has =
         let (k, is, most) = ply_had s.events (1 + m) g z has in
         pairs_apart z row (1 + m) (1 + n) k ply (moves_had s.events (1 + m) g z has) first is second (λ same_game same_ply.
@@ -158,7 +159,7 @@ module _ {DP DM DE SP SM SE : Type 0} (d : GameRules DP DM DE) (h : GameRules SP
         let count : plies_of g ≡ plies_of old = ap plies_of g_is in
         absurd (omega (arith, most, later, count, same_ply)))
 
-    pub play_next : (moment : ℕ) → AreSame (puts moment [] [] (row_of_game d h s.events (1 + n) new ∷ []) (row ∷ []) (tables_of d h s)) (tables_of d h (record s { last = moment; games = slice_set s.games n new }))
+    pub play_next : (moment : ℕ) → AreSame (puts moment [] [] (row_of_game kinds s.events (1 + n) new ∷ []) (row ∷ []) (tables_of kinds s)) (tables_of kinds (record s { last = moment; games = slice_set s.games n new }))
     play_next moment = (
       one_replaced (meta_row s.last) (meta_row moment) 1 refl refl,
       (
@@ -168,9 +169,9 @@ module _ {DP DM DE SP SM SE : Type 0} (d : GameRules DP DM DE) (h : GameRules SP
           (
             same_itself _,
             (
-              one_row_more (rows_of_moves d h s.events) s.games n old new row at grown fresh,
+              one_row_more (rows_of_moves kinds s.events) s.games n old new row at grown fresh,
               (
-                row_replaced (row_of_game d h s.events) (first_of_game s.events) s.games n old new (row_of_game d h s.events (1 + n) new) at refl,
+                row_replaced (row_of_game kinds s.events) (first_of_game s.events) s.games n old new (row_of_game kinds s.events (1 + n) new) at refl,
                 (same_itself _, (same_itself _, tt)),
               ),
             ),

@@ -1,7 +1,6 @@
 -- What is decided of a command, by what it is answered and the rows that are put.
 use Rattle.std.proofs.Common.{◌≡◌, ℕ, zero, suc, ◌+◌, List, [], ◌∷◌, ◌++◌, length, Option, Some, None, Bool, true, false, ◌&&◌, refl, ap, sym, subst, ◌∙◌, true≢false, arith}
 use Rattle.std.specs.Prelude.{slice_get, max}
-use Rattle.club_rules.specs.Draughts as rules
 use Rattle.club_rules.specs.declared.names.GameKind.TheVariants.{Draughts}
 use Rattle.club_core.specs.declared.answers.Outcome as given
 use Rattle.club_core.specs.declared.answers.Outcome.TheVariants as given_is
@@ -28,7 +27,7 @@ use Rattle.club_rows.specs.Tables.{member_row, event_row, game_row}
 use Rattle.sqlite.specs.Order.{Row}
 use Rattle.store_tables.specs.declared.rows.Changes.{Changes}
 use Rattle.store.specs.declared.command.Decided.{Decided}
-use Rattle.club_rows.specs.Club.{ClubState, IsClub, tables}
+use Rattle.club_rows.specs.Club.{both_games, ClubState, IsClub, tables}
 use Rattle.store.specs.Steps.{request, club_step, caller_step, game_in, AreSame, PutsOnly, IsDecided, changed_if}
 use Rattle.store.proofs.PutSame.{same_itself}
 use Rattle.store.proofs.NextRows.{puts, member_next, event_next, seat_next}
@@ -98,7 +97,7 @@ member_decided s moment who name key o c answer is_in are =
     (answer ∙ sym (answered_officer s f who (member_step s.members name key)))
     (officer_added s f who (same_member s.members name key) (member_refusal s.members name key) (s.members ++ m ∷ []) (member_added (length s.members + 1)) (ap is_accepted (sym answer) ∙ is_in))
     are
-    (member_next rules.draughts rules.draughts s m moment)
+    (member_next both_games s m moment)
 
 pub event_decided : (s : ClubState) (moment : ℕ) (who : Caller) (e : Event) (o : given.Outcome) (c : Changes) → IsClub s → outcome_of o ≡ answered (by_officer who (event_step s.events e)) → is_accepted (outcome_of o) ≡ true → PutsOnly c moment [] (event_row (1 + length s.events) e ∷ []) [] []
     → IsDecided s (caller_step s moment who (add_event e)) (record { outcome = o; changes = Some c })
@@ -108,7 +107,7 @@ event_decided s moment who e o c club answer is_in are =
     (answer ∙ sym (answered_officer s f who (event_step s.events e)))
     (officer_added s f who (same_event s.events e) (event_refusal s.events e) (s.events ++ e ∷ []) (event_added (length s.events + 1)) (ap is_accepted (sym answer) ∙ is_in))
     are
-    (event_next rules.draughts rules.draughts s e moment club.legal.games)
+    (event_next both_games s e moment club.legal.games)
 
 -- ---- what an accepted command meets
 
@@ -167,7 +166,7 @@ seat_same seating who key event first second members ms events es under u games 
     is ∙ (λ i. by_officer who (seat_step (m i) (e i) (k i) (c i) key event first second))
 
 pub seat_decided : (s : ClubState) (moment : ℕ) (who : Caller) (key event first second : List ℕ) (p : Pairing) (id : ℕ) (c : Changes) → IsClub s → accepted p (game_seated id) ≡ by_officer who (seat_step s.members s.events (game_under s.games key) (length s.games) key event first second)
-    → PutsOnly c moment [] [] (game_row rules.draughts (terms_at (place s.events p.event)) id (seated (Some key) p moment) ∷ []) []
+    → PutsOnly c moment [] [] (game_row both_games.draughts (terms_at (place s.events p.event)) id (seated (Some key) p moment) ∷ []) []
     → IsDecided s (caller_step s moment who (seat key event first second)) (record { outcome = given_is.Accepted (answer_is.Game id); changes = Some c })
 seat_decided s moment who key event first second p id c club answer are =
     let f = with_new_game s moment key in
@@ -175,23 +174,23 @@ seat_decided s moment who key event first second p id c club answer are =
     let next : id ≡ length s.games + 1 = officer_id who (find_id (has_event_name event) s.events) (find_id (has_member_name first) s.members) (find_id (has_member_name second) s.members) (game_under s.games key) (length s.games) key p id answer in
     let same_id : id ≡ 1 + length s.games = omega (arith, next) in
     let kind : kind_at (place s.events p.event) ≡ Draughts = kind_draughts s.events p.event club.kinds in
-    let row : game_row rules.draughts (terms_at (place s.events p.event)) id (seated (Some key) p moment) ≡ game_in s (1 + length s.games) (seated_as (kind_at (place s.events p.event)) (Some key) p moment) =
-    ap (λ k. game_row rules.draughts (terms_at (place s.events p.event)) k (seated (Some key) p moment)) same_id
+    let row : game_row both_games.draughts (terms_at (place s.events p.event)) id (seated (Some key) p moment) ≡ game_in s (1 + length s.games) (seated_as (kind_at (place s.events p.event)) (Some key) p moment) =
+    ap (λ k. game_row both_games.draughts (terms_at (place s.events p.event)) k (seated (Some key) p moment)) same_id
     ∙ ap (λ k. game_in s (1 + length s.games) (seated_as k (Some key) p moment)) (sym kind) in
     put_decided s (caller_step s moment who (seat key event first second)) (f p) (given_is.Accepted (answer_is.Game id)) c moment [] [] (game_in s (1 + length s.games) (seated_as (kind_at (place s.events p.event)) (Some key) p moment) ∷ []) []
     (ap answered answer ∙ sym (answered_officer s f who step))
     (officer_stands s f who step p (game_seated id) answer)
     (subst (λ r. PutsOnly c moment [] [] (r ∷ []) []) row are)
-    (seat_next rules.draughts rules.draughts s key p moment)
+    (seat_next both_games s key p moment)
 
 -- ---- who asks
 
 pub caller_decided : (s : ClubState) (moment effective : ℕ) (who : given_who.Who) (caller : Caller) (command : given_command.Command) (d : Decided) → effective ≡ max moment s.last → Some caller ≡ caller_of s.members (who_of who) → IsDecided s (caller_step s effective caller (command_of command)) d → IsDecided s (club_step s (request who command moment)) d
 caller_decided s moment effective who caller command d moment_is caller_is decided =
-    subst (λ o. IsDecided s (step_by rules.draughts rules.draughts s (max moment s.last) o (command_of command)) d) caller_is
+    subst (λ o. IsDecided s (step_by both_games s (max moment s.last) o (command_of command)) d) caller_is
     (subst (λ m. IsDecided s (caller_step s m caller (command_of command)) d) moment_is decided)
 
 pub nobody_decided : (s : ClubState) (moment : ℕ) (who : given_who.Who) (command : given_command.Command) (d : Decided) → None ≡ caller_of s.members (who_of who) → d.outcome ≡ given_is.Refused UnknownKey → d.changes ≡ None → IsDecided s (club_step s (request who command moment)) d
 nobody_decided s moment who command d nobody is none =
     none_decided s (club_step s (request who command moment)) d (given_is.Refused UnknownKey) is none
-    (ap (λ o. answered (step_by rules.draughts rules.draughts s (max moment s.last) o (command_of command))) nobody) refl
+    (ap (λ o. answered (step_by both_games s (max moment s.last) o (command_of command))) nobody) refl

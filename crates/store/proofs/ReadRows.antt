@@ -10,12 +10,11 @@ use Rattle.club_core.specs.Answer.{member_of}
 use Rattle.club_core.specs.Members.{Member}
 use Rattle.club_core.specs.Events.{Event, Terms}
 use Rattle.club_core.specs.State.{place, terms_at}
-use Rattle.club_rules.specs.Draughts.{draughts}
 use Rattle.club_rows.specs.Tables.{number, numbered_from, member_row, event_row}
 use Rattle.store_tables.specs.Cells.{member_cells}
 use Rattle.store_tables.specs.declared.rows.MemberRow.{MemberRow}
 use Rattle.store_sql.specs.Read.{BeginWithPlaces}
-use Rattle.club_rows.specs.Club.{ClubState, tables}
+use Rattle.club_rows.specs.Club.{both_games, ClubState, tables}
 use Rattle.store.specs.Steps.{game_in}
 use Rattle.store.proofs.PutSame.{numbered_at, numbered_length, numbered_places, at_get, take_next}
 use Rattle.store.proofs.NextRows.{first_of_game}
@@ -90,7 +89,7 @@ pub events_begin : (xs : List Event) → BeginWithPlaces (numbered_from event_ro
 events_begin xs = begins event_row (λ id x. refl) xs
 
 pub games_begin : (s : ClubState) → BeginWithPlaces (tables s 10)
-games_begin s = begins (game_in s) (first_of_game draughts draughts s.events) s.games
+games_begin s = begins (game_in s) (first_of_game both_games s.events) s.games
 
 pub meta_begins : (s : ClubState) → BeginWithPlaces (tables s 0)
 meta_begins s zero within = refl

@@ -7,7 +7,6 @@ use Rattle.store_tables.specs.Club.{Holds}
 use Rattle.store_tables.specs.declared.rows.Rows.{Rows}
 use Rattle.store_tables.specs.declared.names.Table.{Table}
 use Rattle.store_tables.specs.declared.names.Table.TheVariants.{Members, Events, Games}
-use Rattle.club_rules.specs.Draughts.{draughts}
 use Rattle.club_rows.specs.Club.{ClubState, IsClub, IsStoredAs, tables}
 use Rattle.club_rows.specs.Tables.{tables_of}
 use Rattle.store.specs.declared.fault.OpenFault.{OpenFault}

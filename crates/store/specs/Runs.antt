@@ -1,19 +1,18 @@
 -- What a club makes of requests in turn.
 use Rattle.std.specs.Prelude.{List}
-use Rattle.club_rules.specs.Draughts as rules
 use Rattle.club_core.specs.Outcome.{Outcome}
 use Rattle.club_core.specs.State as machine
 use Rattle.club_core.specs.State.{Request}
-use Rattle.club_rows.specs.Club.{ClubState}
+use Rattle.club_rows.specs.Club.{both_games, ClubState}
 
 -- the state after the requests
 abbrev pub club_fold : ClubState → List Request → ClubState
-club_fold = machine.fold rules.draughts rules.draughts
+club_fold = machine.fold both_games
 
 -- the outcome of each of them
 abbrev pub club_outcomes : ClubState → List Request → List (Outcome ClubState)
-club_outcomes = machine.outcomes rules.draughts rules.draughts
+club_outcomes = machine.outcomes both_games
 
 -- those of them that are accepted
 abbrev pub club_accepted : ClubState → List Request → List Request
-club_accepted = machine.accepted_of rules.draughts rules.draughts
+club_accepted = machine.accepted_of both_games

@@ -4,8 +4,6 @@ use Rattle.std.specs.Option.{option_map}
 use Rattle.sqlite.specs.Order.{Row}
 use Rattle.store_tables.specs.Changes as changes
 pub use Rattle.store_tables.specs.Changes.{HaveSame}
-use Rattle.squares.specs.declared.draughts.moves.DMove.{DMove}
-use Rattle.club_rules.specs.Draughts as rules
 use Rattle.club_rules.specs.GameRules.{GameRules}
 use Rattle.club_core.specs.declared.requests.Who as given_who
 use Rattle.club_core.specs.declared.requests.Command as given_command
@@ -16,9 +14,9 @@ use Rattle.club_core.specs.Game.{Game}
 use Rattle.club_core.specs.Legal.{IsLegalGame}
 use Rattle.club_core.specs.Outcome.{Outcome}
 use Rattle.club_core.specs.Answer.{answered, outcome_of, who_of, command_of}
-use Rattle.club_core.specs.State.{AnyGame, Command, Request, state_after, step, step_command, next}
+use Rattle.club_core.specs.State.{Command, Request, state_after, step, step_command, next}
 use Rattle.club_rows.specs.Shown.{FitsTables}
-use Rattle.club_rows.specs.Club.{ClubState, IsClub, tables}
+use Rattle.club_rows.specs.Club.{ClubGame, both_games, ClubState, IsClub, tables}
 use Rattle.club_rows.specs.Tables.{number, game_row, row_of_game}
 use Rattle.store_tables.specs.Cells.{meta_cells, member_cells, event_cells, move_cells, game_cells}
 use Rattle.store_tables.specs.Contents.{Content}
@@ -34,25 +32,25 @@ abbrev pub request : given_who.Who → given_command.Command → ℕ → Request
 request who command moment = record { who = who_of who; command = command_of command; moment = moment }
 
 abbrev pub club_step : ClubState → Request → Outcome ClubState
-club_step = step rules.draughts rules.draughts
+club_step = step both_games
 
 abbrev pub club_next : ClubState → Request → ClubState
-club_next = next rules.draughts rules.draughts
+club_next = next both_games
 
 -- a caller's command, at the effective moment
 abbrev pub caller_step : ClubState → ℕ → Caller → Command → Outcome ClubState
-caller_step = step_command rules.draughts rules.draughts
+caller_step = step_command both_games
 
 -- a request, at a moment that there is, leaves a legal club legal
 abbrev pub KeepsClub : Type 0
 KeepsClub = (s : ClubState) (r : Request) → r.moment ≤ last_moment → IsClub s → IsClub (club_next s r)
 
 -- the row of a game of the club
-abbrev pub game_in : ClubState → ℕ → AnyGame DMove DMove → Row
-game_in s = row_of_game rules.draughts rules.draughts s.events
+abbrev pub game_in : ClubState → ℕ → ClubGame → Row
+game_in s = row_of_game both_games s.events
 
 -- the row is that of this legal game, whose values fit the tables
-pub record IsRecordOf {P M E : Type 0} (laws : GameRules P M E) (terms : Terms) (id : ℕ) (stored : GameRecord) (game : Game M) : Type 0 where
+pub record IsRecordOf {P M E T : Type 0} (laws : GameRules P M E T) (terms : Terms) (id : ℕ) (stored : GameRecord) (game : Game M) : Type 0 where
   pub budget : IsTrue (is_budget terms.budget)
   pub increment : IsTrue (is_increment terms.increment)
   pub legal : IsLegalGame laws terms game

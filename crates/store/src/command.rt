@@ -5,14 +5,13 @@ ghost use Rattle.std.specs.Option.{option_map};
 ghost use Rattle.sqlite.specs.State.{HasCleanDisk};
 ghost use Rattle.sqlite.specs.Held.{state};
 ghost use Rattle.squares.specs.declared.draughts.moves.DMove.{DMove};
-ghost use Rattle.club_rules.specs.Draughts.{draughts};
 ghost use Rattle.club_core.specs.Answer.{outcome_of, members_of, event_of, events_of, added_event, keyed_of, pairing_of, command_of, move_reply_of};
 ghost use Rattle.club_core.specs.Events as core;
 ghost use Rattle.club_core.specs.Members as core_members;
 ghost use Rattle.club_core.specs.Game.{Game};
 ghost use Rattle.club_core.specs.Step.{move, game_step};
 ghost use Rattle.club_core.specs.State as club;
-ghost use Rattle.club_core.specs.State.{AnyGame, is_accepted, place, terms_at, game_under, keyed_game, seated, add_member, add_event, on_game};
+ghost use Rattle.club_core.specs.State.{is_accepted, place, terms_at, game_under, keyed_game, seated, add_member, add_event, on_game};
 ghost use Rattle.club_core.specs.LegalState.{Each, IsLegalEvent};
 ghost use Rattle.club_core.specs.View.{IsSound, IsRowOf, IsDecision, Shows, ShowsPly, terms_of};
 ghost use Rattle.club_rows.specs.Made.{made_row};
@@ -22,7 +21,7 @@ ghost use Rattle.store_tables.specs.Cells.{meta_cells, member_cells, event_cells
 ghost use Rattle.store_tables.specs.Club.{IsExactly};
 ghost use Rattle.store_tables.specs.Reading.{OnlyReads};
 ghost use Rattle.store_sql.specs.Read.{KeepsContent};
-ghost use Rattle.club_rows.specs.Club.{ClubState, IsClub, tables};
+ghost use Rattle.club_rows.specs.Club.{both_games, ClubGame, ClubState, IsClub, tables};
 ghost use Rattle.store.specs.Steps.{request, club_step, caller_step, game_in, HaveSame, PutsOnly, IsDecided, IsRecordOf};
 ghost use Rattle.store.specs.Whole.{IsWhole};
 
@@ -34,9 +33,10 @@ use club_core::{
     Member, Move, Moved, Outcome, Pairing, Refusal, Seat, Seating, Who, add_event, add_member,
     decide, identify, seat, seated_row,
 };
+use club_games::Draughts;
 use club_rows::numbers::{counted, id, moment as moment_of, stored};
 use club_rows::{Shown, Terms, ask, move_row, record_of, view_of};
-use club_rules::{Draughts, DraughtsEnd, GameKind, Memory};
+use club_rules::{GameKind, Memory, Rules};
 use sqlite::{Alter, Connection};
 use std::alloc::Global;
 use store_sql::{GameKey, count, find, find_by_first, list};
@@ -267,7 +267,7 @@ fn on_event(
 
 // The ids in the row of a game: its own, and those of its event and players.
 fn ids_in(row: &GameRecord) -> Result<KeyedGame, CallFault>
-    ensures { IfOk result (λ k. (s : ClubState) (id : ℕ) (game : AnyGame DMove DMove) →
+    ensures { IfOk result (λ k. (s : ClubState) (id : ℕ) (game : ClubGame) →
         game_cells row.now ≡ game_in s id game →
         Some (keyed_of k) ≡ keyed_game (Some game) id) }
 {
@@ -326,7 +326,7 @@ fn terms_at(events: &[Event], event: u32) -> Result<Terms, CallFault>
 }
 
 // The rows of a game that starts.
-fn seated(
+fn seated<R: Rules>(
     alloc: Global,
     events: &[Event],
     new: KeyedGame,
@@ -334,14 +334,12 @@ fn seated(
     moment: Moment,
 ) -> Result<Changes, CallFault>
     ensures { IfOk result (λ changes. Each IsLegalEvent (events_of events.now) →
-        PutsOnly changes moment [] [] (game_row draughts (terms_at (place (events_of events.now) new.pairing.event)) new.game (seated (Some key.now) (pairing_of new.pairing) moment) ∷ []) []) }
+        PutsOnly changes moment [] [] (game_row R.rules (terms_at (place (events_of events.now) new.pairing.event)) new.game (seated (Some key.now) (pairing_of new.pairing) moment) ∷ []) []) }
 {
     let terms = terms_at(events, new.pairing.event)?;
-    let row = seated_row::<Draughts>(alloc, key, new.pairing, terms.budget, moment)?;
+    let row = seated_row::<R>(alloc, key, new.pairing, terms.budget, moment)?;
     let mut changes = at(alloc, moment);
-    changes
-        .games
-        .push(record_of::<Draughts>(alloc, new.game, &row)?)?;
+    changes.games.push(record_of::<R>(alloc, new.game, &row)?)?;
     Ok(changes)
 }
 
@@ -372,7 +370,7 @@ fn on_seat<S: Alter>(
     };
     match seat(members, events, under_key, games, caller, command) {
         Seating::Starts(new) => {
-            let changes = seated(alloc, events, new, command.key.as_str(), moment)?;
+            let changes = seated::<Draughts>(alloc, events, new, command.key.as_str(), moment)?;
             Ok(Decided {
                 outcome: Outcome::Accepted(Answer::Game(new.game)),
                 changes: Some(changes),
@@ -384,23 +382,21 @@ fn on_seat<S: Alter>(
 }
 
 // The rows of a game in which a move was played.
-fn moved_rows(
+fn moved_rows<R: Rules>(
     alloc: Global,
     game: u32,
-    row: &GameRow<DraughtsEnd>,
+    row: &GameRow<R::End>,
     moved: &Moved,
     moment: Moment,
 ) -> Result<Changes, CallFault>
     // Seconds that 63 bits hold are stored as they are.
-    ensures { IfOk result (λ changes. (terms : core.Terms) (new : Game DMove) → row.now.left_first < 2 ^ 63 →
+    ensures { IfOk result (λ changes. (terms : core.Terms) (new : Game R.Move) → row.now.left_first < 2 ^ 63 →
         row.now.left_second < 2 ^ 63 → moved.now.left < 2 ^ 63 →
-        IsRowOf draughts terms new row.now →
-        PutsOnly changes moment [] [] (game_row draughts terms game new ∷ []) (made_row game (move_reply_of moved.now) moment ∷ [])) }
+        IsRowOf R.rules terms new row.now →
+        PutsOnly changes moment [] [] (game_row R.rules terms game new ∷ []) (made_row game (move_reply_of moved.now) moment ∷ [])) }
 {
     let mut changes = at(alloc, moment);
-    changes
-        .games
-        .push(record_of::<Draughts>(alloc, game, row)?)?;
+    changes.games.push(record_of::<R>(alloc, game, row)?)?;
     changes.moves.push(move_row(game, moved, moment)?)?;
     Ok(changes)
 }
@@ -415,7 +411,7 @@ fn played(
     ensures acts { IfOk result IsWhole }
     ensures step { IfOk result (λ d. (s : ClubState) (old : Game DMove) (who : Caller) (ply : ℕ) (text : List ℕ) →
         IsClub s → place s.games game ≡ Some (club.draughts old) →
-        IsDecision draughts (terms_at (place s.events old.event)) old (game_step draughts (terms_at (place s.events old.event)) old moment who (move ply text)) shown →
+        IsDecision both_games.draughts (terms_at (place s.events old.event)) old (game_step both_games.draughts (terms_at (place s.events old.event)) old moment who (move ply text)) shown →
         IsDecided s (caller_step s moment who (on_game game (move ply text))) d) }
 {
     let (row, answer) = match shown {
@@ -428,7 +424,7 @@ fn played(
         Decision::Refused(refusal) => return Ok(unchanged(Outcome::Refused(refusal))),
     };
     let changes = match &answer {
-        Answer::Moved(moved) => moved_rows(alloc, game, &row, moved, moment)?,
+        Answer::Moved(moved) => moved_rows::<Draughts>(alloc, game, &row, moved, moment)?,
         _ => return Err(CallFault::Store),
     };
     Ok(Decided {
@@ -438,21 +434,21 @@ fn played(
 }
 
 // The view of a game, asked of a ply.
-fn asked_view(
+fn asked_view<R: Rules>(
     alloc: Global,
     row: &GameRecord,
     terms: Terms,
     moves: &[MoveRow],
     ply: u64,
-) -> Result<GameView<Draughts>, CallFault>
-    ensures sound { IfOk result (λ view. IsSound draughts view) }
+) -> Result<GameView<R>, CallFault>
+    ensures sound { IfOk result (λ view. IsSound R.rules view) }
     ensures terms { IfOk result (λ view. terms_of view ≡ terms_given terms) }
     // The order and the number of the rows of the moves are found here, so that these may be any that are the game's.
-    ensures shows { IfOk result (λ view. (id : ℕ) (game : Game DMove) →
-        IsRecordOf draughts (terms_given terms) id row.now game →
-        HaveSame (map move_cells moves.now) (move_rows draughts (terms_given terms) id game) → Shows draughts game view × ShowsPly draughts game ply view) }
+    ensures shows { IfOk result (λ view. (id : ℕ) (game : Game R.Move) →
+        IsRecordOf R.rules (terms_given terms) id row.now game →
+        HaveSame (map move_cells moves.now) (move_rows R.rules (terms_given terms) id game) → Shows R.rules game view × ShowsPly R.rules game ply view) }
 {
-    match view_of::<Draughts>(alloc, row, terms, moves)? {
+    match view_of::<R>(alloc, row, terms, moves)? {
         Shown::Game(view) => Ok(ask(view, moves, ply)),
         _ => Err(CallFault::Store),
     }
@@ -480,7 +476,7 @@ fn on_game<S: Alter>(
     let events = events_of(alloc, &list::<EventRow, S>(alloc, conn)?)?;
     let moves = find_by_first::<MoveRow, S>(alloc, conn, &row.id)?;
     let terms = terms_at(&events, ids.pairing.event)?;
-    let view = asked_view(alloc, row, terms, moves.as_slice(), command.ply)?;
+    let view = asked_view::<Draughts>(alloc, row, terms, moves.as_slice(), command.ply)?;
     on_view(alloc, ids.game, &view, caller, command, moment)
 }
 
@@ -493,11 +489,11 @@ fn on_view(
     command: &Move,
     moment: Moment,
 ) -> Result<Decided, CallFault>
-    requires { IsSound draughts view.now }
+    requires { IsSound both_games.draughts view.now }
     ensures acts { IfOk result IsWhole }
     ensures step { IfOk result (λ d. (s : ClubState) (old : Game DMove) → IsClub s → s.last ≤ moment →
         place s.games game ≡ Some (club.draughts old) →
-        terms_of view.now ≡ terms_at (place s.events old.event) → Shows draughts old view.now → ShowsPly draughts old command.now.ply view.now →
+        terms_of view.now ≡ terms_at (place s.events old.event) → Shows both_games.draughts old view.now → ShowsPly both_games.draughts old command.now.ply view.now →
         IsDecided s (caller_step s moment caller (on_game game (move command.now.ply (string_bytes command.now.text)))) d) }
 {
     let moment = moment.later(view.row.since);

@@ -18,14 +18,14 @@ fn text(alloc: Global, letters: &str) -> Result<String, Fail> {
 
 /// Who gives a command: the officer, or one who shows this key.
 #[derive(Clone, Copy)]
-enum By<'a> {
+pub(crate) enum By<'a> {
     Officer,
     Key(&'a str),
 }
 
 /// A command, by its values.
 #[derive(Clone, Copy)]
-enum Given<'a> {
+pub(crate) enum Given<'a> {
     Member(&'a str, &'a str),
     Event(&'a str, GameKind, u64, u64),
     Seat(&'a str, &'a str, &'a str, &'a str),
@@ -87,8 +87,8 @@ fn reopened(alloc: Global, club: Club<MemStore>) -> Result<(Club<MemStore>, Tabl
     Ok((adopted(alloc, conn)?, before, after))
 }
 
-// Gives the command at the moment, which must come to that. Giving the club up and taking it again changes nothing.
-fn serve<R: Abort + AllocGlobal>(
+// Gives the command at the moment, which must come to that.
+pub(crate) fn give<R: Abort + AllocGlobal>(
     rt: &R,
     club: Club<MemStore>,
     seconds: u64,
@@ -105,12 +105,17 @@ fn serve<R: Abort + AllocGlobal>(
     let mut club = club;
     let outcome = club.apply(alloc, &who, &given.command(alloc)?, moment)?;
     assert_eq!(rt; told(alloc, &outcome)?.as_str(), wanted);
-    let (club, before, after) = reopened(alloc, club)?;
-    assert!(rt; before == after, "{wanted}");
     Ok(club)
 }
 
-// Serves the commands in turn.
+// Giving the club up and taking it again changes nothing.
+fn stays<R: Abort + AllocGlobal>(rt: &R, club: Club<MemStore>) -> Result<Club<MemStore>, Fail> {
+    let (club, before, after) = reopened(rt.alloc(), club)?;
+    assert!(rt; before == after);
+    Ok(club)
+}
+
+// Serves the commands in turn, each to a club that was just taken.
 fn serve_all<R: Abort + AllocGlobal>(
     rt: &R,
     club: Club<MemStore>,
@@ -118,12 +123,26 @@ fn serve_all<R: Abort + AllocGlobal>(
 ) -> Result<Club<MemStore>, Fail> {
     let mut club = club;
     for (seconds, by, given, wanted) in script {
-        club = serve(rt, club, *seconds, *by, *given, wanted)?;
+        club = give(rt, club, *seconds, *by, *given, wanted)?;
+        club = stays(rt, club)?;
     }
     Ok(club)
 }
 
-fn opened(alloc: Global) -> Result<Club<MemStore>, Fail> {
+/// Serves the commands in turn to one club, which is then given up and taken again.
+pub(crate) fn serve_at_once<R: Abort + AllocGlobal>(
+    rt: &R,
+    club: Club<MemStore>,
+    script: &[(u64, By<'_>, Given<'_>, &str)],
+) -> Result<Club<MemStore>, Fail> {
+    let mut club = club;
+    for (seconds, by, given, wanted) in script {
+        club = give(rt, club, *seconds, *by, *given, wanted)?;
+    }
+    stays(rt, club)
+}
+
+pub(crate) fn opened(alloc: Global) -> Result<Club<MemStore>, Fail> {
     match create(alloc, Connection::open_in_memory(alloc)?) {
         Ok(club) => Ok(club),
         Err(unopened) => Err(Fail::from(unopened.fault)),

@@ -4,6 +4,8 @@
 #[cfg(test)]
 mod commands;
 #[cfg(test)]
+mod draughts;
+#[cfg(test)]
 mod first_path;
 #[cfg(test)]
 mod stops;

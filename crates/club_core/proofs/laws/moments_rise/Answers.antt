@@ -1,5 +1,6 @@
+use Rattle.club_core.specs.ClubRules.{both}
 use Rattle.club_core.proofs.Folds.{next-raises}
 use Rattle.club_core.proofs.laws.moments_rise.Goals as goal
 
 pub returns : goal.returns
-returns g c = next-raises g.D.Rules.rules g.S.Rules.rules
+returns g c = next-raises (both g.D.Rules.rules g.S.Rules.rules)

@@ -1,8 +1,9 @@
+use Rattle.club_core.specs.ClubRules.{both}
 use Rattle.club_core.proofs.Repeats.{answers-again}
 use Rattle.club_core.proofs.laws.repeats_answer_again.Goals as goal
 
 pub returns : goal.returns
 returns g c =
-    answers-again g.D.Rules.rules g.S.Rules.rules
+    answers-again (both g.D.Rules.rules g.S.Rules.rules)
     (record { first_starts = g.met.D.Rules.first_starts; turn_passes = g.met.D.Rules.turn_passes; same_is = g.met.D.Rules.same_is; ends_at_limit = g.met.D.Rules.ends_at_limit })
     (record { first_starts = g.met.S.Rules.first_starts; turn_passes = g.met.S.Rules.turn_passes; same_is = g.met.S.Rules.same_is; ends_at_limit = g.met.S.Rules.ends_at_limit })

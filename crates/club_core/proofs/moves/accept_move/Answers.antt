@@ -1,10 +1,10 @@
 use Rattle.std.proofs.Common.{rules, ◌≡◌, ◌+◌, ◌++◌, ◌∷◌, [], None, string_bytes, length, sym, ap, ◌∙◌, refl, length-append}
 use Rattle.std.specs.Option.{option_map}
-use Rattle.club_rules.proofs.Lines.{IsLegalLine-append}
 use Rattle.club_core.specs.declared.rows.GameEnd.TheVariants.{Rule}
 use Rattle.club_core.specs.Game.{moves_of, clocks_of, left_of, last_position, turn_of, end_of, rule_end, result_of, score_with, spend}
 use Rattle.club_core.specs.Step.{played}
 use Rattle.club_core.specs.View.{IsSound, CanPlay, clocks_in, terms_of}
+use Rattle.club_core.proofs.PlayedLines.{IsPlayedLine-append}
 use Rattle.club_core.proofs.Played.{last-played, rule_end-played, end-played, made-played, clocks-played, reply-played, moved-same}
 use Rattle.club_core.proofs.moves.accept_move.Goals as goal
 
@@ -13,7 +13,7 @@ judge-requires g c =
     let sound : IsSound g.R.Rules.rules c.args.view.now = assumption c in
     let can : CanPlay g.R.Rules.rules c.args.view.now c.args.turn c.args.made c.args.left c.args.moment = assumption c in
     rw (c.start.ensures, c.deref-2.ensures.value, c.in_ok-line.ensures, c.deref.ensures.value)
-    (IsLegalLine-append g.R.Rules.rules g.R.Rules.rules.start c.args.view.now.line.items c.args.made sound.line
+    (IsPlayedLine-append g.R.Rules.rules g.R.Rules.rules.start c.args.view.now.line.items c.args.made sound.line (sound.running can.running)
     (rw sound.position at can.legal))
 
 pub returns : goal.returns
@@ -40,7 +40,7 @@ returns g c = λ game shows legal.
     c.in_ok-row.ensures.clocks c.args.view.now.increment can.left
     ∙ (ap (λ side. spend c.args.view.now.increment side moment (clocks_in c.args.view.now.row)) to_move
     ∙ (ap (spend c.args.view.now.increment (turn_of laws game) moment) shows.row.clocks
-    ∙ sym (clocks-played laws passes starts game legal.line m moment terms))) in
+    ∙ sym (clocks-played laws passes starts game legal.line.legal m moment terms))) in
     let turn : c.turn.result ≡ turn_of laws new = c.turn.ensures ∙ ap laws.turn position in
     let plies : row.plies ≡ length game.entries + 1 =
     ap (λ r. r.plies) others ∙ ap (λ n. n + 1) shows.row.plies in
@@ -64,5 +64,5 @@ returns g c = λ game shows legal.
         position = ap (λ r. string_bytes r.position) others ∙ written;
       },
       rw (made-played laws game m moment) (refl, position),
-      moved-same _ _ plies text left shown (c.name_of_end.ensures ∙ ap (option_map laws.end_name) rule) ∙ sym (reply-played laws passes starts game legal.line m moment terms),
+      moved-same _ _ plies text left shown (c.name_of_end.ensures ∙ ap (option_map laws.end_name) rule) ∙ sym (reply-played laws passes starts game legal.line.legal m moment terms),
     )

@@ -2,7 +2,7 @@ use Rattle.std.proofs.Common.{◌≡◌, ◌∙◌, ◌-◌, Ok, subst, sym, ap,
 use Rattle.std.specs.Prelude.{slice_get, Some}
 use Rattle.std.proofs.lemmas.Option.{slice_get-get_or, same_Some}
 use Rattle.club_rules.specs.Line.{IsLegalLine, position_after}
-use Rattle.club_rules.proofs.Lines.{check-at}
+use Rattle.club_rules.proofs.Proved.{check-at}
 use Rattle.club_rows.proofs.LineLemmas.{IsLegalLine-take}
 use Rattle.club_rows.proofs.asked.asked_at.Goals as goal
 
@@ -10,7 +10,7 @@ pub position_after-requires : goal.position_after-requires
 position_after-requires g c =
     let rules = g.R.Rules.rules in
     subst (λ ms. IsLegalLine rules rules.start (take (c.args.ply - 1) ms)) (sym c.as_slice-line.ensures.value)
-    (IsLegalLine-take rules (c.args.ply - 1) rules.start c.args.view.now.line.items c.requires.line)
+    (IsLegalLine-take rules (c.args.ply - 1) rules.start c.args.view.now.line.items c.requires.line.legal)
 
 pub returns-in-Some-seconds_in-clause-legal : goal.returns-in-Some-seconds_in-clause-legal
 returns-in-Some-seconds_in-clause-legal g c =
@@ -19,7 +19,7 @@ returns-in-Some-seconds_in-clause-legal g c =
     let k = c.args.ply - 1 in
     let at = c.in-Some.ensures.lookup in
     let here : slice_get line k ≡ Some c.in-Some.made.now = slice_get-get_or line k c.in-Some.made.now at.3.0 ∙ ap Some (sym (at.3.1 c.in-Some.made.now)) in
-    let legal : IsLegalLine rules rules.start line = subst (IsLegalLine rules rules.start) (sym c.as_slice-line.ensures.value) c.requires.line in
+    let legal : IsLegalLine rules rules.start line = subst (IsLegalLine rules rules.start) (sym c.as_slice-line.ensures.value) c.requires.line.legal in
     subst (λ p. rules.check p c.in-Some.made.now ≡ Ok tt) (sym c.position_after.ensures) (check-at rules rules.start line k c.in-Some.made.now legal here)
 
 pub returns-in-Some-seconds_in-clause-some : goal.returns-in-Some-seconds_in-clause-some

@@ -1,6 +1,6 @@
 use Rattle.std.proofs.Common.{◌≡◌, ◌+◌, pos, sym, subst, ◌∙◌, arith}
 use Rattle.std.proofs.lemmas.Int.{ints}
-use Rattle.club_rules.specs.Draughts.{draughts}
+use Rattle.club_games.specs.Draughts.{draughts}
 use Rattle.club_rows.specs.Audit.{GivesTerms, IsWithin}
 use Rattle.club_rows.specs.Replay.{terms_with}
 use Rattle.club_rows.specs.Shown.{ShowsGame, IsSoundIfShown}

@@ -1,8 +1,7 @@
 use Rattle.std.proofs.Common.{◌≡◌, List}
 use Rattle.squares.specs.declared.draughts.moves.DMove.{DMove}
-use Rattle.club_core.specs.State.{AnyGame}
 use Rattle.club_rows.specs.Audit.{HasPeople, AreGames}
-use Rattle.club_rows.specs.Club.{ClubState}
+use Rattle.club_rows.specs.Club.{ClubGame, ClubState}
 use Rattle.club_rows.proofs.AuditLemmas.{WereShown, AreLeft}
 use Rattle.club_rows.proofs.audit.wrong_by_games.Given as goal
 
@@ -10,5 +9,5 @@ abbrev pub invariant-loop-place : goal.invariant-loop-place
 invariant-loop-place l = record {
   items : l.game-items ≡ l.rows.games.items;
   shown : (s : ClubState) → HasPeople s l.rows → WereShown s l.rows.games.items l.rows.moves.items l.place l.rest;
-  left : (s : ClubState) → HasPeople s l.rows → (games : List (AnyGame DMove DMove)) → AreGames s games l.rows.games.items l.rows.moves.items → AreLeft s games l.place l.rest;
+  left : (s : ClubState) → HasPeople s l.rows → (games : List ClubGame) → AreGames s games l.rows.games.items l.rows.moves.items → AreLeft s games l.place l.rest;
 }

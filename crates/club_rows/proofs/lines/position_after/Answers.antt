@@ -1,6 +1,6 @@
 use Rattle.std.proofs.Common.{◌≡◌, ◌∙◌, ◌+◌, ◌∷◌, drop, sym, ap, subst}
 use Rattle.club_rules.specs.Line.{IsLegalLine, position_after}
-use Rattle.club_rules.proofs.Lines.{drop-at}
+use Rattle.club_rules.proofs.Proved.{drop-at}
 use Rattle.club_rows.proofs.lines.position_after.Goals as goal
 
 pub play-position-requires : goal.play-position-requires

@@ -3,7 +3,7 @@ use Rattle.store.proofs.ReadRows.{one_pushed}
 use Rattle.store.proofs.command.moved_rows.Goals as goal
 
 pub returns : goal.returns
-returns c terms new first second left is = record {
+returns g c terms new first second left is = record {
   meta = c.at-changes.ensures.meta;
   members_are = c.at-changes.ensures.members_are;
   events_are = c.at-changes.ensures.events_are;

@@ -4,7 +4,7 @@ use Rattle.std.proofs.lemmas.Result.{IfOk-weaker}
 use Rattle.sqlite.specs.Held.{state}
 use Rattle.sqlite.specs.State.{HasCleanDisk}
 use Rattle.sqlite.specs.declared.types.Value.TheVariants.{Int}
-use Rattle.club_rules.specs.Draughts.{draughts}
+use Rattle.club_games.specs.Draughts.{draughts}
 use Rattle.club_core.specs.Answer.{events_of, keyed_of}
 use Rattle.club_core.specs.Step.{move}
 use Rattle.club_core.specs.State as club

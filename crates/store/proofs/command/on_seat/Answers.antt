@@ -2,7 +2,7 @@ use Rattle.store_tables.specs.Tables.{club_schema}
 use Rattle.std.proofs.Common.{◌≡◌, [], ◌∷◌, length, Some, string_bytes, refl, ap, sym, subst, ◌∙◌, arith}
 use Rattle.sqlite.specs.Held.{state}
 use Rattle.sqlite.specs.State.{HasCleanDisk}
-use Rattle.club_rules.specs.Draughts.{draughts}
+use Rattle.club_games.specs.Draughts.{draughts}
 use Rattle.club_core.specs.declared.answers.Outcome.TheVariants as given
 use Rattle.club_core.specs.declared.answers.Answer.TheVariants as answer
 use Rattle.club_core.specs.Answer.{answered, pairing_of}

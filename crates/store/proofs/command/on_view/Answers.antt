@@ -1,6 +1,6 @@
 use Rattle.std.proofs.Common.{◌≡◌, ap, sym, subst, string_bytes, arith}
 use Rattle.std.proofs.lemmas.Result.{IfOk-weaker}
-use Rattle.club_rules.specs.Draughts.{draughts}
+use Rattle.club_games.specs.Draughts.{draughts}
 use Rattle.club_core.specs.Game.{clocks_of}
 use Rattle.club_core.specs.Legal.{IsLegalGame}
 use Rattle.club_core.specs.Step.{move, game_step}

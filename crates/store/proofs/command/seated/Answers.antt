@@ -6,9 +6,9 @@ use Rattle.store.proofs.PlayedLemmas.{seated_cells}
 use Rattle.store.proofs.command.seated.Goals as goal
 
 pub returns : goal.returns
-returns c legal =
+returns g c legal =
     let (e, at, is) = c.in_ok-terms.ensures in
-    let cells = seated_cells c.in_ok-record_of.field-0 c.in_ok-row.row (terms_given c.in_ok-terms.terms) e (events_of c.args.events.now) (pairing_of c.args.new.pairing) c.args.new.game c.args.key.now c.args.moment legal at is c.in_ok-row.ensures c.in_ok-record_of.ensures in
+    let cells = seated_cells g.R.Rules.rules c.in_ok-record_of.field-0 c.in_ok-row.row (terms_given c.in_ok-terms.terms) e (events_of c.args.events.now) (pairing_of c.args.new.pairing) c.args.new.game c.args.key.now c.args.moment legal at is c.in_ok-row.ensures c.in_ok-record_of.ensures in
     record {
       meta = c.at-changes.ensures.meta;
       members_are = c.at-changes.ensures.members_are;

@@ -1,0 +1,79 @@
+-- International draughts as a game of the club.
+use Rattle.std.specs.Prelude.{ℕ, ◌==◌, ◌&&◌, List, Bool, true, Result, Ok, Err}
+use Rattle.squares.specs.declared.draughts.moves.DMove.{DMove}
+use Rattle.squares.specs.DraughtsBoard.{Position}
+use Rattle.squares.specs.DraughtsOpening.{opening}
+use Rattle.squares.specs.DraughtsSets.{same_squares}
+use Rattle.squares.specs.DraughtsSamePosition.{same_position}
+use Rattle.draughts_moves.specs.declared.checking.Illegal.{Illegal}
+use Rattle.draughts_moves.specs.declared.checking.Illegal.TheVariants as illegal
+use Rattle.draughts_moves.specs.Check.{Answer, check_of}
+use Rattle.draughts_moves.specs.Legal.{play}
+use Rattle.draughts_draws.specs.declared.ends.DEnd.{DEnd}
+use Rattle.draughts_draws.specs.declared.ends.DEnd.TheVariants as draughts_end
+use Rattle.draughts_draws.specs.declared.tails.Tail.{Tail}
+use Rattle.draughts_draws.specs.Ends.{end_of, outcome_of}
+use Rattle.draughts_draws.specs.Tails.{first_tail, next_tail, end_by}
+use Rattle.pdn.specs.declared.faults.PdnFault.{PdnFault}
+use Rattle.pdn.specs.declared.faults.PdnFault.TheVariants as fault
+use Rattle.pdn.specs.FenText.{fen_text}
+use Rattle.pdn.specs.MoveValue.{Reading, move_reading, move_text}
+use Rattle.club_rules.specs.declared.names.GameKind.TheVariants as game
+use Rattle.club_rules.specs.declared.names.EndName.{EndName}
+use Rattle.club_rules.specs.declared.names.EndName.TheVariants as name
+use Rattle.club_rules.specs.declared.refusals.MoveRefusal.{MoveRefusal}
+use Rattle.club_rules.specs.declared.refusals.MoveRefusal.TheVariants.{NoSuchMove, MustCapture, NotLongest, BadText, Ambiguous}
+use Rattle.club_rules.specs.GameRules.{GameRules}
+
+abbrev pub refusal_of : Illegal → MoveRefusal
+refusal_of illegal.NoSuchMove = NoSuchMove game.Draughts
+refusal_of illegal.MustCapture = MustCapture
+refusal_of illegal.NotLongest = NotLongest
+
+abbrev pub refused_by : Answer → Result (Unit {0}) MoveRefusal
+refused_by (Ok u) = Ok u
+refused_by (Err cause) = Err (refusal_of cause)
+
+-- why a text is refused; the reading of a text is a function, and has no fault of memory
+abbrev pub text_refusal : PdnFault → MoveRefusal
+text_refusal (fault.BadText offset) = BadText game.Draughts offset
+text_refusal (fault.Ambiguous ply) = Ambiguous
+text_refusal (fault.Illegal ply cause) = refusal_of cause
+text_refusal fault.Memory = NoSuchMove game.Draughts
+
+abbrev pub move_read : Reading → Result DMove MoveRefusal
+move_read (Ok m) = Ok m
+move_read (Err fault) = Err (text_refusal fault)
+
+abbrev pub same_move : DMove → DMove → Bool
+same_move a b = (a.from == b.from) && ((a.to == b.to) && same_squares a.taken b.taken)
+
+abbrev pub name_of : DEnd → EndName
+name_of draughts_end.NoMove = name.NoMove
+name_of draughts_end.Repetition = name.Repetition
+name_of draughts_end.KingMoves = name.KingMoves
+name_of draughts_end.ThreeToOne = name.ThreeToOne
+name_of draughts_end.TwoToOne = name.TwoToOne
+name_of draughts_end.PlyLimit = name.PlyLimit
+
+abbrev pub draughts : GameRules Position DMove DEnd Tail
+draughts = record {
+  start = opening;
+  turn = λ p. p.turn;
+  check = λ p m. refused_by (check_of p m);
+  same = same_move;
+  same_position = same_position;
+  play = play;
+  read_move = λ p text. move_read (move_reading p text);
+  write_move = move_text;
+  write_position = fen_text;
+  judge = end_of;
+  track_start = first_tail;
+  track_next = next_tail;
+  track_end = λ track p plies times first. end_by track p plies times;
+  track_numbers = λ track. (track.king_plies, track.class_positions);
+  track_of = λ a b. record { king_plies = a; class_positions = b };
+  outcome = outcome_of;
+  end_name = name_of;
+  has_draw_offers = true;
+}

@@ -1,5 +1,0 @@
-use Rattle.club_rules.specs.DraughtsLaws.{check-legal}
-use Rattle.club_rules.proofs.draughts.rules.DraughtsRules.play.Goals as goal
-
-pub play-requires : goal.play-requires
-play-requires c = check-legal c.args.position.now c.args.made.now c.requires

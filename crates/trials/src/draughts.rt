@@ -1,0 +1,198 @@
+//! Games of draughts with captures, each move with what it must come to. What is legal where, and how it is written, was
+//! worked out apart from these crates, by the rules.
+
+use crate::commands::{By, Given, give, opened, serve_at_once};
+use club_rules::GameKind;
+use sqlite::MemStore;
+use std::process::Abort;
+use std::test::Fail;
+use store::Club;
+
+/// A club with a game of draughts, of a day for each player, after these moves, which are legal.
+fn played<R: Abort + AllocGlobal>(rt: &R, moves: &str) -> Result<Club<MemStore>, Fail> {
+    let mut club = serve_at_once(
+        rt,
+        opened(rt.alloc())?,
+        &[
+            (
+                900,
+                By::Officer,
+                Given::Member("anna", "keyanna1"),
+                "accepted",
+            ),
+            (
+                900,
+                By::Officer,
+                Given::Member("bert", "keybert2"),
+                "accepted",
+            ),
+            (
+                900,
+                By::Officer,
+                Given::Event("autumn", GameKind::Draughts, 86_400, 0),
+                "accepted",
+            ),
+            (
+                900,
+                By::Officer,
+                Given::Seat("g1", "autumn", "anna", "bert"),
+                "accepted",
+            ),
+        ],
+    )?;
+    let mut ply = 0_u64;
+    for text in moves.split_whitespace() {
+        ply = ply.saturating_add(1);
+        club = give(
+            rt,
+            club,
+            1000,
+            By::Officer,
+            Given::Move(1, ply, text),
+            "accepted",
+        )?;
+    }
+    Ok(club)
+}
+
+// A capture is compulsory; of two captures of one piece each either may be played.
+#[test]
+fn captures_are_compulsory(rt: HostRuntime) -> Result<(), Fail> {
+    let moves = "34-30 19-23 31-27 20-25 40-34 17-22 37-31 22-28 33x22";
+    let club = serve_at_once(
+        &rt,
+        played(&rt, moves)?,
+        &[
+            (
+                1000,
+                By::Officer,
+                Given::Move(1, 10, "0013-19"),
+                "20 BadText 1",
+            ),
+            (1000, By::Officer, Given::Move(1, 10, "023-28"), "accepted"),
+            (
+                1000,
+                By::Officer,
+                Given::Move(1, 11, "31-26"),
+                "11 MustCapture",
+            ),
+            (
+                1000,
+                By::Officer,
+                Given::Move(1, 11, "22x31"),
+                "10 NoSuchMove",
+            ),
+            (1000, By::Officer, Given::Move(1, 11, "032x23"), "accepted"),
+            (1000, By::Officer, Given::Move(1, 11, "32:23"), "repeated"),
+            (
+                1000,
+                By::Officer,
+                Given::Move(1, 11, "22x33"),
+                "58 Conflict",
+            ),
+        ],
+    )?;
+    let _conn = club.into_connection();
+    Ok(())
+}
+
+// A capture of one piece is refused where two can be taken; a text may name the squares on the way.
+#[test]
+fn the_longest_capture_is_played(rt: HostRuntime) -> Result<(), Fail> {
+    let club = serve_at_once(
+        &rt,
+        played(&rt, "32-28 17-21 31-27")?,
+        &[
+            (
+                1000,
+                By::Officer,
+                Given::Move(1, 4, "21x32"),
+                "12 NotLongest",
+            ),
+            (
+                1000,
+                By::Officer,
+                Given::Move(1, 4, "18-23"),
+                "11 MustCapture",
+            ),
+            (
+                1000,
+                By::Officer,
+                Given::Move(1, 4, "21x31"),
+                "10 NoSuchMove",
+            ),
+            (1000, By::Officer, Given::Move(1, 4, "21x32x23"), "accepted"),
+        ],
+    )?;
+    let mut conn = club.into_connection();
+    let text: String = conn
+        .query_row("SELECT text FROM moves WHERE ply = 4", &[])?
+        .get(0)?;
+    assert_eq!(rt; text.as_str(), "21x23");
+    Ok(())
+}
+
+const AMBIGUOUS: &str =
+    "34-29 19-24 32-27 14-19 38-32 9-14 39-34 17-21 43-38 12-17 48-43 3-9 44-39 21-26 27-22 17x28 32x3 19-23 29x18 13x22 34-30 24-29 33x24 20x29 39-34 14-19";
+
+// A king on 3 comes to 17 by two captures of as many pieces.
+#[test]
+fn a_short_text_may_be_ambiguous(rt: HostRuntime) -> Result<(), Fail> {
+    let club = serve_at_once(
+        &rt,
+        played(&rt, AMBIGUOUS)?,
+        &[
+            (
+                1000,
+                By::Officer,
+                Given::Move(1, 27, "3x17"),
+                "21 Ambiguous 27",
+            ),
+            (
+                1000,
+                By::Officer,
+                Given::Move(1, 27, "3x14x28x17"),
+                "accepted",
+            ),
+            (
+                1000,
+                By::Officer,
+                Given::Move(1, 27, "3x20x33x17"),
+                "58 Conflict",
+            ),
+        ],
+    )?;
+    let mut conn = club.into_connection();
+    let text: String = conn
+        .query_row("SELECT text FROM moves WHERE ply = 27", &[])?
+        .get(0)?;
+    assert_eq!(rt; text.as_str(), "3x14x28x17");
+    Ok(())
+}
+
+const REPETITION: &str =
+    "32-28 16-21 37-32 19-24 35-30 24x35 28-23 18x29 34x23 11-16 39-34 21-27 31x11 6x17 34-30 35x24 40-34 20-25 43-39 1-6 33-28 12-18 23x1 13-19 36-31 17-21 1-23 8-13 38-33 21-26 48-43 26x48 23-12 48-37 12-23 37-48 23-12 48-37 12-23 37-48";
+
+// Two kings go to and fro, until the position after ply 32 stands for the third time.
+#[test]
+fn a_repetition_ends_a_game(rt: HostRuntime) -> Result<(), Fail> {
+    let club = serve_at_once(
+        &rt,
+        played(&rt, REPETITION)?,
+        &[(
+            1000,
+            By::Officer,
+            Given::Move(1, 41, "23-12"),
+            "56 GameOver",
+        )],
+    )?;
+    let mut conn = club.into_connection();
+    let row = conn.query_row("SELECT plies, end, result FROM games", &[])?;
+    let plies: i64 = row.get(0)?;
+    let end: String = row.get(1)?;
+    let result: String = row.get(2)?;
+    assert_eq!(rt; plies, 40);
+    assert_eq!(rt; end.as_str(), "Repetition");
+    assert_eq!(rt; result.as_str(), "1-1");
+    Ok(())
+}
