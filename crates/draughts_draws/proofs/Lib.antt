@@ -1,3 +1,4 @@
 pub mod CountLemmas
 pub mod LineLemmas
+pub mod Proved
 pub mod TailLemmas

@@ -11,6 +11,7 @@ pub mod MoveLemmas
 pub mod OrderLemmas
 pub mod PlaceLemmas
 pub mod Prey
+pub mod Proved
 pub mod RouteLemmas
 pub mod RoutingLemmas
 pub mod StepLemmas

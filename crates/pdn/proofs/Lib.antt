@@ -17,6 +17,7 @@ pub mod LandingLemmas
 pub mod OffsetLemmas
 pub mod OneMoveLemmas
 pub mod PassingLemmas
+pub mod Proved
 pub mod ReadingLemmas
 pub mod ReadingValueLemmas
 pub mod TextLemmas

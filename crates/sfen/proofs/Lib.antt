@@ -4,6 +4,7 @@ pub mod ClosingLemmas
 pub mod CompleteLemmas
 pub mod OneLemmas
 pub mod PlaceLemmas
+pub mod Proved
 pub mod ReadingLemmas
 pub mod Rests
 pub mod SignLemmas

@@ -86,11 +86,9 @@ module _ (text a b first second : List ℕ) (first_is : first ≡ text ++ a) (se
       is ∙ ap (λ t. t ++ 45 ∷ []) (all-held ∙ ap (λ t. text ++ t) none ∙ append-nil text) ∙ ap (λ t. text ++ or_hyphen t) (sym none)
 
 -- the parts of a position's text, one after another
-module _ (board hands number : List ℕ) (c : ℕ) where
-  pub parts-joined : (t1 t2 t3 t4 t5 t6 : List ℕ) → t1 ≡ board → t2 ≡ t1 ++ 32 ∷ [] → t3 ≡ t2 ++ c ∷ [] → t4 ≡ t3 ++ 32 ∷ [] → t5 ≡ t4 ++ hands → t6 ≡ t5 ++ 32 ∷ number → t6 ≡ board ++ (32 ∷ c ∷ 32 ∷ (hands ++ 32 ∷ number))
-  parts-joined t1 t2 t3 t4 t5 t6 e1 e2 e3 e4 e5 e6 =
+module _ (board hands : List ℕ) (c : ℕ) where
+  pub parts-alone : (t1 t2 t3 t4 t5 : List ℕ) → t1 ≡ board → t2 ≡ t1 ++ 32 ∷ [] → t3 ≡ t2 ++ c ∷ [] → t4 ≡ t3 ++ 32 ∷ [] → t5 ≡ t4 ++ hands → t5 ≡ board ++ (32 ∷ c ∷ 32 ∷ hands)
+  parts-alone t1 t2 t3 t4 t5 e1 e2 e3 e4 e5 =
       let three : t3 ≡ board ++ (32 ∷ c ∷ []) = e3 ∙ ap (λ t. t ++ c ∷ []) (e2 ∙ ap (λ t. t ++ 32 ∷ []) e1) ∙ append_assoc board (32 ∷ []) (c ∷ []) in
       let four : t4 ≡ board ++ (32 ∷ c ∷ 32 ∷ []) = e4 ∙ ap (λ t. t ++ 32 ∷ []) three ∙ append_assoc board (32 ∷ c ∷ []) (32 ∷ []) in
-      e6 ∙ ap (λ t. t ++ 32 ∷ number) (e5 ∙ ap (λ t. t ++ hands) four)
-      ∙ append_assoc (board ++ (32 ∷ c ∷ 32 ∷ [])) hands (32 ∷ number)
-      ∙ append_assoc board (32 ∷ c ∷ 32 ∷ []) (hands ++ 32 ∷ number)
+      e5 ∙ ap (λ t. t ++ hands) four ∙ append_assoc board (32 ∷ c ∷ 32 ∷ []) hands

@@ -1,5 +1,5 @@
 -- The written text of a position stands for that position.
-use Rattle.std.proofs.Common.{ℕ, ◌≤◌, lit≤, refl, arith}
+use Rattle.std.proofs.Common.{◌≡◌, ◌⊎◌, inl, inr, ℕ, ◌≤◌, List, [], ◌∷◌, ◌++◌, lit≤, refl, sym, ap, ◌∙◌, append-nil, append_assoc, arith}
 use Rattle.squares.specs.declared.shogi.piece.HandKind.{HandKind}
 use Rattle.squares.specs.declared.shogi.piece.HandKind.TheVariants as in_hand
 use Rattle.squares.specs.declared.shogi.hand.Hands.{Hands}
@@ -7,7 +7,9 @@ use Rattle.squares.specs.ShogiBoard.{ShogiBoard}
 use Rattle.squares.specs.ShogiHands.{count_of}
 use Rattle.squares.specs.ShogiSets.{ShogiPosition, IsShogiPosition, KeepsSets, set_size}
 use Rattle.sfen.specs.SfenGrammar.{IsOnSquares, IsSfenText}
-use Rattle.sfen.specs.SfenText.{board_text, hands_text, sfen_text}
+use Rattle.sfen.specs.SfenText.{board_text, hands_text, position_text, sfen_text}
+use Rattle.std.specs.Fmt.{decimal}
+use Rattle.sfen.specs.Letters.{turn_letter}
 use Rattle.sfen.proofs.WrittenBoardLemmas.{board-written}
 use Rattle.sfen.proofs.WrittenHandLemmas.{items_of, hands-written, hands-given}
 use Rattle.sfen.proofs.WrittenNumberLemmas.{number-written}
@@ -44,3 +46,30 @@ position-written p number sound on low high = (
   hands-given p.hands,
   sound,
 )
+
+-- the text without a number leaves out the number 1
+pub position-alone : (p : ShogiPosition) → IsShogiPosition p.board p.hands → IsOnSquares p.board → IsSfenText (position_text p) p 1
+unfolding position_text
+position-alone p sound on = (
+  items_of p.hands,
+  record {
+    board_text = board_text p.board;
+    hand_text = hands_text p.hands;
+    number_text = [];
+    board_is = board-written p.board on;
+    hand_is = hands-written p.hands (first-few p.board p.hands sound.sets) (second-few p.board p.hands sound.sets);
+    number_is = inl (refl, refl);
+    text_is = ap (λ hands. board_text p.board ++ 32 ∷ turn_letter p.turn ∷ 32 ∷ hands) (sym (append-nil (hands_text p.hands)));
+  },
+  hands-given p.hands,
+  sound,
+)
+
+-- a position with a text is sound, and keeps to the squares
+pub alone-sound : (text : List ℕ) (p : ShogiPosition) (number : ℕ) → IsSfenText text p number → IsShogiPosition p.board p.hands × IsOnSquares p.board
+alone-sound text p number h = (h.3, h.1.board_is.1)
+
+-- a number after the text without one
+pub text-numbered : (p : ShogiPosition) (number : ℕ) → position_text p ++ 32 ∷ decimal number ≡ sfen_text p number
+unfolding position_text sfen_text
+text-numbered p number = append_assoc (board_text p.board) (32 ∷ turn_letter p.turn ∷ 32 ∷ hands_text p.hands) (32 ∷ decimal number)

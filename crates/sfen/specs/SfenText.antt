@@ -64,6 +64,10 @@ or_hyphen (c ∷ text) = c ∷ text
 unfoldable pub hands_text : Hands → List ℕ
 hands_text hands = or_hyphen (kinds_text First hands.first hand_kinds ++ kinds_text Second hands.second hand_kinds)
 
+-- the board, the turn and the hands, parted by blanks
+unfoldable pub position_text : ShogiPosition → List ℕ
+position_text p = board_text p.board ++ (32 ∷ turn_letter p.turn ∷ 32 ∷ hands_text p.hands)
+
 -- the board, the turn, the hands and the number, parted by blanks
 unfoldable pub sfen_text : ShogiPosition → ℕ → List ℕ
 sfen_text p number = board_text p.board ++ (32 ∷ turn_letter p.turn ∷ 32 ∷ (hands_text p.hands ++ (32 ∷ decimal number)))

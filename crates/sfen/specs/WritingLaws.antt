@@ -4,13 +4,17 @@ use Rattle.squares.specs.declared.shogi.moves.SMove.{SMove}
 use Rattle.squares.specs.ShogiBoard.{ShogiBoard}
 use Rattle.squares.specs.ShogiSets.{ShogiPosition, IsShogiPosition}
 use Rattle.sfen.specs.SfenGrammar.{RankItem, Gap, Stands, AreRankItems, rank_cells, IsOnSquares, IsSfenText}
-use Rattle.sfen.specs.SfenText.{rank_text, sfen_text}
+use Rattle.sfen.specs.SfenText.{rank_text, position_text, sfen_text}
 use Rattle.sfen.specs.UsiText.{IsOnBoard, IsUsiText, IsNoUsi, usi_text}
 use Rattle.sfen.specs.UsiReading.{usi_reading, usi_reach}
 
 -- The written text of a position stands for that position, and for the number of the next move.
 abbrev pub WritesPositions : Type 0
 WritesPositions = (p : ShogiPosition) (number : ℕ) → IsShogiPosition p.board p.hands → IsOnSquares p.board → 1 ≤ number → number ≤ 9999 → IsSfenText (sfen_text p number) p number
+
+-- So does the text without a number, and for the number 1.
+abbrev pub WritesPositionsAlone : Type 0
+WritesPositionsAlone = (p : ShogiPosition) → IsShogiPosition p.board p.hands → IsOnSquares p.board → IsSfenText (position_text p) p 1
 
 -- no two runs of empty squares stand side by side, so that each is as long as it can be
 abbrev pub HasGreatestRuns : List RankItem → Type 0

@@ -18,7 +18,7 @@ pub use memory::Memory;
 pub use reading::read;
 pub use usi_reading::read_usi;
 pub use usi_writing::write_usi;
-pub use writing::write;
+pub use writing::{write, write_position};
 
 #[cfg(test)]
 mod reading_tests;

@@ -5,7 +5,7 @@ ghost use Rattle.std.specs.FinMap as map;
 ghost use Rattle.squares.specs.ShogiGeometry.{OnShogiBoard, shogi_number};
 ghost use Rattle.sfen.specs.Letters.{piece_text};
 ghost use Rattle.sfen.specs.SfenGrammar.{IsSfenText};
-ghost use Rattle.sfen.specs.SfenText.{gap_text, rank_text, board_text, held_text, kinds_text, hand_kinds, hands_text, sfen_text};
+ghost use Rattle.sfen.specs.SfenText.{gap_text, rank_text, board_text, held_text, kinds_text, hand_kinds, hands_text, position_text, sfen_text};
 
 use crate::letters::{letter, turn_letter};
 use crate::memory::Memory;
@@ -118,8 +118,26 @@ fn push_hands(text: &mut String, hands: Hands) -> Result<(), Memory>
     Ok(())
 }
 
-/// The text of a position (SFEN), where `number`, 1 to 9999, is that of the next move: the ranks from the
-/// first on, each from file 9 to file 1, the side to move, the pieces in the hands, and the number, as
+/// The text of a position without the number of the next move: the ranks from the first on, each from file 9 to file 1, the
+/// side to move, and the pieces in the hands, as `lnsgkgsnl/1r5b1/ppppppppp/9/9/9/PPPPPPPPP/1B5R1/LNSGKGSNL b -`. It stands
+/// for that position, with the number 1 left out.
+///
+/// It fails where memory is refused, and then alone.
+pub fn write_position(alloc: Global, position: &SPos) -> Result<String, Memory>
+    ensures text { IfOk result (λ text. string_bytes text ≡ position_text position.now) }
+    ensures stands_for { IfOk result (λ text. IsSfenText (string_bytes text) position.now 1) }
+{
+    let mut text = String::new(alloc);
+    push_board(&mut text, position.board())?;
+    text.push_str(" ")?;
+    text.push(turn_letter(position.turn()) as char)?;
+    text.push_str(" ")?;
+    push_hands(&mut text, position.hands())?;
+    Ok(text)
+}
+
+/// The text of a position (SFEN), where `number`, 1 to 9999, is that of the next move: the ranks, the side to move, the
+/// pieces in the hands, and the number, as
 /// `lnsgkgsnl/1r5b1/ppppppppp/9/9/9/PPPPPPPPP/1B5R1/LNSGKGSNL b - 1`.
 ///
 /// It fails where memory is refused, and then alone.
@@ -129,12 +147,7 @@ pub fn write(alloc: Global, position: &SPos, number: u16) -> Result<String, Memo
     ensures text { IfOk result (λ text. string_bytes text ≡ sfen_text position.now number) }
     ensures stands_for { IfOk result (λ text. IsSfenText (string_bytes text) position.now number) }
 {
-    let mut text = String::new(alloc);
-    push_board(&mut text, position.board())?;
-    text.push_str(" ")?;
-    text.push(turn_letter(position.turn()) as char)?;
-    text.push_str(" ")?;
-    push_hands(&mut text, position.hands())?;
+    let mut text = write_position(alloc, position)?;
     write!(text, " {number}")?;
     Ok(text)
 }

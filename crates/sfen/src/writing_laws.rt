@@ -1,9 +1,14 @@
 //! What ties the written texts to what they stand for.
-ghost use Rattle.sfen.specs.WritingLaws.{WritesPositions, WritesGreatestRuns, ReadsMovesBack, ReadsMoveTexts, HasOneMove, HasOneOffset};
+ghost use Rattle.sfen.specs.WritingLaws.{WritesPositions, WritesPositionsAlone, WritesGreatestRuns, ReadsMovesBack, ReadsMoveTexts, HasOneMove, HasOneOffset};
 
 /// The text that is written for a position stands for that position and number.
 pub fn writes_positions()
     ensures { WritesPositions }
+{}
+
+/// The text that is written for a position without a number stands for that position, and for the number 1.
+pub fn writes_positions_alone()
+    ensures { WritesPositionsAlone }
 {}
 
 /// A rank is written by runs of empty squares that are as long as they can be.

@@ -10,6 +10,7 @@ pub mod ListingLemmas
 pub mod MateLemmas
 pub mod PawnLemmas
 pub mod PlayLemmas
+pub mod Proved
 pub mod ReachLemmas
 pub mod ReachedLemmas
 pub mod RuleLemmas

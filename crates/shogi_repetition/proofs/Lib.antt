@@ -2,4 +2,5 @@ pub mod EndLemmas
 pub mod LineLemmas
 pub mod MarkLemmas
 pub mod PlaceLemmas
+pub mod Proved
 pub mod TailLemmas

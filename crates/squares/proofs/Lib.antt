@@ -6,9 +6,10 @@ pub mod DraughtsRays
 pub mod DraughtsSides
 pub mod DraughtsTables
 pub mod DraughtsWords
+pub mod Proved
 pub mod ShogiCells
 pub mod ShogiCounts
-pub mod ShogiOrdered
-pub mod ShogiTracks
 pub mod ShogiKept
 pub mod ShogiOpened
+pub mod ShogiOrdered
+pub mod ShogiTracks
