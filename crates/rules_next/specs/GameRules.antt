@@ -1,0 +1,37 @@
+-- What a game is, as functions of its positions P, its moves M, its ends E and the tracks T that its lines leave.
+use Rattle.std.specs.Prelude.{List, ℕ, Option, Result, Bool}
+use Rattle.squares.specs.declared.sides.Side.{Side}
+use Rattle.squares.specs.declared.sides.Score.{Score}
+use Rattle.rules_next.specs.declared.names.EndName.{EndName}
+use Rattle.rules_next.specs.declared.refusals.MoveRefusal.{MoveRefusal}
+
+-- the plies after which every game has ended
+abbrev pub ply_limit : ℕ
+ply_limit = 600
+
+pub record GameRules (P M E T : Type 0) : Type 0 where
+  pub start : P
+  pub turn : P → Side
+  -- Ok where the move is legal, else the first refusal that holds
+  pub check : P → M → Result (Unit {0}) MoveRefusal
+  pub same : M → M → Bool
+  pub same_position : P → P → Bool
+  pub play : P → M → P
+  pub read_move : P → List ℕ → Result M MoveRefusal
+  pub write_move : P → M → List ℕ
+  pub write_position : P → List ℕ
+  -- the end that the rules give to a line
+  pub judge : P → List M → Option E
+  -- the track of a line without a move from a position
+  pub track_start : P → T
+  -- the track after one move more, made in the one position and leading to the other
+  pub track_next : T → P → M → P → T
+  -- the end by a track and the last position, after so many plies, where that position stood so often, and first after a ply
+  pub track_end : T → P → ℕ → ℕ → ℕ → Option E
+  -- the two numbers of a track, by which it is stored
+  pub track_numbers : T → ℕ × ℕ
+  pub track_of : ℕ → ℕ → T
+  -- the score of an end, by the side to move after the line
+  pub outcome : E → Side → Score
+  pub end_name : E → EndName
+  pub has_draw_offers : Bool

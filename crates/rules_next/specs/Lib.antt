@@ -1,0 +1,5 @@
+pub mod EndName
+pub mod GameRules
+pub mod Laws
+pub mod Line
+pub mod MoveRefusal

@@ -1,0 +1,54 @@
+-- The refusals of a text or a move of either game: their numbers, their names and how they are written.
+use Rattle.std.specs.Prelude.{List, [], ℕ, ◌++◌, codes, decimal, Result, Ok, Err}
+use Rattle.rules_next.specs.declared.names.GameKind.{GameKind}
+use Rattle.rules_next.specs.declared.names.GameKind.TheVariants.{Draughts, Shogi}
+use Rattle.rules_next.specs.declared.refusals.MoveRefusal.{MoveRefusal}
+use Rattle.rules_next.specs.declared.refusals.MoveRefusal.TheVariants.{NoSuchMove, MustCapture, NotLongest, NotInHand, MustPromote, DeadDrop, TwoPawns, KingAttacked, DropMate, BadText, Ambiguous}
+
+-- the club's answer where the rules of a game answer so to a move
+abbrev pub refused_by : {Cause : Type 0} → (Cause → MoveRefusal) → Result (Unit {0}) Cause → Result (Unit {0}) MoveRefusal
+refused_by refusal_of (Ok u) = Ok u
+refused_by refusal_of (Err cause) = Err (refusal_of cause)
+
+abbrev pub no_such_move_number : GameKind → ℕ
+no_such_move_number Draughts = 10
+no_such_move_number Shogi = 13
+
+abbrev pub bad_text_number : GameKind → ℕ
+bad_text_number Draughts = 20
+bad_text_number Shogi = 30
+
+abbrev pub move_refusal_number : MoveRefusal → ℕ
+move_refusal_number (NoSuchMove game) = no_such_move_number game
+move_refusal_number MustCapture = 11
+move_refusal_number NotLongest = 12
+move_refusal_number NotInHand = 14
+move_refusal_number MustPromote = 15
+move_refusal_number DeadDrop = 16
+move_refusal_number TwoPawns = 17
+move_refusal_number KingAttacked = 18
+move_refusal_number DropMate = 19
+move_refusal_number (BadText game offset) = bad_text_number game
+move_refusal_number Ambiguous = 21
+
+abbrev pub move_refusal_name : MoveRefusal → List ℕ
+move_refusal_name (NoSuchMove game) = codes "NoSuchMove"
+move_refusal_name MustCapture = codes "MustCapture"
+move_refusal_name NotLongest = codes "NotLongest"
+move_refusal_name NotInHand = codes "NotInHand"
+move_refusal_name MustPromote = codes "MustPromote"
+move_refusal_name DeadDrop = codes "DeadDrop"
+move_refusal_name TwoPawns = codes "TwoPawns"
+move_refusal_name KingAttacked = codes "KingAttacked"
+move_refusal_name DropMate = codes "DropMate"
+move_refusal_name (BadText game offset) = codes "BadText"
+move_refusal_name Ambiguous = codes "Ambiguous"
+
+-- the offset of a text that is no move's, after a blank
+abbrev pub move_refusal_tail : MoveRefusal → List ℕ
+move_refusal_tail (BadText game offset) = codes " " ++ decimal offset
+move_refusal_tail _ = []
+
+-- the number, the name and then the offset, parted by blanks
+abbrev pub move_refusal_text : MoveRefusal → List ℕ
+move_refusal_text r = decimal (move_refusal_number r) ++ codes " " ++ move_refusal_name r ++ move_refusal_tail r
