@@ -1,6 +1,6 @@
 -- What is proved of lines, of their tracks and texts, and of refusals, for the proofs of crates above.
-pub use Rattle.rules_next.proofs.Lines.{position_after-append, IsLegalLine-append, check-at, turn-after, position_after-take, drop-at}
+pub use Rattle.rules_next.proofs.Lines.{position_after-append, IsLegalLine-append, check-at, holds-after, turn-after, position_after-take, drop-at}
 pub use Rattle.rules_next.proofs.Refused.{passed-by, passes-by, refused-passes}
 pub use Rattle.rules_next.proofs.Sameness.{tells-equal}
 pub use Rattle.rules_next.proofs.Texts.{position-read, line-read, texts-tell}
-pub use Rattle.rules_next.proofs.Tracks.{line_track-is, numbers-few, count-next}
+pub use Rattle.rules_next.proofs.Tracks.{track-is, numbers-few, count-next}

@@ -18,8 +18,8 @@ module _ {P M E T : Type 0} (rules : GameRules P M E T) where
         ∙ ap (λ q. track_after rules (whole more) q ns) (sym (position_after-append rules start ms m))
         ∙ track-grows more ns ∙ ap whole (append_assoc ms (m ∷ []) ns)
 
-    pub line_track-is : (ms : List M) → line_track rules start ms ≡ whole ms
-    line_track-is ms = ap (λ t. track_after rules t start ms) (sym begins) ∙ track-grows [] ms
+    pub track-is : (ms : List M) → line_track rules start ms ≡ whole ms
+    track-is ms = ap (λ t. track_after rules t start ms) (sym begins) ∙ track-grows [] ms
 
   abbrev first_of : T → ℕ
   first_of track = (rules.track_numbers track).0

@@ -39,7 +39,8 @@ module _ {P M E T : Type 0} (rules : GameRules P M E T) where
 
   -- no game goes on after the last ply
   abbrev pub EndsAtLimit : Type 0
-  EndsAtLimit = (ms : List M) → IsLegalLine rules rules.start ms → length ms ≡ ply_limit → IsSome (rules.judge rules.start ms)
+  EndsAtLimit =
+      (ms : List M) → IsLegalLine rules rules.start ms → length ms ≡ ply_limit → IsSome (rules.judge rules.start ms)
 
   -- what is written of a position on a line from the start stands for it
   abbrev pub WritesPositions : (List ℕ → P → Type 0) → Type 0
@@ -51,15 +52,17 @@ module _ {P M E T : Type 0} (rules : GameRules P M E T) where
   abbrev pub TextsTellPositions : Type 0
   TextsTellPositions =
       (ms ns : List M) → IsLegalLine rules rules.start ms → IsLegalLine rules rules.start ns →
-      rules.write_position (position_after rules rules.start ms) ≡ rules.write_position (position_after rules rules.start ns) →
+      rules.write_position (position_after rules rules.start ms)
+      ≡ rules.write_position (position_after rules rules.start ns) →
       position_after rules rules.start ms ≡ position_after rules rules.start ns
 
-  -- Of a line from the start that is played by the rules, the track, made ply by ply, tells the end: by the last position, the
-  -- number of plies, how often that position stood, and after which ply first.
+  -- Of a line from the start that is played by the rules, the track, made ply by ply, tells the end: by the last position,
+  -- the number of plies, how often that position stood, and after which ply first.
   abbrev pub TracksTellEnds : Type 0
   TracksTellEnds =
       (ms : List M) (first : ℕ) → IsPlayedLine rules rules.start ms → FirstStands rules rules.start ms first →
-      rules.track_end (line_track rules rules.start ms) (position_after rules rules.start ms) (length ms) (times_stood rules rules.start ms) first
+      rules.track_end (line_track rules rules.start ms) (position_after rules rules.start ms) (length ms)
+      (times_stood rules rules.start ms) first
       ≡ rules.judge rules.start ms
 
   -- a track is its two numbers
@@ -72,4 +75,5 @@ module _ {P M E T : Type 0} (rules : GameRules P M E T) where
 
   -- the numbers of a line grow by one a ply at most
   abbrev pub NumbersAreFew : Type 0
-  NumbersAreFew = (ms : List M) → ((line_numbers rules ms).0 ≤ length ms + 1) × ((line_numbers rules ms).1 ≤ length ms + 1)
+  NumbersAreFew =
+      (ms : List M) → ((line_numbers rules ms).0 ≤ length ms + 1) × ((line_numbers rules ms).1 ≤ length ms + 1)

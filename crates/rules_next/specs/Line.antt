@@ -18,7 +18,8 @@ module _ {P M E T : Type 0} (rules : GameRules P M E T) where
   IsLegalLine p [] = Unit {0}
   IsLegalLine p (m ∷ ms) = (rules.check p m ≡ Ok tt) × IsLegalLine (rules.play p m) ms
 
-  -- A line that is played by the rules: each move is legal in its position, and no end came before it. The last may end it.
+  -- A line that is played by the rules: each move is legal in its position, and no end came before it. The last may end
+  -- the line.
   pub record IsPlayedLine (p : P) (ms : List M) : Type 0 where
     pub legal : IsLegalLine p ms
     pub unended : (k : ℕ) → k < length ms → rules.judge p (take k ms) ≡ None

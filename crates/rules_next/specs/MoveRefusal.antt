@@ -6,7 +6,8 @@ use Rattle.rules_next.specs.declared.refusals.MoveRefusal.{MoveRefusal}
 use Rattle.rules_next.specs.declared.refusals.MoveRefusal.TheVariants.{NoSuchMove, MustCapture, NotLongest, NotInHand, MustPromote, DeadDrop, TwoPawns, KingAttacked, DropMate, BadText, Ambiguous}
 
 -- the club's answer where the rules of a game answer so to a move
-abbrev pub refused_by : {Cause : Type 0} → (Cause → MoveRefusal) → Result (Unit {0}) Cause → Result (Unit {0}) MoveRefusal
+abbrev pub refused_by : {Cause : Type 0} →
+    (Cause → MoveRefusal) → Result (Unit {0}) Cause → Result (Unit {0}) MoveRefusal
 refused_by refusal_of (Ok u) = Ok u
 refused_by refusal_of (Err cause) = Err (refusal_of cause)
 

@@ -118,9 +118,10 @@ fn push_hands(text: &mut String, hands: Hands) -> Result<(), Memory>
     Ok(())
 }
 
-/// The text of a position without the number of the next move: the ranks from the first on, each from file 9 to file 1, the
-/// side to move, and the pieces in the hands, as `lnsgkgsnl/1r5b1/ppppppppp/9/9/9/PPPPPPPPP/1B5R1/LNSGKGSNL b -`. It stands
-/// for that position, with the number 1 left out.
+/// The text of a position without the number of the next move: the ranks from the first on, each from file 9 to
+/// file 1, the side to move, and the pieces in the hands, as
+/// `lnsgkgsnl/1r5b1/ppppppppp/9/9/9/PPPPPPPPP/1B5R1/LNSGKGSNL b -`. It stands for that position, with the number 1
+/// left out.
 ///
 /// It fails where memory is refused, and then alone.
 pub fn write_position(alloc: Global, position: &SPos) -> Result<String, Memory>

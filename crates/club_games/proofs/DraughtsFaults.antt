@@ -1,0 +1,39 @@
+-- Lines that are played by the rules have no fault, and readings are those of the functions.
+use Rattle.std.proofs.Common.{◌≡◌, ◌≢◌, ℕ, List, take, Some, None, Ok, Err, refl, sym, ap, ◌∙◌, subst}
+use Rattle.squares.specs.declared.draughts.moves.DMove.{DMove}
+use Rattle.squares.specs.DraughtsBoard.{Position}
+use Rattle.draughts_moves.specs.declared.checking.Illegal.{Illegal}
+use Rattle.draughts_moves.specs.Check.{check_of}
+use Rattle.draughts_draws.specs.declared.faults.Fault.TheVariants as line_fault
+use Rattle.draughts_draws.specs.Faults.{HasFault}
+use Rattle.pdn.specs.declared.faults.PdnFault.{PdnFault}
+use Rattle.pdn.specs.declared.faults.PdnFault.TheVariants as fault
+use Rattle.pdn.specs.MoveValue.{move_reading}
+use Rattle.pdn.specs.ReadFen.{IsFen, HasFenFault}
+use Rattle.pdn.specs.ReadMove.{HasReadFault}
+use Rattle.pdn.proofs.Proved.{reading-err, fen-well}
+use Rattle.rules_next.specs.Line.{position_after, IsLegalLine, IsPlayedLine}
+use Rattle.rules_next.proofs.Proved.{check-at, refused-passes}
+use Rattle.rules_next.specs.MoveRefusal.{refused_by}
+use Rattle.club_games.specs.Draughts.{draughts, refusal_of, text_refusal, move_read}
+use Rattle.club_games.specs.DraughtsLaws.{last-is}
+
+-- no move of a legal line is refused
+pub no-illegal : (start : Position) (ms : List DMove) (ply : ℕ) (cause : Illegal) → IsPlayedLine draughts start ms → HasFault start ms (line_fault.Illegal ply cause) → ⊥
+no-illegal start ms ply cause played h =
+    let k = h.0 in
+    let m = h.1 in
+    let legal = check-at draughts start ms k m played.legal h.3 in
+    let at = ap (λ p. check_of p m) (last-is start (take k ms)) ∙ h.6 in
+    refused-passes refusal_of cause (sym (ap (refused_by refusal_of) at) ∙ legal)
+
+-- a text that is refused is refused so by the function that reads
+pub refused-reading : (p : Position) (text : List ℕ) (f : PdnFault) → HasReadFault p text f → f ≢ fault.Memory → Err (text_refusal f) ≡ move_read (move_reading p text)
+refused-reading p text f h differs = sym (ap move_read ((reading-err p text f).1 (h, differs)))
+
+not-memory : (offset : ℕ) → fault.BadText offset ≢ fault.Memory
+not-memory offset e = cc
+
+-- a text that is refused stands for no position
+pub no-position : (text : List ℕ) (offset : ℕ) (p : Position) → HasFenFault text (fault.BadText offset) → IsFen text p → ⊥
+no-position text offset p h is = not-memory offset (fen-well text p (fault.BadText offset) is h)

@@ -1,0 +1,2 @@
+pub mod DraughtsFaults
+pub mod ShogiFaults

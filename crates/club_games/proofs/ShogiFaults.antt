@@ -1,0 +1,50 @@
+-- Lines that are played by the rules have no fault, and readings are those of the functions.
+use Rattle.std.proofs.Common.{◌≡◌, ℕ, List, take, Option, Some, None, Ok, Err, refl, sym, ap, ◌∙◌, subst}
+use Rattle.squares.specs.declared.shogi.moves.SMove.{SMove}
+use Rattle.squares.specs.ShogiSets.{ShogiPosition}
+use Rattle.shogi_moves.specs.declared.checking.Illegal.{Illegal}
+use Rattle.shogi_moves.specs.Computed.{check_of}
+use Rattle.shogi_moves.specs.Rules.{FirstBroken}
+use Rattle.shogi_moves.proofs.Proved.{check_of-refused}
+use Rattle.shogi_repetition.specs.declared.ends.SEnd.{SEnd}
+use Rattle.shogi_repetition.specs.declared.faults.Fault.TheVariants as line_fault
+use Rattle.shogi_repetition.specs.Computed.{end_of}
+use Rattle.shogi_repetition.specs.Ends.{EndsSo}
+use Rattle.shogi_repetition.specs.Faults.{HasFault}
+use Rattle.shogi_repetition.proofs.Proved.{one-end, end_of-is}
+use Rattle.sfen.specs.UsiReading.{usi_reading, usi_reach}
+use Rattle.sfen.specs.UsiText.{IsNoUsi}
+use Rattle.sfen.proofs.Proved.{refused-here}
+use Rattle.rules_next.specs.declared.names.GameKind.TheVariants as game
+use Rattle.rules_next.specs.declared.refusals.MoveRefusal.TheVariants.{BadText}
+use Rattle.rules_next.specs.Line.{position_after, IsLegalLine, IsPlayedLine}
+use Rattle.rules_next.proofs.Proved.{check-at, refused-passes}
+use Rattle.rules_next.specs.MoveRefusal.{refused_by}
+use Rattle.club_games.specs.Shogi.{shogi, refusal_of, move_read}
+use Rattle.club_games.specs.ShogiLaws.{last-is}
+
+-- no move of a legal line is refused
+pub no-illegal : (start : ShogiPosition) (ms : List SMove) (ply : ℕ) (cause : Illegal) → IsPlayedLine shogi start ms → HasFault start ms (line_fault.Illegal ply cause) → ⊥
+no-illegal start ms ply cause played h =
+    let k = h.0 in
+    let m = h.1 in
+    let legal = check-at shogi start ms k m played.legal h.3 in
+    let broken = subst (λ p. FirstBroken p m cause) (sym (last-is start (take k ms))) h.6 in
+    refused-passes refusal_of cause (sym (ap (refused_by refusal_of) ((check_of-refused (position_after shogi start (take k ms)) m cause).1 broken)) ∙ legal)
+
+none_some : (o : Option SEnd) (end : SEnd) → o ≡ None → Some end ≡ o → ⊥
+none_some o end e f = let g = f ∙ e in cc
+
+-- and none comes after the end
+pub none-after : (start : ShogiPosition) (ms : List SMove) (ply : ℕ) → IsPlayedLine shogi start ms → HasFault start ms (line_fault.AfterEnd ply) → ⊥
+none-after start ms ply played h =
+    let before = take h.0 ms in
+    none_some (end_of start before) h.1 (played.unended h.0 h.3) (one-end start before (Some h.1) (end_of start before) h.5 (end_of-is start before))
+
+-- the end of a line is the computed one
+pub end-computed : (start : ShogiPosition) (ms : List SMove) (end : Option SEnd) → EndsSo start ms end → end ≡ end_of start ms
+end-computed start ms end h = one-end start ms end (end_of start ms) h (end_of-is start ms)
+
+-- a text that is no move's is refused so by the function that reads
+pub refused-reading : (text : List ℕ) (bytes : ℕ) → IsNoUsi text bytes → Err (BadText game.Shogi bytes) ≡ move_read (usi_reading text) (usi_reach text)
+refused-reading text bytes h = let w = refused-here text bytes h in λ i. move_read (sym w.0 i) (sym w.1 i)

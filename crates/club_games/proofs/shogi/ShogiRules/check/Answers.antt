@@ -1,0 +1,19 @@
+use Rattle.std.proofs.Common.{ap, sym, subst, refl, ◌∙◌, Err, IsOk}
+use Rattle.shogi_moves.proofs.Proved.{check_of-refused}
+use Rattle.rules_next.specs.MoveRefusal.{refused_by}
+use Rattle.club_games.specs.Shogi.{refusal_of}
+use Rattle.club_games.specs.ShogiLaws.{legal-check}
+use Rattle.club_games.proofs.shogi.ShogiRules.check.Goals as goal
+
+pub returns-in-Ok : goal.returns-in-Ok
+returns-in-Ok c =
+    let p = c.args.position.now in
+    let m = c.args.made.now in
+    sym (legal-check p m (c.check.ensures.legal.0 (subst IsOk (sym c.in-Ok.is) refl)))
+
+pub returns-in-Err : goal.returns-in-Err
+returns-in-Err c =
+    let p = c.args.position.now in
+    let m = c.args.made.now in
+    let rule = c.in-Err.illegal in
+    ap Err c.refusal_of.ensures ∙ sym (ap (refused_by refusal_of) ((check_of-refused p m rule).1 ((c.check.ensures.refused rule).0 c.in-Err.is)))

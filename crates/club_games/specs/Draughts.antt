@@ -1,0 +1,73 @@
+-- International draughts as a game of the club.
+use Rattle.std.specs.Prelude.{true, Result, Ok, Err}
+use Rattle.squares.specs.declared.draughts.moves.DMove.{DMove}
+use Rattle.squares.specs.DraughtsBoard.{Position}
+use Rattle.squares.specs.DraughtsOpening.{opening}
+use Rattle.squares.specs.DraughtsSamePosition.{same_position}
+use Rattle.draughts_moves.specs.declared.checking.Illegal.{Illegal}
+use Rattle.draughts_moves.specs.declared.checking.Illegal.TheVariants as illegal
+use Rattle.draughts_moves.specs.Check.{check_of}
+use Rattle.draughts_moves.specs.Legal.{play}
+use Rattle.draughts_draws.specs.declared.ends.DEnd.{DEnd}
+use Rattle.draughts_draws.specs.declared.ends.DEnd.TheVariants as draughts_end
+use Rattle.draughts_draws.specs.declared.tails.Tail.{Tail}
+use Rattle.draughts_draws.specs.Ends.{end_of, outcome_of}
+use Rattle.draughts_draws.specs.Tails.{first_tail, next_tail, end_by}
+use Rattle.pdn.specs.declared.faults.PdnFault.{PdnFault}
+use Rattle.pdn.specs.declared.faults.PdnFault.TheVariants as fault
+use Rattle.pdn.specs.Choice.{same_move}
+use Rattle.pdn.specs.FenText.{fen_text}
+use Rattle.pdn.specs.MoveValue.{Reading, move_reading, move_text}
+use Rattle.rules_next.specs.declared.names.GameKind.TheVariants as game
+use Rattle.rules_next.specs.declared.names.EndName.{EndName}
+use Rattle.rules_next.specs.declared.names.EndName.TheVariants as name
+use Rattle.rules_next.specs.declared.refusals.MoveRefusal.{MoveRefusal}
+use Rattle.rules_next.specs.declared.refusals.MoveRefusal.TheVariants.{NoSuchMove, MustCapture, NotLongest, BadText, Ambiguous}
+use Rattle.rules_next.specs.GameRules.{GameRules}
+use Rattle.rules_next.specs.MoveRefusal.{refused_by}
+
+abbrev pub refusal_of : Illegal → MoveRefusal
+refusal_of illegal.NoSuchMove = NoSuchMove game.Draughts
+refusal_of illegal.MustCapture = MustCapture
+refusal_of illegal.NotLongest = NotLongest
+
+-- why a text is refused; the reading of a text is a function, and has no fault of memory
+abbrev pub text_refusal : PdnFault → MoveRefusal
+text_refusal (fault.BadText offset) = BadText game.Draughts offset
+text_refusal (fault.Ambiguous ply) = Ambiguous
+text_refusal (fault.Illegal ply cause) = refusal_of cause
+text_refusal fault.Memory = NoSuchMove game.Draughts
+
+abbrev pub move_read : Reading → Result DMove MoveRefusal
+move_read (Ok m) = Ok m
+move_read (Err fault) = Err (text_refusal fault)
+
+abbrev pub name_of : DEnd → EndName
+name_of draughts_end.NoMove = name.NoMove
+name_of draughts_end.Repetition = name.Repetition
+name_of draughts_end.KingMoves = name.KingMoves
+name_of draughts_end.ThreeToOne = name.ThreeToOne
+name_of draughts_end.TwoToOne = name.TwoToOne
+name_of draughts_end.PlyLimit = name.PlyLimit
+
+abbrev pub draughts : GameRules Position DMove DEnd Tail
+draughts = record {
+  start = opening;
+  turn = λ p. p.turn;
+  check = λ p m. refused_by refusal_of (check_of p m);
+  same = same_move;
+  same_position = same_position;
+  play = play;
+  read_move = λ p text. move_read (move_reading p text);
+  write_move = move_text;
+  write_position = fen_text;
+  judge = end_of;
+  track_start = first_tail;
+  track_next = next_tail;
+  track_end = λ track p plies times first. end_by track p plies times;
+  track_numbers = λ track. (track.king_plies, track.class_positions);
+  track_of = λ a b. record { king_plies = a; class_positions = b };
+  outcome = outcome_of;
+  end_name = name_of;
+  has_draw_offers = true;
+}

@@ -1,0 +1,4 @@
+pub mod Draughts
+pub mod DraughtsLaws
+pub mod Shogi
+pub mod ShogiLaws
