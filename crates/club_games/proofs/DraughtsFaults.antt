@@ -1,5 +1,5 @@
 -- Lines that are played by the rules have no fault, and readings are those of the functions.
-use Rattle.std.proofs.Common.{◌≡◌, ◌≢◌, ℕ, List, take, Some, None, Ok, Err, refl, sym, ap, ◌∙◌, subst}
+use Rattle.std.proofs.Common.{◌≡◌, ◌≢◌, ℕ, List, take, Err, sym, ap, ◌∙◌}
 use Rattle.squares.specs.declared.draughts.moves.DMove.{DMove}
 use Rattle.squares.specs.DraughtsBoard.{Position}
 use Rattle.draughts_moves.specs.declared.checking.Illegal.{Illegal}
@@ -12,7 +12,7 @@ use Rattle.pdn.specs.MoveValue.{move_reading}
 use Rattle.pdn.specs.ReadFen.{IsFen, HasFenFault}
 use Rattle.pdn.specs.ReadMove.{HasReadFault}
 use Rattle.pdn.proofs.Proved.{reading-err, fen-well}
-use Rattle.rules_next.specs.Line.{position_after, IsLegalLine, IsPlayedLine}
+use Rattle.rules_next.specs.Line.{IsPlayedLine}
 use Rattle.rules_next.proofs.Proved.{check-at, refused-passes}
 use Rattle.rules_next.specs.MoveRefusal.{refused_by}
 use Rattle.club_games.specs.Draughts.{draughts, refusal_of, text_refusal, move_read}

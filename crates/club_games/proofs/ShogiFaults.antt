@@ -1,9 +1,8 @@
 -- Lines that are played by the rules have no fault, and readings are those of the functions.
-use Rattle.std.proofs.Common.{◌≡◌, ℕ, List, take, Option, Some, None, Ok, Err, refl, sym, ap, ◌∙◌, subst}
+use Rattle.std.proofs.Common.{◌≡◌, ℕ, List, take, Option, Some, None, Err, sym, ap, ◌∙◌, subst}
 use Rattle.squares.specs.declared.shogi.moves.SMove.{SMove}
 use Rattle.squares.specs.ShogiSets.{ShogiPosition}
 use Rattle.shogi_moves.specs.declared.checking.Illegal.{Illegal}
-use Rattle.shogi_moves.specs.Computed.{check_of}
 use Rattle.shogi_moves.specs.Rules.{FirstBroken}
 use Rattle.shogi_moves.proofs.Proved.{check_of-refused}
 use Rattle.shogi_repetition.specs.declared.ends.SEnd.{SEnd}
@@ -17,7 +16,7 @@ use Rattle.sfen.specs.UsiText.{IsNoUsi}
 use Rattle.sfen.proofs.Proved.{refused-here}
 use Rattle.rules_next.specs.declared.names.GameKind.TheVariants as game
 use Rattle.rules_next.specs.declared.refusals.MoveRefusal.TheVariants.{BadText}
-use Rattle.rules_next.specs.Line.{position_after, IsLegalLine, IsPlayedLine}
+use Rattle.rules_next.specs.Line.{position_after, IsPlayedLine}
 use Rattle.rules_next.proofs.Proved.{check-at, refused-passes}
 use Rattle.rules_next.specs.MoveRefusal.{refused_by}
 use Rattle.club_games.specs.Shogi.{shogi, refusal_of, move_read}

@@ -1,5 +1,5 @@
 -- What holds of draughts as a game of the club.
-use Rattle.std.proofs.Common.{◌≡◌, ◌⊎◌, inl, inr, ◌↔◌, ℕ, zero, suc, ◌+◌, ◌-◌, ◌≤◌, ◌<◌, Bool, true, false, cond, not, ◌&&◌, nat_eq, nat_le, List, [], ◌∷◌, ◌++◌, length, take, get_or, Option, Some, None, is_some, Result, Ok, Err, IsOk, IsSome, refl, sym, ap, ◌∙◌, subst, append_assoc, append-nil, arith, eqb-true, eq-eqb}
+use Rattle.std.proofs.Common.{◌≡◌, ◌⊎◌, inl, inr, ℕ, zero, suc, ◌+◌, ◌-◌, ◌≤◌, ◌<◌, Bool, true, false, cond, not, nat_eq, nat_le, List, [], ◌∷◌, length, Option, Some, None, is_some, Ok, IsSome, refl, sym, ap, ◌∙◌, subst, arith, eqb-true, eq-eqb}
 use Rattle.std.specs.Prelude.{if◌then◌else◌, count_by, map as list_map}
 use Rattle.std.specs.List.{range_with_len}
 use Rattle.std.specs.Ordering.{nat_cmp, eq_by_cmp}
@@ -12,35 +12,28 @@ use Rattle.std.proofs.lemmas.List.{get_or_past}
 use Rattle.std.proofs.lemmas.List.FromFn.{length-map-range_with_len}
 use Rattle.squares.specs.declared.draughts.moves.DMove.{DMove}
 use Rattle.squares.specs.declared.draughts.piece.DPiece.{DPiece}
-use Rattle.squares.specs.declared.sides.Side.TheVariants.{First}
-use Rattle.squares.specs.Sides.{other}
 use Rattle.squares.specs.DraughtsBoard.{Board, Position}
 use Rattle.squares.specs.DraughtsCells.{get-board_of, get-board_of-zero}
-use Rattle.squares.specs.DraughtsGeometry.{OnBoard, ray}
-use Rattle.squares.specs.DraughtsMarks.{nat_eq_other}
-use Rattle.squares.specs.DraughtsOnBoard.{AllOnBoard, ray-on_board}
+use Rattle.squares.specs.DraughtsGeometry.{OnBoard}
 use Rattle.squares.specs.DraughtsOpening.{opening, opening_piece}
 use Rattle.squares.specs.DraughtsSamePosition.{same_position, same_position-same, same_position-itself}
 use Rattle.squares.specs.DraughtsSets.{Squares}
-use Rattle.draughts_moves.specs.Capture.{Cells, Route, LegalCapture}
-use Rattle.draughts_moves.specs.Check.{Answer, check_of}
-use Rattle.draughts_moves.specs.Legal.{Legal, QuietMove, crowned, moved, play}
+use Rattle.draughts_moves.specs.Capture.{Cells, Route}
+use Rattle.draughts_moves.specs.Check.{check_of}
+use Rattle.draughts_moves.specs.Legal.{Legal, crowned, moved, play}
 use Rattle.draughts_moves.proofs.Proved.{check_of-is, play-turn}
 use Rattle.draughts_draws.specs.declared.ends.DEnd.{DEnd}
 use Rattle.draughts_draws.specs.declared.ends.DEnd.TheVariants as draughts_end
 use Rattle.draughts_draws.specs.declared.tails.Class.{Class}
-use Rattle.draughts_draws.specs.declared.tails.Tail.{Tail}
 use Rattle.draughts_draws.specs.Ends.{end_of, first_end, is_king_move}
 use Rattle.draughts_draws.specs.Line as line
-use Rattle.draughts_draws.specs.Tails.{tail_of, first_tail, next_tail, end_by, class_of, in_class, first_count, count_on, times_stood}
+use Rattle.draughts_draws.specs.Tails.{tail_of, next_tail, end_by, class_of, in_class, first_count, count_on, times_stood}
 use Rattle.draughts_draws.proofs.Proved.{tail-begins, tail-goes-on, ends-by-tail}
-use Rattle.pdn.specs.FenText.{fen_text}
 use Rattle.pdn.specs.Laws.{IsOnBoard}
 use Rattle.pdn.specs.ReadFen.{IsFen}
-use Rattle.pdn.specs.MoveValue.{move_reading, move_text}
+use Rattle.pdn.specs.MoveValue.{move_text}
 use Rattle.pdn.proofs.Proved.{quiet-on, same_move-same, same_move-itself, text-is, reads-back, reading-ok, fen-back, fen-one, Route-on}
-use Rattle.rules_next.specs.GameRules.{GameRules, ply_limit}
-use Rattle.rules_next.specs.Line.{position_after, positions, IsLegalLine, line_track}
+use Rattle.rules_next.specs.Line.{position_after, positions, line_track}
 use Rattle.rules_next.specs.Line as game_line
 use Rattle.rules_next.specs.Laws.{FirstStarts, TurnPasses, ReadsBack, SameIs, SamePositionIs, EndsAtLimit, StandsForOne, WritesPositions, TextsTellPositions, TracksTellEnds, NumbersGiveTracks, TracksGiveNumbers, NumbersAreFew}
 use Rattle.rules_next.proofs.Proved.{holds-after, passed-by, passes-by, tells-equal, texts-tell, track-is, numbers-few, count-next}

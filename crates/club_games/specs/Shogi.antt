@@ -1,5 +1,5 @@
 -- Shogi as a game of the club.
-use Rattle.std.specs.Prelude.{ℕ, ◌==◌, ◌&&◌, List, Bool, true, false, Option, Some, None, Result, Ok, Err}
+use Rattle.std.specs.Prelude.{ℕ, ◌==◌, ◌&&◌, List, Bool, false, Option, Some, None, Result, Ok, Err}
 use Rattle.std.proofs.Math.Bool.{beq}
 use denote.Enum.Bare.{sameb}
 use Rattle.squares.specs.contracts.shogi.piece.HandKind.{the_type}

@@ -1,5 +1,5 @@
 -- What holds of shogi as a game of the club.
-use Rattle.std.proofs.Common.{◌≡◌, ◌≢◌, ◌⊎◌, inl, inr, ◌↔◌, ℕ, zero, suc, ◌+◌, ◌-◌, ◌≤◌, ◌<◌, Bool, true, false, cond, not, ◌&&◌, nat_eq, nat_le, List, [], ◌∷◌, ◌++◌, length, take, get_or, Option, Some, None, is_some, Result, Ok, Err, IsOk, IsSome, refl, sym, ap, ◌∙◌, subst, append_assoc, append-nil, arith, eqb-true, eq-eqb}
+use Rattle.std.proofs.Common.{◌≡◌, ℕ, ◌+◌, ◌-◌, ◌≤◌, ◌<◌, Bool, true, false, cond, not, ◌&&◌, nat_eq, List, [], ◌∷◌, length, take, Option, Some, None, Ok, IsSome, refl, sym, ap, ◌∙◌, arith, eqb-true, eq-eqb}
 use Rattle.std.specs.Prelude.{if◌then◌else◌, count_by, map as list_map}
 use Rattle.std.specs.List.{range_with_len}
 use Rattle.std.specs.Option.{option_map_or}
@@ -15,19 +15,16 @@ use Rattle.std.proofs.lemmas.List.{get_or_past}
 use Rattle.std.proofs.lemmas.List.FromFn.{length-map-range_with_len}
 use Rattle.squares.specs.declared.shogi.moves.SMove.{SMove}
 use Rattle.squares.specs.declared.shogi.moves.SMove.TheVariants.{Step, Drop}
-use Rattle.squares.specs.declared.shogi.piece.HandKind.{HandKind}
-use Rattle.squares.specs.declared.shogi.piece.HandKind.TheVariants as in_hand
 use Rattle.squares.specs.declared.shogi.piece.SPiece.{SPiece}
 use Rattle.squares.specs.declared.sides.Side.{Side}
 use Rattle.squares.specs.declared.sides.Side.TheVariants.{First, Second}
-use Rattle.squares.specs.Sides.{other}
 use Rattle.squares.specs.DraughtsMarks.{nat_eq_other}
 use Rattle.squares.specs.ShogiBoard.{ShogiBoard}
 use Rattle.squares.specs.ShogiOpening.{opening, opening_cell}
 use Rattle.squares.specs.ShogiSamePosition.{same_shogi_position, same_shogi_position-same, same_shogi_position-itself}
 use Rattle.squares.specs.ShogiSets.{ShogiPosition, IsShogiPosition}
 use Rattle.squares.proofs.Proved.{get-shogi_board_of, opening-IsShogiPosition}
-use Rattle.shogi_moves.specs.Computed.{Answer, check_of, has_move}
+use Rattle.shogi_moves.specs.Computed.{check_of, has_move}
 use Rattle.shogi_moves.specs.Rules.{Legal, Movement, arrived, board_after, play}
 use Rattle.shogi_moves.proofs.Proved.{check_of-legal, play-sound, Reach-on}
 use Rattle.shogi_repetition.specs.declared.ends.SEnd.{SEnd}
@@ -36,15 +33,13 @@ use Rattle.shogi_repetition.specs.declared.tails.Tail.{Tail}
 use Rattle.shogi_repetition.specs.Computed.{end_of, first_end, is_in_check, repetition, stands_four_times}
 use Rattle.shogi_repetition.specs.Ends as ends
 use Rattle.shogi_repetition.specs.Line as line
-use Rattle.shogi_repetition.specs.Tails.{tail_of, no_checks, tail_after, next_tail, end_by, times_stood}
+use Rattle.shogi_repetition.specs.Tails.{tail_of, tail_after, next_tail, end_by, times_stood}
 use Rattle.shogi_repetition.proofs.Proved.{tail-begins, tail-goes-on, ends-by-tail}
-use Rattle.sfen.specs.SfenGrammar.{IsOnSquares, IsSfenText, same_hand_kind}
-use Rattle.sfen.specs.SfenText.{position_text}
+use Rattle.sfen.specs.SfenGrammar.{IsOnSquares}
 use Rattle.sfen.specs.UsiReading.{usi_reach}
 use Rattle.sfen.specs.UsiText.{IsOnBoard, usi_text}
 use Rattle.sfen.proofs.Proved.{usi_reading-text, position-alone, stands-for-one}
-use Rattle.rules_next.specs.GameRules.{GameRules, ply_limit}
-use Rattle.rules_next.specs.Line.{position_after, positions, IsLegalLine, line_track, FirstStands}
+use Rattle.rules_next.specs.Line.{position_after, positions, line_track, FirstStands}
 use Rattle.rules_next.specs.Line as game_line
 use Rattle.rules_next.specs.Laws.{FirstStarts, TurnPasses, ReadsBack, SameIs, SamePositionIs, EndsAtLimit, StandsForOne, WritesPositions, TextsTellPositions, TracksTellEnds, NumbersGiveTracks, TracksGiveNumbers, NumbersAreFew}
 use Rattle.rules_next.proofs.Proved.{holds-after, passed-by, passes-by, tells-equal, texts-tell, track-is, numbers-few, count-next}

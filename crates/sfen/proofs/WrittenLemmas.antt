@@ -1,5 +1,5 @@
 -- The written text of a position stands for that position.
-use Rattle.std.proofs.Common.{◌≡◌, ◌⊎◌, inl, inr, ℕ, ◌≤◌, List, [], ◌∷◌, ◌++◌, lit≤, refl, sym, ap, ◌∙◌, append-nil, append_assoc, arith, subst}
+use Rattle.std.proofs.Common.{inl, ℕ, ◌≤◌, List, [], ◌∷◌, ◌++◌, lit≤, refl, append-nil, append_assoc, arith, subst}
 use Rattle.squares.specs.declared.shogi.piece.HandKind.{HandKind}
 use Rattle.squares.specs.declared.shogi.piece.HandKind.TheVariants as in_hand
 use Rattle.squares.specs.declared.shogi.hand.Hands.{Hands}

@@ -1,4 +1,4 @@
-use Rattle.std.proofs.Common.{◌≡◌, ℕ, List, ◌∷◌, ◌++◌, ap, ◌∙◌, string_bytes, subst, sym}
+use Rattle.std.proofs.Common.{ℕ, List, ◌∷◌, ◌++◌, ap, ◌∙◌, subst, sym}
 use Rattle.std.specs.Fmt.{decimal}
 use Rattle.squares.specs.ShogiSets.{ShogiPosition}
 use Rattle.sfen.specs.SfenGrammar.{IsSfenText}
