@@ -1,7 +1,8 @@
 #!/usr/bin/env bash
 # Measures how often a second the rules of draughts answer: whether a move is legal (`check`), and whether there is a
-# legal move (`has_move`), over the positions of 200 games that a fixed sequence of numbers plays. The program stands in
-# bench/rates; it is proved and built in a copy of the crates that it stands on. The least time of five runs counts.
+# legal move (`has_move`), over the positions of 200 games that a fixed sequence of numbers plays. The program stands
+# beside this script as text, since it is no crate of the repository; it is proved and built in a copy of the crates that
+# it stands on. The least time of five runs counts.
 #
 #   bench/rates.sh
 set -eu
@@ -11,7 +12,9 @@ trap 'rm -rf "$work"' EXIT
 rounds=200
 
 mkdir "$work/crates"
-cp -a "$top"/crates/{masks,squares,draughts_moves} "$top/bench/rates" "$work/crates/"
+cp -a "$top"/crates/{masks,squares,draughts_moves} "$work/crates/"
+mkdir -p "$work/crates/rates/src"
+cp "$top/bench/rates.rt.txt" "$work/crates/rates/src/main.rt"
 cp "$top/HANDLES" "$work/"
 printf 'masks:\nsquares: masks\ndraughts_moves: squares\nrates: squares draughts_moves\n' > "$work/crates.txt"
 git init -q "$work"

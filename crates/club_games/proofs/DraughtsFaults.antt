@@ -1,5 +1,5 @@
 -- Lines that are played by the rules have no fault, and readings are those of the functions.
-use Rattle.std.proofs.Common.{◌≡◌, ◌≢◌, ℕ, List, take, Some, None, Ok, Err, refl, sym, ap, ◌∙◌, subst}
+use Rattle.std.proofs.Common.{◌≡◌, ◌≢◌, ℕ, List, take, Err, sym, ap, ◌∙◌}
 use Rattle.squares.specs.declared.draughts.moves.DMove.{DMove}
 use Rattle.squares.specs.DraughtsBoard.{Position}
 use Rattle.draughts_moves.specs.declared.checking.Illegal.{Illegal}
@@ -11,14 +11,12 @@ use Rattle.pdn.specs.declared.faults.PdnFault.TheVariants as fault
 use Rattle.pdn.specs.MoveValue.{move_reading}
 use Rattle.pdn.specs.ReadFen.{IsFen, HasFenFault}
 use Rattle.pdn.specs.ReadMove.{HasReadFault}
-use Rattle.pdn.proofs.Proved.{reading-err, fen-one, fen-well}
-use Rattle.club_rules.specs.Line.{position_after, IsLegalLine, IsPlayedLine}
-use Rattle.club_rules.proofs.Proved.{check-at}
-use Rattle.club_games.specs.Draughts.{draughts, refused_by, text_refusal, move_read}
-use Rattle.club_games.specs.DraughtsLaws.{last-is, line-fen}
-
-refused-legal : (cause : Illegal) → refused_by (Err cause) ≡ Ok tt → ⊥
-refused-legal cause e = cc
+use Rattle.pdn.proofs.Proved.{reading-err, fen-well}
+use Rattle.club_rules.specs.Line.{IsPlayedLine}
+use Rattle.club_rules.proofs.Proved.{check-at, refused-passes}
+use Rattle.club_rules.specs.MoveRefusal.{refused_by}
+use Rattle.club_games.specs.Draughts.{draughts, refusal_of, text_refusal, move_read}
+use Rattle.club_games.specs.DraughtsLaws.{last-is}
 
 -- no move of a legal line is refused
 pub no-illegal : (start : Position) (ms : List DMove) (ply : ℕ) (cause : Illegal) → IsPlayedLine draughts start ms → HasFault start ms (line_fault.Illegal ply cause) → ⊥
@@ -27,23 +25,15 @@ no-illegal start ms ply cause played h =
     let m = h.1 in
     let legal = check-at draughts start ms k m played.legal h.3 in
     let at = ap (λ p. check_of p m) (last-is start (take k ms)) ∙ h.6 in
-    refused-legal cause (sym (ap refused_by at) ∙ legal)
+    refused-passes refusal_of cause (sym (ap (refused_by refusal_of) at) ∙ legal)
 
 -- a text that is refused is refused so by the function that reads
 pub refused-reading : (p : Position) (text : List ℕ) (f : PdnFault) → HasReadFault p text f → f ≢ fault.Memory → Err (text_refusal f) ≡ move_read (move_reading p text)
 refused-reading p text f h differs = sym (ap move_read ((reading-err p text f).1 (h, differs)))
 
--- the position of a line is that of its text
-pub line-one : (text : List ℕ) (q : Position) (ms : List DMove) → IsFen text q → IsLegalLine draughts draughts.start ms → text ≡ draughts.write_position (position_after draughts draughts.start ms) → q ≡ position_after draughts draughts.start ms
-line-one text q ms h legal e =
-    let p = position_after draughts draughts.start ms in
-    fen-one text p q (subst (λ t. IsFen t p) (sym e) (line-fen ms legal)) h
-
 not-memory : (offset : ℕ) → fault.BadText offset ≢ fault.Memory
 not-memory offset e = cc
 
--- the text of a position on a line is read
-pub line-read : (text : List ℕ) (offset : ℕ) (ms : List DMove) → HasFenFault text (fault.BadText offset) → IsLegalLine draughts draughts.start ms → text ≡ draughts.write_position (position_after draughts draughts.start ms) → ⊥
-line-read text offset ms h legal e =
-    let p = position_after draughts draughts.start ms in
-    not-memory offset (fen-well text p (fault.BadText offset) (subst (λ t. IsFen t p) (sym e) (line-fen ms legal)) h)
+-- a text that is refused stands for no position
+pub no-position : (text : List ℕ) (offset : ℕ) (p : Position) → HasFenFault text (fault.BadText offset) → IsFen text p → ⊥
+no-position text offset p h is = not-memory offset (fen-well text p (fault.BadText offset) is h)

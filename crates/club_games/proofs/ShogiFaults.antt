@@ -1,9 +1,8 @@
 -- Lines that are played by the rules have no fault, and readings are those of the functions.
-use Rattle.std.proofs.Common.{◌≡◌, ℕ, List, take, Option, Some, None, Ok, Err, refl, sym, ap, ◌∙◌, subst}
+use Rattle.std.proofs.Common.{◌≡◌, ℕ, List, take, Option, Some, None, Err, sym, ap, ◌∙◌, subst}
 use Rattle.squares.specs.declared.shogi.moves.SMove.{SMove}
 use Rattle.squares.specs.ShogiSets.{ShogiPosition}
 use Rattle.shogi_moves.specs.declared.checking.Illegal.{Illegal}
-use Rattle.shogi_moves.specs.Computed.{check_of}
 use Rattle.shogi_moves.specs.Rules.{FirstBroken}
 use Rattle.shogi_moves.proofs.Proved.{check_of-refused}
 use Rattle.shogi_repetition.specs.declared.ends.SEnd.{SEnd}
@@ -12,20 +11,16 @@ use Rattle.shogi_repetition.specs.Computed.{end_of}
 use Rattle.shogi_repetition.specs.Ends.{EndsSo}
 use Rattle.shogi_repetition.specs.Faults.{HasFault}
 use Rattle.shogi_repetition.proofs.Proved.{one-end, end_of-is}
-use Rattle.sfen.specs.declared.faults.SfenFault.{SfenFault}
-use Rattle.sfen.specs.SfenGrammar.{IsSfenText, IsRefused}
 use Rattle.sfen.specs.UsiReading.{usi_reading, usi_reach}
 use Rattle.sfen.specs.UsiText.{IsNoUsi}
-use Rattle.sfen.proofs.Proved.{refused-here, stands-for-one, not-refused}
+use Rattle.sfen.proofs.Proved.{refused-here}
 use Rattle.club_rules.specs.declared.names.GameKind.TheVariants as game
 use Rattle.club_rules.specs.declared.refusals.MoveRefusal.TheVariants.{BadText}
-use Rattle.club_rules.specs.Line.{position_after, IsLegalLine, IsPlayedLine}
-use Rattle.club_rules.proofs.Proved.{check-at}
-use Rattle.club_games.specs.Shogi.{shogi, refused_by, move_read}
-use Rattle.club_games.specs.ShogiLaws.{last-is, line-text}
-
-refused-legal : (cause : Illegal) → refused_by (Err cause) ≡ Ok tt → ⊥
-refused-legal cause e = cc
+use Rattle.club_rules.specs.Line.{position_after, IsPlayedLine}
+use Rattle.club_rules.proofs.Proved.{check-at, refused-passes}
+use Rattle.club_rules.specs.MoveRefusal.{refused_by}
+use Rattle.club_games.specs.Shogi.{shogi, refusal_of, move_read}
+use Rattle.club_games.specs.ShogiLaws.{last-is}
 
 -- no move of a legal line is refused
 pub no-illegal : (start : ShogiPosition) (ms : List SMove) (ply : ℕ) (cause : Illegal) → IsPlayedLine shogi start ms → HasFault start ms (line_fault.Illegal ply cause) → ⊥
@@ -34,7 +29,7 @@ no-illegal start ms ply cause played h =
     let m = h.1 in
     let legal = check-at shogi start ms k m played.legal h.3 in
     let broken = subst (λ p. FirstBroken p m cause) (sym (last-is start (take k ms))) h.6 in
-    refused-legal cause (sym (ap refused_by ((check_of-refused (position_after shogi start (take k ms)) m cause).1 broken)) ∙ legal)
+    refused-passes refusal_of cause (sym (ap (refused_by refusal_of) ((check_of-refused (position_after shogi start (take k ms)) m cause).1 broken)) ∙ legal)
 
 none_some : (o : Option SEnd) (end : SEnd) → o ≡ None → Some end ≡ o → ⊥
 none_some o end e f = let g = f ∙ e in cc
@@ -52,15 +47,3 @@ end-computed start ms end h = one-end start ms end (end_of start ms) h (end_of-i
 -- a text that is no move's is refused so by the function that reads
 pub refused-reading : (text : List ℕ) (bytes : ℕ) → IsNoUsi text bytes → Err (BadText game.Shogi bytes) ≡ move_read (usi_reading text) (usi_reach text)
 refused-reading text bytes h = let w = refused-here text bytes h in λ i. move_read (sym w.0 i) (sym w.1 i)
-
--- the position of a line is that of its text
-pub line-one : (text : List ℕ) (q : ShogiPosition) (n : ℕ) (ms : List SMove) → IsSfenText text q n → IsLegalLine shogi shogi.start ms → text ≡ shogi.write_position (position_after shogi shogi.start ms) → q ≡ position_after shogi shogi.start ms
-line-one text q n ms h legal e =
-    let p = position_after shogi shogi.start ms in
-    (stands-for-one text q p n 1 h (subst (λ t. IsSfenText t p 1) (sym e) (line-text ms legal))).0
-
--- the text of a position on a line is read
-pub line-read : (text : List ℕ) (f : SfenFault) (ms : List SMove) → IsRefused text f → IsLegalLine shogi shogi.start ms → text ≡ shogi.write_position (position_after shogi shogi.start ms) → ⊥
-line-read text f ms h legal e =
-    let p = position_after shogi shogi.start ms in
-    not-refused text f p 1 h (subst (λ t. IsSfenText t p 1) (sym e) (line-text ms legal))

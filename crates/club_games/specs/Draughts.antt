@@ -1,13 +1,12 @@
 -- International draughts as a game of the club.
-use Rattle.std.specs.Prelude.{ℕ, ◌==◌, ◌&&◌, List, Bool, true, Result, Ok, Err}
+use Rattle.std.specs.Prelude.{true, Result, Ok, Err}
 use Rattle.squares.specs.declared.draughts.moves.DMove.{DMove}
 use Rattle.squares.specs.DraughtsBoard.{Position}
 use Rattle.squares.specs.DraughtsOpening.{opening}
-use Rattle.squares.specs.DraughtsSets.{same_squares}
 use Rattle.squares.specs.DraughtsSamePosition.{same_position}
 use Rattle.draughts_moves.specs.declared.checking.Illegal.{Illegal}
 use Rattle.draughts_moves.specs.declared.checking.Illegal.TheVariants as illegal
-use Rattle.draughts_moves.specs.Check.{Answer, check_of}
+use Rattle.draughts_moves.specs.Check.{check_of}
 use Rattle.draughts_moves.specs.Legal.{play}
 use Rattle.draughts_draws.specs.declared.ends.DEnd.{DEnd}
 use Rattle.draughts_draws.specs.declared.ends.DEnd.TheVariants as draughts_end
@@ -16,6 +15,7 @@ use Rattle.draughts_draws.specs.Ends.{end_of, outcome_of}
 use Rattle.draughts_draws.specs.Tails.{first_tail, next_tail, end_by}
 use Rattle.pdn.specs.declared.faults.PdnFault.{PdnFault}
 use Rattle.pdn.specs.declared.faults.PdnFault.TheVariants as fault
+use Rattle.pdn.specs.Choice.{same_move}
 use Rattle.pdn.specs.FenText.{fen_text}
 use Rattle.pdn.specs.MoveValue.{Reading, move_reading, move_text}
 use Rattle.club_rules.specs.declared.names.GameKind.TheVariants as game
@@ -24,15 +24,12 @@ use Rattle.club_rules.specs.declared.names.EndName.TheVariants as name
 use Rattle.club_rules.specs.declared.refusals.MoveRefusal.{MoveRefusal}
 use Rattle.club_rules.specs.declared.refusals.MoveRefusal.TheVariants.{NoSuchMove, MustCapture, NotLongest, BadText, Ambiguous}
 use Rattle.club_rules.specs.GameRules.{GameRules}
+use Rattle.club_rules.specs.MoveRefusal.{refused_by}
 
 abbrev pub refusal_of : Illegal → MoveRefusal
 refusal_of illegal.NoSuchMove = NoSuchMove game.Draughts
 refusal_of illegal.MustCapture = MustCapture
 refusal_of illegal.NotLongest = NotLongest
-
-abbrev pub refused_by : Answer → Result (Unit {0}) MoveRefusal
-refused_by (Ok u) = Ok u
-refused_by (Err cause) = Err (refusal_of cause)
 
 -- why a text is refused; the reading of a text is a function, and has no fault of memory
 abbrev pub text_refusal : PdnFault → MoveRefusal
@@ -44,9 +41,6 @@ text_refusal fault.Memory = NoSuchMove game.Draughts
 abbrev pub move_read : Reading → Result DMove MoveRefusal
 move_read (Ok m) = Ok m
 move_read (Err fault) = Err (text_refusal fault)
-
-abbrev pub same_move : DMove → DMove → Bool
-same_move a b = (a.from == b.from) && ((a.to == b.to) && same_squares a.taken b.taken)
 
 abbrev pub name_of : DEnd → EndName
 name_of draughts_end.NoMove = name.NoMove
@@ -60,7 +54,7 @@ abbrev pub draughts : GameRules Position DMove DEnd Tail
 draughts = record {
   start = opening;
   turn = λ p. p.turn;
-  check = λ p m. refused_by (check_of p m);
+  check = λ p m. refused_by refusal_of (check_of p m);
   same = same_move;
   same_position = same_position;
   play = play;

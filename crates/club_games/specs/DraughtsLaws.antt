@@ -1,5 +1,5 @@
 -- What holds of draughts as a game of the club.
-use Rattle.std.proofs.Common.{◌≡◌, ◌⊎◌, inl, inr, ◌↔◌, ℕ, zero, suc, ◌+◌, ◌-◌, ◌≤◌, ◌<◌, Bool, true, false, cond, not, ◌&&◌, nat_eq, nat_le, List, [], ◌∷◌, ◌++◌, length, take, get_or, Option, Some, None, is_some, Result, Ok, Err, IsOk, IsSome, refl, sym, ap, ◌∙◌, subst, append_assoc, append-nil, arith, eqb-true, eq-eqb}
+use Rattle.std.proofs.Common.{◌≡◌, ◌⊎◌, inl, inr, ℕ, zero, suc, ◌+◌, ◌-◌, ◌≤◌, ◌<◌, Bool, true, false, cond, not, nat_eq, nat_le, List, [], ◌∷◌, length, Option, Some, None, is_some, Ok, IsSome, refl, sym, ap, ◌∙◌, subst, arith, eqb-true, eq-eqb}
 use Rattle.std.specs.Prelude.{if◌then◌else◌, count_by, map as list_map}
 use Rattle.std.specs.List.{range_with_len}
 use Rattle.std.specs.Ordering.{nat_cmp, eq_by_cmp}
@@ -7,61 +7,45 @@ use Rattle.std.specs.Cmp.{nat_cmp_total, unsigned_tied}
 use Rattle.std.specs.FinSet as set
 use Rattle.std.specs.FinMap as map
 use Rattle.std.specs.FinMap.{nat_cmp-IsAntisymmetric}
-use Rattle.std.proofs.lemmas.Bool.{cases_eq}
 use Rattle.std.proofs.lemmas.Bool.Decides.{nat_tests}
 use Rattle.std.proofs.lemmas.List.{get_or_past}
 use Rattle.std.proofs.lemmas.List.FromFn.{length-map-range_with_len}
 use Rattle.squares.specs.declared.draughts.moves.DMove.{DMove}
 use Rattle.squares.specs.declared.draughts.piece.DPiece.{DPiece}
-use Rattle.squares.specs.declared.sides.Side.TheVariants.{First}
-use Rattle.squares.specs.Sides.{other}
 use Rattle.squares.specs.DraughtsBoard.{Board, Position}
 use Rattle.squares.specs.DraughtsCells.{get-board_of, get-board_of-zero}
-use Rattle.squares.specs.DraughtsGeometry.{OnBoard, ray}
-use Rattle.squares.specs.DraughtsMarks.{nat_eq_other}
-use Rattle.squares.specs.DraughtsOnBoard.{AllOnBoard, ray-on_board}
+use Rattle.squares.specs.DraughtsGeometry.{OnBoard}
 use Rattle.squares.specs.DraughtsOpening.{opening, opening_piece}
 use Rattle.squares.specs.DraughtsSamePosition.{same_position, same_position-same, same_position-itself}
-use Rattle.squares.specs.DraughtsSameSquares.{same_squares-same, same_squares-itself}
-use Rattle.squares.specs.DraughtsSets.{Squares, same_squares}
-use Rattle.draughts_moves.specs.Capture.{Cells, Route, LegalCapture}
-use Rattle.draughts_moves.specs.Check.{Answer, check_of}
-use Rattle.draughts_moves.specs.Legal.{Legal, QuietMove, crowned, moved, play}
+use Rattle.squares.specs.DraughtsSets.{Squares}
+use Rattle.draughts_moves.specs.Capture.{Cells, Route}
+use Rattle.draughts_moves.specs.Check.{check_of}
+use Rattle.draughts_moves.specs.Legal.{Legal, crowned, moved, play}
 use Rattle.draughts_moves.proofs.Proved.{check_of-is, play-turn}
 use Rattle.draughts_draws.specs.declared.ends.DEnd.{DEnd}
 use Rattle.draughts_draws.specs.declared.ends.DEnd.TheVariants as draughts_end
 use Rattle.draughts_draws.specs.declared.tails.Class.{Class}
-use Rattle.draughts_draws.specs.declared.tails.Tail.{Tail}
 use Rattle.draughts_draws.specs.Ends.{end_of, first_end, is_king_move}
 use Rattle.draughts_draws.specs.Line as line
-use Rattle.draughts_draws.specs.Tails.{tail_of, first_tail, next_tail, end_by, class_of, in_class, first_count, count_on, times_stood}
+use Rattle.draughts_draws.specs.Tails.{tail_of, next_tail, end_by, class_of, in_class, first_count, count_on, times_stood}
 use Rattle.draughts_draws.proofs.Proved.{tail-begins, tail-goes-on, ends-by-tail}
-use Rattle.pdn.specs.FenText.{fen_text}
 use Rattle.pdn.specs.Laws.{IsOnBoard}
 use Rattle.pdn.specs.ReadFen.{IsFen}
-use Rattle.pdn.specs.MoveValue.{move_reading, move_text}
-use Rattle.pdn.proofs.Proved.{text-is, reads-back, reading-ok, fen-back, fen-one, Route-on}
-use Rattle.club_rules.specs.GameRules.{GameRules, ply_limit}
-use Rattle.club_rules.specs.Line.{position_after, positions, IsLegalLine, track_after}
+use Rattle.pdn.specs.MoveValue.{move_text}
+use Rattle.pdn.proofs.Proved.{quiet-on, same_move-same, same_move-itself, text-is, reads-back, reading-ok, fen-back, fen-one, Route-on}
+use Rattle.club_rules.specs.Line.{position_after, positions, line_track}
 use Rattle.club_rules.specs.Line as game_line
-use Rattle.club_rules.specs.Laws.{FirstStarts, TurnPasses, ReadsBack, SameIs, SamePositionIs, EndsAtLimit, TextsTellPositions, TracksTellEnds, NumbersGiveTracks, TracksGiveNumbers, NumbersAreFew}
-use Rattle.club_games.specs.Draughts.{draughts, refused_by, move_read, same_move}
+use Rattle.club_rules.specs.Laws.{FirstStarts, TurnPasses, ReadsBack, SameIs, SamePositionIs, EndsAtLimit, StandsForOne, WritesPositions, TextsTellPositions, TracksTellEnds, NumbersGiveTracks, TracksGiveNumbers, NumbersAreFew}
+use Rattle.club_rules.proofs.Proved.{holds-after, passed-by, passes-by, tells-equal, texts-tell, track-is, numbers-few, count-next}
+use Rattle.club_games.specs.Draughts.{draughts, refusal_of, move_read}
 
 -- ---- legal moves
 
-passed : (a : Answer) → refused_by a ≡ Ok tt → IsOk a
-passed (Ok u) e = refl
-passed (Err x) e = cc
-
-passes : (a : Answer) → IsOk a → refused_by a ≡ Ok tt
-passes (Ok u) ok = refl
-passes (Err x) ok = cc
-
 pub check-legal : (p : Position) (m : DMove) → draughts.check p m ≡ Ok tt → Legal p m
-check-legal p m e = (check_of-is p m).legal.0 (passed (check_of p m) e)
+check-legal p m e = (check_of-is p m).legal.0 (passed-by refusal_of (check_of p m) e)
 
 pub legal-check : (p : Position) (m : DMove) → Legal p m → draughts.check p m ≡ Ok tt
-legal-check p m legal = passes (check_of p m) ((check_of-is p m).legal.1 legal)
+legal-check p m legal = passes-by refusal_of (check_of p m) ((check_of-is p m).legal.1 legal)
 
 pub draughts-first_starts : FirstStarts draughts
 unfolding opening
@@ -75,28 +59,13 @@ draughts-reads_back p m e =
     let legal = check-legal p m e in
     ap move_read ((reading-ok p (move_text p m) m).1 (reads-back p m (move_text p m) legal (text-is p m legal)))
 
-and_true : (a b : Bool) → (a && b) ≡ true → (a ≡ true) × (b ≡ true)
-and_true true b e = (refl, e)
-and_true false b e = cc
-
-same_fields : (a b : DMove) → a.from ≡ b.from → a.to ≡ b.to → a.taken ≡ b.taken → a ≡ b
-same_fields a b from to taken = λ i. record { from = from i; to = to i; taken = taken i }
+-- ---- sameness
 
 pub draughts-same_is : SameIs draughts
-draughts-same_is a b = (
-  λ e.
-      let all = and_true (nat_eq a.from b.from) (nat_eq a.to b.to && same_squares a.taken b.taken) e in
-      let rest = and_true (nat_eq a.to b.to) (same_squares a.taken b.taken) all.1 in
-      same_fields a b (eqb-true a.from b.from all.0) (eqb-true a.to b.to rest.0) (same_squares-same a.taken b.taken rest.1),
-  λ e.
-      let from = eq-eqb a.from b.from (ap (λ m. m.from) e) in
-      let to = eq-eqb a.to b.to (ap (λ m. m.to) e) in
-      let taken : same_squares a.taken b.taken ≡ true = ap (λ t. same_squares a.taken t) (sym (ap (λ m. m.taken) e)) ∙ same_squares-itself a.taken in
-      λ i. from i && (to i && taken i),
-)
+draughts-same_is a b = (same_move-same a b, same_move-itself a b)
 
 pub draughts-same_position_is : SamePositionIs draughts
-draughts-same_position_is p q = (same_position-same p q, λ e. ap (λ r. same_position p r) (sym e) ∙ same_position-itself p)
+draughts-same_position_is = tells-equal same_position same_position-same same_position-itself
 
 -- ---- the last ply
 
@@ -150,20 +119,13 @@ opening-on (suc n) some =
       | false ↦ λ e. absurd (none_some (map.get opening.board (suc n)) (beyond (suc n) (grind (arith, nat_tests, e))) some)
     ] refl
 
-inside : (xs ys : List ℕ) (y : ℕ) → AllOnBoard (xs ++ y ∷ ys) → OnBoard y
-inside [] ys y on = on.0
-inside (x ∷ xs) ys y on = inside xs ys y on.1
-
-quiet-to_on : (p : Position) (from to : ℕ) → QuietMove p from to → OnBoard to
-quiet-to_on p from to quiet = inside quiet.before quiet.after to (subst AllOnBoard quiet.along (ray-on_board quiet.toward from))
-
 route-to_on : (b : Cells) (q : DPiece) (ls : List ℕ) (t : Squares) (s : ℕ) (all : Squares) (to : ℕ) → OnBoard s → Route b q t s ls all to → OnBoard to
 route-to_on b q [] t s all to on r = subst OnBoard r.1 on
 route-to_on b q (l ∷ ls) t s all to on r = route-to_on b q ls (set.insert t r.0) l all to (Route-on b q (l ∷ ls) t s all to r).0 r.2
 
 to_on : (p : Position) (m : DMove) → IsOnBoard p → Legal p m → OnBoard m.to
 to_on p m on (inl c) = route-to_on _ _ c.landings _ m.from _ m.to (on m.from (ap is_some c.capture.stands)) c.capture.route
-to_on p m on (inr q) = quiet-to_on p m.from m.to q.1.0
+to_on p m on (inr q) = (quiet-on p m.from m.to q.1.0).1
 
 some_here : {A : Type 0} (b : Bool) (x : A) (o : Option A) → IsSome (cond b (Some x) o) → (b ≡ true) ⊎ IsSome o
 some_here true x o some = inl refl
@@ -206,19 +168,16 @@ play-on p m on (inl c) =
 play-on p m on (inr q) =
     subst (λ o. IsOnBoard (moved p m o)) (sym q.1.0.stands) (moved-on p m on (to_on p m on (inr q)) q.1.0.piece)
 
-pub after-on : (p : Position) (ms : List DMove) → IsOnBoard p → IsLegalLine draughts p ms → IsOnBoard (position_after draughts p ms)
-after-on p [] on legal = on
-after-on p (m ∷ ms) on legal = after-on (play p m) ms (play-on p m on (check-legal p m legal.0)) legal.1
+pub draughts-writes_positions : WritesPositions draughts IsFen
+draughts-writes_positions ms legal =
+    fen-back (position_after draughts opening ms)
+    (holds-after draughts IsOnBoard (λ p m on e. play-on p m on (check-legal p m e)) opening ms opening-on legal)
 
--- the position of a line is what its text is read as
-pub line-fen : (ms : List DMove) → IsLegalLine draughts draughts.start ms → IsFen (fen_text (position_after draughts draughts.start ms)) (position_after draughts draughts.start ms)
-line-fen ms legal = fen-back (position_after draughts opening ms) (after-on opening ms opening-on legal)
+pub draughts-stands_for_one : StandsForOne IsFen
+draughts-stands_for_one text p q is also = fen-one text q p also is
 
 pub draughts-texts_tell_positions : TextsTellPositions draughts
-draughts-texts_tell_positions ms ns legal legal' e =
-    let p = position_after draughts opening ms in
-    let q = position_after draughts opening ns in
-    sym (fen-one (fen_text p) p q (line-fen ms legal) (subst (λ t. IsFen t q) (sym e) (line-fen ns legal')))
+draughts-texts_tell_positions = texts-tell draughts IsFen draughts-stands_for_one draughts-writes_positions
 
 -- ---- tracks
 
@@ -230,32 +189,17 @@ positions-is : (p : Position) (ms : List DMove) → positions draughts p ms ≡ 
 positions-is p [] = refl
 positions-is p (m ∷ ms) = ap (λ ps. p ∷ ps) (positions-is (play p m) ms)
 
-last-append : (p : Position) (ms : List DMove) (m : DMove) → line.last_position p (ms ++ m ∷ []) ≡ play (line.last_position p ms) m
-last-append p [] m = refl
-last-append p (n ∷ ms) m = last-append (play p n) ms m
-
-track-grows : (start : Position) (ms ns : List DMove) → track_after draughts (tail_of start ms) (line.last_position start ms) ns ≡ tail_of start (ms ++ ns)
-track-grows start ms [] = ap (tail_of start) (sym (append-nil ms))
-track-grows start ms (m ∷ ns) =
-    let last = line.last_position start ms in
-    let more : List DMove = ms ++ m ∷ [] in
-    ap (λ t. track_after draughts t (play last m) ns) (sym (tail-goes-on start ms m))
-    ∙ ap (λ q. track_after draughts (tail_of start more) q ns) (sym (last-append start ms m))
-    ∙ track-grows start more ns ∙ ap (tail_of start) (append_assoc ms (m ∷ []) ns)
-
-pub line_track-is : (start : Position) (ms : List DMove) → game_line.line_track draughts start ms ≡ tail_of start ms
-line_track-is start ms = ap (λ t. track_after draughts t start ms) (sym (tail-begins start)) ∙ track-grows start [] ms
+line_track-is : (start : Position) (ms : List DMove) → line_track draughts start ms ≡ tail_of start ms
+line_track-is start =
+    track-is draughts start (tail_of start) (tail-begins start)
+    (λ ms m. tail-goes-on start ms m ∙ ap (λ q. next_tail (tail_of start ms) q m (play q m)) (sym (last-is start ms)))
 
 times-is : (start : Position) (ms : List DMove) → game_line.times_stood draughts start ms ≡ times_stood start ms
 times-is start ms = λ i. count_by (λ q. same_position q (last-is start ms i)) (positions-is start ms i)
 
 pub draughts-tracks_tell_ends : TracksTellEnds draughts
 draughts-tracks_tell_ends ms first played stands =
-    let last = line.last_position opening ms in
-    ap (λ t. end_by t (position_after draughts opening ms) (length ms) (game_line.times_stood draughts opening ms)) (line_track-is opening ms)
-    ∙ ap (λ q. end_by (tail_of opening ms) q (length ms) (game_line.times_stood draughts opening ms)) (last-is opening ms)
-    ∙ ap (end_by (tail_of opening ms) last (length ms)) (times-is opening ms)
-    ∙ ends-by-tail opening ms
+    (λ i. end_by (line_track-is opening ms i) (last-is opening ms i) (length ms) (times-is opening ms i)) ∙ ends-by-tail opening ms
 
 pub draughts-numbers_give_tracks : NumbersGiveTracks draughts
 draughts-numbers_give_tracks track = refl
@@ -263,30 +207,16 @@ draughts-numbers_give_tracks track = refl
 pub draughts-tracks_give_numbers : TracksGiveNumbers draughts
 draughts-tracks_give_numbers a b = refl
 
-king-next : (b : Bool) (k n : ℕ) → k ≤ n → (if b then k + 1 else 0) ≤ n + 1
-king-next true k n h = omega arith
-king-next false k n h = omega arith
+class-next : (before : Position) (count : ℕ) (class : Option Class) → count_on before count class ≤ count + 1
+class-next before count None = omega arith
+class-next before count (Some class) = count-next (in_class class before) count 1 (omega arith)
 
-class-stays : (b : Bool) (k n : ℕ) → k ≤ n → (if b then k + 1 else 1) ≤ n + 1
-class-stays true k n h = omega arith
-class-stays false k n h = omega arith
-
-class-next : (before : Position) (k n : ℕ) (o : Option Class) → k ≤ n → count_on before k o ≤ n + 1
-class-next before k n None h = omega arith
-class-next before k n (Some c) h = class-stays (in_class c before) k n h
-
-class-first : (o : Option Class) → first_count o ≤ 1
+class-first : (class : Option Class) → first_count class ≤ 1
 class-first None = omega arith
-class-first (Some c) = omega arith
-
-few : (track : Tail) (p : Position) (ms : List DMove) (a b : ℕ) → track.king_plies ≤ a → track.class_positions ≤ b →
-    ((track_after draughts track p ms).king_plies ≤ length ms + a) × ((track_after draughts track p ms).class_positions ≤ length ms + b)
-few track p [] a b kings class = (omega arith, omega arith)
-few track p (m ∷ ms) a b kings class =
-    let rest = few (next_tail track p m (play p m)) (play p m) ms (a + 1) (b + 1) (king-next (is_king_move p m) track.king_plies a kings) (class-next p track.class_positions b (class_of (play p m)) class) in
-    (omega (arith, rest.0), omega (arith, rest.1))
+class-first (Some class) = omega arith
 
 pub draughts-numbers_are_few : NumbersAreFew draughts
-draughts-numbers_are_few ms =
-    let w = few (first_tail opening) opening ms 0 1 (omega arith) (class-first (class_of opening)) in
-    (omega (arith, w.0), w.1)
+draughts-numbers_are_few =
+    numbers-few draughts
+    (λ track p m q. (count-next (is_king_move p m) track.king_plies 0 (omega arith), class-next p track.class_positions (class_of q)))
+    (omega arith) (class-first (class_of opening))

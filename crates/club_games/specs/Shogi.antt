@@ -1,13 +1,17 @@
 -- Shogi as a game of the club.
-use Rattle.std.specs.Prelude.{ℕ, ◌==◌, ◌&&◌, List, Bool, true, false, not, Option, Some, None, Result, Ok, Err}
+use Rattle.std.specs.Prelude.{ℕ, ◌==◌, ◌&&◌, List, Bool, false, Option, Some, None, Result, Ok, Err}
+use Rattle.std.proofs.Math.Bool.{beq}
+use denote.Enum.Bare.{sameb}
+use Rattle.squares.specs.contracts.shogi.piece.HandKind.{the_type}
 use Rattle.squares.specs.declared.shogi.moves.SMove.{SMove}
 use Rattle.squares.specs.declared.shogi.moves.SMove.TheVariants.{Step, Drop}
+use Rattle.squares.specs.declared.shogi.piece.HandKind.{HandKind}
 use Rattle.squares.specs.ShogiOpening.{opening}
 use Rattle.squares.specs.ShogiSamePosition.{same_shogi_position}
 use Rattle.squares.specs.ShogiSets.{ShogiPosition}
 use Rattle.shogi_moves.specs.declared.checking.Illegal.{Illegal}
 use Rattle.shogi_moves.specs.declared.checking.Illegal.TheVariants as illegal
-use Rattle.shogi_moves.specs.Computed.{Answer, check_of}
+use Rattle.shogi_moves.specs.Computed.{check_of}
 use Rattle.shogi_moves.specs.Rules.{play}
 use Rattle.shogi_repetition.specs.declared.ends.SEnd.{SEnd}
 use Rattle.shogi_repetition.specs.declared.ends.SEnd.TheVariants as shogi_end
@@ -15,7 +19,7 @@ use Rattle.shogi_repetition.specs.declared.tails.Tail.{Tail}
 use Rattle.shogi_repetition.specs.Computed.{end_of}
 use Rattle.shogi_repetition.specs.Ends.{outcome_of}
 use Rattle.shogi_repetition.specs.Tails.{no_checks, next_tail, end_by}
-use Rattle.sfen.specs.SfenGrammar.{same_hand_kind}
+use Rattle.sfen.specs.SfenGrammar.{IsSfenText}
 use Rattle.sfen.specs.SfenText.{position_text}
 use Rattle.sfen.specs.UsiReading.{usi_reach, usi_reading}
 use Rattle.sfen.specs.UsiText.{usi_text}
@@ -25,6 +29,7 @@ use Rattle.club_rules.specs.declared.names.EndName.TheVariants as name
 use Rattle.club_rules.specs.declared.refusals.MoveRefusal.{MoveRefusal}
 use Rattle.club_rules.specs.declared.refusals.MoveRefusal.TheVariants.{NoSuchMove, NotInHand, MustPromote, DeadDrop, TwoPawns, KingAttacked, DropMate, BadText}
 use Rattle.club_rules.specs.GameRules.{GameRules}
+use Rattle.club_rules.specs.MoveRefusal.{refused_by}
 
 abbrev pub refusal_of : Illegal → MoveRefusal
 refusal_of illegal.NoSuchMove = NoSuchMove game.Shogi
@@ -35,22 +40,23 @@ refusal_of illegal.TwoPawns = TwoPawns
 refusal_of illegal.KingAttacked = KingAttacked
 refusal_of illegal.DropMate = DropMate
 
-abbrev pub refused_by : Answer → Result (Unit {0}) MoveRefusal
-refused_by (Ok u) = Ok u
-refused_by (Err cause) = Err (refusal_of cause)
-
 -- the move of a text, or how far the text goes along with moves' texts
 abbrev pub move_read : Option SMove → ℕ → Result SMove MoveRefusal
 move_read (Some m) reach = Ok m
 move_read None reach = Err (BadText game.Shogi reach)
 
-abbrev pub same_choice : Bool → Bool → Bool
-same_choice true b = b
-same_choice false b = not b
+-- a text that stands for a position, whatever the number of the next move
+abbrev pub IsPositionText : List ℕ → ShogiPosition → Type 0
+IsPositionText text p = (number : ℕ) × IsSfenText text p number
+
+-- whether two kinds are one, as `==` tells it
+abbrev pub same_kind : HandKind → HandKind → Bool
+same_kind a b = sameb the_type a b
 
 abbrev pub same_move : SMove → SMove → Bool
-same_move (Step from to promote) (Step from_b to_b promote_b) = (from == from_b) && ((to == to_b) && same_choice promote promote_b)
-same_move (Drop kind to) (Drop kind_b to_b) = same_hand_kind kind kind_b && (to == to_b)
+same_move (Step from to promote) (Step from_b to_b promote_b) =
+    (from == from_b) && ((to == to_b) && beq promote promote_b)
+same_move (Drop kind to) (Drop kind_b to_b) = same_kind kind kind_b && (to == to_b)
 same_move (Step from to promote) (Drop kind to_b) = false
 same_move (Drop kind to) (Step from_b to_b promote_b) = false
 
@@ -64,7 +70,7 @@ abbrev pub shogi : GameRules ShogiPosition SMove SEnd Tail
 shogi = record {
   start = opening;
   turn = λ p. p.turn;
-  check = λ p m. refused_by (check_of p m);
+  check = λ p m. refused_by refusal_of (check_of p m);
   same = same_move;
   same_position = same_shogi_position;
   play = play;

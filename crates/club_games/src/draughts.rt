@@ -33,9 +33,12 @@ impl Rules for Draughts {
 
     type Track = Tail;
 
+    ghost use Rattle.pdn.specs.ReadFen.{IsFen};
     ghost use Rattle.club_games.specs.DraughtsLaws as laws;
 
     ghost rules = { draughts };
+
+    ghost StandsFor = { IsFen };
 
     fn start() -> DPos {
         DPos::opening()
@@ -168,6 +171,10 @@ impl Rules for Draughts {
     ghost same_position_is = { laws.draughts-same_position_is };
 
     ghost ends_at_limit = { laws.draughts-ends_at_limit };
+
+    ghost writes_positions = { laws.draughts-writes_positions };
+
+    ghost stands_for_one = { laws.draughts-stands_for_one };
 
     ghost texts_tell_positions = { laws.draughts-texts_tell_positions };
 

@@ -44,9 +44,12 @@ impl Rules for Shogi {
 
     type Track = Tail;
 
+    ghost use Rattle.club_games.specs.Shogi.{IsPositionText};
     ghost use Rattle.club_games.specs.ShogiLaws as laws;
 
     ghost rules = { shogi };
+
+    ghost StandsFor = { IsPositionText };
 
     fn start() -> SPos {
         SPos::opening()
@@ -102,7 +105,7 @@ impl Rules for Shogi {
 
     fn read_position(alloc: Global, text: &str) -> Result<Option<SPos>, Memory> {
         match sfen::read(text) {
-            Ok((position, _)) => Ok(Some(position)),
+            Ok((position, _number)) => Ok(Some(position)),
             Err(_) => Ok(None),
         }
     }
@@ -173,6 +176,10 @@ impl Rules for Shogi {
     ghost same_position_is = { laws.shogi-same_position_is };
 
     ghost ends_at_limit = { laws.shogi-ends_at_limit };
+
+    ghost writes_positions = { laws.shogi-writes_positions };
+
+    ghost stands_for_one = { laws.shogi-stands_for_one };
 
     ghost texts_tell_positions = { laws.shogi-texts_tell_positions };
 

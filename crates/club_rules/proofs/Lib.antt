@@ -1,2 +1,6 @@
 pub mod Lines
 pub mod Proved
+pub mod Refused
+pub mod Sameness
+pub mod Texts
+pub mod Tracks

@@ -22,6 +22,11 @@ module _ {P M E T : Type 0} (game_rules : GameRules P M E T) where
   check-at p (x ∷ ms) zero m line at = search rules
   check-at p (x ∷ ms) (suc n) m line at = check-at (game_rules.play p x) ms n m line.1 at
 
+  -- what each legal move keeps holds after a legal line
+  pub holds-after : (Holds : P → Type 0) → ((p : P) (m : M) → Holds p → game_rules.check p m ≡ Ok tt → Holds (game_rules.play p m)) → (p : P) (ms : List M) → Holds p → IsLegalLine game_rules p ms → Holds (position_after game_rules p ms)
+  holds-after Holds keeps p [] holds line = holds
+  holds-after Holds keeps p (m ∷ ms) holds line = holds-after Holds keeps (game_rules.play p m) ms (keeps p m holds line.0) line.1
+
   -- the sides take turns
   pub turn-after : ((p : P) (m : M) → game_rules.check p m ≡ Ok tt → game_rules.turn (game_rules.play p m) ≡ other (game_rules.turn p)) → (p : P) (ms : List M) (m : M) → IsLegalLine game_rules p ms → game_rules.check (position_after game_rules p ms) m ≡ Ok tt → game_rules.turn (position_after game_rules p (ms ++ m ∷ [])) ≡ other (game_rules.turn (position_after game_rules p ms))
   turn-after passes p ms m line legal = ap game_rules.turn (position_after-append p ms m) ∙ passes (position_after game_rules p ms) m legal

@@ -1,9 +1,20 @@
 -- What holds of the rules of each game.
-use Rattle.std.specs.Prelude.{◌≡◌, ◌≤◌, ◌+◌, ◌↔◌, ℕ, List, length, Option, Some, IsSome, Ok, true}
+use Rattle.std.specs.Prelude.{◌≡◌, ◌≤◌, ◌+◌, ◌↔◌, ℕ, List, length, Option, Some, None, IsSome, Ok, true}
 use Rattle.squares.specs.declared.sides.Side.TheVariants.{First}
 use Rattle.squares.specs.Sides.{other}
 use Rattle.club_rules.specs.GameRules.{GameRules, ply_limit}
 use Rattle.club_rules.specs.Line.{position_after, IsLegalLine, IsPlayedLine, line_track, line_numbers, times_stood, FirstStands}
+
+-- texts that stand for positions
+module _ {P : Type 0} (StandsFor : List ℕ → P → Type 0) where
+  -- what a reader answers to a text: the position that the text stands for, or none where it stands for none
+  abbrev pub IsPositionRead : List ℕ → Option P → Type 0
+  IsPositionRead text (Some p) = StandsFor text p
+  IsPositionRead text None = (p : P) → StandsFor text p → ⊥
+
+  -- a text stands for one position at most
+  abbrev pub StandsForOne : Type 0
+  StandsForOne = (text : List ℕ) (p q : P) → StandsFor text p → StandsFor text q → p ≡ q
 
 module _ {P M E T : Type 0} (rules : GameRules P M E T) where
   -- First moves first
@@ -28,26 +39,30 @@ module _ {P M E T : Type 0} (rules : GameRules P M E T) where
 
   -- no game goes on after the last ply
   abbrev pub EndsAtLimit : Type 0
-  EndsAtLimit = (ms : List M) → IsLegalLine rules rules.start ms → length ms ≡ ply_limit → IsSome (rules.judge rules.start ms)
+  EndsAtLimit =
+      (ms : List M) → IsLegalLine rules rules.start ms → length ms ≡ ply_limit → IsSome (rules.judge rules.start ms)
 
-  -- What a reader answers to a text: of each position on a line from the start, if this is its text, that position.
-  abbrev pub IsPositionRead : List ℕ → Option P → Type 0
-  IsPositionRead text read =
-      (ms : List M) → IsLegalLine rules rules.start ms → text ≡ rules.write_position (position_after rules rules.start ms) → read ≡ Some (position_after rules rules.start ms)
+  -- what is written of a position on a line from the start stands for it
+  abbrev pub WritesPositions : (List ℕ → P → Type 0) → Type 0
+  WritesPositions StandsFor =
+      (ms : List M) → IsLegalLine rules rules.start ms →
+      StandsFor (rules.write_position (position_after rules rules.start ms)) (position_after rules rules.start ms)
 
   -- two positions on lines from the start are one where their texts are
   abbrev pub TextsTellPositions : Type 0
   TextsTellPositions =
       (ms ns : List M) → IsLegalLine rules rules.start ms → IsLegalLine rules rules.start ns →
-      rules.write_position (position_after rules rules.start ms) ≡ rules.write_position (position_after rules rules.start ns) →
+      rules.write_position (position_after rules rules.start ms)
+      ≡ rules.write_position (position_after rules rules.start ns) →
       position_after rules rules.start ms ≡ position_after rules rules.start ns
 
-  -- Of a line from the start that is played by the rules, the track, made ply by ply, tells the end: by the last position, the
-  -- number of plies, how often that position stood, and after which ply first.
+  -- Of a line from the start that is played by the rules, the track, made ply by ply, tells the end: by the last position,
+  -- the number of plies, how often that position stood, and after which ply first.
   abbrev pub TracksTellEnds : Type 0
   TracksTellEnds =
       (ms : List M) (first : ℕ) → IsPlayedLine rules rules.start ms → FirstStands rules rules.start ms first →
-      rules.track_end (line_track rules rules.start ms) (position_after rules rules.start ms) (length ms) (times_stood rules rules.start ms) first
+      rules.track_end (line_track rules rules.start ms) (position_after rules rules.start ms) (length ms)
+      (times_stood rules rules.start ms) first
       ≡ rules.judge rules.start ms
 
   -- a track is its two numbers
@@ -60,4 +75,5 @@ module _ {P M E T : Type 0} (rules : GameRules P M E T) where
 
   -- the numbers of a line grow by one a ply at most
   abbrev pub NumbersAreFew : Type 0
-  NumbersAreFew = (ms : List M) → ((line_numbers rules ms).0 ≤ length ms + 1) × ((line_numbers rules ms).1 ≤ length ms + 1)
+  NumbersAreFew =
+      (ms : List M) → ((line_numbers rules ms).0 ≤ length ms + 1) × ((line_numbers rules ms).1 ≤ length ms + 1)

@@ -1,9 +1,15 @@
 -- The refusals of a text or a move of either game: their numbers, their names and how they are written.
-use Rattle.std.specs.Prelude.{List, [], ℕ, ◌++◌, codes, decimal}
+use Rattle.std.specs.Prelude.{List, [], ℕ, ◌++◌, codes, decimal, Result, Ok, Err}
 use Rattle.club_rules.specs.declared.names.GameKind.{GameKind}
 use Rattle.club_rules.specs.declared.names.GameKind.TheVariants.{Draughts, Shogi}
 use Rattle.club_rules.specs.declared.refusals.MoveRefusal.{MoveRefusal}
 use Rattle.club_rules.specs.declared.refusals.MoveRefusal.TheVariants.{NoSuchMove, MustCapture, NotLongest, NotInHand, MustPromote, DeadDrop, TwoPawns, KingAttacked, DropMate, BadText, Ambiguous}
+
+-- the club's answer where the rules of a game answer so to a move
+abbrev pub refused_by : {Cause : Type 0} →
+    (Cause → MoveRefusal) → Result (Unit {0}) Cause → Result (Unit {0}) MoveRefusal
+refused_by refusal_of (Ok u) = Ok u
+refused_by refusal_of (Err cause) = Err (refusal_of cause)
 
 abbrev pub no_such_move_number : GameKind → ℕ
 no_such_move_number Draughts = 10

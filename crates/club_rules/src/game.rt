@@ -1,8 +1,8 @@
 //! The trait of a game's rules.
 
-ghost use Rattle.std.specs.Prelude.{◌≡◌, ◌<◌, IfOk, Ok, string_bytes};
+ghost use Rattle.std.specs.Prelude.{◌≡◌, ◌<◌, ℕ, List, IfOk, Ok, string_bytes};
 ghost use Rattle.club_rules.specs.GameRules.{GameRules};
-ghost use Rattle.club_rules.specs.Laws.{FirstStarts, TurnPasses, ReadsBack, SameIs, SamePositionIs, EndsAtLimit, IsPositionRead, TextsTellPositions, TracksTellEnds, NumbersGiveTracks, TracksGiveNumbers, NumbersAreFew};
+ghost use Rattle.club_rules.specs.Laws.{FirstStarts, TurnPasses, ReadsBack, SameIs, SamePositionIs, EndsAtLimit, IsPositionRead, WritesPositions, StandsForOne, TextsTellPositions, TracksTellEnds, NumbersGiveTracks, TracksGiveNumbers, NumbersAreFew};
 ghost use Rattle.club_rules.specs.Line.{IsPlayedLine};
 
 use crate::names::EndName;
@@ -24,6 +24,9 @@ pub trait Rules {
     type Track: Copy + Drop;
 
     ghost rules: { GameRules Self.Position Self.Move Self.End Self.Track };
+
+    /// A text stands for a position.
+    ghost StandsFor: { List ℕ → Self.Position → Type 0 };
 
     /// The position in which each game of the club starts.
     fn start() -> Self::Position
@@ -67,10 +70,9 @@ pub trait Rules {
     fn write_position(alloc: Global, position: &Self::Position) -> Result<String, Memory>
         ensures { IfOk result (λ text. string_bytes text ≡ rules.write_position position.now) };
 
-    /// The position of a text: what is written of a position on a line from the start is read as that position. A text
-    /// that is no position's gives none.
+    /// The position that a text stands for, or none where it stands for none.
     fn read_position(alloc: Global, text: &str) -> Result<Option<Self::Position>, Memory>
-        ensures { IfOk result (IsPositionRead rules text.now) };
+        ensures { IfOk result (IsPositionRead StandsFor text.now) };
 
     /// The end that the rules give after the last of these moves, if there is one.
     fn judge(
@@ -144,6 +146,12 @@ pub trait Rules {
 
     /// No game goes on after the last ply.
     ghost ends_at_limit: { EndsAtLimit rules };
+
+    /// What is written of a position on a line from the start stands for it.
+    ghost writes_positions: { WritesPositions rules StandsFor };
+
+    /// A text stands for one position at most.
+    ghost stands_for_one: { StandsForOne StandsFor };
 
     /// Positions on lines from the start are one where their texts are.
     ghost texts_tell_positions: { TextsTellPositions rules };

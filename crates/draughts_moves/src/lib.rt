@@ -9,7 +9,6 @@ pub mod jumps;
 pub mod laws;
 pub mod listing;
 mod longest;
-pub mod memory;
 pub mod most;
 pub mod mover;
 mod ordering;
@@ -22,11 +21,11 @@ mod steps;
 pub use checking::{Illegal, check, has_move};
 pub use jumps::{Jumps, jumps_from};
 pub use listing::legal;
-pub use memory::Memory;
 pub use most::own_at;
 pub use mover::Mover;
 pub use playing::play;
 pub use routing::routes;
+pub use squares::Memory;
 
 #[cfg(test)]
 mod tests;

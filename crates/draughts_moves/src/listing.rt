@@ -6,11 +6,10 @@ ghost use Rattle.squares.specs.DraughtsSets.{ascending};
 ghost use Rattle.draughts_moves.specs.Legal.{Legal};
 ghost use Rattle.draughts_moves.specs.Listing.{move_cmp, step_to, quiet_in_order, quiet_list};
 
-use crate::memory::Memory;
 use crate::most::own_at;
 use crate::seeking::longest_captures;
 use crate::steps::steps_from;
-use squares::{DMove, DPos, DSet, Dsq};
+use squares::{DMove, DPos, DSet, Dsq, Memory};
 use std::alloc::{AllocError, Global};
 
 // Adds the quiet moves from a square to each square of a set.

@@ -7,10 +7,9 @@ ghost use Rattle.draughts_moves.specs.Capture.{without, Capture};
 ghost use Rattle.draughts_moves.specs.Routes.{route_cmp, lists_in, landings_of};
 
 use crate::jumps::jumps_from;
-use crate::memory::Memory;
 use crate::most::own_at;
 use crate::mover::Mover;
-use squares::{DMove, DPos, Dsq};
+use squares::{DMove, DPos, Dsq, Memory};
 use std::alloc::{AllocError, Global};
 use std::cmp::Ordering;
 

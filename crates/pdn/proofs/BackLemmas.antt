@@ -124,7 +124,7 @@ among [] ys y on = on.0
 among (x ∷ xs) ys y on = among xs ys y on.1
 
 -- a quiet move is from a square to a square
-quiet-on : (p : Position) (from to : ℕ) → QuietMove p from to → OnBoard from × OnBoard to
+pub quiet-on : (p : Position) (from to : ℕ) → QuietMove p from to → OnBoard from × OnBoard to
 quiet-on p from to q =
     (elim (ray-off q.toward from) [ inl on ↦ on | inr none ↦ absurd (not_nil q.before q.after to (sym q.along ∙ none)) ], among q.before q.after to (subst AllOnBoard q.along (ray-on_board q.toward from)))
 

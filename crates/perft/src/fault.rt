@@ -1,5 +1,7 @@
 //! Why lines are not counted.
 
+use squares::Memory;
+
 /// Why lines are not counted, or the counts not printed to their end.
 #[derive(Clone, Copy, Debug, PartialEq, Eq)]
 pub enum Fault {
@@ -11,20 +13,8 @@ pub enum Fault {
     Output,
 }
 
-impl From<draughts_moves::Memory> for Fault {
-    fn from(_refused: draughts_moves::Memory) -> Fault {
-        Fault::Memory
-    }
-}
-
-impl From<shogi_moves::Memory> for Fault {
-    fn from(_refused: shogi_moves::Memory) -> Fault {
-        Fault::Memory
-    }
-}
-
-impl From<sfen::Memory> for Fault {
-    fn from(_refused: sfen::Memory) -> Fault {
+impl From<Memory> for Fault {
+    fn from(_refused: Memory) -> Fault {
         Fault::Memory
     }
 }

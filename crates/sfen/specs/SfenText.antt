@@ -68,6 +68,6 @@ hands_text hands = or_hyphen (kinds_text First hands.first hand_kinds ++ kinds_t
 unfoldable pub position_text : ShogiPosition → List ℕ
 position_text p = board_text p.board ++ (32 ∷ turn_letter p.turn ∷ 32 ∷ hands_text p.hands)
 
--- the board, the turn, the hands and the number, parted by blanks
+-- and the number after them
 unfoldable pub sfen_text : ShogiPosition → ℕ → List ℕ
-sfen_text p number = board_text p.board ++ (32 ∷ turn_letter p.turn ∷ 32 ∷ (hands_text p.hands ++ (32 ∷ decimal number)))
+sfen_text p number = position_text p ++ (32 ∷ decimal number)

@@ -14,7 +14,8 @@ WritesPositions = (p : ShogiPosition) (number : ℕ) → IsShogiPosition p.board
 
 -- So does the text without a number, and for the number 1.
 abbrev pub WritesPositionsAlone : Type 0
-WritesPositionsAlone = (p : ShogiPosition) → IsShogiPosition p.board p.hands → IsOnSquares p.board → IsSfenText (position_text p) p 1
+WritesPositionsAlone =
+    (p : ShogiPosition) → IsShogiPosition p.board p.hands → IsOnSquares p.board → IsSfenText (position_text p) p 1
 
 -- no two runs of empty squares stand side by side, so that each is as long as it can be
 abbrev pub HasGreatestRuns : List RankItem → Type 0

@@ -3,7 +3,6 @@
 
 pub mod faults;
 mod letters;
-mod memory;
 mod places;
 pub mod reading;
 pub mod reading_laws;
@@ -14,8 +13,8 @@ mod writing;
 pub mod writing_laws;
 
 pub use faults::SfenFault;
-pub use memory::Memory;
 pub use reading::read;
+pub use squares::Memory;
 pub use usi_reading::read_usi;
 pub use usi_writing::write_usi;
 pub use writing::{write, write_position};

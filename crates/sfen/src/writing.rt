@@ -8,8 +8,7 @@ ghost use Rattle.sfen.specs.SfenGrammar.{IsSfenText};
 ghost use Rattle.sfen.specs.SfenText.{gap_text, rank_text, board_text, held_text, kinds_text, hand_kinds, hands_text, position_text, sfen_text};
 
 use crate::letters::{letter, turn_letter};
-use crate::memory::Memory;
-use squares::{Hand, HandKind, Hands, SBoard, SPiece, SPos, Side, Ssq};
+use squares::{Hand, HandKind, Hands, Memory, SBoard, SPiece, SPos, Side, Ssq};
 use std::alloc::Global;
 
 // Adds a piece on the board: a `+` if it is promoted, and the letter of its kind.
@@ -118,9 +117,10 @@ fn push_hands(text: &mut String, hands: Hands) -> Result<(), Memory>
     Ok(())
 }
 
-/// The text of a position without the number of the next move: the ranks from the first on, each from file 9 to file 1, the
-/// side to move, and the pieces in the hands, as `lnsgkgsnl/1r5b1/ppppppppp/9/9/9/PPPPPPPPP/1B5R1/LNSGKGSNL b -`. It stands
-/// for that position, with the number 1 left out.
+/// The text of a position without the number of the next move: the ranks from the first on, each from file 9 to
+/// file 1, the side to move, and the pieces in the hands, as
+/// `lnsgkgsnl/1r5b1/ppppppppp/9/9/9/PPPPPPPPP/1B5R1/LNSGKGSNL b -`. It stands for that position, with the number 1
+/// left out.
 ///
 /// It fails where memory is refused, and then alone.
 pub fn write_position(alloc: Global, position: &SPos) -> Result<String, Memory>

@@ -1,4 +1,4 @@
-use Rattle.std.proofs.Common.{◌≡◌, ap, sym, subst, ◌∙◌, Err}
+use Rattle.std.proofs.Common.{ap, sym, subst, ◌∙◌, Err}
 use Rattle.pdn.specs.declared.faults.PdnFault.TheVariants as fault
 use Rattle.pdn.specs.ReadMove.{HasReadFault}
 use Rattle.pdn.proofs.Proved.{reading-ok}

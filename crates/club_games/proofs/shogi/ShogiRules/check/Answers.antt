@@ -1,6 +1,7 @@
 use Rattle.std.proofs.Common.{ap, sym, subst, refl, ◌∙◌, Err, IsOk}
 use Rattle.shogi_moves.proofs.Proved.{check_of-refused}
-use Rattle.club_games.specs.Shogi.{refused_by}
+use Rattle.club_rules.specs.MoveRefusal.{refused_by}
+use Rattle.club_games.specs.Shogi.{refusal_of}
 use Rattle.club_games.specs.ShogiLaws.{legal-check}
 use Rattle.club_games.proofs.shogi.ShogiRules.check.Goals as goal
 
@@ -15,4 +16,4 @@ returns-in-Err c =
     let p = c.args.position.now in
     let m = c.args.made.now in
     let rule = c.in-Err.illegal in
-    ap Err c.refusal_of.ensures ∙ sym (ap refused_by ((check_of-refused p m rule).1 ((c.check.ensures.refused rule).0 c.in-Err.is)))
+    ap Err c.refusal_of.ensures ∙ sym (ap (refused_by refusal_of) ((check_of-refused p m rule).1 ((c.check.ensures.refused rule).0 c.in-Err.is)))

@@ -1,9 +1,8 @@
-use Rattle.std.proofs.Common.{ap, Some}
-use Rattle.club_games.proofs.ShogiFaults.{line-one, line-read}
+use Rattle.sfen.proofs.Proved.{not-refused}
 use Rattle.club_games.proofs.shogi.ShogiRules.read_position.Goals as goal
 
 pub returns-in-Ok : goal.returns-in-Ok
-returns-in-Ok c ms legal e = ap Some (line-one c.args.text.now c.in-Ok.position _ ms c.in-Ok.ensures.read legal e)
+returns-in-Ok c = (c.in-Ok._number, c.in-Ok.ensures.read)
 
 pub returns-in-Err : goal.returns-in-Err
-returns-in-Err c ms legal e = absurd (line-read c.args.text.now c.in-Err.field-0 ms c.in-Err.ensures.fault legal e)
+returns-in-Err c p is = not-refused c.args.text.now c.in-Err.field-0 p is.0 c.in-Err.ensures.fault is.1
