@@ -1,0 +1,58 @@
+-- What the end of a record says of the score.
+use Rattle.std.specs.Prelude.{◌&&◌, Bool, true, false, Option, Some, None, Result, Ok, Err, if◌then◌else◌}
+use Rattle.squares.specs.declared.sides.Side.{Side}
+use Rattle.squares.specs.declared.sides.Side.TheVariants.{First, Second}
+use Rattle.squares.specs.declared.sides.Score.{Score}
+use Rattle.squares.specs.declared.sides.Score.TheVariants as score
+use Rattle.squares.specs.Sides.{loses}
+use Rattle.shogi_repetition.specs.declared.ends.SEnd.{SEnd}
+use Rattle.shogi_repetition.specs.declared.ends.SEnd.TheVariants as by_rule
+use Rattle.shogi_repetition.specs.Ends.{outcome_of}
+use Rattle.csa.specs.declared.end_words.EndWord.{EndWord}
+use Rattle.csa.specs.declared.end_words.EndWord.TheVariants as word
+use Rattle.csa.specs.declared.faults.CsaFault.{CsaFault}
+use Rattle.csa.specs.declared.faults.CsaFault.TheVariants as fault
+
+-- The score that an end claims, by the side to move. An interruption leaves the game unfinished.
+abbrev pub claimed : EndWord → Side → Option Score
+claimed word.Resigned turn = Some (loses turn)
+claimed word.TimeUp turn = Some (loses turn)
+claimed word.IllegalMove turn = Some (loses turn)
+claimed word.Mate turn = Some (loses turn)
+claimed word.Repetition turn = Some score.Draw
+claimed word.Impasse turn = Some score.Draw
+claimed word.Draw turn = Some score.Draw
+claimed word.BlackIllegal turn = Some (loses First)
+claimed word.WhiteIllegal turn = Some (loses Second)
+claimed word.Interrupted turn = None
+
+-- A mate stands only where the rules ended the game by no move, and a repetition where they ended it as a fourfold one.
+abbrev pub fits_rules : EndWord → Option SEnd → Bool
+fits_rules word.Mate (Some by_rule.NoMove) = true
+fits_rules word.Mate _ = false
+fits_rules word.Repetition (Some by_rule.Fourfold) = true
+fits_rules word.Repetition _ = false
+fits_rules _ end = true
+
+abbrev pub same_score : Score → Score → Bool
+same_score score.FirstWins score.FirstWins = true
+same_score score.Draw score.Draw = true
+same_score score.SecondWins score.SecondWins = true
+same_score _ _ = false
+
+-- where the rules ended the game, the score must be theirs
+abbrev pub agrees : Score → Side → Option SEnd → Bool
+agrees claim turn None = true
+agrees claim turn (Some end) = same_score claim (outcome_of end turn)
+
+abbrev pub settled : EndWord → Score → Side → Option SEnd → Result Score CsaFault
+settled w claim turn end = if fits_rules w end && agrees claim turn end then Ok claim else Err fault.ResultDiffers
+
+abbrev pub claim_settled : EndWord → Option Score → Side → Option SEnd → Result Score CsaFault
+claim_settled w None turn end = Err fault.Unfinished
+claim_settled w (Some claim) turn end = settled w claim turn end
+
+-- the score of a record that ends so, by the side to move and by the end that the rules give its moves
+abbrev pub ending : Option EndWord → Side → Option SEnd → Result Score CsaFault
+ending None turn end = Err fault.Unfinished
+ending (Some w) turn end = claim_settled w (claimed w turn) turn end

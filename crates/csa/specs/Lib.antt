@@ -1,0 +1,17 @@
+pub mod Codes
+pub mod EndWords
+pub mod Endings
+pub mod Lines
+pub mod Moves
+pub mod Openings
+pub mod Order
+pub mod Reading
+pub mod Records
+pub mod Replaying
+pub mod Replays
+pub mod Statements
+pub mod Writer
+pub mod Writing
+pub mod WrittenHead
+pub mod WrittenGame
+pub mod ReadingLaws

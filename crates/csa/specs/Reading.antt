@@ -1,0 +1,97 @@
+-- The records of a text, and why a text is refused.
+use Rattle.std.specs.Prelude.{◌≡◌, ◌≢◌, ◌⊎◌, ℕ, not, Bool, true, false, Option, Some, None, List, [], ◌∷◌, ◌++◌, if◌then◌else◌}
+use Rattle.std.specs.List.{list_any, slice_split}
+use Rattle.csa.specs.declared.faults.CsaFault.{CsaFault}
+use Rattle.csa.specs.declared.faults.CsaFault.TheVariants as fault
+use Rattle.csa.specs.declared.game.CsaGame.{CsaGame}
+use Rattle.csa.specs.declared.lines.Placed.{Placed}
+use Rattle.csa.specs.declared.order.Place.TheVariants as place
+use Rattle.csa.specs.declared.statements.Statement.{Statement}
+use Rattle.csa.specs.declared.statements.Statement.TheVariants as statement
+use Rattle.csa.specs.Lines.{text_statements}
+use Rattle.csa.specs.Order.{first_stray}
+use Rattle.csa.specs.Records.{IsRecordOf, RecordFails}
+
+abbrev pub is_parting : Statement → Bool
+is_parting statement.Parting = true
+is_parting _ = false
+
+abbrev pub is_header_statement : Statement → Bool
+is_header_statement statement.Header = true
+is_header_statement _ = false
+
+-- the first statement that is no header
+abbrev pub first_statement : List Placed → Option Statement
+first_statement [] = None
+first_statement (placed ∷ more) = if is_header_statement placed.statement then first_statement more else Some placed.statement
+
+-- whether a record has a statement beside headers
+abbrev pub has_statement : List Placed → Bool
+has_statement placed = list_any (λ each. not (is_header_statement each.statement)) placed
+
+-- a last part without a statement is no record
+abbrev pub without_bare_last : List (List Placed) → List (List Placed)
+without_bare_last [] = []
+without_bare_last (part ∷ []) = if has_statement part then part ∷ [] else []
+without_bare_last (part ∷ next ∷ more) = part ∷ without_bare_last (next ∷ more)
+
+-- the records that the statements `/` part
+abbrev pub records_of : List Placed → List (List Placed)
+records_of placed = without_bare_last (slice_split (λ each. is_parting each.statement) placed)
+
+-- each record is that of a game
+abbrev pub AreRecordsOf : List (List Placed) → List CsaGame → Type 0
+AreRecordsOf [] [] = Unit {0}
+AreRecordsOf [] (game ∷ games) = ⊥
+AreRecordsOf (placed ∷ records) [] = ⊥
+AreRecordsOf (placed ∷ records) (game ∷ games) = IsRecordOf placed game × AreRecordsOf records games
+
+-- statements that begin with a version and have their forms and their order
+pub record AreOrdered (placed : List Placed) : Type 0 where
+  pub version : first_statement placed ≡ Some statement.Version
+  pub order : first_stray place.Start placed ≡ None
+
+-- the text is that of records of these games
+pub record IsTextOf (text : List ℕ) (games : List CsaGame) : Type 0 where
+  pub ordered : AreOrdered (text_statements text)
+  pub records : AreRecordsOf (records_of (text_statements text)) games
+
+-- the record after those of these games has a fault
+pub record FailsAfter (records : List (List Placed)) (f : CsaFault) : Type 0 where
+  pub before : List (List Placed)
+  pub failing : List Placed
+  pub after : List (List Placed)
+  pub parts : records ≡ before ++ failing ∷ after
+  pub games : List CsaGame
+  pub read : AreRecordsOf before games
+  pub fails : RecordFails failing f
+
+-- memory was refused, or a record has a fault
+abbrev pub FailsOrMemory : List (List Placed) → CsaFault → Type 0
+FailsOrMemory records f = (f ≡ fault.Memory) ⊎ FailsAfter records f
+
+-- ordered statements, of which the first record that is not that of a game has this fault
+abbrev pub SomeRecordFails : List Placed → CsaFault → Type 0
+SomeRecordFails placed f = AreOrdered placed × FailsAfter (records_of placed) f
+
+-- no statement, or the first that has no form or stands out of order is on this line
+abbrev pub IsBadOn : List Placed → ℕ → Type 0
+IsBadOn placed line =
+    ((first_statement placed ≡ None) × (line ≡ 1))
+    ⊎ ((first_statement placed ≡ Some statement.Version) × (first_stray place.Start placed ≡ Some line))
+
+-- The refusals of statements: a text without any, a first one that is no version, the first that is out of order, and then those
+-- of the records, one after another.
+abbrev pub Refuses : List Placed → CsaFault → Type 0
+Refuses placed fault.Memory = Unit {0}
+Refuses placed (fault.BadText line) = IsBadOn placed line
+Refuses placed fault.Version = (first : Statement) × (first_statement placed ≡ Some first) × (first ≢ statement.Version)
+Refuses placed fault.OtherOpening = SomeRecordFails placed fault.OtherOpening
+Refuses placed (fault.Illegal ply cause) = SomeRecordFails placed (fault.Illegal ply cause)
+Refuses placed fault.Unfinished = SomeRecordFails placed fault.Unfinished
+Refuses placed (fault.AfterEnd ply) = SomeRecordFails placed (fault.AfterEnd ply)
+Refuses placed fault.ResultDiffers = SomeRecordFails placed fault.ResultDiffers
+
+-- why a text is refused
+abbrev pub IsRefused : List ℕ → CsaFault → Type 0
+IsRefused text f = Refuses (text_statements text) f

@@ -1,0 +1,75 @@
+-- What the record of a game says.
+use Rattle.std.specs.Prelude.{◌≡◌, Bool, true, false, Option, None, List, [], ◌∷◌, Result, Ok, Err}
+use Rattle.std.specs.List.{list_all}
+use Rattle.squares.specs.declared.sides.Side.TheVariants.{First, Second}
+use Rattle.squares.specs.declared.sides.Score.{Score}
+use Rattle.squares.specs.declared.shogi.moves.SMove.{SMove}
+use Rattle.squares.specs.ShogiOpening.{opening}
+use Rattle.shogi_repetition.specs.declared.ends.SEnd.{SEnd}
+use Rattle.shogi_repetition.specs.Line.{last_position}
+use Rattle.shogi_repetition.specs.Ends.{EndsSo}
+use Rattle.csa.specs.declared.end_words.EndWord.{EndWord}
+use Rattle.csa.specs.declared.faults.CsaFault.{CsaFault}
+use Rattle.csa.specs.declared.faults.CsaFault.TheVariants as fault
+use Rattle.csa.specs.declared.lines.Placed.{Placed}
+use Rattle.csa.specs.declared.game.CsaGame.{CsaGame}
+use Rattle.csa.specs.declared.statements.Statement.{Statement}
+use Rattle.csa.specs.declared.statements.Statement.TheVariants as statement
+use Rattle.csa.specs.Endings.{ending}
+use Rattle.csa.specs.Replays.{written_moves, AreMoves, RefusesMove}
+
+-- whether a statement leaves the game its even opening, in which Black begins
+abbrev pub is_even : Statement → Bool
+is_even (statement.Opening without_pieces) = without_pieces
+is_even (statement.Row rank even) = even
+is_even (statement.Pieces none) = none
+is_even (statement.Turn First) = true
+is_even (statement.Turn Second) = false
+is_even _ = true
+
+abbrev pub begins_even : List Placed → Bool
+begins_even record_is = list_all (λ placed. is_even placed.statement) record_is
+
+-- the word of an end, or that of what follows
+abbrev pub end_or : Statement → Option EndWord → Option EndWord
+end_or (statement.End word) after = word
+end_or _ after = after
+
+-- how a record says that the game ended: none where it does not, or not in a known word
+abbrev pub end_in : List Placed → Option EndWord
+end_in [] = None
+end_in (placed ∷ more) = end_or placed.statement (end_in more)
+
+-- a record of a game from the even opening, of these moves, to which the rules give this end
+pub record Plays (placed : List Placed) (ms : List SMove) (end : Option SEnd) : Type 0 where
+  pub even : begins_even placed ≡ true
+  pub moves : AreMoves (written_moves placed) ms
+  pub ends : EndsSo opening ms end
+
+-- the score with which a record of these moves ends
+abbrev pub score_in : List Placed → List SMove → Option SEnd → Result Score CsaFault
+score_in placed ms end = ending (end_in placed) (last_position opening ms).turn end
+
+-- the record is that of the game
+pub record IsRecordOf (placed : List Placed) (game : CsaGame) : Type 0 where
+  pub end : Option SEnd
+  pub plays : Plays placed game.moves.items end
+  pub score : score_in placed game.moves.items end ≡ Ok game.score
+
+-- all moves of the record are played by the rules, and its end has the fault
+pub record EndFails (placed : List Placed) (f : CsaFault) : Type 0 where
+  pub moves : List SMove
+  pub end : Option SEnd
+  pub plays : Plays placed moves end
+  pub score : score_in placed moves end ≡ Err f
+
+-- The faults of a record: another opening, then a move, then the end.
+abbrev pub RecordFails : List Placed → CsaFault → Type 0
+RecordFails placed fault.Memory = Unit {0}
+RecordFails placed fault.OtherOpening = begins_even placed ≡ false
+RecordFails placed (fault.Illegal ply cause) = (begins_even placed ≡ true) × RefusesMove (written_moves placed) (fault.Illegal ply cause)
+RecordFails placed (fault.AfterEnd ply) = (begins_even placed ≡ true) × RefusesMove (written_moves placed) (fault.AfterEnd ply)
+RecordFails placed fault.Unfinished = EndFails placed fault.Unfinished
+RecordFails placed fault.ResultDiffers = EndFails placed fault.ResultDiffers
+RecordFails placed (fault.BadText line) = ⊥
+RecordFails placed fault.Version = ⊥

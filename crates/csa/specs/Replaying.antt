@@ -1,0 +1,53 @@
+-- A replay of written moves.
+use Rattle.std.specs.Prelude.{◌≡◌, ◌⊎◌, ◌+◌, List, [], ◌∷◌, ◌++◌, Option, Some, None, length}
+use Rattle.squares.specs.declared.shogi.moves.SMove.{SMove}
+use Rattle.squares.specs.ShogiOpening.{opening}
+use Rattle.shogi_repetition.specs.Line.{last_position}
+use Rattle.shogi_repetition.specs.Counting.{Follows}
+use Rattle.shogi_repetition.specs.Ends.{EndsSo}
+use Rattle.shogi_repetition.specs.declared.ends.SEnd.{SEnd}
+use Rattle.shogi_repetition.specs.declared.faults.Fault.{Fault}
+use Rattle.shogi_repetition.specs.declared.faults.Fault.TheVariants as line_fault
+use Rattle.shogi_moves.specs.Rules.{FirstBroken}
+use Rattle.csa.specs.declared.faults.CsaFault.{CsaFault}
+use Rattle.csa.specs.declared.faults.CsaFault.TheVariants as fault
+use Rattle.csa.specs.declared.statements.WrittenMove.{WrittenMove}
+use Rattle.csa.specs.declared.statements.Statement.{Statement}
+use Rattle.csa.specs.declared.replay.Replay.{Replay}
+use Rattle.csa.specs.Moves.{Means, MeanAll}
+use Rattle.csa.specs.Replays.{written_in, RefusesNext}
+
+-- The position and the marks of a replay are those of its moves.
+pub record Stands (replay : Replay) : Type 0 where
+  pub follows : Follows opening replay.moves.items replay.marks
+  pub position : replay.position ≡ last_position opening replay.moves.items
+
+-- the moves grew by one that the written move means
+pub record GrowsBy (w : WrittenMove) (old new : List SMove) : Type 0 where
+  pub made : SMove
+  pub grown : new ≡ old ++ made ∷ []
+  pub means : Means (last_position opening old) w made
+
+-- whatever the moves so far were written as, they are now written with this statement more
+abbrev pub GrowsWith : Statement → List SMove → List SMove → Type 0
+GrowsWith s old new = (ws : List WrittenMove) → MeanAll opening ws old → MeanAll opening (ws ++ written_in s) new
+
+-- memory was refused, or the written move is
+abbrev pub RefusesWritten : List SMove → WrittenMove → CsaFault → Type 0
+RefusesWritten ms w f = (f ≡ fault.Memory) ⊎ RefusesNext ms w f
+
+-- memory was refused, or the move of the statement is
+abbrev pub RefusesIn : List SMove → Statement → CsaFault → Type 0
+RefusesIn ms s f = (f ≡ fault.Memory) ⊎ ((w : WrittenMove) × (written_in s ≡ w ∷ []) × RefusesNext ms w f)
+
+-- memory was refused, or the move of the position is: the game has ended, or the move breaks a rule
+abbrev pub RefusesMade : List SMove → SMove → CsaFault → Type 0
+RefusesMade ms m fault.Memory = Unit {0}
+RefusesMade ms m (fault.AfterEnd ply) = (ply ≡ length ms + 1) × (end : SEnd) × EndsSo opening ms (Some end)
+RefusesMade ms m (fault.Illegal ply cause) = (ply ≡ length ms + 1) × EndsSo opening ms None × FirstBroken (last_position opening ms) m cause
+RefusesMade ms m _ = ⊥
+
+abbrev pub fault_of : Fault → CsaFault
+fault_of line_fault.Memory = fault.Memory
+fault_of (line_fault.Illegal ply cause) = fault.Illegal ply cause
+fault_of (line_fault.AfterEnd ply) = fault.AfterEnd ply

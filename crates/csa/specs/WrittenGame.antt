@@ -1,0 +1,31 @@
+-- The whole text of a game, and which ends it may be given.
+use Rattle.std.specs.Prelude.{◌≡◌, ℕ, Option, Some, None, List, ◌++◌, map}
+use Rattle.clocks.specs.declared.dates.CivilTime.{CivilTime}
+use Rattle.clocks.specs.Civil.{IsCivil}
+use Rattle.squares.specs.declared.sides.Side.{Side}
+use Rattle.squares.specs.declared.shogi.moves.SMove.{SMove}
+use Rattle.squares.specs.ShogiOpening.{opening}
+use Rattle.shogi_repetition.specs.declared.ends.SEnd.{SEnd}
+use Rattle.shogi_repetition.specs.Line.{last_position}
+use Rattle.shogi_repetition.specs.Ends.{EndsSo, outcome_of}
+use Rattle.csa.specs.declared.head.CsaEnd.{CsaEnd}
+use Rattle.csa.specs.declared.head.CsaEnd.TheVariants as csa_end
+use Rattle.csa.specs.Writing.{head_text, entries_text, end_text}
+
+-- Where the rules gave the game an end, it is told as that end or as its score. Where they gave none, no rule is told.
+abbrev pub TellsEnd : Option SEnd → Option CsaEnd → Side → Type 0
+TellsEnd (Some end) (Some (csa_end.Rule told)) turn = told ≡ end
+TellsEnd (Some end) (Some (csa_end.Recorded claim)) turn = claim ≡ outcome_of end turn
+TellsEnd (Some end) _ turn = ⊥
+TellsEnd None (Some (csa_end.Rule told)) turn = ⊥
+TellsEnd None _ turn = Unit {0}
+
+-- the end fits the line of moves
+abbrev pub FitsEnd : Option CsaEnd → List SMove → Type 0
+FitsEnd told ms = (end : Option SEnd) × EndsSo opening ms end × TellsEnd end told (last_position opening ms).turn
+
+-- the one text of a game: the head with what a clock in UTC shows at the start, the moves with their seconds, and the end
+pub record IsGameText (event black white : List ℕ) (start : ℕ) (end : Option CsaEnd) (entries : List (SMove × ℕ)) (text : List ℕ) : Type 0 where
+  pub at : CivilTime
+  pub shown : IsCivil start at
+  pub written : text ≡ head_text event black white at ++ entries_text opening entries ++ end_text end (last_position opening (map (λ e. e.0) entries)).turn

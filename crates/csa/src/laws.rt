@@ -1,0 +1,14 @@
+//! What is proved of reading as a whole.
+ghost use Rattle.csa.specs.ReadingLaws.{TextsAreOfOne, TextsOfGamesAreRead};
+
+use shogi_moves::laws::check_is;
+use shogi_repetition::laws::each_line_has_one_end;
+
+/// A text is that of one list of games, and a text of games is refused for want of memory alone.
+pub fn texts_are_read_in_one_way()
+    ensures one { TextsAreOfOne }
+    ensures read { TextsOfGamesAreRead }
+{
+    check_is();
+    each_line_has_one_end();
+}

@@ -1,0 +1,31 @@
+//! Records of shogi as texts: the standard record file of the Computer Shogi Association, version 2.2.
+#![tactic(auto)]
+
+pub mod codes;
+pub mod end_words;
+mod endings;
+pub mod faults;
+pub mod game;
+pub mod game_text;
+pub mod game_writer;
+pub mod head;
+pub mod laws;
+pub mod lines;
+mod moves;
+mod openings;
+pub mod order;
+pub mod reading;
+mod records;
+mod replay;
+pub mod statements;
+mod writing;
+
+pub use faults::CsaFault;
+pub use game::CsaGame;
+pub use game_text::write_game;
+pub use game_writer::{GameWriter, WriteFault};
+pub use head::{CsaEnd, CsaHead};
+pub use reading::read_games;
+
+#[cfg(test)]
+mod tests;

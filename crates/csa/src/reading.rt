@@ -1,0 +1,130 @@
+//! Texts as games.
+ghost use Rattle.std.specs.Prelude.{◌≡◌, ◌≤◌, IfOk, IfErr, OnOk, length, map, take};
+ghost use Rattle.std.specs.List.{slice_split};
+ghost use Rattle.csa.specs.Records.{IsRecordOf, RecordFails};
+ghost use Rattle.csa.specs.Reading.{is_parting, is_header_statement, first_statement, has_statement, without_bare_last, records_of, AreOrdered, AreRecordsOf, FailsOrMemory, Refuses, IsTextOf, IsRefused};
+
+use crate::faults::CsaFault;
+use crate::game::CsaGame;
+use crate::lines::{Placed, statements_of};
+use crate::order::first_stray;
+use crate::records::read_record;
+use crate::statements::Statement;
+use std::alloc::{AllocError, Global};
+
+fn is_parting(statement: Statement) -> bool
+    ensures { result ≡ is_parting statement }
+{
+    match statement {
+        Statement::Parting => true,
+        _ => false,
+    }
+}
+
+fn is_header(statement: Statement) -> bool
+    ensures { result ≡ is_header_statement statement }
+{
+    match statement {
+        Statement::Header => true,
+        _ => false,
+    }
+}
+
+// The first statement that is no header.
+fn first_statement(placed: &[Placed]) -> Option<Statement>
+    ensures { result ≡ first_statement placed.now }
+{
+    for each in placed {
+        if !is_header(each.statement) {
+            return Some(each.statement);
+        }
+    }
+    None
+}
+
+// Whether a record has a statement beside headers.
+fn has_statement(placed: &[Placed]) -> bool
+    ensures { result ≡ has_statement placed.now }
+{
+    placed.iter().any(|each| !is_header(each.statement))
+}
+
+// Whether the statements begin with a version and have their forms and their order.
+fn check_order(placed: &[Placed]) -> Result<(), CsaFault>
+    ensures ordered { OnOk result (AreOrdered placed.now) }
+    ensures fault { IfErr result (Refuses placed.now) }
+{
+    match first_statement(placed) {
+        None => Err(CsaFault::BadText { line: 1 }),
+        Some(first) => match first {
+            Statement::Version => match first_stray(placed) {
+                None => Ok(()),
+                Some(line) => Err(CsaFault::BadText { line }),
+            },
+            _ => Err(CsaFault::Version),
+        },
+    }
+}
+
+// The parts of statements between those that part records.
+fn parts_of(alloc: Global, placed: &[Placed]) -> Result<Vec<&[Placed]>, AllocError>
+    ensures { IfOk result (λ parts. map (λ x. x.now) parts.items
+        ≡ slice_split (λ each. is_parting each.statement) placed.now) }
+{
+    placed
+        .split(|each| is_parting(each.statement))
+        .collect(alloc)
+}
+
+// How many of the parts are records: a last part without a statement is none.
+fn record_count(parts: &[&[Placed]]) -> usize
+    ensures within { result ≤ length parts.now }
+    ensures records { take result (map (λ x. x.now) parts.now) ≡ without_bare_last (map (λ x. x.now) parts.now) }
+{
+    let count = parts.len();
+    if count == 0 {
+        return 0;
+    }
+    if has_statement(parts[count - 1]) {
+        return count;
+    }
+    count - 1
+}
+
+// The games of records, one after another.
+fn read_records(alloc: Global, records: &[&[Placed]]) -> Result<Vec<CsaGame>, CsaFault>
+    ensures games { IfOk result (λ games. AreRecordsOf (map (λ x. x.now) records.now) games.items) }
+    ensures fault { IfErr result (FailsOrMemory (map (λ x. x.now) records.now)) }
+{
+    let mut games = Vec::new(alloc);
+    for i in 0..records.len() {
+        let game = read_record(alloc, records[i])?;
+        games.push(game)?;
+    }
+    Ok(games)
+}
+
+// The games of ordered statements.
+fn read_parts(alloc: Global, placed: &[Placed]) -> Result<Vec<CsaGame>, CsaFault>
+    ensures games { IfOk result (λ games. AreRecordsOf (records_of placed.now) games.items) }
+    ensures fault { IfErr result (FailsOrMemory (records_of placed.now)) }
+{
+    let parts = parts_of(alloc, placed)?;
+    let records = record_count(&parts);
+    read_records(alloc, &parts[..records])
+}
+
+/// The games of a text: records in the standard format of the Computer Shogi Association, parted by `/`.
+///
+/// It refuses, in this order: a text that does not begin with a version; the first line with a statement that has no
+/// form or stands out of order; and record by record another opening, a move after the end of the game or against the
+/// rules, a record that does not say how the game ended, and an end that is not that of the rules. It also fails where
+/// memory is refused, and then alone.
+pub fn read_games(alloc: Global, text: &[u8]) -> Result<Vec<CsaGame>, CsaFault>
+    ensures games { IfOk result (λ games. IsTextOf text.now games.items) }
+    ensures fault { IfErr result (IsRefused text.now) }
+{
+    let placed = statements_of(alloc, text)?;
+    check_order(&placed)?;
+    read_parts(alloc, &placed)
+}

@@ -1,0 +1,83 @@
+//! The records of a text.
+ghost use Rattle.std.specs.Prelude.{◌≡◌, true, IfOk, IfErr};
+ghost use Rattle.squares.specs.ShogiOpening.{opening};
+ghost use Rattle.csa.specs.Moves.{MeanAll};
+ghost use Rattle.csa.specs.Replays.{written_moves};
+ghost use Rattle.csa.specs.Replaying.{Stands};
+ghost use Rattle.csa.specs.Records.{is_even, begins_even, end_in, IsRecordOf, RecordFails};
+
+use crate::end_words::EndWord;
+use crate::endings::ending;
+use crate::faults::CsaFault;
+use crate::game::CsaGame;
+use crate::lines::Placed;
+use crate::replay::{Replay, replay_of};
+use crate::statements::Statement;
+use squares::Side;
+use std::alloc::Global;
+
+// Whether a statement leaves the game its even opening, in which Black begins.
+fn is_even(statement: Statement) -> bool
+    ensures { result ≡ is_even statement }
+{
+    match statement {
+        Statement::Opening { without_pieces } => without_pieces,
+        Statement::Row { rank: _, even } => even,
+        Statement::Pieces { none } => none,
+        Statement::Turn(side) => match side {
+            Side::First => true,
+            Side::Second => false,
+        },
+        _ => true,
+    }
+}
+
+// Whether the game of a record has the even opening.
+fn begins_even(placed: &[Placed]) -> bool
+    ensures { result ≡ begins_even placed.now }
+{
+    placed.iter().all(|each| is_even(each.statement))
+}
+
+// How a record says that the game ended.
+fn end_in(placed: &[Placed]) -> Option<EndWord>
+    ensures { result ≡ end_in placed.now }
+{
+    for each in placed {
+        match each.statement {
+            Statement::End(word) => return word,
+            _ => {}
+        }
+    }
+    None
+}
+
+// The game of a record whose moves are played by the rules.
+fn game_of(placed: &[Placed], replay: Replay) -> Result<CsaGame, CsaFault>
+    requires stands { Stands replay }
+    requires even { begins_even placed.now ≡ true }
+    requires mean { MeanAll opening (written_moves placed.now) replay.moves.items }
+    ensures game { IfOk result (IsRecordOf placed.now) }
+    ensures fault { IfErr result (RecordFails placed.now) }
+{
+    let end = replay.marks.end();
+    match ending(end_in(placed), replay.position.turn(), end) {
+        Err(fault) => Err(fault),
+        Ok(score) => Ok(CsaGame {
+            moves: replay.moves,
+            score,
+        }),
+    }
+}
+
+/// The game of a record.
+pub fn read_record(alloc: Global, placed: &[Placed]) -> Result<CsaGame, CsaFault>
+    ensures game { IfOk result (IsRecordOf placed.now) }
+    ensures fault { IfErr result (RecordFails placed.now) }
+{
+    if !begins_even(placed) {
+        return Err(CsaFault::OtherOpening);
+    }
+    let replay = replay_of(alloc, placed)?;
+    game_of(placed, replay)
+}

@@ -1,0 +1,128 @@
+//! The moves of a record, ply by ply.
+ghost use Rattle.std.specs.Prelude.{[], ◌∷◌, ◌++◌, ◌≡◌, IfOk, IfErr, OnOk};
+ghost use Rattle.squares.specs.ShogiOpening.{opening};
+ghost use Rattle.csa.specs.Moves.{Means, MeanAll};
+ghost use Rattle.csa.specs.Replays.{written_moves, RefusesNext, RefusesMoves};
+ghost use Rattle.csa.specs.Replaying.{Stands, GrowsBy, GrowsWith, RefusesMade, RefusesWritten, RefusesIn, fault_of};
+ghost use Rattle.squares.specs.declared.shogi.moves.SMove.{SMove};
+
+use crate::faults::CsaFault;
+use crate::lines::Placed;
+use crate::moves::move_in;
+use crate::statements::{Statement, WrittenMove};
+use shogi_moves::laws::check_is;
+use shogi_moves::{Illegal, play};
+use shogi_repetition::laws::each_line_has_one_end;
+use shogi_repetition::{Fault, Marks};
+use squares::{SMove, SPos};
+use std::alloc::Global;
+
+/// The moves of a record so far, in a game from the opening.
+#[derive(Drop)]
+pub struct Replay {
+    pub position: SPos,
+    pub marks: Marks,
+    pub moves: Vec<SMove>,
+}
+
+// The replay of no move.
+fn beginning(alloc: Global) -> Result<Replay, CsaFault>
+    ensures stands { IfOk result Stands }
+    ensures bare { IfOk result (λ replay. replay.moves.items ≡ []) }
+    ensures fault { IfErr result (λ fault. fault ≡ CsaFault.Memory) }
+{
+    let position = SPos::opening();
+    match Marks::start(alloc, &position) {
+        Err(_) => Err(CsaFault::Memory),
+        Ok(marks) => Ok(Replay {
+            position,
+            marks,
+            moves: Vec::new(alloc),
+        }),
+    }
+}
+
+// The fault of a written move that means no move of the position.
+fn no_move(replay: &Replay, written: &WrittenMove) -> CsaFault
+    requires stands { Stands replay.now }
+    requires none { (m : SMove) → Means replay.now.position written.now m → ⊥ }
+    ensures { RefusesNext replay.now.moves.items written.now result }
+{
+    let ply = replay.moves.len() + 1;
+    match replay.marks.end() {
+        Some(_) => CsaFault::AfterEnd { ply },
+        None => CsaFault::Illegal {
+            ply,
+            cause: Illegal::NoSuchMove,
+        },
+    }
+}
+
+// The fault of a record, where the marks refuse its next move.
+fn fault_of(fault: Fault) -> CsaFault
+    ensures { result ≡ fault_of fault }
+{
+    match fault {
+        Fault::Memory => CsaFault::Memory,
+        Fault::Illegal { ply, cause } => CsaFault::Illegal { ply, cause },
+        Fault::AfterEnd { ply } => CsaFault::AfterEnd { ply },
+    }
+}
+
+// One move more, which a written move means.
+fn push_move(replay: &mut Replay, played: SMove) -> Result<(), CsaFault>
+    requires { Stands replay.old }
+    ensures stands { OnOk result (Stands replay.new) }
+    ensures grown { OnOk result (replay.new.moves.items ≡ replay.old.moves.items ++ played ∷ []) }
+    ensures fault { IfErr result (RefusesMade replay.old.moves.items played) }
+{
+    check_is();
+    each_line_has_one_end();
+    match replay.marks.push(&played) {
+        Ok(()) => {}
+        Err(fault) => return Err(fault_of(fault)),
+    }
+    let next = play(&replay.position, &played);
+    replay.moves.push(played)?;
+    replay.position = next;
+    Ok(())
+}
+
+// One written move more. It is refused where the game has ended, or where it means no legal move.
+fn push(replay: &mut Replay, written: &WrittenMove) -> Result<(), CsaFault>
+    requires { Stands replay.old }
+    ensures stands { OnOk result (Stands replay.new) }
+    ensures grown { OnOk result (GrowsBy written.now replay.old.moves.items replay.new.moves.items) }
+    ensures fault { IfErr result (RefusesWritten replay.old.moves.items written.now) }
+{
+    match move_in(&replay.position, written) {
+        None => Err(no_move(replay, written)),
+        Some(played) => push_move(replay, played),
+    }
+}
+
+// One statement more, which may be a move.
+fn push_statement(replay: &mut Replay, statement: Statement) -> Result<(), CsaFault>
+    requires { Stands replay.old }
+    ensures stands { OnOk result (Stands replay.new) }
+    ensures grown { OnOk result (GrowsWith statement replay.old.moves.items replay.new.moves.items) }
+    ensures fault { IfErr result (RefusesIn replay.old.moves.items statement) }
+{
+    match statement {
+        Statement::Move(written) => push(replay, &written),
+        _ => Ok(()),
+    }
+}
+
+/// The moves of a record. It fails at the first written move that means no move that the rules allow.
+pub fn replay_of(alloc: Global, placed: &[Placed]) -> Result<Replay, CsaFault>
+    ensures stands { IfOk result Stands }
+    ensures mean { IfOk result (λ replay. MeanAll opening (written_moves placed.now) replay.moves.items) }
+    ensures fault { IfErr result (RefusesMoves (written_moves placed.now)) }
+{
+    let mut replay = beginning(alloc)?;
+    for each in placed {
+        push_statement(&mut replay, each.statement)?;
+    }
+    Ok(replay)
+}

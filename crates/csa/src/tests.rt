@@ -1,0 +1,194 @@
+use crate::{CsaEnd, CsaFault, CsaGame, CsaHead, GameWriter, read_games, write_game};
+use clocks::Moment;
+use shogi_moves::Illegal;
+use shogi_repetition::judge;
+use squares::{HandKind, SMove, SPos, Score, Ssq};
+use std::alloc::Global;
+use std::collections::VecDeque;
+use std::test::Fail;
+
+// The lines of a text, each with a line feed.
+fn text(alloc: Global, lines: &[&str]) -> Result<String, Fail> {
+    let mut text = String::new(alloc);
+    for line in lines {
+        text.push_str(line)?;
+        text.push_str("\n")?;
+    }
+    Ok(text)
+}
+
+fn games(alloc: Global, lines: &[&str]) -> Result<Vec<CsaGame>, Fail> {
+    Ok(
+        read_games(alloc, text(alloc, lines)?.as_bytes())
+            .ok()
+            .ok_or("games")?,
+    )
+}
+
+fn fault(alloc: Global, lines: &[&str]) -> Result<Option<CsaFault>, Fail> {
+    Ok(read_games(alloc, text(alloc, lines)?.as_bytes()).err())
+}
+
+fn square(file: u8, rank: u8) -> Result<Ssq, Fail> {
+    Ok(Ssq::new(file, rank).ok_or("on the board")?)
+}
+
+#[test]
+fn a_game_of_one_move_is_read(rt: HostRuntime) -> Result<(), Fail> {
+    let read = games(rt.alloc(), &["V2.2", "PI", "+", "+7776FU,T12", "%TORYO"])?;
+    assert_eq!(rt; read.len(), 1);
+    let game = read.as_slice().first().ok_or("a game")?;
+    assert_eq!(rt; game.score, Score::FirstWins);
+    let step = SMove::Step {
+        from: square(7, 7)?,
+        to: square(7, 6)?,
+        promote: false,
+    };
+    assert_eq!(rt; game.moves.as_slice(), [step].as_slice());
+    Ok(())
+}
+
+#[test]
+fn texts_are_refused(rt: HostRuntime) -> Result<(), Fail> {
+    let alloc = rt.alloc();
+    assert_eq!(rt; fault(alloc, &[])?, Some(CsaFault::BadText { line: 1 }));
+    assert_eq!(rt;
+        fault(alloc, &["V2.2", "PI", "+", "+77"])?,
+        Some(CsaFault::BadText { line: 4 })
+    );
+    assert_eq!(rt;
+        fault(alloc, &["V3.0", "PI", "+", "+7776FU,T12", "%TORYO"])?,
+        Some(CsaFault::Version)
+    );
+    assert_eq!(rt;
+        fault(alloc, &["V2.2", "PI", "+", "+7776FU,T12", "%TSUMI"])?,
+        Some(CsaFault::ResultDiffers)
+    );
+    assert_eq!(rt;
+        fault(alloc, &["V2.2", "PI", "+", "+7776FU,T12", "%KACHI"])?,
+        Some(CsaFault::Unfinished)
+    );
+    assert_eq!(rt;
+        fault(alloc, &["V2.2", "PI", "+", "T1", "+7776FU", "%TORYO"])?,
+        Some(CsaFault::BadText { line: 4 })
+    );
+    assert_eq!(rt;
+        fault(alloc, &["V2.2", "PI82HI", "+", "%TORYO"])?,
+        Some(CsaFault::OtherOpening)
+    );
+    assert_eq!(rt;
+        fault(alloc, &["V2.2", "PI", "-", "%TORYO"])?,
+        Some(CsaFault::OtherOpening)
+    );
+    assert_eq!(rt;
+        fault(alloc, &["V2.2", "PI", "+", "%TORYO", "/", "PI", "+", "+77"])?,
+        Some(CsaFault::BadText { line: 8 })
+    );
+    let cause = Illegal::NoSuchMove;
+    assert_eq!(rt;
+        fault(alloc, &["V2.2", "PI", "+", "+7776TO", "%TORYO"])?,
+        Some(CsaFault::Illegal { ply: 1, cause })
+    );
+    assert_eq!(rt;
+        fault(alloc, &["V2.2", "PI", "+", "+0055OU", "%TORYO"])?,
+        Some(CsaFault::Illegal { ply: 1, cause })
+    );
+    assert_eq!(rt;
+        fault(alloc, &["V2.2", "PI", "+", "-3334FU", "%TORYO"])?,
+        Some(CsaFault::Illegal { ply: 1, cause })
+    );
+    let cause = Illegal::NotInHand;
+    assert_eq!(rt;
+        fault(alloc, &["V2.2", "PI", "+", "+0055FU", "%TORYO"])?,
+        Some(CsaFault::Illegal { ply: 1, cause })
+    );
+    Ok(())
+}
+
+#[test]
+fn openings_are_read_as_rows(rt: HostRuntime) -> Result<(), Fail> {
+    let read = games(
+        rt.alloc(),
+        &[
+            "'a comment\r",
+            "V2.2\r",
+            "N+anna\r",
+            "$EVENT:autumn\r",
+            "P1-KY-KE-GI-KI-OU-KI-GI-KE-KY\r",
+            "P2 * -HI *  *  *  *  * -KA *\r",
+            "P3-FU-FU-FU-FU-FU-FU-FU-FU-FU\r",
+            "P4 *  *  *  *  *  *  *  *  * \r",
+            "P5 *  *  *  *  *  *  *  *  *   \r",
+            "P6 *  *  *  *  *  *  *  *  * \r",
+            "P7+FU+FU+FU+FU+FU+FU+FU+FU+FU\r",
+            "P8 * +KA *  *  *  *  * +HI * \r",
+            "P9+KY+KE+GI+KI+OU+KI+GI+KE+KY\r",
+            "P+\r",
+            "+\r",
+            "+7776FU\r",
+            "T3\r",
+            "-3334FU,T4\r",
+            "+8822UM,T5\r",
+            "-3122GI,T6\r",
+            "+0055KA\r",
+            "%HIKIWAKE\r",
+            "/\r",
+            "PI,+,%+ILLEGAL_ACTION\r",
+            "/\r",
+        ],
+    )?;
+    assert_eq!(rt; read.len(), 2);
+    let game = read.as_slice().first().ok_or("a game")?;
+    assert_eq!(rt; game.score, Score::Draw);
+    assert_eq!(rt; game.moves.len(), 5);
+    let takes = SMove::Step {
+        from: square(8, 8)?,
+        to: square(2, 2)?,
+        promote: true,
+    };
+    assert_eq!(rt; game.moves.as_slice().get(2).copied(), Some(takes));
+    let drops = SMove::Drop {
+        kind: HandKind::Bishop,
+        to: square(5, 5)?,
+    };
+    assert_eq!(rt; game.moves.as_slice().get(4).copied(), Some(drops));
+    let other = read.as_slice().get(1).ok_or("a game")?;
+    assert_eq!(rt; other.score, Score::SecondWins);
+    Ok(())
+}
+
+// A game of one move, that of the pawn before the bishop, after which White resigned.
+static RESIGNED: &str =
+    "V2.2\nN+anna\nN-bert\n$EVENT:fuji\n$START_TIME:1970/01/01 00:16:40\nPI\n+\n+7776FU\nT5\n%TORYO\n";
+
+#[test]
+fn a_game_is_written(rt: HostRuntime) -> Result<(), Fail> {
+    let alloc = rt.alloc();
+    let head = CsaHead {
+        event: "fuji",
+        black: "anna",
+        white: "bert",
+        start: Moment::new(1000).ok_or("a moment")?,
+        end: Some(CsaEnd::Resigned),
+    };
+    let played = SMove::Step {
+        from: square(7, 7)?,
+        to: square(7, 6)?,
+        promote: false,
+    };
+    match judge(alloc, &SPos::opening(), &[played]) {
+        Ok(None) => {}
+        _ => return Err(Fail::new("a game that goes on")),
+    }
+    let text = write_game(alloc, &head, &[(played, 5)])?;
+    assert_eq!(rt; text.as_str(), RESIGNED);
+    let mut game = match GameWriter::start(alloc, &head, VecDeque::new(alloc)) {
+        Ok(game) => game,
+        Err(_) => return Err(Fail::new("room")),
+    };
+    game.push(&played, 5).ok().ok_or("room")?;
+    let bytes = game.finish().ok().ok_or("room")?;
+    let bytes: Vec<u8> = bytes.iter().copied().collect(alloc)?;
+    assert_eq!(rt; bytes.as_slice(), RESIGNED.as_bytes());
+    Ok(())
+}
