@@ -10,6 +10,7 @@ pub mod Legal
 pub mod Step
 pub mod State
 pub mod Answer
+pub mod AnswerText
 pub mod View
 pub mod LegalState
 pub mod Laws

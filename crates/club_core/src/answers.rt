@@ -3,6 +3,7 @@
 use crate::refusals::Refusal;
 use crate::rows::{GameRow, Made};
 use club_rules::{EndName, Rules};
+use std::fmt;
 
 /// What a move is answered: its text as it is written, the mover's seconds left after it, the position after it as text,
 /// and the end that the rules gave at it.
@@ -31,6 +32,56 @@ pub enum Outcome {
     Accepted(Answer),
     Repeated(Answer),
     Refused(Refusal),
+}
+
+/// Writes what is named, as `member 1`, `game 2` or `ply 3 32-28`, and after a move that ended the game ` end Repetition`.
+impl fmt::Display for Answer {
+    ghost use Rattle.std.specs.Prelude.{Some};
+    ghost use Rattle.club_core.specs.AnswerText.{answer_text};
+
+    ghost output = { λ answer. Some (answer_text answer) };
+
+    fn fmt<W: fmt::Write>(&self, f: &mut fmt::Formatter<W>) -> fmt::Result {
+        match self {
+            Answer::Member(id) => write!(f, "member {id}"),
+            Answer::Event(id) => write!(f, "event {id}"),
+            Answer::Game(id) => write!(f, "game {id}"),
+            Answer::Moved(moved) => write!(f, "{moved}"),
+        }
+    }
+}
+
+/// Writes the ply, the move and the end that the rules gave at it: `ply 8 9-4 end Repetition`.
+impl fmt::Display for Moved {
+    ghost use Rattle.std.specs.Prelude.{Some};
+    ghost use Rattle.club_core.specs.AnswerText.{moved_text};
+
+    ghost output = { λ moved. Some (moved_text moved) };
+
+    fn fmt<W: fmt::Write>(&self, f: &mut fmt::Formatter<W>) -> fmt::Result {
+        let ply = self.ply;
+        let text = self.text.as_str();
+        match self.end {
+            Some(end) => write!(f, "ply {ply} {text} end {end}"),
+            None => write!(f, "ply {ply} {text}"),
+        }
+    }
+}
+
+/// Writes the word of the outcome and then what was answered, or the refusal: `accepted game 2`, `refused 58 Conflict`.
+impl fmt::Display for Outcome {
+    ghost use Rattle.std.specs.Prelude.{Some};
+    ghost use Rattle.club_core.specs.AnswerText.{outcome_text};
+
+    ghost output = { λ outcome. Some (outcome_text outcome) };
+
+    fn fmt<W: fmt::Write>(&self, f: &mut fmt::Formatter<W>) -> fmt::Result {
+        match self {
+            Outcome::Accepted(answer) => write!(f, "accepted {answer}"),
+            Outcome::Repeated(answer) => write!(f, "repeated {answer}"),
+            Outcome::Refused(refusal) => write!(f, "refused {refusal}"),
+        }
+    }
 }
 
 /// What a command does to a game. Where it is accepted: the row that is to stand, the move made if it was one, and the
