@@ -1,5 +1,5 @@
 -- What sessions of a club lead to, counted by the requests that are accepted.
-use Rattle.store_tables.specs.Tables.{club_schema}
+use Rattle.store_tables.specs.Tables.{club_schema, schema_after}
 use Rattle.std.proofs.Common.{◌≡◌, ◌⊎◌, ℕ, zero, suc, ◌+◌, ◌≤◌, Bool, true, false, List, [], ◌∷◌, ◌++◌, map, length, take, Option, Some, None, IsSome, IsTrue, is_none, refl, sym, ap, subst, ◌∙◌, inl, inr, arith}
 use Rattle.std.specs.Prelude.{if◌then◌else◌}
 use Rattle.std.specs.List.{count_by}
@@ -15,14 +15,14 @@ use Rattle.club_core.specs.Outcome.{Outcome, accepted, repeated, refused}
 use Rattle.club_core.specs.State.{Request, opening_state, is_accepted}
 use Rattle.club_core.proofs.Folds.{folds-accepted}
 use Rattle.club_rows.specs.Club.{both_games, ClubState, IsClub, tables}
-use Rattle.store_tables.specs.Contents.{Content}
+use Rattle.store_tables.specs.Contents.{Content, IsEmpty, IsExactlyEmpty}
 use Rattle.store_tables.specs.Club.{IsExactly, Leaves}
 use Rattle.store.specs.declared.club.run.Run.{Run}
 use Rattle.store.specs.declared.fault.StoreFault.{StoreFault}
 use Rattle.store.specs.Steps.{club_step, club_next}
 use Rattle.store.specs.Runs.{club_fold, club_outcomes, club_accepted}
-use Rattle.store_sql.proofs.Laws.{opens_exactly}
-use Rattle.store.specs.Lives.{Session, LeadsOn, Leads, IsLed, Stands, IsAfter, is_taken, session_of}
+use Rattle.store_sql.proofs.Laws.{opens_exactly, schema_once}
+use Rattle.store.specs.Lives.{Session, LeadsOn, Leads, IsLed, Stands, IsAfter, is_taken, session_of, answered_session, cut_session}
 
 -- those of the first requests are the first of those
 first_accepted : (s : ClubState) (rs : List Request) (j : ℕ) → take (length (club_accepted s (take j rs))) (club_accepted s rs) ≡ club_accepted s (take j rs)
@@ -144,6 +144,41 @@ session_stands s sessions rs run now led told whole legal exactly = record {
   exactly = exactly;
 }
 
+-- ---- one request
+
+taken_told : (s : ClubState) (r : Request) (o : given_outcome.Outcome) → outcome_of o ≡ answered (club_step s r) → is_taken o ≡ is_accepted (club_step s r)
+taken_told s r o told = ap is_accepted told ∙ told_same (club_step s r)
+
+one_counted : (s : ClubState) (r : Request) → (if is_accepted (club_step s r) then 1 else 0) ≡ Counted s (r ∷ []) 1
+one_counted s r = elim (cases_Bool (is_accepted (club_step s r))) [ inl took ↦ rw took refl | inr left ↦ rw left refl ]
+
+-- a request that was answered leads, as a session of its own, to the state after it
+pub one_stands : (s : ClubState) (sessions : List Session) (r : Request) (o : given_outcome.Outcome) (now : State) → Leads opening_state sessions s → outcome_of o ≡ answered (club_step s r)
+    → IsClub (club_next s r) → IsExactly (tables (club_next s r)) now → Stands (sessions ++ answered_session r o ∷ []) now
+one_stands s sessions r o now led told legal exactly = record {
+  after = club_next s r;
+  legal = legal;
+  leads = leads_then opening_state s _ sessions (answered_session r o) led
+      (leads_on s (r ∷ []) 1 _ true (ap (λ b. if b then 1 else 0) (taken_told s r o told) ∙ one_counted s r));
+  exactly = exactly;
+}
+
+-- a request that a fault cut off leads to the state before it or to the one after
+pub one_cut : (s : ClubState) (sessions : List Session) (r : Request) (db : Trees) → Leads opening_state sessions s → IsClub s → IsClub (club_next s r)
+    → Leaves (tables s) db ⊎ Leaves (tables (club_next s r)) db → IsLed (sessions ++ cut_session r ∷ []) db
+one_cut s sessions r db led before after (inl kept) = record {
+  after = s;
+  legal = before;
+  leads = leads_then opening_state s _ sessions (cut_session r) led (leads_on s (r ∷ []) 0 0 false refl);
+  leaves = kept;
+}
+one_cut s sessions r db led before after (inr changed) = record {
+  after = club_next s r;
+  legal = after;
+  leads = leads_then opening_state s _ sessions (cut_session r) led (leads_further s (r ∷ []) 0 0 false refl refl);
+  leaves = changed;
+}
+
 -- ---- openings
 
 opening_legal : IsClub opening_state
@@ -175,6 +210,18 @@ stops_led sessions now at trees left = record { after = at.after; legal = at.leg
 
 pub opens_led : (sessions : List Session) (s : State) → Opens s → IsLive s → ((db : Trees) → IsTrue s.is_open → s.may_leave db → db ≡ s.committed.trees) → IsLed sessions s.committed.trees → Stands sessions s
 opens_led sessions s opens live settled led = record { after = led.after; legal = led.legal; leads = led.leads; exactly = opens_exactly club_schema (tables led.after) s opens live settled led.leaves }
+
+-- a connection that opens on trees with no table is empty
+pub opens_empty : (s : State) → Opens s → IsLive s → ((db : Trees) → IsTrue s.is_open → s.may_leave db → db ≡ s.committed.trees) → IsEmpty s.committed.trees → IsExactlyEmpty s
+opens_empty s opens live settled empty =
+    let same : s.now.trees ≡ s.committed.trees = ap (λ d. d.trees) opens.clean in
+    let here : IsEmpty s.now.trees = subst IsEmpty (sym same) empty in
+    record {
+      is_open = opens.is_open;
+      idle = opens.autocommit;
+      now = record { schema_is = schema_once s.now.trees s.now.schema (schema_after 0) (live opens.is_open).0 here.sound; sound = (live opens.is_open).0; empty = tt };
+      may_leave = λ db left. subst IsEmpty (sym (settled db opens.is_open left)) empty;
+    }
 
 -- what keeps the tables keeps where they stand
 pub still_stands : (sessions : List Session) (old new : State) → ((content : Content) → IsExactly content old → IsExactly content new) → Stands sessions old → Stands sessions new

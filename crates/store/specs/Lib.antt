@@ -1,6 +1,7 @@
 pub mod Blames
 pub mod Clubs
 pub mod Faults
+pub mod FaultText
 pub mod Lives
 pub mod Places
 pub mod Runs

@@ -1,5 +1,5 @@
 -- The life of a club: sessions, one after another, each of them stopped at some moment or run to its end.
-use Rattle.std.specs.Prelude.{◌≡◌, ◌≤◌, ◌+◌, ℕ, Bool, true, List, [], ◌∷◌, map, take, is_none}
+use Rattle.std.specs.Prelude.{◌≡◌, ◌≤◌, ◌+◌, ℕ, Bool, true, false, if◌then◌else◌, List, [], ◌∷◌, map, take, is_none}
 use Rattle.std.specs.List.{count_by}
 use Rattle.sqlite.specs.Tree.{Trees}
 use Rattle.sqlite.specs.State.{State}
@@ -58,6 +58,15 @@ session_of requests run =
       returned = count_by is_taken run.outcomes.items;
       is_whole = is_none run.fault;
     }
+
+-- a session of one request, which was given this answer
+abbrev pub answered_session : Request → given_outcome.Outcome → Session
+answered_session request outcome =
+    record { requests = request ∷ []; returned = if is_taken outcome then 1 else 0; is_whole = true }
+
+-- a session of one request, which a fault cut off
+abbrev pub cut_session : Request → Session
+cut_session request = record { requests = request ∷ []; returned = 0; is_whole = false }
 
 -- the state after so many of the requests is legal, and these trees have its tables
 pub record IsAfter (before : ClubState) (requests : List given_request.Request) (count : ℕ) (trees : Trees) : Type 0 where

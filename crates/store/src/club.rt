@@ -1,6 +1,6 @@
 //! An open club.
 
-ghost use Rattle.std.specs.Prelude.{◌≡◌, ◌≢◌, ◌≤◌, ◌⊎◌, [], false, true, Err, IfOk, IfErr, OnOk, OnErr};
+ghost use Rattle.std.specs.Prelude.{◌≡◌, ◌≢◌, ◌≤◌, ◌⊎◌, ◌++◌, ◌∷◌, [], false, true, Err, IfOk, IfErr, OnOk, OnErr};
 ghost use Rattle.sqlite.specs.State.{HasCleanDisk, IsUnchanged};
 ghost use Rattle.sqlite.specs.Held.{state};
 ghost use Rattle.sqlite_trees.specs.View.{doubt};
@@ -9,7 +9,7 @@ ghost use Rattle.store_tables.specs.Club.{IsExactly, IsOpened, Leaves};
 ghost use Rattle.store_tables.specs.Reading.{KeepsMay, OnlyReads};
 ghost use Rattle.store_tables.specs.Tables.{club_schema};
 ghost use Rattle.store.specs.Blames.{NamesTable, NamesSchema};
-ghost use Rattle.store.specs.Lives.{IsLed, Stands};
+ghost use Rattle.store.specs.Lives.{IsLed, Stands, answered_session, cut_session};
 ghost use Rattle.store_tables.specs.Changed.{changed};
 ghost use Rattle.store.specs.Whole.{IsAccepted};
 ghost use Rattle.store.specs.Places.{NamesRows};
@@ -199,6 +199,13 @@ impl<S: Alter> Club<S> {
             OnErr result (self.old.needs_reopening ≡ false → (s : ClubState) → IsClub s → IsExactly (tables s)
             (state S.Store self.old.connection) →
             (db : _) → (state S.Store self.new.connection).may_leave db → Leaves (tables s) db ⊎ Leaves (tables (club_next s (request who.now command.now moment))) db) }
+        ensures stands { HasCleanDisk (state S.Store self.new.connection) → IfOk result (λ outcome. (sessions : _) →
+            Stands sessions (state S.Store self.old.connection) →
+            Stands (sessions ++ answered_session (request who.now command.now moment) outcome ∷ []) (state S.Store self.new.connection)) }
+        ensures cut_off { HasCleanDisk (state S.Store self.new.connection) →
+            OnErr result (self.old.needs_reopening ≡ false → (sessions : _) → Stands sessions
+            (state S.Store self.old.connection) → (db : _) → (state S.Store self.new.connection).may_leave db →
+            IsLed (sessions ++ cut_session (request who.now command.now moment) ∷ []) db) }
         ensures unchanged { HasCleanDisk (state S.Store self.new.connection) →
             IfOk result (λ outcome. ¬ IsAccepted outcome → (content : _) → IsExactly content
             (state S.Store self.old.connection) → IsExactly content (state S.Store self.new.connection)) }
@@ -206,6 +213,7 @@ impl<S: Alter> Club<S> {
         if self.needs_reopening {
             return Err(StoreFault::Reopen);
         }
+        let _within = moment.seconds();
         let decided = match decide_request(alloc, &mut self.connection, who, command, moment) {
             Ok(decided) => decided,
             Err(fault) => {

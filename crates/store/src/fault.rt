@@ -1,21 +1,37 @@
 //! What may go wrong with a club's store.
 
+use std::error::Error;
+use std::fmt;
 use store_tables::Table;
-use thiserror::Error;
 
 /// Why a call on an open club failed. It shows as the number and name of the fault.
-#[derive(Debug, Clone, Copy, PartialEq, Eq, Drop, Error)]
+#[derive(Debug, Clone, Copy, PartialEq, Eq, Drop)]
 pub enum StoreFault {
     /// A call of the database failed.
-    #[error("73 Store")]
     Store,
     /// An earlier call failed, and the database has to be opened again.
-    #[error("74 Reopen")]
     Reopen,
     /// The allocator refused.
-    #[error("75 Memory")]
     Memory,
 }
+
+/// Writes the number and the name, as `73 Store`.
+impl fmt::Display for StoreFault {
+    ghost use Rattle.std.specs.Prelude.{Some};
+    ghost use Rattle.store.specs.FaultText.{store_fault_text};
+
+    ghost output = { λ fault. Some (store_fault_text fault) };
+
+    fn fmt<W: fmt::Write>(&self, f: &mut fmt::Formatter<W>) -> fmt::Result {
+        match self {
+            StoreFault::Store => f.write_str("73 Store"),
+            StoreFault::Reopen => f.write_str("74 Reopen"),
+            StoreFault::Memory => f.write_str("75 Memory"),
+        }
+    }
+}
+
+impl Error for StoreFault {}
 
 /// Why a call on the database of a club that is open failed.
 #[derive(Debug, Clone, Copy, PartialEq, Eq, Drop)]
@@ -49,22 +65,37 @@ impl From<CallFault> for StoreFault {
     }
 }
 
-/// Why a database was not taken as a club's. It shows as the number and name of the fault.
-#[derive(Debug, Clone, Copy, PartialEq, Eq, Drop, Error)]
+/// Why a database was not taken as a club's. It shows as the number and name of the fault, and what it names.
+#[derive(Debug, Clone, Copy, PartialEq, Eq, Drop)]
 pub enum OpenFault {
     /// A table or a column of a club is missing, or one that is to be made stands there.
-    #[error("70 Foreign")]
     Foreign,
     /// The tables are of the schema with this number.
-    #[error("71 Schema {0}")]
     Schema(i64),
     /// This table has rows that no club has.
-    #[error("72 Damaged {0}")]
     Damaged(Table),
     /// A call of the database failed.
-    #[error("73 Store")]
     Store,
     /// The allocator refused.
-    #[error("75 Memory")]
     Memory,
 }
+
+/// Writes the number, the name and then what it names, parted by blanks: `70 Foreign`, `72 Damaged games`.
+impl fmt::Display for OpenFault {
+    ghost use Rattle.std.specs.Prelude.{Some};
+    ghost use Rattle.store.specs.FaultText.{open_fault_text};
+
+    ghost output = { λ fault. Some (open_fault_text fault) };
+
+    fn fmt<W: fmt::Write>(&self, f: &mut fmt::Formatter<W>) -> fmt::Result {
+        match self {
+            OpenFault::Foreign => f.write_str("70 Foreign"),
+            OpenFault::Schema(number) => write!(f, "71 Schema {number}"),
+            OpenFault::Damaged(table) => write!(f, "72 Damaged {table}"),
+            OpenFault::Store => f.write_str("73 Store"),
+            OpenFault::Memory => f.write_str("75 Memory"),
+        }
+    }
+}
+
+impl Error for OpenFault {}

@@ -14,6 +14,6 @@ mod tests;
 
 pub use club::{Club, Run, Unopened, adopt, create, resume};
 pub use fault::{OpenFault, StoreFault};
-pub use reopen::{holds_what_sessions_left, leaves_what_sessions_left};
+pub use reopen::{holds_nothing, holds_what_sessions_left, leaves_what_sessions_left};
 pub use store_sql::holds_exactly;
 pub use store_tables::Table;

@@ -2,6 +2,7 @@
 
 ghost use Rattle.sqlite.specs.State.{Opens, IsLive};
 ghost use Rattle.sqlite.specs.Held.{state};
+ghost use Rattle.store_tables.specs.Contents.{IsEmpty, IsExactlyEmpty};
 ghost use Rattle.store.specs.Lives.{IsLed, Stands};
 
 use sqlite::{Alter, Connection};
@@ -18,6 +19,14 @@ pub fn holds_what_sessions_left<S: Alter>(conn: &Connection<S>)
 pub fn leaves_what_sessions_left<S: Alter>(conn: &Connection<S>)
     ensures { (sessions : _) → Stands sessions (state S.Store conn.now) → (db : _) →
         (state S.Store conn.now).may_leave db → IsLed sessions db }
+{
+    let _conn = conn;
+}
+
+/// A law. A connection that was just opened over a database with no table is empty, as `create` asks for.
+pub fn holds_nothing<S: Alter>(conn: &Connection<S>)
+    ensures { Opens (state S.Store conn.now) → IsLive (state S.Store conn.now) → IsEmpty
+        (state S.Store conn.now).committed.trees → IsExactlyEmpty (state S.Store conn.now) }
 {
     let _conn = conn;
 }

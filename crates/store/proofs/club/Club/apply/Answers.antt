@@ -7,6 +7,8 @@ use Rattle.store_tables.specs.Changed.{changed}
 use Rattle.club_rows.specs.Club.{tables}
 use Rattle.store.specs.Steps.{request, club_next, changed_if, AreSame}
 use Rattle.store.proofs.SameLemmas.{exactly_same, leaves_same}
+use Rattle.store.proofs.LegalLemmas.{club_stays}
+use Rattle.store.proofs.LifeLemmas.{one_stands, one_cut}
 use Rattle.store.proofs.club.Club.apply.Goals as goal
 
 pub returns-in-Err-clause-fault : goal.returns-in-Err-clause-fault
@@ -44,3 +46,34 @@ pub returns-in-None-clause-unchanged : goal.returns-in-None-clause-unchanged
 returns-in-None-clause-unchanged g c clean refused content k =
     let inside : IsExactly content (state g.S.Store c.self.inside.connection) = search rules in
     c.in-Ok.ensures.kept clean club_schema content inside
+
+pub returns-in-Err-clause-cut_off : goal.returns-in-Err-clause-cut_off
+returns-in-Err-clause-cut_off g c clean usable sessions at db left =
+    let asked = request c.args.who.now c.args.command.now c.args.moment in
+    one_cut at.after sessions asked db at.leads at.legal
+    (club_stays at.after asked (omega (arith, c.seconds-within.ensures.value, c.seconds-within.ensures.range)) at.legal)
+    (returns-in-Err-clause-fault g c clean usable at.after at.legal at.exactly db left)
+
+pub returns-in-Ok-apply_changes-clause-stands : goal.returns-in-Ok-apply_changes-clause-stands
+returns-in-Ok-apply_changes-clause-stands g c clean sessions at =
+    let asked = request c.args.who.now c.args.command.now c.args.moment in
+    let inside : IsExactly (tables at.after) (state g.S.Store c.self.inside.connection) = (let e = at.exactly in search rules) in
+    let decided : HasCleanDisk (state g.S.Store c.decide_request.new.conn) = omega (arith, c.apply_changes.ensures.clean) in
+    one_stands at.after sessions asked _ (state g.S.Store c.apply_changes.new.self.connection) at.leads (c.in-Ok.ensures.step decided at.after at.legal inside).answer
+    (club_stays at.after asked (omega (arith, c.seconds-within.ensures.value, c.seconds-within.ensures.range)) at.legal)
+    (returns-in-Ok-apply_changes-clause-step g c clean at.after at.legal at.exactly)
+
+pub returns-in-Err-apply_changes-clause-cut_off : goal.returns-in-Err-apply_changes-clause-cut_off
+returns-in-Err-apply_changes-clause-cut_off g c clean usable sessions at db left =
+    let asked = request c.args.who.now c.args.command.now c.args.moment in
+    one_cut at.after sessions asked db at.leads at.legal
+    (club_stays at.after asked (omega (arith, c.seconds-within.ensures.value, c.seconds-within.ensures.range)) at.legal)
+    (returns-in-Err-apply_changes-clause-fault g c clean usable at.after at.legal at.exactly db left)
+
+pub returns-in-None-clause-stands : goal.returns-in-None-clause-stands
+returns-in-None-clause-stands g c clean sessions at =
+    let asked = request c.args.who.now c.args.command.now c.args.moment in
+    let inside : IsExactly (tables at.after) (state g.S.Store c.self.inside.connection) = (let e = at.exactly in search rules) in
+    one_stands at.after sessions asked _ (state g.S.Store c.decide_request.new.conn) at.leads (c.in-Ok.ensures.step clean at.after at.legal inside).answer
+    (club_stays at.after asked (omega (arith, c.seconds-within.ensures.value, c.seconds-within.ensures.range)) at.legal)
+    (returns-in-None-clause-step g c clean at.after at.legal at.exactly)
