@@ -1,13 +1,25 @@
 //! The program `club`: an officer's words over one file.
 #![tactic(auto)]
 
+mod order;
+
 use clocks::Moment;
-use club_words::{BAD_WORDS, BadWords, Order, act, fault, read_words};
-use sqlite::Connection;
+use club_words::{BAD_WORDS, BadWords, Order, Report, print, read_words};
+use order::obey;
+use sqlite_disk::Unknown;
 use std::alloc::AllocError;
 use std::io::ErrorKind;
 use std::process::ExitCode;
-use std::time::{SystemTime, UNIX_EPOCH};
+use std::thread::sleep;
+use std::time::{Duration, SystemTime, UNIX_EPOCH};
+
+// How often a file that is in use is asked for, and how long the program waits before it asks again: five seconds in all.
+const TURNS: u8 = 50;
+
+const PAUSE_MILLISECONDS: u64 = 100;
+
+// The room that is set aside for the line that is printed.
+const LINE_BYTES: usize = 256;
 
 // The moment of the machine's clock.
 fn clock(rt: &HostRuntime) -> Option<Moment> {
@@ -45,24 +57,27 @@ fn order_of(rt: &HostRuntime, words: &[String]) -> Result<Order, BadWords> {
     read_words(rt.alloc(), words.as_slice())
 }
 
-// Does what is ordered over the file.
+// Does what is ordered over the file, as soon as no other program uses it.
+fn obey_in_turn(rt: &HostRuntime, order: &Order) -> Report {
+    let Some(moment) = order.now.or(clock(rt)) else {
+        return Report::NoMoment;
+    };
+    for _ in 0..TURNS {
+        match obey(rt, order, moment, Unknown) {
+            (Report::InUse, _) => sleep(rt, Duration::from_millis(PAUSE_MILLISECONDS)),
+            (report, _) => return report,
+        }
+    }
+    Report::InUse
+}
+
+// Does what is ordered, and prints what it came to.
 fn run(rt: &HostRuntime, order: &Order) -> u8 {
-    let mut err = rt.stderr();
-    let moment = match order.now {
-        Some(moment) => Some(moment),
-        None => clock(rt),
+    let (line, report) = match String::with_capacity(rt.alloc(), LINE_BYTES) {
+        Ok(line) => (line, obey_in_turn(rt, order)),
+        Err(_) => (String::new(rt.alloc()), Report::NoMemory),
     };
-    let Some(moment) = moment else {
-        return fault(&mut err, "76 Input");
-    };
-    let conn = match Connection::open(rt, order.file.as_str()) {
-        Ok(conn) => conn,
-        Err(_) => return fault(&mut err, "73 Store"),
-    };
-    let mut out = rt.stdout();
-    let (status, conn) = act(rt.alloc(), order, conn, moment, &mut out, &mut err);
-    let _ = conn.close();
-    status
+    print(line, &report, &mut rt.stdout(), &mut rt.stderr())
 }
 
 // Says why the words are no order.
@@ -72,7 +87,12 @@ fn refuse_words(rt: &HostRuntime, bad: BadWords) -> u8 {
             let _ = rt.eprint(text);
             BAD_WORDS
         }
-        BadWords::Memory => fault(&mut rt.stderr(), "75 Memory"),
+        BadWords::Memory => print(
+            String::new(rt.alloc()),
+            &Report::NoMemory,
+            &mut rt.stdout(),
+            &mut rt.stderr(),
+        ),
     }
 }
 

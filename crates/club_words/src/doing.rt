@@ -1,140 +1,116 @@
-//! What an order does over a connection, and what it prints.
+//! What an order does over a connection.
 
-ghost use Rattle.std.specs.Prelude.{◌≡◌, false};
+ghost use Rattle.std.specs.Prelude.{◌≡◌, ◌≤◌, ◌++◌, false};
+ghost use Rattle.sqlite.specs.State.{HasCleanDisk, Opens, IsLive};
+ghost use Rattle.sqlite.specs.Held.{state};
+ghost use Rattle.sqlite_trees.specs.View.{doubt};
+ghost use Rattle.store_tables.specs.Contents.{IsEmpty};
+ghost use Rattle.store_tables.specs.Club.{Leaves};
+ghost use Rattle.club_core.specs.Answer.{answered, outcome_of};
+ghost use Rattle.club_rows.specs.Club.{ClubState, IsClub, tables};
+ghost use Rattle.store.specs.Steps.{club_step};
+ghost use Rattle.store.specs.Lives.{IsLed};
+ghost use Rattle.club_words.specs.declared.words.Task.TheVariants.{Init};
+ghost use Rattle.club_words.specs.Report.{given, Answers, IfRequest, IsBegun, request_sessions, task_sessions};
 
-use crate::words::{Order, Task};
+use crate::report::Report;
+use crate::words::Task;
 use clocks::Moment;
-use club_core::{Answer, Command, Moved, Outcome, Refusal, Who};
+use club_core::{Command, Who};
 use sqlite::{Alter, Connection};
 use std::alloc::Global;
-use std::fmt::Display;
-use std::io::Write;
-use store::{OpenFault, StoreFault, adopt, create};
-
-/// The order was done.
-pub const DONE: u8 = 0;
-
-/// The order was refused.
-pub const REFUSED: u8 = 1;
-
-/// The words are no order.
-pub const BAD_WORDS: u8 = 2;
-
-/// A fault of the store, of the standard output or of what is read.
-pub const FAULT: u8 = 3;
-
-/// Prints a fault, by its number and name, and gives its status.
-pub fn fault<E: Write>(err: &mut E, shown: impl Display + Drop) -> u8 {
-    let _ = writeln!(err, "store {shown}");
-    FAULT
-}
-
-// Prints why the order is refused.
-fn refuse<E: Write>(err: &mut E, refusal: Refusal) -> u8 {
-    let _ = writeln!(err, "refused {refusal}");
-    REFUSED
-}
-
-// Prints what a move is answered.
-fn print_moved<O: Write>(out: &mut O, word: &str, moved: &Moved) -> std::io::Result<()> {
-    let ply = moved.ply;
-    let text = moved.text.as_str();
-    match moved.end {
-        Some(end) => writeln!(out, "{word} ply {ply} {text} end {end}"),
-        None => writeln!(out, "{word} ply {ply} {text}"),
-    }
-}
-
-// Prints an answer after `accepted` or `repeated`.
-fn print_answer<O: Write>(out: &mut O, word: &str, answer: &Answer) -> std::io::Result<()> {
-    match answer {
-        Answer::Member(id) => writeln!(out, "{word} member {id}"),
-        Answer::Event(id) => writeln!(out, "{word} event {id}"),
-        Answer::Game(id) => writeln!(out, "{word} game {id}"),
-        Answer::Moved(moved) => print_moved(out, word, moved),
-    }
-}
-
-// The status after something was printed: a standard output that fails is a fault.
-fn printed<E: Write>(err: &mut E, write: std::io::Result<()>) -> u8 {
-    match write {
-        Ok(()) => DONE,
-        Err(_) => fault(err, "77 Output"),
-    }
-}
-
-// Prints what a command came to.
-fn print_outcome<O: Write, E: Write>(out: &mut O, err: &mut E, outcome: &Outcome) -> u8 {
-    match outcome {
-        Outcome::Accepted(answer) => {
-            let write = print_answer(out, "accepted", answer);
-            printed(err, write)
-        }
-        Outcome::Repeated(answer) => {
-            let write = print_answer(out, "repeated", answer);
-            printed(err, write)
-        }
-        Outcome::Refused(refusal) => refuse(err, *refusal),
-    }
-}
+use store::{
+    adopt, create, holds_exactly, holds_nothing, holds_what_sessions_left,
+    leaves_what_sessions_left,
+};
 
 // Makes the tables of a club.
-fn init<S: Alter, O: Write, E: Write>(
-    alloc: Global,
-    conn: Connection<S>,
-    out: &mut O,
-    err: &mut E,
-) -> (u8, Connection<S>)
+fn init<S: Alter>(alloc: Global, conn: Connection<S>) -> (Report, Connection<S>)
     requires { conn.in_transaction ≡ false }
-    ensures { result.1.in_transaction ≡ false }
+    ensures idle { result.1.in_transaction ≡ false }
+    ensures clean { doubt (state S.Store conn).is_clean ≤ doubt (state S.Store result.1).is_clean }
+    ensures begun { HasCleanDisk (state S.Store result.1) → Opens (state S.Store conn) → IsLive (state S.Store conn) →
+        IsEmpty (state S.Store conn).committed.trees →
+        (db : _) → (state S.Store result.1).may_leave db → IsBegun result.0 db }
+    ensures led { HasCleanDisk (state S.Store result.1) → Opens (state S.Store conn) → IsLive (state S.Store conn) →
+        (sessions : _) → IsLed sessions (state S.Store conn).committed.trees →
+        (db : _) → (state S.Store result.1).may_leave db → IsLed sessions db }
 {
+    holds_nothing(&conn);
+    holds_what_sessions_left(&conn);
+    leaves_what_sessions_left(&conn);
     match create(alloc, conn) {
         Ok(club) => {
-            let write = writeln!(out, "ready");
-            (printed(err, write), club.into_connection())
+            let conn = club.into_connection();
+            leaves_what_sessions_left(&conn);
+            (Report::Ready, conn)
         }
-        Err(unopened) => (fault(err, unopened.fault), unopened.conn),
+        Err(unopened) => (Report::Unopened(unopened.fault), unopened.conn),
     }
 }
 
-// Gives a command of the officer's to the club over the connection.
-fn request<S: Alter, O: Write, E: Write>(
+// Gives the club a command of the officer's.
+fn request<S: Alter>(
     alloc: Global,
     conn: Connection<S>,
     command: &Command,
     moment: Moment,
-    out: &mut O,
-    err: &mut E,
-) -> (u8, Connection<S>)
+) -> (Report, Connection<S>)
     requires { conn.in_transaction ≡ false }
-    ensures { result.1.in_transaction ≡ false }
+    ensures idle { result.1.in_transaction ≡ false }
+    ensures clean { doubt (state S.Store conn).is_clean ≤ doubt (state S.Store result.1).is_clean }
+    ensures answer { HasCleanDisk (state S.Store result.1) → Opens (state S.Store conn) → IsLive (state S.Store conn) →
+        (s : ClubState) → IsClub s → Leaves (tables s) (state S.Store conn).committed.trees →
+        Answers result.0 (λ outcome. outcome_of outcome ≡ answered (club_step s (given command.now moment))) }
+    ensures led { HasCleanDisk (state S.Store result.1) → Opens (state S.Store conn) → IsLive (state S.Store conn) →
+        (sessions : _) → IsLed sessions (state S.Store conn).committed.trees →
+        (db : _) → (state S.Store result.1).may_leave db →
+        IsLed (sessions ++ request_sessions (given command.now moment) result.0) db }
 {
+    holds_exactly(&conn);
+    holds_what_sessions_left(&conn);
+    leaves_what_sessions_left(&conn);
     let mut club = match adopt(alloc, conn) {
         Ok(club) => club,
-        Err(unopened) => return (fault(err, unopened.fault), unopened.conn),
+        Err(unopened) => return (Report::Unopened(unopened.fault), unopened.conn),
     };
-    let status = match club.apply(alloc, &Who::Officer, command, moment) {
-        Ok(outcome) => print_outcome(out, err, &outcome),
-        Err(stopped) => fault(err, stopped),
-    };
-    (status, club.into_connection())
+    match club.apply(alloc, &Who::Officer, command, moment) {
+        Ok(outcome) => {
+            let conn = club.into_connection();
+            leaves_what_sessions_left(&conn);
+            (Report::Answered(outcome), conn)
+        }
+        Err(fault) => (Report::Stopped(fault), club.into_connection()),
+    }
 }
 
-/// Does what is ordered over a connection, at that moment, prints what it comes to, and gives the status and the
-/// connection back.
-pub fn act<S: Alter, O: Write, E: Write>(
+/// Does what is asked for over a connection that was just opened, at that moment, and gives the connection back: makes a
+/// club, or gives the club that stands there a command of the officer's. The answer is the machine's. Sessions that led to
+/// what the opening found lead, with this request as one more, to whatever a stop leaves; where there was no table, and a
+/// club was to be made, none led to it, or there is no table still.
+pub fn act<S: Alter>(
     alloc: Global,
-    order: &Order,
     conn: Connection<S>,
+    task: &Task,
     moment: Moment,
-    out: &mut O,
-    err: &mut E,
-) -> (u8, Connection<S>)
+) -> (Report, Connection<S>)
     requires { conn.in_transaction ≡ false }
-    ensures { result.1.in_transaction ≡ false }
+    ensures idle { result.1.in_transaction ≡ false }
+    ensures clean { doubt (state S.Store conn).is_clean ≤ doubt (state S.Store result.1).is_clean }
+    ensures begun { HasCleanDisk (state S.Store result.1) → Opens (state S.Store conn) → IsLive (state S.Store conn) →
+        task.now ≡ Init → IsEmpty (state S.Store conn).committed.trees →
+        (db : _) → (state S.Store result.1).may_leave db → IsBegun result.0 db }
+    ensures answer { HasCleanDisk (state S.Store result.1) → Opens (state S.Store conn) → IsLive (state S.Store conn) →
+        (s : ClubState) → IsClub s → Leaves (tables s) (state S.Store conn).committed.trees →
+        IfRequest task.now (λ command. Answers result.0 (λ outcome.
+        outcome_of outcome ≡ answered (club_step s (given command moment)))) }
+    ensures led { HasCleanDisk (state S.Store result.1) → Opens (state S.Store conn) → IsLive (state S.Store conn) →
+        (sessions : _) → IsLed sessions (state S.Store conn).committed.trees →
+        (db : _) → (state S.Store result.1).may_leave db →
+        IsLed (sessions ++ task_sessions task.now moment result.0) db }
 {
-    match &order.task {
-        Task::Init => init(alloc, conn, out, err),
-        Task::Request(command) => request(alloc, conn, command, moment, out, err),
+    match task {
+        Task::Init => init(alloc, conn),
+        Task::Request(command) => request(alloc, conn, command, moment),
     }
 }

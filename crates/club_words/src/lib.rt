@@ -2,9 +2,11 @@
 #![tactic(auto)]
 
 pub mod doing;
+pub mod report;
 pub mod words;
 
-pub use doing::{BAD_WORDS, DONE, FAULT, REFUSED, act, fault};
+pub use doing::act;
+pub use report::{BAD_WORDS, DONE, FAULT, REFUSED, Report, print};
 pub use words::{BadWords, Order, Task, read_words};
 
 #[cfg(test)]

@@ -1,6 +1,6 @@
 ghost use Rattle.std.specs.Prelude.{◌≡◌, false, IfOk};
 
-use crate::{BadWords, DONE, FAULT, REFUSED, act, read_words};
+use crate::{BadWords, DONE, FAULT, REFUSED, act, print, read_words};
 use sqlite::{Connection, MemStore};
 use std::alloc::Global;
 use std::collections::VecDeque;
@@ -31,7 +31,8 @@ fn done(alloc: Global, words: &str, conn: Connection<MemStore>) -> Result<Printe
     };
     let mut out = VecDeque::new(alloc);
     let mut err = VecDeque::new(alloc);
-    let (status, conn) = act(alloc, &order, conn, moment, &mut out, &mut err);
+    let (report, conn) = act(alloc, conn, &order.task, moment);
+    let status = print(String::new(alloc), &report, &mut out, &mut err);
     Ok(Printed {
         status,
         out: out.iter().copied().collect(alloc)?,

@@ -3,7 +3,8 @@
 
 ghost use Rattle.std.specs.Prelude.{◌≡◌, ◌≤◌, ◌⊎◌, ◌++◌, ◌∷◌, [], false, None, IfOk, IfErr, map, length, take};
 ghost use Rattle.sqlite.specs.State.{HasCleanDisk, Opens, IsLive};
-ghost use Rattle.sqlite.specs.Files.{file_state};
+ghost use Rattle.sqlite.specs.Files.{file_state, IsNothing};
+ghost use Rattle.sqlite_wal.specs.Recovery.{Image};
 ghost use Rattle.sqlite_store.specs.FileStore.{state as store_state, view as store_view};
 ghost use Rattle.sqlite_trees.specs.View.{IsClean, doubt};
 ghost use Rattle.store_tables.specs.Club.{Leaves};
@@ -11,7 +12,7 @@ ghost use Rattle.club_core.specs.Answer.{answered, outcome_of, request_of};
 ghost use Rattle.club_rows.specs.Club.{ClubState, IsClub, tables};
 ghost use Rattle.store.specs.Runs.{club_outcomes};
 ghost use Rattle.store.specs.Lives.{IsLed, session_of};
-ghost use Rattle.lives.specs.Finds.{Finds};
+ghost use Rattle.lives.specs.Finds.{Finds, AreVoid};
 
 use club_core::Request;
 use sqlite::{Connection, FileStore};
@@ -76,6 +77,11 @@ pub fn live<D: Disk + Drop>(
         Err(unopened) => Err(unopened),
     }
 }
+
+/// A law. Of new files, whose database file is empty or was left unfinished by its first opening, an opening finds no table.
+pub fn new_files_are_void()
+    ensures { (files : Image) → IsNothing files → AreVoid files }
+{}
 
 #[cfg(test)]
 mod tests;

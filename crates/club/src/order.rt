@@ -1,0 +1,67 @@
+//! An order over the files of a path, from their opening to their closing.
+
+ghost use Rattle.std.specs.Prelude.{◌≡◌, ◌++◌, None, IfSome};
+ghost use Rattle.sqlite_wal.specs.Files.{image_at};
+ghost use Rattle.sqlite_wal.specs.Recovery.{Image};
+ghost use Rattle.sqlite_store.specs.FileStore.{state as store_state, view as store_view};
+ghost use Rattle.sqlite_trees.specs.View.{IsClean};
+ghost use Rattle.sqlite.specs.Tree.{Trees};
+ghost use Rattle.store_tables.specs.Club.{Leaves};
+ghost use Rattle.club_core.specs.Answer.{answered, outcome_of};
+ghost use Rattle.club_rows.specs.Club.{ClubState, IsClub, tables};
+ghost use Rattle.store.specs.Steps.{club_step};
+ghost use Rattle.lives.specs.Finds.{IsFoundIn, AreLed, AreVoid};
+ghost use Rattle.club_words.specs.declared.words.Task.TheVariants.{Init};
+ghost use Rattle.club_words.specs.declared.report.Report.TheVariants.{InUse, NotOpened};
+ghost use Rattle.club_words.specs.Report.{given, Answers, IfRequest, IsBegun, task_sessions};
+
+use clocks::Moment;
+use club_words::{Order, Report, act};
+use lives::close;
+use sqlite::{Connection, Error, ErrorCode, FileFrom, FileStore};
+use sqlite_disk::Start;
+
+// Why the files were not opened.
+fn unopened(error: Error) -> Report
+    ensures { (result ≡ InUse) ⊎ (result ≡ NotOpened) }
+{
+    match error {
+        Error::SqliteFailure(ErrorCode::DatabaseBusy) => Report::InUse,
+        _ => Report::NotOpened,
+    }
+}
+
+/// Does what is ordered, at that moment, over the files of the order's path, which hold at first what `S` stands for: opens
+/// them, makes a club or gives the club that stands there a command of the officer's, and closes. Gives what it came to,
+/// and the files where they were opened.
+///
+/// Where sessions led to whatever an opening finds in the files, they lead, with this command as one more, to whatever an
+/// opening finds in them after it, of whatever a stop leaves. Where they were new, and a club was to be made, no session
+/// leads to that, or there is no table still. The answer is the machine's.
+pub fn obey<S: Start>(
+    rt: &HostRuntime,
+    order: &Order,
+    moment: Moment,
+    start: S,
+) -> (Report, Option<FileStore<FileFrom<S>>>)
+    ensures unopened { result.1 ≡ None → (result.0 ≡ InUse) ⊎ (result.0 ≡ NotOpened) }
+    ensures begun { IfSome result.1 (λ store. IsClean (store_view store) →
+        order.now.task ≡ Init → AreVoid (image_at S.Start) →
+        (left : Image) → (store_state store).may_leave left →
+        (found : Trees) → IsFoundIn left found → ∥ IsBegun result.0 found ∥₁) }
+    ensures answer { IfSome result.1 (λ store. IsClean (store_view store) →
+        (s : ClubState) → IsClub s → ((found : Trees) → IsFoundIn (image_at S.Start) found → Leaves (tables s) found) →
+        IfRequest order.now.task (λ command. Answers result.0 (λ outcome.
+        outcome_of outcome ≡ answered (club_step s (given command moment))))) }
+    ensures led { IfSome result.1 (λ store. IsClean (store_view store) →
+        (sessions : _) → AreLed sessions (image_at S.Start) →
+        (left : Image) → (store_state store).may_leave left →
+        AreLed (sessions ++ task_sessions order.now.task moment result.0) left) }
+{
+    let conn = match Connection::open_from(rt, order.file.as_str(), false, start) {
+        Ok(conn) => conn,
+        Err((error, _)) => return (unopened(error), None),
+    };
+    let (report, conn) = act(rt.alloc(), conn, &order.task, moment);
+    (report, Some(close(conn)))
+}

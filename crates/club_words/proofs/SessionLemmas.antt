@@ -1,0 +1,15 @@
+-- What sessions led to, over a connection that was only read.
+use Rattle.std.proofs.Common.{◌≡◌, List, [], ◌++◌, append-nil, sym, subst}
+use Rattle.sqlite.specs.Tree.{Trees}
+use Rattle.sqlite.specs.State.{State}
+use Rattle.store_tables.specs.Contents.{Content}
+use Rattle.store_tables.specs.Club.{IsExactly}
+use Rattle.store.specs.Lives.{Session, IsLed, Stands}
+
+-- with no session more
+pub led_still : (sessions : List Session) (db : Trees) → IsLed sessions db → IsLed (sessions ++ []) db
+led_still sessions db led = subst (λ xs. IsLed xs db) (sym (append-nil sessions)) led
+
+-- where the tables stayed as they were
+pub stands_still : (sessions : List Session) (old new : State) → ((content : Content) → IsExactly content old → IsExactly content new) → Stands sessions old → Stands sessions new
+stands_still sessions old new same at = record { after = at.after; legal = at.legal; leads = at.leads; exactly = same _ at.exactly }

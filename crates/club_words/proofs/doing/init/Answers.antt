@@ -1,0 +1,26 @@
+use Rattle.std.proofs.Common.{◌≡◌, [], sym, subst}
+use Rattle.sqlite.specs.State.{HasCleanDisk}
+use Rattle.store.specs.Lives.{Stands}
+use Rattle.sqlite.specs.Held.{state}
+use Rattle.club_words.proofs.doing.init.Goals as goal
+
+pub returns-in-Ok-clause-begun : goal.returns-in-Ok-clause-begun
+returns-in-Ok-clause-begun g c clean opens live empty db left =
+    let same = c.into_connection-conn.ensures.same in
+    let made = c.in-Ok.ensures.begins (subst (λ h. HasCleanDisk (state g.S.Store h)) same clean) (c.holds_nothing.ensures opens live empty) in
+    c.leaves_what_sessions_left-in-Ok.ensures [] (subst (λ h. Stands [] (state g.S.Store h)) (sym same) made) db left
+
+pub returns-in-Ok-clause-led : goal.returns-in-Ok-clause-led
+returns-in-Ok-clause-led g c clean opens live sessions led db left =
+    let same = c.into_connection-conn.ensures.same in
+    let at = c.holds_what_sessions_left.ensures opens live sessions led in
+    absurd (c.in-Ok.ensures.fresh (subst (λ h. HasCleanDisk (state g.S.Store h)) same clean) at.exactly.now.schema)
+
+pub returns-in-Err-clause-begun : goal.returns-in-Err-clause-begun
+returns-in-Err-clause-begun g c clean opens live empty db left =
+    c.in-Err.ensures.cut_off clean (c.holds_nothing.ensures opens live empty) db left
+
+pub returns-in-Err-clause-led : goal.returns-in-Err-clause-led
+returns-in-Err-clause-led g c clean opens live sessions led db left =
+    let at = c.holds_what_sessions_left.ensures opens live sessions led in
+    c.leaves_what_sessions_left.ensures sessions at db (c.in-Err.ensures.stays clean at.exactly.now.schema db left)

@@ -1,0 +1,82 @@
+-- What an order came to: the line that is printed, the status of the program, and the sessions that it adds to a club's life.
+use Rattle.std.specs.Prelude.{◌≡◌, ◌⊎◌, ℕ, List, [], ◌∷◌, ◌++◌, codes, ⊤}
+use Rattle.sqlite.specs.Tree.{Trees}
+use Rattle.store_tables.specs.Contents.{IsEmpty}
+use Rattle.club_core.specs.declared.requests.Who.TheVariants.{Officer}
+use Rattle.club_core.specs.declared.requests.Command.{Command}
+use Rattle.club_core.specs.declared.answers.Outcome.{Outcome}
+use Rattle.club_core.specs.declared.answers.Outcome.TheVariants as outcome
+use Rattle.club_core.specs.AnswerText.{outcome_text}
+use Rattle.club_core.specs.State.{Request}
+use Rattle.store.specs.declared.fault.OpenFault.TheVariants as open_fault
+use Rattle.store.specs.declared.fault.StoreFault.TheVariants as store_fault
+use Rattle.store.specs.FaultText.{open_fault_text, store_fault_text}
+use Rattle.store.specs.Lives.{Session, IsLed, answered_session, cut_session}
+use Rattle.store.specs.Steps.{request}
+use Rattle.club_words.specs.declared.report.Report.{Report}
+use Rattle.club_words.specs.declared.report.Report.TheVariants.{Ready, Answered, Unopened, Stopped, InUse, NotOpened, NoMoment, NoMemory}
+use Rattle.club_words.specs.declared.words.Task.{Task}
+use Rattle.club_words.specs.declared.words.Task.TheVariants as task
+
+abbrev pub report_text : Report → List ℕ
+report_text Ready = codes "ready"
+report_text (Answered outcome) = outcome_text outcome
+report_text (Unopened fault) = codes "store " ++ open_fault_text fault
+report_text (Stopped fault) = codes "store " ++ store_fault_text fault
+report_text InUse = codes "store 73 Store"
+report_text NotOpened = codes "store 73 Store"
+report_text NoMoment = codes "store 76 Input"
+report_text NoMemory = codes "store 75 Memory"
+
+-- the text with the end of its line
+abbrev pub report_line : Report → List ℕ
+report_line report = report_text report ++ codes "\n"
+
+abbrev pub outcome_status : Outcome → ℕ
+outcome_status (outcome.Accepted answer) = 0
+outcome_status (outcome.Repeated answer) = 0
+outcome_status (outcome.Refused refusal) = 1
+
+-- 0 for what was done, 1 for what was refused, 3 for a fault
+abbrev pub report_status : Report → ℕ
+report_status Ready = 0
+report_status (Answered outcome) = outcome_status outcome
+report_status (Unopened fault) = 3
+report_status (Stopped fault) = 3
+report_status InUse = 3
+report_status NotOpened = 3
+report_status NoMoment = 3
+report_status NoMemory = 3
+
+-- ---- what it adds to the life of a club
+
+-- a command of the officer's
+abbrev pub given : Command → ℕ → Request
+given command moment = request Officer command moment
+
+-- the session of one request that the report tells of: answered, or cut off by a fault
+abbrev pub request_sessions : Request → Report → List Session
+request_sessions asked (Answered outcome) = answered_session asked outcome ∷ []
+request_sessions asked (Stopped fault) = cut_session asked ∷ []
+request_sessions asked _ = []
+
+-- making a club adds no session
+abbrev pub task_sessions : Task → ℕ → Report → List Session
+task_sessions task.Init moment report = []
+task_sessions (task.Request command) moment report = request_sessions (given command moment) report
+
+-- the command was answered so, or a call of the database failed or memory was refused
+abbrev pub Answers : Report → (Outcome → Type 0) → Type 0
+Answers (Answered outcome) Holds = Holds outcome
+Answers (Unopened fault) Holds = (fault ≡ open_fault.Store) ⊎ (fault ≡ open_fault.Memory)
+Answers (Stopped fault) Holds = (fault ≡ store_fault.Store) ⊎ (fault ≡ store_fault.Memory)
+Answers _ Holds = ⊥
+
+abbrev pub IfRequest : Task → (Command → Type 0) → Type 0
+IfRequest task.Init Holds = ⊤
+IfRequest (task.Request command) Holds = Holds command
+
+-- The club with nothing in it stands; or none was made, and there is still no table, or it stands nevertheless.
+abbrev pub IsBegun : Report → Trees → Type 0
+IsBegun Ready trees = IsLed [] trees
+IsBegun _ trees = IsEmpty trees ⊎ IsLed [] trees

@@ -1,0 +1,120 @@
+//! What an order came to, and how it is printed.
+
+ghost use Rattle.std.specs.Prelude.{◌≡◌, ◌≢◌, ◌⊎◌, ◌++◌, ◌∷◌, [], string_bytes};
+ghost use Rattle.std.specs.Io.KnownBytes.{Appends};
+ghost use Rattle.club_words.specs.Report.{report_status, report_line};
+
+use club_core::Outcome;
+use std::fmt;
+use std::io::Write;
+use store::{OpenFault, StoreFault};
+
+/// The order was done.
+pub const DONE: u8 = 0;
+
+/// The order was refused.
+pub const REFUSED: u8 = 1;
+
+/// The words are no order.
+pub const BAD_WORDS: u8 = 2;
+
+/// A fault of the store, of the standard output or of what is read.
+pub const FAULT: u8 = 3;
+
+/// What an order came to.
+#[derive(Debug, Drop)]
+pub enum Report {
+    /// A club was made.
+    Ready,
+    /// A command was answered.
+    Answered(Outcome),
+    /// No club was made, or none was found.
+    Unopened(OpenFault),
+    /// A call on the open club failed.
+    Stopped(StoreFault),
+    /// The file is in use, so it was not opened.
+    InUse,
+    /// The file was not opened.
+    NotOpened,
+    /// The machine has no clock, or one that is set to no moment that there is.
+    NoMoment,
+    /// The allocator refused before anything was done.
+    NoMemory,
+}
+
+impl Report {
+    /// The status that the program ends with.
+    pub fn status(&self) -> u8
+        ensures { result ≡ report_status self.now }
+    {
+        match self {
+            Report::Ready => DONE,
+            Report::Answered(Outcome::Accepted(_)) => DONE,
+            Report::Answered(Outcome::Repeated(_)) => DONE,
+            Report::Answered(Outcome::Refused(_)) => REFUSED,
+            Report::Unopened(_) => FAULT,
+            Report::Stopped(_) => FAULT,
+            Report::InUse => FAULT,
+            Report::NotOpened => FAULT,
+            Report::NoMoment => FAULT,
+            Report::NoMemory => FAULT,
+        }
+    }
+}
+
+/// Writes what was done, why it was refused, or after `store` the number and name of the fault.
+impl fmt::Display for Report {
+    ghost use Rattle.std.specs.Prelude.{Some};
+    ghost use Rattle.club_words.specs.Report.{report_text};
+
+    ghost output = { λ report. Some (report_text report) };
+
+    fn fmt<W: fmt::Write>(&self, f: &mut fmt::Formatter<W>) -> fmt::Result {
+        match self {
+            Report::Ready => f.write_str("ready"),
+            Report::Answered(outcome) => write!(f, "{outcome}"),
+            Report::Unopened(fault) => write!(f, "store {fault}"),
+            Report::Stopped(fault) => write!(f, "store {fault}"),
+            Report::InUse => f.write_str("store 73 Store"),
+            Report::NotOpened => f.write_str("store 73 Store"),
+            Report::NoMoment => f.write_str("store 76 Input"),
+            Report::NoMemory => f.write_str("store 75 Memory"),
+        }
+    }
+}
+
+// Says that a line could not be made, or not be printed.
+fn unprinted<E: Write>(err: &mut E, line: &str) -> u8
+    ensures { result ≡ 3 }
+{
+    let _ = err.write_all(line.as_bytes());
+    FAULT
+}
+
+/// Prints the line of a report by one call: what was done to the standard output, a refusal or a fault to the standard
+/// error. Gives the status, which is that of a fault where the line could not be written. `line` is empty, and has the room
+/// that was set aside for it.
+pub fn print<O: Write, E: Write>(line: String, report: &Report, out: &mut O, err: &mut E) -> u8
+    requires { string_bytes line ≡ [] }
+    ensures status { (result ≡ report_status report.now) ⊎ (result ≡ 3) }
+    ensures done { result ≡ 0 → Appends (O.contents out.old) (O.contents out.new) (report_line report.now) }
+    ensures refused { result ≡ 1 → Appends (E.contents err.old) (E.contents err.new) (report_line report.now) }
+    ensures silent { report_status report.now ≢ 0 → out.new ≡ out.old }
+{
+    let mut line = line;
+    match writeln!(line, "{report}") {
+        Ok(()) => {}
+        Err(_) => return unprinted(err, "store 75 Memory\n"),
+    }
+    let status = report.status();
+    if status == DONE {
+        return match out.write_all(line.as_bytes()) {
+            Ok(()) => DONE,
+            Err(_) => unprinted(err, "store 77 Output\n"),
+        };
+    }
+    match err.write_all(line.as_bytes()) {
+        Ok(()) => status,
+        Err(_) => FAULT,
+    }
+}
