@@ -1,6 +1,6 @@
 //! An order over the files of a path, from their opening to their closing.
 
-ghost use Rattle.std.specs.Prelude.{◌≡◌, ◌++◌, None, IfSome};
+ghost use Rattle.std.specs.Prelude.{◌≡◌, ◌⊎◌, ◌++◌, None, IfSome};
 ghost use Rattle.sqlite_wal.specs.Files.{image_at};
 ghost use Rattle.sqlite_wal.specs.Recovery.{Image};
 ghost use Rattle.sqlite_store.specs.FileStore.{state as store_state, view as store_view};
@@ -46,17 +46,17 @@ pub fn obey<S: Start>(
 ) -> (Report, Option<FileStore<FileFrom<S>>>)
     ensures unopened { result.1 ≡ None → (result.0 ≡ InUse) ⊎ (result.0 ≡ NotOpened) }
     ensures begun { IfSome result.1 (λ store. IsClean (store_view store) →
-        order.now.task ≡ Init → AreVoid (image_at S.Start) →
+        order.entry.now.task ≡ Init → AreVoid (image_at S.Start) →
         (left : Image) → (store_state store).may_leave left →
         (found : Trees) → IsFoundIn left found → ∥ IsBegun result.0 found ∥₁) }
     ensures answer { IfSome result.1 (λ store. IsClean (store_view store) →
         (s : ClubState) → IsClub s → ((found : Trees) → IsFoundIn (image_at S.Start) found → Leaves (tables s) found) →
-        IfRequest order.now.task (λ command. Answers result.0 (λ outcome.
+        IfRequest order.entry.now.task (λ command. Answers result.0 (λ outcome.
         outcome_of outcome ≡ answered (club_step s (given command moment))))) }
     ensures led { IfSome result.1 (λ store. IsClean (store_view store) →
         (sessions : _) → AreLed sessions (image_at S.Start) →
         (left : Image) → (store_state store).may_leave left →
-        AreLed (sessions ++ task_sessions order.now.task moment result.0) left) }
+        AreLed (sessions ++ task_sessions order.entry.now.task moment result.0) left) }
 {
     let conn = match Connection::open_from(rt, order.file.as_str(), false, start) {
         Ok(conn) => conn,
