@@ -1,12 +1,12 @@
 -- The table of lines is the geometry, and what stands first on a line is an end of what is on it.
-use Rattle.std.proofs.Common.{◌≡◌, ℕ, zero, suc, ◌+◌, ◌-◌, ◌<◌, ◌≤◌, ◌^◌, Bool, true, false, not, cond, ◌&&◌, ◌||◌, nat_eq, nat_le, nat_lt, ◌⊎◌, Option, Some, None, List, [], ◌∷◌, inl, inr, refl, sym, ap, ◌∙◌, subst, arith}
+use Rattle.std.proofs.Common.{◌≡◌, ℕ, zero, suc, ◌+◌, ◌<◌, ◌≤◌, ◌^◌, Bool, true, false, not, cond, ◌&&◌, nat_eq, nat_lt, ◌⊎◌, Option, Some, None, List, [], ◌∷◌, inl, inr, refl, sym, ap, ◌∙◌, subst, arith}
 use Rattle.std.specs.List.{find, list_all, list_any, range_with_len, slice_index}
 use Rattle.std.specs.Cmp.{nat_cmp_total}
 use Rattle.std.specs.Ordering.{nat_cmp}
 use Rattle.std.specs.FinSet as set
 use Rattle.std.proofs.lemmas.Bool.{cases_lt}
 use Rattle.std.proofs.lemmas.Bool.Decides.{nat_tests}
-use Rattle.masks.specs.Words.{Numbers, IsLeast, IsGreatest, has_bit, has_bit_above}
+use Rattle.masks.specs.Words.{Numbers, IsLeast, IsGreatest, has_bit}
 use Rattle.squares.specs.In.{In, list_any-found, list_any-finds}
 use Rattle.squares.specs.declared.draughts.ray.TheConstants.{LINES}
 use Rattle.squares.specs.declared.draughts.direction.Direction.{Direction}

@@ -18,7 +18,7 @@ use Rattle.squares.specs.declared.shogi.hand.Hands.{Hands}
 use Rattle.squares.specs.declared.shogi.piece.SPiece.{SPiece}
 use Rattle.squares.specs.ShogiBoard.{ShogiBoard}
 use Rattle.squares.specs.ShogiSets.{ShogiPosition}
-use Rattle.squares.specs.ShogiSamePosition.{same_shogi_board, same_shogi_board-same, same_shogi_board-itself, same_shogi_position, same_shogi_position-itself, same_shogi_position-same, same_hand, same_hands-same}
+use Rattle.squares.specs.ShogiSamePosition.{same_shogi_position, same_shogi_position-itself, same_shogi_position-same, same_hand, same_hands-same}
 use Rattle.squares.specs.DraughtsMarks.{nat_eq-same}
 use Rattle.squares.specs.ShogiOrder.{side_cmp, hands_cmp, piece_cmp, entry_cmp, board_cmp, position_cmp}
 

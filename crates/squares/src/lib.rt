@@ -11,7 +11,6 @@ pub use draughts::moves::DMove;
 pub use draughts::numbers::Numbers;
 pub use draughts::piece::DPiece;
 pub use draughts::position::DPos;
-pub use draughts::ray::Ray;
 pub use draughts::set::DSet;
 pub use draughts::square::Dsq;
 pub use memory::Memory;

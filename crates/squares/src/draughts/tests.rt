@@ -1,4 +1,4 @@
-use crate::{DMove, DPiece, DPos, DSet, Direction, Dsq, Numbers, Ray, Side};
+use crate::{DMove, DPiece, DPos, DSet, Direction, Dsq, Numbers, Side};
 use std::hash::{DefaultHasher, Hash, Hasher};
 use std::test::Fail;
 
@@ -39,16 +39,14 @@ fn numbers_have_their_places(rt: HostRuntime) -> Result<(), Fail> {
 #[test]
 fn lines_go_to_the_edge(rt: HostRuntime) -> Result<(), Fail> {
     let from = Dsq::new(28).ok_or("no square")?;
-    let mut numbers = [0; 5];
-    let line = Ray::new(from, Direction::UpLeft);
-    for (i, square) in line.squares().iter().enumerate() {
-        if i < 5 {
-            numbers[i] = square.number();
-        }
+    let mut rest = from.line(Direction::UpLeft);
+    let mut squares = [0; 4];
+    for i in 0..4 {
+        squares[i] = rest.pop().ok_or("no square")?.number();
     }
-    assert_eq!(rt; numbers, [22, 17, 11, 6, 0]);
+    assert_eq!(rt; squares, [6, 11, 17, 22]);
     assert_eq!(rt; from.step(Direction::DownRight), Dsq::new(33));
-    assert_eq!(rt; Ray::new(from, Direction::DownLeft).squares().len(), 4);
+    assert_eq!(rt; from.line(Direction::DownLeft).len(), 4);
     Ok(())
 }
 

@@ -1,4 +1,4 @@
-use Rattle.std.proofs.Common.{◌≡◌, ◌∷◌, ℕ, Option, Some, None, length, length-set, refl, arith, ap, subst, ◌∙◌}
+use Rattle.std.proofs.Common.{◌≡◌, ◌∷◌, ℕ, Option, Some, None, length, length-set, refl, arith, ap, subst}
 use Rattle.squares.specs.DraughtsSets.{ascending, PopsSquare}
 use Rattle.squares.proofs.DraughtsPops.{ascending-fits, popped-write, popped-end}
 use Rattle.squares.proofs.draughts.numbers.Numbers.of.Goals as goal

@@ -1,4 +1,4 @@
-use Rattle.std.proofs.Common.{◌≡◌, sym, ap, ◌∙◌}
+use Rattle.std.proofs.Common.{sym, ap, ◌∙◌}
 use Rattle.squares.specs.DraughtsBoard.{Position}
 use Rattle.squares.proofs.DraughtsKept.{cleared_next, cleared_none}
 use Rattle.squares.proofs.draughts.position.DPos.clear_all.Goals as goal

@@ -1,4 +1,4 @@
-use Rattle.std.proofs.Common.{◌≡◌, ◌<◌, ◌^◌, false, subst, sym, ap, ◌∙◌, arith, ◌-◌, ◌+◌, ℕ, ◌≤◌}
+use Rattle.std.proofs.Common.{◌≡◌, false, subst, sym, ap, ◌∙◌, arith, ◌-◌, ◌+◌, ℕ}
 use Rattle.std.specs.FinSet as set
 use Rattle.std.specs.Option.{option_map_or}
 use Rattle.masks.specs.Words.{Numbers}

@@ -1,4 +1,4 @@
-use Rattle.std.proofs.Common.{◌≡◌, ℕ, Option, Some, None, sym, subst}
+use Rattle.std.proofs.Common.{Some, None, sym, subst}
 use Rattle.masks.specs.Words.{IsLeast}
 use Rattle.squares.specs.DraughtsSets.{Squares}
 use Rattle.squares.proofs.DraughtsPops.{some-is}

@@ -1,4 +1,4 @@
-use Rattle.std.proofs.Common.{◌≡◌, ℕ, Option, Some, None, refl, subst, arith}
+use Rattle.std.proofs.Common.{ℕ, Option, Some, None, refl, subst, arith}
 use Rattle.masks.specs.Words.{Pops}
 use Rattle.squares.specs.DraughtsSets.{Squares}
 use Rattle.squares.proofs.DraughtsPops.{pops-none, pops-some, some-is}
