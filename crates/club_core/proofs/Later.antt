@@ -1,22 +1,32 @@
 -- A later state has what an earlier one had: members, events and games stay at their places, and games keep their entries.
-use Rattle.std.proofs.Common.{◌≡◌, ℕ, zero, suc, ◌-◌, List, [], ◌∷◌, ◌++◌, Option, Some, None, Result, Ok, Err, refl, ap, sym, ◌∙◌, arith, append_assoc, append-nil, inl, inr}
-use Rattle.std.specs.Prelude.{max, slice_get}
+use Rattle.std.proofs.Common.{◌≡◌, ℕ, zero, suc, ◌+◌, ◌-◌, List, [], ◌∷◌, ◌++◌, length, Option, Some, None, Result, Ok, Err, Bool, true, false, ◌&&◌, not, refl, ap, sym, ◌∙◌, arith, append_assoc, append-nil, length-append, inl, inr}
+use Rattle.std.specs.Prelude.{max, slice_get, ◌==◌, if◌then◌else◌}
+use Rattle.std.proofs.lemmas.Bool.{eq-eqb}
+use Rattle.std.proofs.lemmas.Bool.Decides.{nat_tests}
 use Rattle.squares.specs.declared.sides.Side.{Side}
+use Rattle.squares.specs.declared.sides.Side.TheVariants.{First, Second}
+use Rattle.squares.specs.Sides.{other, same_side}
 use Rattle.club_rules.specs.declared.refusals.MoveRefusal.{MoveRefusal}
 use Rattle.club_rules.specs.GameRules.{GameRules}
 use Rattle.club_core.specs.ClubRules.{ClubRules}
+use Rattle.club_core.specs.declared.rows.OutsideEnd.{OutsideEnd}
+use Rattle.club_core.specs.declared.rows.OutsideEnd.TheVariants.{Resigned, Agreed, Time}
+use Rattle.club_core.specs.declared.rows.Offer.{Offer}
 use Rattle.club_core.specs.declared.requests.Caller.{Caller}
 use Rattle.club_core.specs.declared.requests.Caller.TheVariants.{Officer, Member}
 use Rattle.club_core.specs.declared.refusals.Refusal.{Refusal}
-use Rattle.club_core.specs.Outcome.{Reply, Outcome, accepted, repeated, refused, map_outcome, by_officer, unless, unless_repeat}
+use Rattle.club_core.specs.declared.refusals.Refusal.TheVariants.{NotAllowed, NotInThisGame}
+use Rattle.club_core.specs.Outcome.{Reply, draw_offered, Outcome, accepted, repeated, refused, map_outcome, by_officer, first_refusal, unless, unless_repeat}
 use Rattle.club_core.specs.Members as members
 use Rattle.club_core.specs.Members.{find_id, member_refusal, same_member, member_step}
 use Rattle.club_core.specs.Events.{Terms, Event, event_refusal, same_event, event_step}
 use Rattle.club_core.specs.Seats.{Pairing, seat_step}
-use Rattle.club_core.specs.Game.{Game, last_position}
-use Rattle.club_core.specs.Step.{GameCommand, move, played, checked, plays, by_side, game_step, move_refusal, repeat_of, move_at, side_of_member, officer_side}
+use Rattle.club_core.specs.Game.{Game, last_position, rule_end, end_of, turn_of, result_of}
+use Rattle.club_core.specs.Step.{GameCommand, move, offer_draw, accept_draw, resign, claim_time, may_give, asked_ply, has_offer, repeat_of_offer, caller_side, played, offered, ended, checked, is_over, offer_tests, offer_refusal, step_offer, reply_of_end, ends, accept_tests, repeat_of_accept, step_accept, resign_tests, repeat_of_resign, step_resign, repeat_of_claim, move_tests, plays, claim_tests, step_claim, by_side, game_step, move_refusal, repeat_of, move_at}
 use Rattle.club_core.specs.State.{AnyGame, draughts, shogi, State, Command, add_member, add_event, seat, on_game, Request, state_after, place, terms_at, game_under, caller_of, with_members, with_events, with_new_game, with_game, step_game, step_command, step_by, next, fold}
 use Rattle.club_core.proofs.Lists.{get-append, set-got}
+use Rattle.club_core.proofs.Legals.{NoneHolds, none-holds, not-some}
+use Rattle.club_core.proofs.Played.{outside-alone, score-none}
 
 -- one list begins with the other
 abbrev pub Begins : {A : Type 0} → List A → List A → Type 0
@@ -36,6 +46,10 @@ pub record IsLaterGame {M : Type 0} (game new : Game M) : Type 0 where
   pub second : new.second ≡ game.second
   pub start : new.start ≡ game.start
   pub entries : Begins game.entries new.entries
+  -- an end from outside is the last that happens to a game
+  pub ended : (end : OutsideEnd) → game.outside ≡ Some end → new ≡ game
+  -- an offer of the next ply stands until a move is made
+  pub offered : (offer : Offer) → game.offer ≡ Some offer → offer.ply ≡ length game.entries + 1 → length new.entries ≡ length game.entries → new.offer ≡ Some offer
 
 abbrev pub IsLaterAny : {DM SM : Type 0} → AnyGame DM SM → AnyGame DM SM → Type 0
 IsLaterAny (draughts game) (draughts new) = IsLaterGame game new
@@ -49,7 +63,20 @@ pub record IsLater {DM SM : Type 0} (s t : State DM SM) : Type 0 where
   pub games : (n : ℕ) (g : AnyGame DM SM) → slice_get s.games n ≡ Some g → (new : AnyGame DM SM) × (slice_get t.games n ≡ Some new) × IsLaterAny g new
 
 later-game-refl : {M : Type 0} (game : Game M) → IsLaterGame game game
-later-game-refl game = record { key = refl; event = refl; first = refl; second = refl; start = refl; entries = begins-refl game.entries }
+later-game-refl game =
+    record {
+      key = refl;
+      event = refl;
+      first = refl;
+      second = refl;
+      start = refl;
+      entries = begins-refl game.entries;
+      ended = λ end is. refl;
+      offered = λ offer is next same. is;
+    }
+
+begins-length : {A : Type 0} (xs ys : List A) (begins : Begins xs ys) → length ys ≡ length xs + length begins.0
+begins-length xs ys begins = ap length begins.1 ∙ length-append xs begins.0
 
 later-game-trans : {M : Type 0} (a b c : Game M) → IsLaterGame a b → IsLaterGame b c → IsLaterGame a c
 later-game-trans a b c first second =
@@ -60,6 +87,12 @@ later-game-trans a b c first second =
       second = second.second ∙ first.second;
       start = second.start ∙ first.start;
       entries = begins-trans a.entries b.entries c.entries first.entries second.entries;
+      ended = λ end is. let same : b ≡ a = first.ended end is in second.ended end (ap (λ g. g.outside) same ∙ is) ∙ same;
+      offered = λ offer is next same.
+          let count_b = begins-length a.entries b.entries first.entries in
+          let count_c = begins-length b.entries c.entries second.entries in
+          let between : length b.entries ≡ length a.entries = omega (arith, count_b, count_c, same) in
+          second.offered offer (first.offered offer is next between) (omega (arith, between, next)) (omega (arith, between, same));
     }
 
 module _ {DM SM : Type 0} where
@@ -145,40 +178,162 @@ unless-accepted None None x t reply is = (refl, refl, is)
 pub accepted-same : {T : Type 0} (t u : T) (a b : Reply) → accepted t a ≡ accepted u b → (t ≡ u) × (a ≡ b)
 accepted-same t u a b is = (cc, cc)
 
-pub record WasPlayed {P M E T : Type 0} (laws : GameRules P M E T) (terms : Terms) (game : Game M) (moment : ℕ) (new : Game M) : Type 0 where
-  pub made : M
-  pub is : new ≡ played game made moment
+-- an accepted outcome passed its test
+pub if-accepted : {T : Type 0} (b : Bool) (o : Outcome T) (refusal : Refusal) (t : T) (reply : Reply) → (if b then o else refused refusal) ≡ accepted t reply → (b ≡ true) × (o ≡ accepted t reply)
+if-accepted true o refusal t reply is = (refl, is)
+if-accepted false o refusal t reply is = cc
+
+module _ {M : Type 0} (game : Game M) (running : game.outside ≡ None) where
+  played-later : (m : M) (moment : ℕ) → IsLaterGame game (played game m moment)
+  played-later m moment =
+      record {
+        key = refl;
+        event = refl;
+        first = refl;
+        second = refl;
+        start = refl;
+        entries = (record { made = m; moment = moment } ∷ [], refl);
+        ended = λ end is. let none : None ≡ Some end = sym running ∙ is in absurd cc;
+        offered = λ offer is next same.
+            let count : length (game.entries ++ record { made = m; moment = moment } ∷ []) ≡ length game.entries + 1 = simp length-append in
+            absurd (omega (arith, count, same));
+      }
+
+  offered-later : (new : Offer) → ((offer : Offer) → game.offer ≡ Some offer → offer.ply ≡ length game.entries + 1 → ⊥) → IsLaterGame game (offered game new)
+  offered-later new fresh =
+      record {
+        key = refl;
+        event = refl;
+        first = refl;
+        second = refl;
+        start = refl;
+        entries = begins-refl game.entries;
+        ended = λ end is. let none : None ≡ Some end = sym running ∙ is in absurd cc;
+        offered = λ offer is next same. absurd (fresh offer is next);
+      }
+
+  ended-later : (new : OutsideEnd) → IsLaterGame game (ended game new)
+  ended-later new =
+      record {
+        key = refl;
+        event = refl;
+        first = refl;
+        second = refl;
+        start = refl;
+        entries = begins-refl game.entries;
+        ended = λ end is. let none : None ≡ Some end = sym running ∙ is in absurd cc;
+        offered = λ offer is next same. is;
+      }
+
+-- an offer of a ply is one side's or the other's
+of-neither : (a b : Side) (c : Bool) → (same_side a b && c) ≡ false → (same_side a (other b) && c) ≡ false → c ≡ false
+of-neither First First c is_not nor = is_not
+of-neither Second Second c is_not nor = is_not
+of-neither First Second c is_not nor = nor
+of-neither Second First c is_not nor = nor
+
+no-offer : (offer : Offer) (side : Side) (ply : ℕ) → has_offer (Some offer) side ply ≡ false → has_offer (Some offer) (other side) ply ≡ false → offer.ply ≡ ply → ⊥
+no-offer offer side ply is_not nor same =
+    let other_ply : (offer.ply == ply) ≡ false = of-neither offer.side side (offer.ply == ply) is_not nor in
+    let this_ply : (offer.ply == ply) ≡ true = eq-eqb offer.ply ply same in
+    let both : false ≡ true = sym other_ply ∙ this_ply in
+    absurd cc
+
+pub no-repeat : (offer : Option Offer) (side : Side) (ply : ℕ) → repeat_of_offer offer side ply ≡ None → has_offer offer side ply ≡ false
+no-repeat offer side ply = as-false (has_offer offer side ply)
+  where
+    as-false : (b : Bool) → (if b then Some (draw_offered ply) else None) ≡ None → b ≡ false
+    as-false true is = cc
+    as-false false is = refl
+
+-- a ply that is the next
+pub is-next : (ply n : ℕ) → not (ply == n + 1) ≡ false → ply ≡ n + 1
+is-next ply n is = grind (arith, nat_tests)
+
+module _ {P M E T : Type 0} (laws : GameRules P M E T) (game : Game M) where
+  -- a running game has no end from outside
+  pub running-outside : is_over laws game ≡ false → game.outside ≡ None
+  running-outside running =
+      outside-alone (rule_end laws game) game.outside
+      (score-none laws (end_of laws game) (turn_of laws game) (not-some (result_of laws game) running))
+
+  -- what an accepted offer found, and what stands after it
+  pub offer-accepts : (side : Side) (ply : ℕ) (new : Game M) (reply : Reply) → step_offer laws game side ply ≡ accepted new reply → (laws.has_draw_offers ≡ true) × (repeat_of_offer game.offer side ply ≡ None) × NoneHolds (offer_tests laws game side ply) × (offered game (record { side = side; ply = ply }) ≡ new) × (draw_offered ply ≡ reply)
+  offer-accepts side ply new reply is =
+      let given = if-accepted laws.has_draw_offers _ NotInThisGame new reply is in
+      let parts = unless-accepted (repeat_of_offer game.offer side ply) (offer_refusal laws game side ply) (accepted (offered game (record { side = side; ply = ply })) (draw_offered ply)) new reply given.1 in
+      let stands = accepted-same (offered game (record { side = side; ply = ply })) new (draw_offered ply) reply parts.2 in
+      (given.0, parts.0, none-holds (offer_tests laws game side ply) parts.1, stands.0, stands.1)
+
+  pub offer-later : (side : Side) (ply : ℕ) (new : Game M) (reply : Reply) → step_offer laws game side ply ≡ accepted new reply → IsLaterGame game new
+  offer-later side ply new reply is =
+      let (draws, fresh, tests, stands, answer) = offer-accepts side ply new reply is in
+      let next : ply ≡ length game.entries + 1 = is-next ply (length game.entries) tests.1.0 in
+      let own : has_offer game.offer side ply ≡ false = no-repeat game.offer side ply fresh in
+      let other's : has_offer game.offer (other side) ply ≡ false = tests.1.1.0 in
+      rw (← stands)
+      (offered-later game (running-outside tests.0) (record { side = side; ply = ply })
+      (λ offer at offer_next.
+      let not_own : has_offer (Some offer) side ply ≡ false = ap (λ o. has_offer o side ply) (sym at) ∙ own in
+      let nor : has_offer (Some offer) (other side) ply ≡ false = ap (λ o. has_offer o (other side) ply) (sym at) ∙ other's in
+      no-offer offer side ply not_own nor (offer_next ∙ sym next)))
+
+  -- what a command that ended the game found, and what stands after it
+  pub end-accepts : (end : OutsideEnd) (repeat : Option Reply) (tests : List (Bool × Refusal)) (new : Game M) (reply : Reply) → unless_repeat repeat (unless (first_refusal tests) (ends laws game end)) ≡ accepted new reply → NoneHolds tests × (ended game end ≡ new) × (reply_of_end laws game end ≡ reply)
+  end-accepts end repeat tests new reply is =
+      let parts = unless-accepted repeat (first_refusal tests) (ends laws game end) new reply is in
+      let stands = accepted-same (ended game end) new (reply_of_end laws game end) reply parts.2 in
+      (none-holds tests parts.1, stands.0, stands.1)
+
+  pub accept-accepts : (side : Side) (ply : ℕ) (new : Game M) (reply : Reply) → step_accept laws game side ply ≡ accepted new reply → (laws.has_draw_offers ≡ true) × NoneHolds (accept_tests laws game side ply) × (ended game Agreed ≡ new) × (reply_of_end laws game Agreed ≡ reply)
+  accept-accepts side ply new reply is =
+      let given = if-accepted laws.has_draw_offers _ NotInThisGame new reply is in
+      let (tests, stands, answer) = end-accepts Agreed (repeat_of_accept laws game side ply) (accept_tests laws game side ply) new reply given.1 in
+      (given.0, tests, stands, answer)
+
+  pub resign-accepts : (side : Side) (new : Game M) (reply : Reply) → step_resign laws game side ≡ accepted new reply → NoneHolds (resign_tests laws game side) × (ended game Resigned ≡ new) × (reply_of_end laws game Resigned ≡ reply)
+  resign-accepts side new reply is = end-accepts Resigned (repeat_of_resign laws game side) (resign_tests laws game side) new reply is
 
 module _ {P M E T : Type 0} (laws : GameRules P M E T) (terms : Terms) (game : Game M) (moment : ℕ) where
-  plays-played : (o : Result M MoveRefusal) (new : Game M) (reply : Reply) → plays laws terms game moment o ≡ accepted new reply → WasPlayed laws terms game moment new
-  plays-played (Err refusal) new reply is = cc
-  plays-played (Ok m) new reply is = record { made = m; is = sym (accepted-same _ new _ reply is).0 }
+  pub claim-accepts : (side : Side) (new : Game M) (reply : Reply) → step_claim laws terms game moment side ≡ accepted new reply → NoneHolds (claim_tests laws terms game moment side) × (ended game Time ≡ new) × (reply_of_end laws game Time ≡ reply)
+  claim-accepts side new reply is = end-accepts laws game Time (repeat_of_claim laws game side) (claim_tests laws terms game moment side) new reply is
 
-  side-played : (side : Option Side) (command : GameCommand) (new : Game M) (reply : Reply) → by_side laws terms game moment side command ≡ accepted new reply → WasPlayed laws terms game moment new
-  side-played None command new reply is = cc
-  side-played (Some side) (move ply text) new reply is =
-      plays-played (checked laws (last_position laws game) (laws.read_move (last_position laws game) text)) new reply
-      (unless-accepted (repeat_of laws terms game ply (move_at game ply) side text) (move_refusal laws terms game moment side ply text) _ new reply is).2
+  plays-later : (o : Result M MoveRefusal) (new : Game M) (reply : Reply) → game.outside ≡ None → plays laws terms game moment o ≡ accepted new reply → IsLaterGame game new
+  plays-later (Err refusal) new reply running is = cc
+  plays-later (Ok m) new reply running is = rw (← (accepted-same _ new _ reply is).0) (played-later game running m moment)
 
-  pub caller-played : (who : Caller) (command : GameCommand) (new : Game M) (reply : Reply) → game_step laws terms game moment who command ≡ accepted new reply → WasPlayed laws terms game moment new
-  caller-played Officer command = side-played (officer_side laws terms game moment command) command
-  caller-played (Member id) command = side-played (side_of_member game.first game.second id) command
+  side-later : (side : Option Side) (command : GameCommand) (new : Game M) (reply : Reply) → by_side laws terms game moment side command ≡ accepted new reply → IsLaterGame game new
+  side-later None command new reply is = cc
+  side-later (Some side) (move ply text) new reply is =
+      let parts = unless-accepted (repeat_of laws terms game ply (move_at game ply) side text) (move_refusal laws terms game moment side ply text) _ new reply is in
+      let tests = none-holds (move_tests laws terms game moment side ply text) parts.1 in
+      plays-later (checked laws (last_position laws game) (laws.read_move (last_position laws game) text)) new reply (running-outside laws game tests.0) parts.2
+  side-later (Some side) (offer_draw ply) new reply is = offer-later laws game side ply new reply is
+  side-later (Some side) (accept_draw ply) new reply is =
+      let (draws, tests, stands, answer) = accept-accepts laws game side ply new reply is in
+      rw (← stands) (ended-later game (running-outside laws game tests.0) Agreed)
+  side-later (Some side) resign new reply is =
+      let (tests, stands, answer) = resign-accepts laws game side new reply is in
+      rw (← stands) (ended-later game (running-outside laws game tests.0) Resigned)
+  side-later (Some side) claim_time new reply is =
+      let (tests, stands, answer) = claim-accepts side new reply is in
+      rw (← stands) (ended-later game (running-outside laws game tests.0) Time)
 
-played-later : {M : Type 0} (game : Game M) (m : M) (moment : ℕ) → IsLaterGame game (played game m moment)
-played-later game m moment = record { key = refl; event = refl; first = refl; second = refl; start = refl; entries = (record { made = m; moment = moment } ∷ [], refl) }
-
-was-played-later : {P M E T : Type 0} (laws : GameRules P M E T) (terms : Terms) (game : Game M) (moment : ℕ) (new : Game M) → WasPlayed laws terms game moment new → IsLaterGame game new
-was-played-later laws terms game moment new was = rw was.is (played-later game was.made moment)
+  -- an accepted command on a game leads to a later one
+  pub caller-later : (who : Caller) (command : GameCommand) (new : Game M) (reply : Reply) → game_step laws terms game moment who command ≡ accepted new reply → IsLaterGame game new
+  caller-later who command new reply is =
+      side-later (caller_side game.first game.second who (asked_ply command)) command new reply
+      (if-accepted (may_give who command) _ NotAllowed new reply is).1
 
 module _ {DP DM DE DT SP SM SE ST : Type 0} (kinds : ClubRules DP DM DE DT SP SM SE ST) where
   step-game-later : (s : State DM SM) (moment id : ℕ) (who : Caller) (command : GameCommand) (g : Option (AnyGame DM SM)) → place s.games id ≡ g → IsLater s (state_after s (step_game kinds s moment id who command g))
   step-game-later s moment id who command None at = later-refl s
   step-game-later s moment id who command (Some (draughts game)) at =
       outcome-later (λ t. IsLater s t) s (λ new. with_game s moment id (draughts new)) (game_step kinds.draughts (terms_at (place s.events game.event)) game moment who command) (later-refl s)
-      (λ new reply is. game-later s moment id (draughts game) (draughts new) at (was-played-later kinds.draughts _ game moment new (caller-played kinds.draughts (terms_at (place s.events game.event)) game moment who command new reply is)))
+      (λ new reply is. game-later s moment id (draughts game) (draughts new) at (caller-later kinds.draughts (terms_at (place s.events game.event)) game moment who command new reply is))
   step-game-later s moment id who command (Some (shogi game)) at =
       outcome-later (λ t. IsLater s t) s (λ new. with_game s moment id (shogi new)) (game_step kinds.shogi (terms_at (place s.events game.event)) game moment who command) (later-refl s)
-      (λ new reply is. game-later s moment id (shogi game) (shogi new) at (was-played-later kinds.shogi _ game moment new (caller-played kinds.shogi (terms_at (place s.events game.event)) game moment who command new reply is)))
+      (λ new reply is. game-later s moment id (shogi game) (shogi new) at (caller-later kinds.shogi (terms_at (place s.events game.event)) game moment who command new reply is))
 
   command-later : (s : State DM SM) (moment : ℕ) (who : Caller) (command : Command) → IsLater s (state_after s (step_command kinds s moment who command))
   command-later s moment who (add_member name key) =

@@ -1,40 +1,49 @@
 -- A request leaves a legal state legal.
 use Rattle.std.proofs.Common.{◌≡◌, ◌≢◌, ℕ, zero, suc, ◌+◌, ◌-◌, ◌<◌, ◌≤◌, List, [], ◌∷◌, ◌++◌, length, map, Option, Some, None, Result, Ok, Err, Bool, true, false, not, ◌&&◌, ◌||◌, refl, sym, ◌∙◌, arith, length-append, length-set}
-use Rattle.std.specs.Prelude.{is_some, IsSome, max, slice_get, nat_le}
+use Rattle.std.specs.Prelude.{is_some, IsSome, max, slice_get, nat_le, nat_lt, if◌then◌else◌}
 use Rattle.std.specs.Str.{bytes_eq}
 use Rattle.std.proofs.lemmas.Bool.{eq-eqb}
 use Rattle.std.proofs.lemmas.Bool.Decides.{nat_tests}
 use Rattle.squares.specs.declared.sides.Side.{Side}
 use Rattle.squares.specs.declared.sides.Side.TheVariants.{First, Second}
+use Rattle.squares.specs.declared.sides.Score.{Score}
 use Rattle.squares.specs.Sides.{other}
 use Rattle.club_rules.specs.declared.refusals.MoveRefusal.{MoveRefusal}
 use Rattle.club_rules.specs.declared.names.GameKind.{GameKind}
 use Rattle.club_rules.specs.declared.names.GameKind.TheVariants.{Draughts, Shogi}
 use Rattle.club_rules.specs.GameRules.{GameRules}
 use Rattle.club_core.specs.ClubRules.{ClubRules}
-use Rattle.club_core.specs.declared.rows.OutsideEnd.TheVariants.{Time}
+use Rattle.club_core.specs.declared.rows.OutsideEnd.{OutsideEnd}
+use Rattle.club_core.specs.declared.rows.OutsideEnd.TheVariants.{Resigned, Agreed, Time, Recorded}
+use Rattle.club_core.specs.declared.rows.Offer.{Offer}
 use Rattle.club_core.specs.declared.requests.Caller.{Caller}
 use Rattle.club_core.specs.declared.requests.Caller.TheVariants.{Officer, Member}
 use Rattle.club_core.specs.declared.refusals.Refusal.{Refusal}
+use Rattle.club_core.specs.declared.refusals.Refusal.TheVariants.{NotAllowed, NotInThisGame}
 use Rattle.club_core.specs.Limits.{last_moment, most_members, most_events, most_games, is_name, is_member_key, is_budget, is_increment}
-use Rattle.club_core.specs.Outcome.{Reply, Outcome, map_outcome, by_officer, unless, unless_repeat}
+use Rattle.club_core.specs.Outcome.{Reply, Outcome, refused, map_outcome, by_officer, first_refusal, unless, unless_repeat}
 use Rattle.club_core.specs.Members.{find_id, has_name_or_key, member_tests, member_refusal, same_member, member_step}
-use Rattle.club_core.specs.Events.{Event, has_event_name, has_good_values, event_tests, event_refusal, same_event, event_step, is_offered}
+use Rattle.club_core.specs.Events.{Event, has_event_name, has_good_values, event_tests, event_refusal, same_event, event_step}
 use Rattle.club_core.specs.Seats.{Pairing, KeyedGame, has_member_name, are_two, same_seats, seat_tests, seat_refusal, pair, seat_found, seat_step}
 use Rattle.club_core.specs.Game.{Game, Entry, Clocks, spend, spend_all, clocks_of, left_of, turn_of, last_position, rule_end, end_of, result_of}
-use Rattle.club_core.specs.Step.{GameCommand, move, played, checked, plays, step_move, by_side, game_step, move_refusal, repeat_of, move_at, side_of_member, officer_side}
+use Rattle.club_core.specs.Step.{GameCommand, move, offer_draw, accept_draw, resign, claim_time, may_give, asked_ply, has_offer, repeat_of_offer, caller_side, played, offered, ended, checked, offer_tests, offer_refusal, step_offer, ends, accept_tests, repeat_of_accept, step_accept, resign_tests, repeat_of_resign, step_resign, repeat_of_claim, plays, step_move, claim_tests, step_claim, by_side, game_step, move_refusal, repeat_of, move_at}
 use Rattle.club_core.specs.State.{AnyGame, draughts, shogi, State, Command, add_member, add_event, seat, on_game, Request, state_after, place, kind_at, key_of, has_key, keyed_at, pairing_of, game_under, seated, seated_as, caller_of, with_members, with_events, with_new_game, with_game, step_game, step_command, step_by, next}
 use Rattle.club_core.specs.LegalState.{Each, IsLegalMember, IsLegalEvent, IsGameOf, IsLegalIn, IsLegalState}
 use Rattle.club_core.proofs.PlayedLines.{IsPlayedLine-none}
 use Rattle.club_core.proofs.Played.{outside-alone, score-none}
 use Rattle.club_core.proofs.Lists.{bytes_eq-same, place-append, is_some-append, each-append, each-set, find_id-found, find_id-none, list_any-false, are_apart-append, are_apart_if_any-append, are_apart_if_any-set}
-use Rattle.club_core.proofs.Legals.{AreRules, none-holds, not-some, allowed-running, allowed-in_time, checked-legal, legal-played}
+use Rattle.club_core.proofs.Legals.{AreRules, NoneHolds, none-holds, not-some, allowed-running, allowed-in_time, checked-legal, legal-played, running-alone, legal-offered, legal-ended}
+use Rattle.club_core.proofs.Later.{is-next}
 
 -- an outcome that is not accepted leaves a legal state, and an accepted one is legal where nothing is refused
 kept-unless : {S T : Type 0} (IsSo : S → Type 0) (s : S) (f : T → S) (reply : Option Reply) (refusal : Option Refusal) (x : Outcome T) → IsSo s → (refusal ≡ None → IsSo (state_after s (map_outcome f x))) → IsSo (state_after s (map_outcome f (unless_repeat reply (unless refusal x))))
 kept-unless IsSo s f (Some reply) refusal x so new = so
 kept-unless IsSo s f None (Some refusal) x so new = so
 kept-unless IsSo s f None None x so new = new refl
+
+kept-if : {S T : Type 0} (IsSo : S → Type 0) (s : S) (f : T → S) (b : Bool) (refusal : Refusal) (x : Outcome T) → IsSo s → (b ≡ true → IsSo (state_after s (map_outcome f x))) → IsSo (state_after s (map_outcome f (if b then x else refused refusal)))
+kept-if IsSo s f true refusal x so new = new refl
+kept-if IsSo s f false refusal x so new = so
 
 kept-officer : {S T : Type 0} (IsSo : S → Type 0) (s : S) (f : T → S) (who : Caller) (x : Outcome T) → IsSo s → IsSo (state_after s (map_outcome f x)) → IsSo (state_after s (by_officer who (map_outcome f x)))
 kept-officer IsSo s f Officer x so new = new
@@ -52,12 +61,11 @@ both-true : (a b : Bool) → (a && b) ≡ true → (a ≡ true) × (b ≡ true)
 both-true true b is = (refl, is)
 both-true false b is = cc
 
-four-true : (a b c e : Bool) → (a && b && c && e) ≡ true → (a ≡ true) × (c ≡ true) × (e ≡ true)
-four-true true true true true is = (refl, refl, refl)
-four-true true true true false is = cc
-four-true true true false e is = cc
-four-true true false c e is = cc
-four-true false b c e is = cc
+three-true : (a b c : Bool) → (a && b && c) ≡ true → (a ≡ true) × (b ≡ true) × (c ≡ true)
+three-true true true true is = (refl, refl, refl)
+three-true true true false is = cc
+three-true true false c is = cc
+three-true false b c is = cc
 
 or-true : (a b : Bool) → a ≡ true → (a || b) ≡ true
 or-true true b is = refl
@@ -179,7 +187,7 @@ module _ {DP DM DE DT SP SM SE ST : Type 0} (kinds : ClubRules DP DM DE DT SP SM
   events-added s moment event later within legal allowed =
       let tests = none-holds (event_tests s.events event) allowed in
       let good : has_good_values event ≡ true = not-false _ tests.1.0 in
-      let values = four-true (is_name event.name) (is_offered event.game) (is_budget event.terms.budget) (is_increment event.terms.increment) good in
+      let values = three-true (is_name event.name) (is_budget event.terms.budget) (is_increment event.terms.increment) good in
       let room : length s.events < most_events = nat_le-false _ _ tests.1.1.0 in
       record {
         last = within;
@@ -259,7 +267,15 @@ module _ {DP DM DE DT SP SM SE ST : Type 0} (kinds : ClubRules DP DM DE DT SP SM
         game_keys = are_apart_if_any-set (λ g. key_of g) s.games (suc k - 1) new old (rw before at) same legal.game_keys;
       }
 
--- a move in a game of one kind
+some-offer : (offer : Option Offer) (side : Side) (ply : ℕ) → has_offer offer side ply ≡ true → IsSome offer
+some-offer None side ply is = cc
+some-offer (Some offer) side ply is = refl
+
+-- more seconds have gone than were left
+is-late : (left since moment : ℕ) → nat_lt left (moment - since) ≡ true → since + left < moment
+is-late left since moment is = grind (arith, nat_tests)
+
+-- a command on a game of one kind
 module _ {DP DM DE DT SP SM SE ST P M E T : Type 0} (kinds : ClubRules DP DM DE DT SP SM SE ST) (laws : GameRules P M E T) (are_rules : AreRules laws) (kind : GameKind) (wrap : Game M → AnyGame DM SM) (wrap_key : (g : Game M) → key_of (wrap g) ≡ g.key) (wrap_legal : (t : State DM SM) (g : Game M) → IsGameOf laws kind t g → IsLegalIn kinds t (wrap g)) (s : State DM SM) (moment id : ℕ) (game : Game M) (later : s.last ≤ moment) (within : moment ≤ last_moment) (legal : IsLegalState kinds s) (at : place s.games id ≡ Some (wrap game)) (of : IsGameOf laws kind s game) where
   played-of : (m : M) → result_of laws game ≡ None → moment - (clocks_of game of.event.terms).since ≤ left_of (turn_of laws game) (clocks_of game of.event.terms) → laws.check (last_position laws game) m ≡ Ok tt → IsGameOf laws kind (with_game s moment id (wrap (played game m moment))) (played game m moment)
   played-of m running in_time ok =
@@ -289,13 +305,84 @@ module _ {DP DM DE DT SP SM SE ST P M E T : Type 0} (kinds : ClubRules DP DM DE 
       kept-unless (IsLegalState kinds) s (λ new. with_game s moment id (wrap new)) (repeat_of laws of.event.terms game ply (move_at game ply) side text) (move_refusal laws of.event.terms game moment side ply text) _ legal
       (λ allowed. plays-kept (laws.read_move (last_position laws game) text) _ refl (allowed-running laws of.event.terms game moment side ply text allowed) (allowed-in_time laws of.event.terms game moment side ply text allowed))
 
+  offered-of : (side : Side) (ply : ℕ) → result_of laws game ≡ None → laws.has_draw_offers ≡ true → ply ≡ length game.entries + 1 → IsGameOf laws kind (with_game s moment id (wrap (offered game (record { side = side; ply = ply })))) (offered game (record { side = side; ply = ply }))
+  offered-of side ply running draws next =
+      let no_outside : game.outside ≡ None = running-alone laws are_rules of.event.terms game of.legal running in
+      record {
+        event = of.event;
+        in_event = of.in_event;
+        of_kind = of.of_kind;
+        legal = legal-offered laws are_rules of.event.terms game of.legal side ply running draws next;
+        first = of.first;
+        second = of.second;
+        key = of.key;
+        start = omega (arith, of.start, later);
+        entries = λ n e is. let was : e.moment ≤ s.last = of.entries n e is in omega (arith, was, later);
+        lost_by_time = λ is. let none : None ≡ Some Time = sym no_outside ∙ is in absurd cc;
+      }
+
+  ended-of : (end : OutsideEnd) → result_of laws game ≡ None → (end ≡ Agreed → IsSome game.offer) → ((score : Score) → end ≡ Recorded score → ⊥) → (end ≡ Time → (clocks_of game of.event.terms).since + left_of (turn_of laws game) (clocks_of game of.event.terms) < moment) → IsGameOf laws kind (with_game s moment id (wrap (ended game end))) (ended game end)
+  ended-of end running agreed not_recorded lost =
+      record {
+        event = of.event;
+        in_event = of.in_event;
+        of_kind = of.of_kind;
+        legal = legal-ended laws are_rules of.event.terms game of.legal end running agreed not_recorded;
+        first = of.first;
+        second = of.second;
+        key = of.key;
+        start = omega (arith, of.start, later);
+        entries = λ n e is. let was : e.moment ≤ s.last = of.entries n e is in omega (arith, was, later);
+        lost_by_time = λ is. lost (some-same end Time is);
+      }
+
+  offer-kept : (side : Side) (ply : ℕ) → IsLegalState kinds (state_after s (map_outcome (λ new. with_game s moment id (wrap new)) (step_offer laws game side ply)))
+  offer-kept side ply =
+      kept-if (IsLegalState kinds) s (λ new. with_game s moment id (wrap new)) laws.has_draw_offers NotInThisGame _ legal
+      (λ draws.
+      kept-unless (IsLegalState kinds) s (λ new. with_game s moment id (wrap new)) (repeat_of_offer game.offer side ply) (offer_refusal laws game side ply) _ legal
+      (λ allowed.
+      let tests = none-holds (offer_tests laws game side ply) allowed in
+      let new = offered game (record { side = side; ply = ply }) in
+      game-changed kinds s moment id (wrap game) (wrap new) later within legal at (wrap_key new ∙ sym (wrap_key game))
+      (wrap_legal _ new (offered-of side ply (not-some _ tests.0) draws (is-next ply (length game.entries) tests.1.0)))))
+
+  ends-kept : (end : OutsideEnd) (repeat : Option Reply) (tests : List (Bool × Refusal)) → (NoneHolds tests → IsGameOf laws kind (with_game s moment id (wrap (ended game end))) (ended game end)) → IsLegalState kinds (state_after s (map_outcome (λ new. with_game s moment id (wrap new)) (unless_repeat repeat (unless (first_refusal tests) (ends laws game end)))))
+  ends-kept end repeat tests is_legal =
+      kept-unless (IsLegalState kinds) s (λ new. with_game s moment id (wrap new)) repeat (first_refusal tests) (ends laws game end) legal
+      (λ allowed.
+      game-changed kinds s moment id (wrap game) (wrap (ended game end)) later within legal at (wrap_key (ended game end) ∙ sym (wrap_key game))
+      (wrap_legal _ (ended game end) (is_legal (none-holds tests allowed))))
+
+  accept-kept : (side : Side) (ply : ℕ) → IsLegalState kinds (state_after s (map_outcome (λ new. with_game s moment id (wrap new)) (step_accept laws game side ply)))
+  accept-kept side ply =
+      kept-if (IsLegalState kinds) s (λ new. with_game s moment id (wrap new)) laws.has_draw_offers NotInThisGame _ legal
+      (λ draws.
+      ends-kept Agreed (repeat_of_accept laws game side ply) (accept_tests laws game side ply)
+      (λ tests. ended-of Agreed (not-some _ tests.0) (λ is. some-offer game.offer (other side) ply (not-false _ tests.1.1.0)) (λ score is. cc) (λ is. cc)))
+
+  resign-kept : (side : Side) → IsLegalState kinds (state_after s (map_outcome (λ new. with_game s moment id (wrap new)) (step_resign laws game side)))
+  resign-kept side =
+      ends-kept Resigned (repeat_of_resign laws game side) (resign_tests laws game side)
+      (λ tests. ended-of Resigned (not-some _ tests.0) (λ is. cc) (λ score is. cc) (λ is. cc))
+
+  claim-kept : (side : Side) → IsLegalState kinds (state_after s (map_outcome (λ new. with_game s moment id (wrap new)) (step_claim laws of.event.terms game moment side)))
+  claim-kept side =
+      ends-kept Time (repeat_of_claim laws game side) (claim_tests laws of.event.terms game moment side)
+      (λ tests. ended-of Time (not-some _ tests.0) (λ is. cc) (λ score is. cc) (λ is. is-late _ _ moment (not-false _ tests.1.1.0)))
+
   side-kept : (o : Option Side) (command : GameCommand) → IsLegalState kinds (state_after s (map_outcome (λ new. with_game s moment id (wrap new)) (by_side laws of.event.terms game moment o command)))
   side-kept None command = legal
   side-kept (Some side) (move ply text) = move-kept side ply text
+  side-kept (Some side) (offer_draw ply) = offer-kept side ply
+  side-kept (Some side) (accept_draw ply) = accept-kept side ply
+  side-kept (Some side) resign = resign-kept side
+  side-kept (Some side) claim_time = claim-kept side
 
   caller-kept : (who : Caller) (command : GameCommand) → IsLegalState kinds (state_after s (map_outcome (λ new. with_game s moment id (wrap new)) (game_step laws of.event.terms game moment who command)))
-  caller-kept Officer command = side-kept (officer_side laws of.event.terms game moment command) command
-  caller-kept (Member member) command = side-kept (side_of_member game.first game.second member) command
+  caller-kept who command =
+      kept-if (IsLegalState kinds) s (λ new. with_game s moment id (wrap new)) (may_give who command) NotAllowed _ legal
+      (λ given. side-kept (caller_side game.first game.second who (asked_ply command)) command)
 
 pub in-place : {A : Type 0} (P : A → Type 0) (xs : List A) (id : ℕ) (x : A) → Each P xs → place xs id ≡ Some x → P x
 in-place P xs zero x each at = cc

@@ -1,24 +1,25 @@
 -- A step on a game leaves a legal game legal.
-use Rattle.std.proofs.Common.{◌≡◌, ℕ, ◌+◌, ◌-◌, ◌<◌, ◌≤◌, List, [], ◌∷◌, ◌++◌, length, map, take, Option, Some, None, Result, Ok, Err, Bool, true, false, refl, sym, ◌∙◌, arith, length-append, ◌⊎◌, inl, inr}
-use Rattle.std.specs.Prelude.{if◌then◌else◌, is_some, IsSome, ◌↔◌}
+use Rattle.std.proofs.Common.{◌≡◌, ℕ, ◌+◌, ◌-◌, ◌<◌, ◌≤◌, List, [], ◌∷◌, ◌++◌, length, map, Option, Some, None, Result, Ok, Err, Bool, true, false, refl, sym, ◌∙◌, arith, length-append, ◌⊎◌, inl, inr}
+use Rattle.std.specs.Prelude.{if◌then◌else◌, is_some, IsSome, IfSome, ◌↔◌}
 use Rattle.std.proofs.Math.Nat.{eq-or-lt_of_le}
-use Rattle.std.proofs.Math.Seq.{take-length}
 use Rattle.std.proofs.lemmas.Bool.{ltb-false}
-use Rattle.std.proofs.lemmas.List.{map-append, length-map, take-append-le}
+use Rattle.std.proofs.lemmas.List.{map-append, length-map}
 use Rattle.squares.specs.declared.sides.Side.{Side}
 use Rattle.squares.specs.declared.sides.Side.TheVariants.{First}
+use Rattle.squares.specs.declared.sides.Score.{Score}
 use Rattle.squares.specs.Sides.{other}
 use Rattle.club_rules.specs.declared.refusals.MoveRefusal.{MoveRefusal}
 use Rattle.club_rules.specs.GameRules.{GameRules, ply_limit}
 use Rattle.club_rules.specs.Line.{IsLegalLine}
 use Rattle.club_core.specs.declared.rows.OutsideEnd.{OutsideEnd}
 use Rattle.club_core.specs.declared.rows.OutsideEnd.TheVariants.{Agreed, Recorded}
+use Rattle.club_core.specs.declared.rows.Offer.{Offer}
 use Rattle.club_core.specs.declared.refusals.Refusal.{Refusal}
 use Rattle.club_core.specs.Events.{Terms}
 use Rattle.club_core.specs.Outcome.{first_refusal}
 use Rattle.club_core.specs.Game.{Game, Clocks, turns, spend, spend_all, moves_of, clocks_of, last_position, rule_end, end_of, turn_of, result_of, end_with, left_of, side_after}
-use Rattle.club_core.specs.Legal.{IsTimely, IsLegalGame}
-use Rattle.club_core.specs.Step.{played, checked, checked_as, move_tests, move_refusal}
+use Rattle.club_core.specs.Legal.{IsTimely, IsOffer, IsLegalGame}
+use Rattle.club_core.specs.Step.{played, offered, ended, checked, checked_as, move_tests, move_refusal}
 use Rattle.club_core.proofs.PlayedLines.{IsPlayedLine-append}
 use Rattle.club_core.proofs.Played.{moves_of-played, turn-of-game, outside-alone, score-none}
 
@@ -112,5 +113,49 @@ module _ {P M E T : Type 0} (laws : GameRules P M E T) (are_rules : AreRules law
         offer = tt;
         agreed = λ is. let none : None ≡ Some Agreed = sym no_outside ∙ is in absurd cc;
         recorded = λ score is. let none : None ≡ Some (Recorded score) = sym no_outside ∙ is in absurd cc;
+        players = legal.players;
+      }
+
+  -- in a running game the rules gave no end
+  pub running-rule : result_of laws game ≡ None → rule_end laws game ≡ None
+  running-rule running = no-rule-end (rule_end laws game) game.outside (score-none laws (end_of laws game) (turn_of laws game) running)
+
+  -- and nothing ended it from outside
+  pub running-alone : result_of laws game ≡ None → game.outside ≡ None
+  running-alone running = outside-alone (rule_end laws game) game.outside (score-none laws (end_of laws game) (turn_of laws game) running)
+
+  -- a legal game is legal with an offer of its next ply
+  pub legal-offered : (side : Side) (ply : ℕ) → result_of laws game ≡ None → laws.has_draw_offers ≡ true → ply ≡ length game.entries + 1 → IsLegalGame laws terms (offered game (record { side = side; ply = ply }))
+  legal-offered side ply running draws next =
+      let no_outside : game.outside ≡ None = running-alone running in
+      record {
+        line = legal.line;
+        plies = legal.plies;
+        timely = legal.timely;
+        outside_alone = legal.outside_alone;
+        offer = record { allowed = draws; next_ply = next; no_rule_end = running-rule running };
+        agreed = λ is. refl;
+        recorded = λ score is. let none : None ≡ Some (Recorded score) = sym no_outside ∙ is in absurd cc;
+        players = legal.players;
+      }
+
+  offer-stays : (end : OutsideEnd) (offer : Option Offer) → IfSome offer (λ o. IsOffer laws game o) → IfSome offer (λ o. IsOffer laws (ended game end) o)
+  offer-stays end None is = tt
+  offer-stays end (Some offer) is = record { allowed = is.allowed; next_ply = is.next_ply; no_rule_end = is.no_rule_end }
+
+  some-end : (a b : OutsideEnd) → Some a ≡ Some b → a ≡ b
+  some-end a b is = cc
+
+  -- a running legal game is legal with an end from outside
+  pub legal-ended : (end : OutsideEnd) → result_of laws game ≡ None → (end ≡ Agreed → IsSome game.offer) → ((score : Score) → end ≡ Recorded score → ⊥) → IsLegalGame laws terms (ended game end)
+  legal-ended end running agreed not_recorded =
+      record {
+        line = legal.line;
+        plies = legal.plies;
+        timely = legal.timely;
+        outside_alone = λ some. running-rule running;
+        offer = offer-stays end game.offer legal.offer;
+        agreed = λ is. agreed (some-end end Agreed is);
+        recorded = λ score is. absurd (not_recorded score (some-end end (Recorded score) is));
         players = legal.players;
       }

@@ -2,6 +2,7 @@ pub mod Finds
 pub mod Turns
 pub mod PlayedLines
 pub mod Played
+pub mod Offered
 pub mod Folds
 pub mod Lists
 pub mod Legals

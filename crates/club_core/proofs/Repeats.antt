@@ -8,13 +8,16 @@ use Rattle.std.proofs.lemmas.Bool.{eq-eqb}
 use Rattle.std.proofs.lemmas.Bool.Decides.{nat_tests}
 use Rattle.std.proofs.lemmas.List.{map-append, take-append-le}
 use Rattle.squares.specs.declared.sides.Side.{Side}
-use Rattle.squares.specs.Sides.{same_side}
+use Rattle.squares.specs.declared.sides.Side.TheVariants.{First, Second}
+use Rattle.squares.specs.Sides.{other, same_side}
 use Rattle.club_rules.specs.declared.refusals.MoveRefusal.{MoveRefusal}
 use Rattle.club_rules.specs.declared.names.GameKind.{GameKind}
 use Rattle.club_rules.specs.declared.names.GameKind.TheVariants.{Draughts, Shogi}
 use Rattle.club_rules.specs.GameRules.{GameRules}
 use Rattle.club_core.specs.ClubRules.{ClubRules}
 use Rattle.club_rules.specs.Line.{IsLegalLine}
+use Rattle.club_core.specs.declared.rows.OutsideEnd.TheVariants.{Resigned, Agreed, Time}
+use Rattle.club_core.specs.declared.refusals.Refusal.TheVariants.{NotAllowed}
 use Rattle.club_core.specs.declared.requests.Caller.{Caller}
 use Rattle.club_core.specs.declared.requests.Caller.TheVariants.{Officer, Member}
 use Rattle.club_core.specs.Outcome.{Reply, member_added, event_added, game_seated, Outcome, accepted, repeated, refused, map_outcome, by_officer}
@@ -23,14 +26,15 @@ use Rattle.club_core.specs.Members.{find_id, is_member, member_refusal, same_mem
 use Rattle.club_core.specs.Events.{Terms, Event, same_game, is_event, has_event_name, event_refusal, same_event, event_step}
 use Rattle.club_core.specs.Seats.{Pairing, KeyedGame, has_member_name, same_seats, seat_tests, seat_refusal, pair, seat_found, seat_step}
 use Rattle.club_core.specs.Game.{Game, Entry, moves_of, last_position, turn_of, side_after, game_at}
-use Rattle.club_core.specs.Step.{GameCommand, move, played, checked, checked_as, reads_as, repeats, plays, step_move, by_side, game_step, move_tests, move_refusal, repeat_of, reply_of_move, move_at, side_of_member}
+use Rattle.club_core.specs.Step.{GameCommand, move, offer_draw, accept_draw, resign, claim_time, may_give, asked_ply, has_offer, caller_side, played, offered, ended, checked, checked_as, reads_as, repeats, plays, step_move, step_offer, step_accept, step_resign, step_claim, by_side, game_step, move_tests, move_refusal, repeat_of, reply_of_move, move_at}
 use Rattle.club_core.specs.State.{AnyGame, draughts, shogi, State, Command, add_member, add_event, seat, on_game, Who, officer, key_holder, Request, state_after, place, terms_at, has_key, is_key, pairing_of, game_under, seated_as, kind_at, caller_of, caller_found, has_member_key, with_members, with_events, with_new_game, with_game, step_game, step_command, step_by, step, next, fold}
 use Rattle.club_core.specs.LegalState.{IsGameOf, IsLegalIn, IsLegalState}
+use Rattle.club_core.specs.Laws.{StillRepeats, StillRepeatsOn}
 use Rattle.club_core.proofs.Lists.{bytes_eq-same, find_id-append, find_id-new, find_id-pointwise, place-append, get-append, put-at_same, at-last}
 use Rattle.club_core.proofs.Legals.{AreRules, none-holds}
 use Rattle.club_core.proofs.Played.{turn-of-game, made-played, take-before, take-whole}
 use Rattle.club_core.proofs.LegalSteps.{no-game-under, not-false, in-place}
-use Rattle.club_core.proofs.Later.{Begins, IsLater, IsLaterAny, IsLaterGame, later-trans, next-later, fold-later, unless-accepted, accepted-same, caller-played}
+use Rattle.club_core.proofs.Later.{Begins, IsLater, IsLaterAny, IsLaterGame, later-trans, next-later, fold-later, unless-accepted, accepted-same, if-accepted, is-next, offer-accepts, accept-accepts, resign-accepts, claim-accepts, caller-later}
 
 none-found : (f : ℕ → Reply) (o : Option ℕ) → option_map f o ≡ None → o ≡ None
 none-found f None is = refl
@@ -203,6 +207,18 @@ module _ {P M E T : Type 0} (laws : GameRules P M E T) (terms : Terms) (game : G
       read-as n m (Err refusal) is = cc
       read-as n m (Ok u) is = cc
 
+same_side-refl : (side : Side) → same_side side side ≡ true
+same_side-refl First = refl
+same_side-refl Second = refl
+
+-- a command on a game of one kind still repeats
+abbrev StillRepeatsIn : {M : Type 0} → GameCommand → Game M → Type 0
+StillRepeatsIn (offer_draw ply) later = ply ≡ length later.entries + 1
+StillRepeatsIn (move ply text) later = Unit {0}
+StillRepeatsIn (accept_draw ply) later = Unit {0}
+StillRepeatsIn resign later = Unit {0}
+StillRepeatsIn claim_time later = Unit {0}
+
 module _ {P M E T : Type 0} (laws : GameRules P M E T) (are_rules : AreRules laws) (terms : Terms) (game : Game M) (line : IsLegalLine laws laws.start (map (λ e. e.made) game.entries)) (moment again : ℕ) where
   repeat-later : (m : M) (side : Side) (text : List ℕ) (more : List (Entry M)) (later : Game M) → later.start ≡ game.start → later.entries ≡ (game.entries ++ record { made = m; moment = moment } ∷ []) ++ more → same_side side (turn_of laws game) ≡ true → laws.read_move (last_position laws game) text ≡ Ok m → repeat_of laws terms later (length game.entries + 1) (move_at later (length game.entries + 1)) side text ≡ Some (reply_of_move laws terms (played game m moment) (length game.entries + 1) m)
   repeat-later m side text more later start entries turn read =
@@ -233,43 +249,94 @@ module _ {P M E T : Type 0} (laws : GameRules P M E T) (are_rules : AreRules law
       repeat-later m side text from.entries.0 later from.start from.entries.1 turn read in
       rw (ply_is, found, answer) refl
 
-  side-again : (side : Option Side) (command : GameCommand) (new : Game M) (reply : Reply) → by_side laws terms game moment side command ≡ accepted new reply → (later : Game M) → IsLaterGame new later → by_side laws terms later again side command ≡ repeated reply
-  side-again None command new reply is later since = cc
-  side-again (Some side) (move ply text) new reply is later since = move-again side ply text new reply is later since
+  -- an offer is repeated until the next move
+  offer-again : (side : Side) (ply : ℕ) (new : Game M) (reply : Reply) → step_offer laws game side ply ≡ accepted new reply → (later : Game M) → IsLaterGame new later → ply ≡ length later.entries + 1 → step_offer laws later side ply ≡ repeated reply
+  offer-again side ply new reply is later since still =
+      let (draws, fresh, tests, stands, answer) = offer-accepts laws game side ply new reply is in
+      let next : ply ≡ length game.entries + 1 = is-next ply (length game.entries) tests.1.0 in
+      let from : IsLaterGame (offered game (record { side = side; ply = ply })) later = rw stands since in
+      let same : length later.entries ≡ length game.entries = omega (arith, still, next) in
+      let offer : later.offer ≡ Some (record { side = side; ply = ply }) = from.offered (record { side = side; ply = ply }) refl next same in
+      let own : (same_side side side && ply == ply) ≡ true = and-true _ _ (same_side-refl side) (eq-eqb ply ply refl) in
+      rw (draws, offer, own, answer) refl
 
-  caller-again : (who : Caller) (command : GameCommand) (new : Game M) (reply : Reply) → game_step laws terms game moment who command ≡ accepted new reply → (later : Game M) → IsLaterGame new later → game_step laws terms later again who command ≡ repeated reply
-  caller-again Officer (move ply text) new reply is later since = side-again (Some (side_after (ply - 1))) (move ply text) new reply is later since
-  caller-again (Member id) command new reply is later since =
-      let was = caller-played laws terms game moment (Member id) command new reply is in
-      let first : later.first ≡ game.first = since.first ∙ ap (λ g. g.first) was.is in
-      let second : later.second ≡ game.second = since.second ∙ ap (λ g. g.second) was.is in
-      let side : side_of_member later.first later.second id ≡ side_of_member game.first game.second id =
-      ap (λ x. side_of_member x later.second id) first ∙ ap (λ x. side_of_member game.first x id) second in
-      ap (λ o. by_side laws terms later again o command) side ∙ side-again (side_of_member game.first game.second id) command new reply is later since
+  accept-again : (side : Side) (ply : ℕ) (new : Game M) (reply : Reply) → step_accept laws game side ply ≡ accepted new reply → (later : Game M) → IsLaterGame new later → step_accept laws later side ply ≡ repeated reply
+  accept-again side ply new reply is later since =
+      let (draws, tests, stands, answer) = accept-accepts laws game side ply new reply is in
+      let from : IsLaterGame (ended game Agreed) later = rw stands since in
+      let other's : has_offer game.offer (other side) ply ≡ true = not-false _ tests.1.1.0 in
+      rw (from.ended Agreed refl, draws, other's, answer) refl
+
+  resign-again : (side : Side) (new : Game M) (reply : Reply) → step_resign laws game side ≡ accepted new reply → (later : Game M) → IsLaterGame new later → step_resign laws later side ≡ repeated reply
+  resign-again side new reply is later since =
+      let (tests, stands, answer) = resign-accepts laws game side new reply is in
+      let from : IsLaterGame (ended game Resigned) later = rw stands since in
+      let turn : same_side side (turn_of laws game) ≡ true = not-false _ tests.1.0 in
+      rw (from.ended Resigned refl, turn, answer) refl
+
+  claim-again : (side : Side) (new : Game M) (reply : Reply) → step_claim laws terms game moment side ≡ accepted new reply → (later : Game M) → IsLaterGame new later → step_claim laws terms later again side ≡ repeated reply
+  claim-again side new reply is later since =
+      let (tests, stands, answer) = claim-accepts laws terms game moment side new reply is in
+      let from : IsLaterGame (ended game Time) later = rw stands since in
+      let turn : same_side side (turn_of laws game) ≡ false = tests.1.0 in
+      rw (from.ended Time refl, turn, answer) refl
+
+  side-again : (side : Option Side) (command : GameCommand) (new : Game M) (reply : Reply) → by_side laws terms game moment side command ≡ accepted new reply → (later : Game M) → IsLaterGame new later → StillRepeatsIn command later → by_side laws terms later again side command ≡ repeated reply
+  side-again None command new reply is later since still = cc
+  side-again (Some side) (move ply text) new reply is later since still = move-again side ply text new reply is later since
+  side-again (Some side) (offer_draw ply) new reply is later since still = offer-again side ply new reply is later since still
+  side-again (Some side) (accept_draw ply) new reply is later since still = accept-again side ply new reply is later since
+  side-again (Some side) resign new reply is later since still = resign-again side new reply is later since
+  side-again (Some side) claim_time new reply is later since still = claim-again side new reply is later since
+
+  caller-again : (who : Caller) (command : GameCommand) (new : Game M) (reply : Reply) → game_step laws terms game moment who command ≡ accepted new reply → (later : Game M) → IsLaterGame new later → StillRepeatsIn command later → game_step laws terms later again who command ≡ repeated reply
+  caller-again who command new reply is later since still =
+      let was = caller-later laws terms game moment who command new reply is in
+      let given = if-accepted (may_give who command) _ NotAllowed new reply is in
+      let side : caller_side later.first later.second who (asked_ply command) ≡ caller_side game.first game.second who (asked_ply command) =
+      ap (λ x. caller_side x later.second who (asked_ply command)) (since.first ∙ was.first)
+      ∙ ap (λ x. caller_side game.first x who (asked_ply command)) (since.second ∙ was.second) in
+      rw (given.0, side) (side-again (caller_side game.first game.second who (asked_ply command)) command new reply given.1 later since still)
 
 -- a command on a game of one kind
-module _ {DP DM DE DT SP SM SE ST P M E T : Type 0} (kinds : ClubRules DP DM DE DT SP SM SE ST) (laws : GameRules P M E T) (are_rules : AreRules laws) (kind : GameKind) (wrap : Game M → AnyGame DM SM) (unwrap : (g : Game M) (new : AnyGame DM SM) → IsLaterAny (wrap g) new → (later : Game M) × (new ≡ wrap later) × IsLaterGame g later) where
-  game-later : (s t : State DM SM) (moment again id : ℕ) (who : Caller) (command : GameCommand) (game new : Game M) (reply : Reply) → IsGameOf laws kind s game → game_step laws (terms_at (place s.events game.event)) game moment who command ≡ accepted new reply → Begins s.events t.events → (any : AnyGame DM SM) → place t.games id ≡ Some any → IsLaterAny (wrap new) any → (later : Game M) × (place t.games id ≡ Some (wrap later)) × (map_outcome (λ game. with_game t again id (wrap game)) (game_step laws (terms_at (place t.events later.event)) later again who command) ≡ repeated reply)
-  game-later s t moment again id who command game new reply of step_is events any stands any_later =
+module _ {DP DM DE DT SP SM SE ST P M E T : Type 0} (kinds : ClubRules DP DM DE DT SP SM SE ST) (laws : GameRules P M E T) (are_rules : AreRules laws) (kind : GameKind) (wrap : Game M → AnyGame DM SM) (unwrap : (g : Game M) (new : AnyGame DM SM) → IsLaterAny (wrap g) new → (later : Game M) × (new ≡ wrap later) × IsLaterGame g later) (still_of : (command : GameCommand) (g : Game M) → StillRepeatsOn (Some (wrap g)) command → StillRepeatsIn command g) where
+  game-later : (s t : State DM SM) (moment again id : ℕ) (who : Caller) (command : GameCommand) (game new : Game M) (reply : Reply) → IsGameOf laws kind s game → game_step laws (terms_at (place s.events game.event)) game moment who command ≡ accepted new reply → Begins s.events t.events → (any : AnyGame DM SM) → place t.games id ≡ Some any → IsLaterAny (wrap new) any → StillRepeatsOn (place t.games id) command → (later : Game M) × (place t.games id ≡ Some (wrap later)) × (map_outcome (λ game. with_game t again id (wrap game)) (game_step laws (terms_at (place t.events later.event)) later again who command) ≡ repeated reply)
+  game-later s t moment again id who command game new reply of step_is events any stands any_later still =
       let (later, any_is, is_later) = unwrap new any any_later in
-      let was = caller-played laws (terms_at (place s.events game.event)) game moment who command new reply step_is in
-      let event : later.event ≡ game.event = is_later.event ∙ ap (λ g. g.event) was.is in
+      let was = caller-later laws (terms_at (place s.events game.event)) game moment who command new reply step_is in
+      let event : later.event ≡ game.event = is_later.event ∙ was.event in
       let found : place t.events game.event ≡ Some of.event = rw events.1 (place-append s.events events.0 game.event of.event of.in_event) in
-      let terms : terms_at (place t.events later.event) ≡ terms_at (place s.events game.event) = rw (event, found, of.in_event) refl in (
+      let terms : terms_at (place t.events later.event) ≡ terms_at (place s.events game.event) = rw (event, found, of.in_event) refl in
+      let at : place t.games id ≡ Some (wrap later) = stands ∙ ap Some any_is in
+      let still_in : StillRepeatsIn command later = still_of command later (rw at at still) in (
         later,
-        rw (← any_is) stands,
-        rw (terms, caller-again laws are_rules (terms_at (place s.events game.event)) game of.legal.line.legal moment again who command new reply step_is later is_later) refl,
+        at,
+        rw (terms, caller-again laws are_rules (terms_at (place s.events game.event)) game of.legal.line.legal moment again who command new reply step_is later is_later still_in) refl,
       )
 
-  game-again : (s t : State DM SM) (moment again id : ℕ) (who : Caller) (command : GameCommand) (game : Game M) (after : State DM SM) (reply : Reply) → place s.games id ≡ Some (wrap game) → IsGameOf laws kind s game → map_outcome (λ new. with_game s moment id (wrap new)) (game_step laws (terms_at (place s.events game.event)) game moment who command) ≡ accepted after reply → IsLater after t → (later : Game M) × (place t.games id ≡ Some (wrap later)) × (map_outcome (λ new. with_game t again id (wrap new)) (game_step laws (terms_at (place t.events later.event)) later again who command) ≡ repeated reply)
-  game-again s t moment again zero who command game after reply at of is since = cc
-  game-again s t moment again (suc k) who command game after reply at of is since =
+  game-again : (s t : State DM SM) (moment again id : ℕ) (who : Caller) (command : GameCommand) (game : Game M) (after : State DM SM) (reply : Reply) → place s.games id ≡ Some (wrap game) → IsGameOf laws kind s game → map_outcome (λ new. with_game s moment id (wrap new)) (game_step laws (terms_at (place s.events game.event)) game moment who command) ≡ accepted after reply → IsLater after t → StillRepeatsOn (place t.games id) command → (later : Game M) × (place t.games id ≡ Some (wrap later)) × (map_outcome (λ new. with_game t again id (wrap new)) (game_step laws (terms_at (place t.events later.event)) later again who command) ≡ repeated reply)
+  game-again s t moment again zero who command game after reply at of is since still = cc
+  game-again s t moment again (suc k) who command game after reply at of is since still =
       let (new, step_is, after_is) = map-accepted (λ new. with_game s moment (suc k) (wrap new)) (game_step laws (terms_at (place s.events game.event)) game moment who command) after reply is in
       let from : IsLater (with_game s moment (suc k) (wrap new)) t = rw after_is since in
       let before : suc k - 1 ≡ k = omega arith in
       let stood : slice_get (slice_set s.games (suc k - 1) (wrap new)) k ≡ Some (wrap new) = put-at_same s.games (suc k - 1) k (wrap game) (wrap new) before at in
       let (any, stands, any_later) = from.games k (wrap new) stood in
-      game-later s t moment again (suc k) who command game new reply of step_is from.events any stands any_later
+      game-later s t moment again (suc k) who command game new reply of step_is from.events any stands any_later still
+
+still-draughts : (DM SM : Type 0) (command : GameCommand) (g : Game DM) → StillRepeatsOn {DM = DM} {SM = SM} (Some (draughts g)) command → StillRepeatsIn command g
+still-draughts DM SM (move ply text) g still = tt
+still-draughts DM SM (offer_draw ply) g still = still
+still-draughts DM SM (accept_draw ply) g still = tt
+still-draughts DM SM resign g still = tt
+still-draughts DM SM claim_time g still = tt
+
+still-shogi : (DM SM : Type 0) (command : GameCommand) (g : Game SM) → StillRepeatsOn {DM = DM} {SM = SM} (Some (shogi g)) command → StillRepeatsIn command g
+still-shogi DM SM (move ply text) g still = tt
+still-shogi DM SM (offer_draw ply) g still = still
+still-shogi DM SM (accept_draw ply) g still = tt
+still-shogi DM SM resign g still = tt
+still-shogi DM SM claim_time g still = tt
 
 unwrap-draughts : {DM SM : Type 0} (g : Game DM) (new : AnyGame DM SM) → IsLaterAny (draughts g) new → (later : Game DM) × (new ≡ draughts later) × IsLaterGame g later
 unwrap-draughts g (draughts later) is = (later, refl, is)
@@ -280,41 +347,41 @@ unwrap-shogi g (shogi later) is = (later, refl, is)
 unwrap-shogi g (draughts later) is = absurd is
 
 module _ {DP DM DE DT SP SM SE ST : Type 0} (kinds : ClubRules DP DM DE DT SP SM SE ST) (are_draughts : AreRules kinds.draughts) (are_shogi : AreRules kinds.shogi) where
-  on-game-again : (s t : State DM SM) (moment again id : ℕ) (who : Caller) (command : GameCommand) (g : Option (AnyGame DM SM)) (after : State DM SM) (reply : Reply) → IsLegalState kinds s → place s.games id ≡ g → step_game kinds s moment id who command g ≡ accepted after reply → IsLater after t → step_game kinds t again id who command (place t.games id) ≡ repeated reply
-  on-game-again s t moment again id who command None after reply legal at is since = cc
-  on-game-again s t moment again id who command (Some (draughts game)) after reply legal at is since =
+  on-game-again : (s t : State DM SM) (moment again id : ℕ) (who : Caller) (command : GameCommand) (g : Option (AnyGame DM SM)) (after : State DM SM) (reply : Reply) → IsLegalState kinds s → place s.games id ≡ g → step_game kinds s moment id who command g ≡ accepted after reply → IsLater after t → StillRepeatsOn (place t.games id) command → step_game kinds t again id who command (place t.games id) ≡ repeated reply
+  on-game-again s t moment again id who command None after reply legal at is since still = cc
+  on-game-again s t moment again id who command (Some (draughts game)) after reply legal at is since still =
       let of : IsGameOf kinds.draughts Draughts s game = in-place (IsLegalIn kinds s) s.games id (draughts game) legal.games at in
-      let (later, stands, so) = game-again kinds kinds.draughts are_draughts Draughts draughts unwrap-draughts s t moment again id who command game after reply at of is since in
+      let (later, stands, so) = game-again kinds kinds.draughts are_draughts Draughts draughts unwrap-draughts (still-draughts DM SM) s t moment again id who command game after reply at of is since still in
       rw stands so
-  on-game-again s t moment again id who command (Some (shogi game)) after reply legal at is since =
+  on-game-again s t moment again id who command (Some (shogi game)) after reply legal at is since still =
       let of : IsGameOf kinds.shogi Shogi s game = in-place (IsLegalIn kinds s) s.games id (shogi game) legal.games at in
-      let (later, stands, so) = game-again kinds kinds.shogi are_shogi Shogi shogi unwrap-shogi s t moment again id who command game after reply at of is since in
+      let (later, stands, so) = game-again kinds kinds.shogi are_shogi Shogi shogi unwrap-shogi (still-shogi DM SM) s t moment again id who command game after reply at of is since still in
       rw stands so
 
-  command-again : (s t : State DM SM) (moment again : ℕ) (who : Caller) (command : Command) (after : State DM SM) (reply : Reply) → IsLegalState kinds s → step_command kinds s moment who command ≡ accepted after reply → IsLater after t → step_command kinds t again who command ≡ repeated reply
-  command-again s t moment again who (add_member name key) after reply legal is since = member-again s t moment again who name key after reply is since
-  command-again s t moment again who (add_event event) after reply legal is since = event-again s t moment again who event after reply is since
-  command-again s t moment again who (seat key event first second) after reply legal is since = seat-again s t moment again who key event first second after reply is since
-  command-again s t moment again who (on_game id command) after reply legal is since = on-game-again s t moment again id who command (place s.games id) after reply legal refl is since
+  command-again : (s t : State DM SM) (moment again : ℕ) (who : Caller) (command : Command) (after : State DM SM) (reply : Reply) → IsLegalState kinds s → step_command kinds s moment who command ≡ accepted after reply → IsLater after t → StillRepeats t command → step_command kinds t again who command ≡ repeated reply
+  command-again s t moment again who (add_member name key) after reply legal is since still = member-again s t moment again who name key after reply is since
+  command-again s t moment again who (add_event event) after reply legal is since still = event-again s t moment again who event after reply is since
+  command-again s t moment again who (seat key event first second) after reply legal is since still = seat-again s t moment again who key event first second after reply is since
+  command-again s t moment again who (on_game id command) after reply legal is since still = on-game-again s t moment again id who command (place s.games id) after reply legal refl is since still
 
   found-later : (o : Option ℕ) (who : Caller) → caller_found o ≡ Some who → (id : ℕ) × (o ≡ Some id) × (Member id ≡ who)
   found-later None who is = cc
   found-later (Some id) who is = (id, refl, cc)
 
-  caller-later : (all more : List members.Member) (w : Who) (who : Caller) → Begins all more → caller_of all w ≡ Some who → caller_of more w ≡ Some who
-  caller-later all more officer who begins is = is
-  caller-later all more (key_holder key) who begins is =
+  same-caller : (all more : List members.Member) (w : Who) (who : Caller) → Begins all more → caller_of all w ≡ Some who → caller_of more w ≡ Some who
+  same-caller all more officer who begins is = is
+  same-caller all more (key_holder key) who begins is =
       let (id, found, member) = found-later (find_id (has_member_key key) all) who is in
       rw (find-later (has_member_key key) all more id begins found, member) refl
 
-  by-again : (s t : State DM SM) (moment again : ℕ) (who later_who : Option Caller) (command : Command) (after : State DM SM) (reply : Reply) → IsLegalState kinds s → ((c : Caller) → who ≡ Some c → later_who ≡ Some c) → step_by kinds s moment who command ≡ accepted after reply → IsLater after t → step_by kinds t again later_who command ≡ repeated reply
-  by-again s t moment again None later_who command after reply legal same is since = cc
-  by-again s t moment again (Some who) later_who command after reply legal same is since = rw (same who refl) (command-again s t moment again who command after reply legal is since)
+  by-again : (s t : State DM SM) (moment again : ℕ) (who later_who : Option Caller) (command : Command) (after : State DM SM) (reply : Reply) → IsLegalState kinds s → ((c : Caller) → who ≡ Some c → later_who ≡ Some c) → step_by kinds s moment who command ≡ accepted after reply → IsLater after t → StillRepeats t command → step_by kinds t again later_who command ≡ repeated reply
+  by-again s t moment again None later_who command after reply legal same is since still = cc
+  by-again s t moment again (Some who) later_who command after reply legal same is since still = rw (same who refl) (command-again s t moment again who command after reply legal is since still)
 
-  pub answers-again : (s after : State DM SM) (r : Request) (reply : Reply) (between : List Request) (moment : ℕ) → IsLegalState kinds s → step kinds s r ≡ accepted after reply → step kinds (fold kinds after between) (record r { moment = moment }) ≡ repeated reply
-  answers-again s after r reply between moment legal is =
+  pub answers-again : (s after : State DM SM) (r : Request) (reply : Reply) (between : List Request) (moment : ℕ) → IsLegalState kinds s → step kinds s r ≡ accepted after reply → StillRepeats (fold kinds after between) r.command → step kinds (fold kinds after between) (record r { moment = moment }) ≡ repeated reply
+  answers-again s after r reply between moment legal is still =
       let t = fold kinds after between in
       let stands : next kinds s r ≡ after = ap (state_after s) is in
       let to_after : IsLater s after = rw (← stands) (next-later kinds s r) in
       let to_t : IsLater s t = later-trans s after t to_after (fold-later kinds after between) in
-      by-again s t (max r.moment s.last) (max moment t.last) (caller_of s.members r.who) (caller_of t.members r.who) r.command after reply legal (λ c. caller-later s.members t.members r.who c to_t.members) is (fold-later kinds after between)
+      by-again s t (max r.moment s.last) (max moment t.last) (caller_of s.members r.who) (caller_of t.members r.who) r.command after reply legal (λ c. same-caller s.members t.members r.who c to_t.members) is (fold-later kinds after between) still

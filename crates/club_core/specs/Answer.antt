@@ -10,6 +10,8 @@ use Rattle.club_core.specs.declared.events.Event as given_event
 use Rattle.club_core.specs.declared.requests.AddEvent as given_command
 use Rattle.club_core.specs.declared.requests.Command as given_commands
 use Rattle.club_core.specs.declared.requests.Command.TheVariants as given_is
+use Rattle.club_core.specs.declared.requests.GameCommand as given_game
+use Rattle.club_core.specs.declared.requests.GameCommand.TheVariants as given_does
 use Rattle.club_core.specs.declared.requests.Request as given_request
 use Rattle.club_core.specs.declared.requests.Who as given_who
 use Rattle.club_core.specs.declared.requests.Who.TheVariants as given_who_is
@@ -17,11 +19,11 @@ use Rattle.club_core.specs.declared.seats.Pairing as given_pairing
 use Rattle.club_core.specs.declared.seats.KeyedGame as given_keyed
 use Rattle.club_core.specs.declared.seats.Seating as given_seating
 use Rattle.club_core.specs.declared.seats.Seating.TheVariants as seating
-use Rattle.club_core.specs.Outcome.{Reply, MoveReply, member_added, event_added, game_seated, moved, Outcome, accepted, repeated, refused, map_outcome}
+use Rattle.club_core.specs.Outcome.{Reply, MoveReply, member_added, event_added, game_seated, moved, draw_offered, game_ended, Outcome, accepted, repeated, refused, map_outcome}
 use Rattle.club_core.specs.Members.{Member}
 use Rattle.club_core.specs.Events.{Event}
 use Rattle.club_core.specs.Seats.{Pairing, KeyedGame}
-use Rattle.club_core.specs.Step.{move}
+use Rattle.club_core.specs.Step.{GameCommand, move, offer_draw, accept_draw, resign, claim_time}
 use Rattle.club_core.specs.State.{Command, add_member, add_event, seat, on_game, Who, officer, key_holder, Request}
 
 abbrev pub move_reply_of : Moved → MoveReply
@@ -32,6 +34,8 @@ reply_of (answer.Member id) = member_added id
 reply_of (answer.Event id) = event_added id
 reply_of (answer.Game id) = game_seated id
 reply_of (answer.Moved m) = moved (move_reply_of m)
+reply_of (answer.Offered ply) = draw_offered ply
+reply_of (answer.Ended end result) = game_ended end result
 
 -- what is answered, without what stands after it
 abbrev pub outcome_of : given_outcome.Outcome → Outcome (Unit {0})
@@ -74,12 +78,20 @@ seating_of (seating.Starts k) = accepted (pairing_of k.pairing) (game_seated k.g
 seating_of (seating.Repeated id) = repeated (game_seated id)
 seating_of (seating.Refused refusal) = refused refusal
 
+-- a command on a game, its text being the bytes that were given
+abbrev pub game_command_of : given_game.GameCommand → GameCommand
+game_command_of (given_does.Move ply text) = move ply (string_bytes text)
+game_command_of (given_does.OfferDraw ply) = offer_draw ply
+game_command_of (given_does.AcceptDraw ply) = accept_draw ply
+game_command_of given_does.Resign = resign
+game_command_of given_does.ClaimTime = claim_time
+
 -- a command, its texts being the bytes that were given
 abbrev pub command_of : given_commands.Command → Command
 command_of (given_is.AddMember c) = add_member (string_bytes c.name) (string_bytes c.key)
 command_of (given_is.AddEvent c) = add_event (added_event c)
 command_of (given_is.Seat c) = seat (string_bytes c.key) (string_bytes c.event) (string_bytes c.first) (string_bytes c.second)
-command_of (given_is.Move c) = on_game c.game (move c.ply (string_bytes c.text))
+command_of (given_is.OnGame c) = on_game c.game (game_command_of c.command)
 
 abbrev pub request_of : given_request.Request → Request
 request_of r = record { who = who_of r.who; command = command_of r.command; moment = r.moment }

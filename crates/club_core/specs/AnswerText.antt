@@ -1,5 +1,6 @@
 -- How what a command is answered is written.
 use Rattle.std.specs.Prelude.{List, [], ℕ, ◌++◌, codes, decimal, string_bytes, Option, Some, None}
+use Rattle.squares.specs.Sides.{score_text}
 use Rattle.club_rules.specs.declared.names.EndName.{EndName}
 use Rattle.club_rules.specs.EndName.{end_text}
 use Rattle.club_core.specs.declared.answers.Answer.{Answer}
@@ -7,6 +8,7 @@ use Rattle.club_core.specs.declared.answers.Answer.TheVariants as answer
 use Rattle.club_core.specs.declared.answers.Moved.{Moved}
 use Rattle.club_core.specs.declared.answers.Outcome.{Outcome}
 use Rattle.club_core.specs.declared.answers.Outcome.TheVariants as outcome
+use Rattle.club_core.specs.OutsideEnd.{outside_text}
 use Rattle.club_core.specs.Refusal.{refusal_text}
 
 -- the end that the rules gave, after a blank
@@ -22,6 +24,8 @@ answer_text (answer.Member id) = codes "member " ++ decimal id
 answer_text (answer.Event id) = codes "event " ++ decimal id
 answer_text (answer.Game id) = codes "game " ++ decimal id
 answer_text (answer.Moved moved) = moved_text moved
+answer_text (answer.Offered ply) = codes "offer ply " ++ decimal ply
+answer_text (answer.Ended end result) = codes "end " ++ outside_text end ++ codes " " ++ score_text result
 
 abbrev pub outcome_text : Outcome → List ℕ
 outcome_text (outcome.Accepted answer) = codes "accepted " ++ answer_text answer

@@ -27,11 +27,6 @@ same_game Shogi Shogi = true
 same_game Draughts Shogi = false
 same_game Shogi Draughts = false
 
--- the club holds events in draughts alone so far
-abbrev pub is_offered : GameKind → Bool
-is_offered Draughts = true
-is_offered Shogi = false
-
 abbrev pub has_event_name : List ℕ → Event → Bool
 has_event_name name e = bytes_eq e.name name
 
@@ -40,7 +35,7 @@ is_event given e =
     bytes_eq e.name given.name && same_game e.game given.game && e.terms.budget == given.terms.budget && e.terms.increment == given.terms.increment
 
 abbrev pub has_good_values : Event → Bool
-has_good_values e = is_name e.name && is_offered e.game && is_budget e.terms.budget && is_increment e.terms.increment
+has_good_values e = is_name e.name && is_budget e.terms.budget && is_increment e.terms.increment
 
 module _ (events : List Event) (given : Event) where
   -- such an event is there already

@@ -1,10 +1,31 @@
 -- The laws of the club's machine.
-use Rattle.std.specs.Prelude.{◌≡◌, ◌≤◌, ℕ, List, false}
+use Rattle.std.specs.Prelude.{◌≡◌, ◌≤◌, ◌+◌, ℕ, List, length, Option, Some, None, false}
 use Rattle.club_core.specs.ClubRules.{ClubRules}
 use Rattle.club_core.specs.Limits.{last_moment}
 use Rattle.club_core.specs.Outcome.{Reply, accepted, repeated}
-use Rattle.club_core.specs.State.{State, Request, is_accepted, step, next, fold, accepted_of}
+use Rattle.club_core.specs.Step.{GameCommand, move, offer_draw, accept_draw, resign, claim_time}
+use Rattle.club_core.specs.State.{AnyGame, draughts, shogi, State, Command, add_member, add_event, seat, on_game, Request, place, is_accepted, step, next, fold, accepted_of}
 use Rattle.club_core.specs.LegalState.{IsLegalState}
+
+-- no move came since that command, where it is an offer of a draw: its ply is still the next one
+module _ {DM SM : Type 0} where
+  abbrev pub HasNextPly : ℕ → Option (AnyGame DM SM) → Type 0
+  HasNextPly ply None = ⊥
+  HasNextPly ply (Some (draughts game)) = ply ≡ length game.entries + 1
+  HasNextPly ply (Some (shogi game)) = ply ≡ length game.entries + 1
+
+  abbrev pub StillRepeatsOn : Option (AnyGame DM SM) → GameCommand → Type 0
+  StillRepeatsOn game (offer_draw ply) = HasNextPly ply game
+  StillRepeatsOn game (move ply text) = Unit {0}
+  StillRepeatsOn game (accept_draw ply) = Unit {0}
+  StillRepeatsOn game resign = Unit {0}
+  StillRepeatsOn game claim_time = Unit {0}
+
+  abbrev pub StillRepeats : State DM SM → Command → Type 0
+  StillRepeats s (on_game id command) = StillRepeatsOn (place s.games id) command
+  StillRepeats s (add_member name key) = Unit {0}
+  StillRepeats s (add_event event) = Unit {0}
+  StillRepeats s (seat key event first second) = Unit {0}
 
 module _ {DP DM DE DT SP SM SE ST : Type 0} (rules : ClubRules DP DM DE DT SP SM SE ST) where
   -- folding the accepted requests alone gives the same state
@@ -25,9 +46,10 @@ module _ {DP DM DE DT SP SM SE ST : Type 0} (rules : ClubRules DP DM DE DT SP SM
       (s : State DM SM) (r : Request) → r.moment ≤ last_moment → IsLegalState rules s →
       IsLegalState rules (next rules s r)
 
-  -- an accepted command that comes again from the one who gave it, at any moment and whatever requests stand between, is repeated with the same answer
+  -- An accepted command that comes again from the one who gave it, at any moment and whatever requests stand between,
+  -- is repeated with the same answer: an offer of a draw so long as no move came since, every other command always.
   abbrev pub AnswersAgain : Type 0
   AnswersAgain =
-      (s after : State DM SM) (r : Request) (reply : Reply) (between : List Request) (moment : ℕ) → IsLegalState rules s →
-      step rules s r ≡ accepted after reply →
+      (s after : State DM SM) (r : Request) (reply : Reply) (between : List Request) (moment : ℕ) →
+      IsLegalState rules s → step rules s r ≡ accepted after reply → StillRepeats (fold rules after between) r.command →
       step rules (fold rules after between) (record r { moment = moment }) ≡ repeated reply

@@ -1,5 +1,5 @@
 -- A legal game: one that the rules, the clocks and the club allow.
-use Rattle.std.specs.Prelude.{◌≡◌, ◌≢◌, ◌+◌, ◌-◌, ◌<◌, ◌≤◌, ℕ, List, [], ◌∷◌, length, Some, None, true, IsSome, IfSome, slice_get}
+use Rattle.std.specs.Prelude.{◌≡◌, ◌≢◌, ◌+◌, ◌-◌, ◌≤◌, ℕ, List, [], ◌∷◌, length, Some, None, true, IsSome, IfSome, slice_get}
 use Rattle.squares.specs.declared.sides.Side.{Side}
 use Rattle.squares.specs.declared.sides.Side.TheVariants.{First}
 use Rattle.squares.specs.declared.sides.Score.{Score}
@@ -10,7 +10,7 @@ use Rattle.club_core.specs.declared.rows.OutsideEnd.TheVariants.{Agreed, Recorde
 use Rattle.club_core.specs.declared.rows.Offer.{Offer}
 use Rattle.club_core.specs.Limits.{most_plies}
 use Rattle.club_core.specs.Events.{Terms}
-use Rattle.club_core.specs.Game.{Entry, Game, Clocks, left_of, spend, moves_of, moments_of, opening_clocks, rule_end, game_at}
+use Rattle.club_core.specs.Game.{Entry, Game, Clocks, left_of, spend, moves_of, moments_of, opening_clocks, rule_end}
 
 -- the moves at those moments, that side moving first, were made in time, and no moment is below the one before it
 abbrev pub IsTimely : ℕ → Side → List ℕ → Clocks → Type 0

@@ -1,6 +1,7 @@
 pub mod Limits
 pub mod Refusal
 pub mod Outcome
+pub mod OutsideEnd
 pub mod Members
 pub mod ClubRules
 pub mod Events

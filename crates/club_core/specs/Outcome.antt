@@ -1,6 +1,8 @@
 -- What a command is answered: a reply where it is accepted or repeats an accepted one, else the first refusal that holds.
 use Rattle.std.specs.Prelude.{ℕ, List, [], ◌∷◌, Option, Some, None, Bool, if◌then◌else◌}
 use Rattle.club_rules.specs.declared.names.EndName.{EndName}
+use Rattle.squares.specs.declared.sides.Score.{Score}
+use Rattle.club_core.specs.declared.rows.OutsideEnd.{OutsideEnd}
 use Rattle.club_core.specs.declared.requests.Caller.{Caller}
 use Rattle.club_core.specs.declared.requests.Caller.TheVariants.{Officer, Member}
 use Rattle.club_core.specs.declared.refusals.Refusal.{Refusal}
@@ -19,6 +21,9 @@ pub data Reply : Type 0 where
   event_added : (id : ℕ) → Reply
   game_seated : (id : ℕ) → Reply
   moved : MoveReply → Reply
+  draw_offered : (ply : ℕ) → Reply
+  -- the game was ended from outside, with that result
+  game_ended : OutsideEnd → Score → Reply
 
 -- accepted with what stands after it, repeated, or refused
 pub data Outcome (S : Type 0) : Type 0 where

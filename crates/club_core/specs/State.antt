@@ -6,14 +6,14 @@ use Rattle.club_rules.specs.declared.names.GameKind.TheVariants.{Draughts, Shogi
 use Rattle.club_core.specs.ClubRules.{ClubRules}
 use Rattle.club_core.specs.declared.requests.Caller.{Caller}
 use Rattle.club_core.specs.declared.requests.Caller.TheVariants.{Officer, Member}
-use Rattle.club_core.specs.declared.refusals.Refusal.TheVariants.{UnknownKey, UnknownGame}
+use Rattle.club_core.specs.declared.refusals.Refusal.TheVariants.{UnknownKey}
 use Rattle.club_core.specs.Outcome.{Outcome, accepted, repeated, refused, map_outcome, by_officer}
 use Rattle.club_core.specs.Members as members
 use Rattle.club_core.specs.Members.{find_id, member_step}
 use Rattle.club_core.specs.Events.{Terms, Event, event_step}
 use Rattle.club_core.specs.Seats.{Pairing, KeyedGame, seat_step}
 use Rattle.club_core.specs.Game.{Game}
-use Rattle.club_core.specs.Step.{GameCommand, game_step}
+use Rattle.club_core.specs.Step.{GameCommand, no_game_refusal, game_step}
 
 -- a game of one of the two kinds
 pub data AnyGame (DM SM : Type 0) : Type 0 where
@@ -147,7 +147,7 @@ module _ {DM SM : Type 0} (s : State DM SM) (moment : ℕ) where
 
 module _ {DP DM DE DT SP SM SE ST : Type 0} (rules : ClubRules DP DM DE DT SP SM SE ST) where
   abbrev pub step_game : State DM SM → ℕ → ℕ → Caller → GameCommand → Option (AnyGame DM SM) → Outcome (State DM SM)
-  step_game s moment id who command None = refused UnknownGame
+  step_game s moment id who command None = refused (no_game_refusal who command)
   step_game s moment id who command (Some (draughts g)) =
       map_outcome (λ new. with_game s moment id (draughts new))
       (game_step rules.draughts (terms_at (place s.events g.event)) g moment who command)

@@ -1,31 +1,103 @@
 -- What a command does to one game, or why it is refused: the first refusal that holds.
-use Rattle.std.specs.Prelude.{ℕ, zero, suc, ◌+◌, ◌-◌, List, [], ◌∷◌, ◌++◌, length, Option, Some, None, Result, Ok, Err, Bool, false, not, ◌&&◌, ◌||◌, is_some, nat_lt, nat_le, ◌==◌, if◌then◌else◌, slice_get}
+use Rattle.std.specs.Prelude.{ℕ, zero, suc, ◌+◌, ◌-◌, List, [], ◌∷◌, ◌++◌, length, Option, Some, None, Result, Ok, Err, Bool, true, false, not, ◌&&◌, ◌||◌, is_some, nat_lt, nat_le, ◌==◌, if◌then◌else◌, slice_get}
 use Rattle.std.specs.Option.{option_map}
 use Rattle.squares.specs.declared.sides.Side.{Side}
 use Rattle.squares.specs.declared.sides.Side.TheVariants.{First, Second}
-use Rattle.squares.specs.Sides.{same_side}
+use Rattle.squares.specs.Sides.{same_side, other}
 use Rattle.club_rules.specs.declared.refusals.MoveRefusal.{MoveRefusal}
 use Rattle.club_rules.specs.GameRules.{GameRules}
 use Rattle.club_core.specs.declared.requests.Caller.{Caller}
 use Rattle.club_core.specs.declared.requests.Caller.TheVariants.{Officer, Member}
+use Rattle.club_core.specs.declared.rows.OutsideEnd.{OutsideEnd}
+use Rattle.club_core.specs.declared.rows.OutsideEnd.TheVariants.{Resigned, Agreed, Time, Recorded}
+use Rattle.club_core.specs.declared.rows.Offer.{Offer}
 use Rattle.club_core.specs.declared.refusals.Refusal.{Refusal}
-use Rattle.club_core.specs.declared.refusals.Refusal.TheVariants.{NotAPlayer, GameOver, WrongPly, Conflict, NotYourTurn, OutOfTime, BadValue, Play}
+use Rattle.club_core.specs.declared.refusals.Refusal.TheVariants.{NotAllowed, UnknownGame, NotAPlayer, NotInThisGame, GameOver, WrongPly, Conflict, NotYourTurn, OutOfTime, TimeLeft, NoOffer, BadValue, Play}
 use Rattle.club_core.specs.Limits.{most_text_bytes}
 use Rattle.club_core.specs.Events.{Terms}
-use Rattle.club_core.specs.Outcome.{Reply, moved, Outcome, accepted, refused, first_refusal, unless, unless_repeat}
-use Rattle.club_core.specs.Game.{Game, left_of, side_after, moves_of, clocks_of, last_position, rule_end, turn_of, result_of, game_at}
+use Rattle.club_core.specs.Outcome.{Reply, moved, draw_offered, game_ended, Outcome, accepted, refused, first_refusal, unless, unless_repeat}
+use Rattle.club_core.specs.Game.{Game, left_of, side_after, outside_score, moves_of, clocks_of, last_position, rule_end, turn_of, result_of, game_at}
 
 -- a command on a game, its text being the bytes that were given
 pub data GameCommand : Type 0 where
   move : (ply : ℕ) → (text : List ℕ) → GameCommand
+  offer_draw : (ply : ℕ) → GameCommand
+  accept_draw : (ply : ℕ) → GameCommand
+  resign : GameCommand
+  claim_time : GameCommand
+
+-- the officer gives moves alone
+abbrev pub may_give : Caller → GameCommand → Bool
+may_give (Member id) command = true
+may_give Officer (move ply text) = true
+may_give Officer (offer_draw ply) = false
+may_give Officer (accept_draw ply) = false
+may_give Officer resign = false
+may_give Officer claim_time = false
+
+-- why a command on a game that there is none of is refused
+abbrev pub no_game_refusal : Caller → GameCommand → Refusal
+no_game_refusal who command = if may_give who command then UnknownGame else NotAllowed
+
+-- the ply that a command names a move of, and else 0
+abbrev pub asked_ply : GameCommand → ℕ
+asked_ply (move ply text) = ply
+asked_ply (offer_draw ply) = 0
+asked_ply (accept_draw ply) = 0
+asked_ply resign = 0
+asked_ply claim_time = 0
+
+-- an offer of a draw by that side at that ply stands
+abbrev pub has_offer : Option Offer → Side → ℕ → Bool
+has_offer None side ply = false
+has_offer (Some offer) side ply = same_side offer.side side && offer.ply == ply
+
+-- the answer to an offer that is this one again
+abbrev pub repeat_of_offer : Option Offer → Side → ℕ → Option Reply
+repeat_of_offer offer side ply = if has_offer offer side ply then Some (draw_offered ply) else None
+
+-- how a game ended from outside
+abbrev pub is_resigned : Option OutsideEnd → Bool
+is_resigned None = false
+is_resigned (Some Resigned) = true
+is_resigned (Some Agreed) = false
+is_resigned (Some Time) = false
+is_resigned (Some (Recorded score)) = false
+
+abbrev pub is_agreed : Option OutsideEnd → Bool
+is_agreed None = false
+is_agreed (Some Resigned) = false
+is_agreed (Some Agreed) = true
+is_agreed (Some Time) = false
+is_agreed (Some (Recorded score)) = false
+
+abbrev pub is_lost_by_time : Option OutsideEnd → Bool
+is_lost_by_time None = false
+is_lost_by_time (Some Resigned) = false
+is_lost_by_time (Some Agreed) = false
+is_lost_by_time (Some Time) = true
+is_lost_by_time (Some (Recorded score)) = false
 
 -- the side that a member plays
 abbrev pub side_of_member : ℕ → ℕ → ℕ → Option Side
 side_of_member first second id = if id == first then Some First else (if id == second then Some Second else None)
 
+-- the side for which a caller gives a command: the officer's is that of the side of its ply
+abbrev pub caller_side : ℕ → ℕ → Caller → ℕ → Option Side
+caller_side first second Officer ply = Some (side_after (ply - 1))
+caller_side first second (Member id) ply = side_of_member first second id
+
 -- the game with one more move
 abbrev pub played : {M : Type 0} → Game M → M → ℕ → Game M
 played game m moment = record game { entries = game.entries ++ record { made = m; moment = moment } ∷ []; offer = None }
+
+-- the game with an offer of a draw
+abbrev pub offered : {M : Type 0} → Game M → Offer → Game M
+offered game offer = record game { offer = Some offer }
+
+-- the game with an end from outside
+abbrev pub ended : {M : Type 0} → Game M → OutsideEnd → Game M
+ended game end = record game { outside = Some end }
 
 -- the move of a ply, counted from 1
 abbrev pub move_at : {M : Type 0} → Game M → ℕ → Option M
@@ -70,13 +142,91 @@ module _ {P M E T : Type 0} (rules : GameRules P M E T) (terms : Terms) (game : 
   repeat_of None side text = None
   repeat_of (Some m) side text = if repeats m side text then Some (reply_of_move m) else None
 
-module _ {P M E T : Type 0} (rules : GameRules P M E T) (terms : Terms) (game : Game M) (moment : ℕ) where
+module _ {P M E T : Type 0} (rules : GameRules P M E T) (game : Game M) where
   abbrev pub is_over : Bool
   is_over = is_some (result_of rules game)
 
   abbrev pub is_turn : Side → Bool
   is_turn side = same_side side (turn_of rules game)
 
+  abbrev pub is_next_ply : ℕ → Bool
+  is_next_ply ply = ply == length game.entries + 1
+
+  -- a command about a draw, where the players of this game may agree on one
+  abbrev pub if_draws : Outcome (Game M) → Outcome (Game M)
+  if_draws outcome = if rules.has_draw_offers then outcome else refused NotInThisGame
+
+  abbrev pub offer_tests : Side → ℕ → List (Bool × Refusal)
+  offer_tests side ply =
+      (is_over, GameOver)
+      ∷ (not (is_next_ply ply), WrongPly)
+      ∷ (has_offer game.offer (other side) ply, Conflict)
+      ∷ []
+
+  abbrev pub offer_refusal : Side → ℕ → Option Refusal
+  offer_refusal side ply = first_refusal (offer_tests side ply)
+
+  -- a side offers a draw, until the next move
+  abbrev pub step_offer : Side → ℕ → Outcome (Game M)
+  step_offer side ply =
+      if_draws
+      (unless_repeat (repeat_of_offer game.offer side ply)
+      (unless (offer_refusal side ply)
+      (accepted (offered game (record { side = side; ply = ply })) (draw_offered ply))))
+
+  -- what the answer to a command that ends the game so shows
+  abbrev pub reply_of_end : OutsideEnd → Reply
+  reply_of_end end = game_ended end (outside_score end (turn_of rules game))
+
+  abbrev pub repeat_of_end : OutsideEnd → Bool → Option Reply
+  repeat_of_end end repeats = if repeats then Some (reply_of_end end) else None
+
+  abbrev pub ends : OutsideEnd → Outcome (Game M)
+  ends end = accepted (ended game end) (reply_of_end end)
+
+  abbrev pub accept_tests : Side → ℕ → List (Bool × Refusal)
+  accept_tests side ply =
+      (is_over, GameOver)
+      ∷ (not (is_next_ply ply), WrongPly)
+      ∷ (not (has_offer game.offer (other side) ply), NoOffer)
+      ∷ []
+
+  abbrev pub accept_refusal : Side → ℕ → Option Refusal
+  accept_refusal side ply = first_refusal (accept_tests side ply)
+
+  -- the players agreed on a draw, by this side's accepting the other's offer of that ply
+  abbrev pub repeat_of_accept : Side → ℕ → Option Reply
+  repeat_of_accept side ply = repeat_of_end Agreed (is_agreed game.outside && has_offer game.offer (other side) ply)
+
+  -- a side accepts the other's offer
+  abbrev pub step_accept : Side → ℕ → Outcome (Game M)
+  step_accept side ply =
+      if_draws
+      (unless_repeat (repeat_of_accept side ply)
+      (unless (accept_refusal side ply)
+      (ends Agreed)))
+
+  abbrev pub resign_tests : Side → List (Bool × Refusal)
+  resign_tests side =
+      (is_over, GameOver)
+      ∷ (not (is_turn side), NotYourTurn)
+      ∷ []
+
+  abbrev pub resign_refusal : Side → Option Refusal
+  resign_refusal side = first_refusal (resign_tests side)
+
+  abbrev pub repeat_of_resign : Side → Option Reply
+  repeat_of_resign side = repeat_of_end Resigned (is_resigned game.outside && is_turn side)
+
+  -- the side to move gives up
+  abbrev pub step_resign : Side → Outcome (Game M)
+  step_resign side = unless_repeat (repeat_of_resign side) (unless (resign_refusal side) (ends Resigned))
+
+  -- the side to move lost by time, and this is the other
+  abbrev pub repeat_of_claim : Side → Option Reply
+  repeat_of_claim side = repeat_of_end Time (is_lost_by_time game.outside && not (is_turn side))
+
+module _ {P M E T : Type 0} (rules : GameRules P M E T) (terms : Terms) (game : Game M) (moment : ℕ) where
   -- more seconds have gone than the side to move had left
   abbrev pub is_overdue : Bool
   is_overdue = nat_lt (left_of (turn_of rules game) (clocks_of game terms)) (moment - (clocks_of game terms).since)
@@ -84,10 +234,10 @@ module _ {P M E T : Type 0} (rules : GameRules P M E T) (terms : Terms) (game : 
   -- why a new move is refused before its text is read
   abbrev pub move_tests : Side → ℕ → List ℕ → List (Bool × Refusal)
   move_tests side ply text =
-      (is_over, GameOver)
+      (is_over rules game, GameOver)
       ∷ (ply == 0 || nat_lt (length game.entries + 1) ply, WrongPly)
       ∷ (nat_le ply (length game.entries), Conflict)
-      ∷ (not (is_turn side), NotYourTurn)
+      ∷ (not (is_turn rules game side), NotYourTurn)
       ∷ (is_overdue, OutOfTime)
       ∷ (nat_lt most_text_bytes (length text), BadValue)
       ∷ []
@@ -106,18 +256,34 @@ module _ {P M E T : Type 0} (rules : GameRules P M E T) (terms : Terms) (game : 
       (unless (move_refusal side ply text)
       (plays (checked rules (last_position rules game) (rules.read_move (last_position rules game) text))))
 
+  abbrev pub claim_tests : Side → List (Bool × Refusal)
+  claim_tests side =
+      (is_over rules game, GameOver)
+      ∷ (is_turn rules game side, NotYourTurn)
+      ∷ (not is_overdue, TimeLeft)
+      ∷ []
+
+  abbrev pub claim_refusal : Side → Option Refusal
+  claim_refusal side = first_refusal (claim_tests side)
+
+  -- the side that is not to move claims the other's loss by time
+  abbrev pub step_claim : Side → Outcome (Game M)
+  step_claim side = unless_repeat (repeat_of_claim rules game side) (unless (claim_refusal side) (ends rules game Time))
+
   -- a command by the player of a side
   abbrev pub side_step : Side → GameCommand → Outcome (Game M)
   side_step side (move ply text) = step_move side ply text
+  side_step side (offer_draw ply) = step_offer rules game side ply
+  side_step side (accept_draw ply) = step_accept rules game side ply
+  side_step side resign = step_resign rules game side
+  side_step side claim_time = step_claim side
 
   abbrev pub by_side : Option Side → GameCommand → Outcome (Game M)
   by_side None command = refused NotAPlayer
   by_side (Some side) command = side_step side command
 
-  -- the officer's move is that of the side of its ply
-  abbrev pub officer_side : GameCommand → Option Side
-  officer_side (move ply text) = Some (side_after (ply - 1))
-
   abbrev pub game_step : Caller → GameCommand → Outcome (Game M)
-  game_step Officer command = by_side (officer_side command) command
-  game_step (Member id) command = by_side (side_of_member game.first game.second id) command
+  game_step who command =
+      if may_give who command
+      then by_side (caller_side game.first game.second who (asked_ply command)) command
+      else refused NotAllowed

@@ -7,6 +7,7 @@ use Rattle.club_rules.specs.Line.{position_after, IsPlayedLine}
 use Rattle.club_core.specs.declared.rows.GameRow.{GameRow}
 use Rattle.club_core.specs.declared.rows.GameEnd.{GameEnd}
 use Rattle.club_core.specs.declared.rows.GameEnd.TheVariants.{Rule, Outside}
+use Rattle.club_core.specs.declared.rows.OutsideEnd.{OutsideEnd}
 use Rattle.club_core.specs.declared.rows.GameView.{GameView}
 use Rattle.club_core.specs.declared.rows.Asked.{Asked}
 use Rattle.club_core.specs.declared.rows.Made.{Made}
@@ -76,6 +77,12 @@ abbrev pub rule_in : {E : Type 0} → Option (GameEnd E) → Option E
 rule_in None = None
 rule_in (Some (Rule e)) = Some e
 rule_in (Some (Outside o)) = None
+
+-- the end from outside
+abbrev pub outside_in : {E : Type 0} → Option (GameEnd E) → Option OutsideEnd
+outside_in None = None
+outside_in (Some (Rule e)) = None
+outside_in (Some (Outside o)) = Some o
 
 -- the move made by a step, with the position after it
 abbrev pub IsMade : {R P M E T : Type 0} → GameRules P M E T → Game M → Option M → Option (Made R P M E T) → Type 0

@@ -1,8 +1,9 @@
 //! What a command is answered.
 
 use crate::refusals::Refusal;
-use crate::rows::{GameRow, Made};
+use crate::rows::{GameRow, Made, OutsideEnd};
 use club_rules::{EndName, Rules};
+use squares::Score;
 use std::fmt;
 
 /// What a move is answered: its text as it is written, the mover's seconds left after it, the position after it as text,
@@ -23,6 +24,10 @@ pub enum Answer {
     Event(u32),
     Game(u32),
     Moved(Moved),
+    /// A draw was offered at that ply.
+    Offered { ply: u32 },
+    /// The game was ended from outside, with that result.
+    Ended { end: OutsideEnd, result: Score },
 }
 
 /// What a command is answered: a repeat has the answer of the command that it repeats, and like a refusal it changes
@@ -35,6 +40,7 @@ pub enum Outcome {
 }
 
 /// Writes what is named, as `member 1`, `game 2` or `ply 3 32-28`, and after a move that ended the game ` end Repetition`.
+/// An offer of a draw is written as `offer ply 5`, and an end from outside with its result: `end Agreed 1-1`.
 impl fmt::Display for Answer {
     ghost use Rattle.std.specs.Prelude.{Some};
     ghost use Rattle.club_core.specs.AnswerText.{answer_text};
@@ -47,6 +53,8 @@ impl fmt::Display for Answer {
             Answer::Event(id) => write!(f, "event {id}"),
             Answer::Game(id) => write!(f, "game {id}"),
             Answer::Moved(moved) => write!(f, "{moved}"),
+            Answer::Offered { ply } => write!(f, "offer ply {ply}"),
+            Answer::Ended { end, result } => write!(f, "end {end} {result}"),
         }
     }
 }

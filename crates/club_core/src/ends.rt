@@ -3,10 +3,11 @@
 ghost use Rattle.std.specs.Prelude.{◌≡◌};
 ghost use Rattle.std.specs.Option.{option_map};
 ghost use Rattle.club_core.specs.declared.rows.GameEnd.TheVariants.{Rule};
-ghost use Rattle.club_core.specs.Game.{score_with};
-ghost use Rattle.club_core.specs.View.{rule_in};
+ghost use Rattle.club_core.specs.Game.{score_with, outside_score};
+ghost use Rattle.club_core.specs.View.{rule_in, outside_in};
+ghost use Rattle.club_core.specs.Step.{is_resigned, is_agreed, is_lost_by_time};
 
-use crate::rows::GameEnd;
+use crate::rows::{GameEnd, OutsideEnd};
 use club_rules::Rules;
 use squares::{Score, Side};
 
@@ -17,6 +18,36 @@ pub fn rule_in<E: Copy>(end: &Option<GameEnd<E>>) -> Option<E>
     match end {
         Some(GameEnd::Rule(e)) => Some(*e),
         _ => None,
+    }
+}
+
+/// Whether the game was resigned.
+pub fn is_resigned<E>(end: &Option<GameEnd<E>>) -> bool
+    ensures { result ≡ is_resigned (outside_in end.now) }
+{
+    match end {
+        Some(GameEnd::Outside(OutsideEnd::Resigned)) => true,
+        _ => false,
+    }
+}
+
+/// Whether the players agreed on a draw.
+pub fn is_agreed<E>(end: &Option<GameEnd<E>>) -> bool
+    ensures { result ≡ is_agreed (outside_in end.now) }
+{
+    match end {
+        Some(GameEnd::Outside(OutsideEnd::Agreed)) => true,
+        _ => false,
+    }
+}
+
+/// Whether the side to move lost by time.
+pub fn is_lost_by_time<E>(end: &Option<GameEnd<E>>) -> bool
+    ensures { result ≡ is_lost_by_time (outside_in end.now) }
+{
+    match end {
+        Some(GameEnd::Outside(OutsideEnd::Time)) => true,
+        _ => false,
     }
 }
 
@@ -37,5 +68,17 @@ pub fn score_of_end<R: Rules>(end: Option<R::End>, turn: Side) -> Option<Score>
     match &end {
         Some(e) => Some(R::outcome(e, turn)),
         None => None,
+    }
+}
+
+/// The score of an end from outside, by the side to move.
+pub fn outside_score(end: OutsideEnd, turn: Side) -> Score
+    ensures { result ≡ outside_score end turn }
+{
+    match end {
+        OutsideEnd::Resigned => Score::lost_by(turn),
+        OutsideEnd::Time => Score::lost_by(turn),
+        OutsideEnd::Agreed => Score::Draw,
+        OutsideEnd::Recorded(score) => score,
     }
 }

@@ -4,7 +4,7 @@ ghost use Rattle.std.specs.Prelude.{◌≡◌, ◌≤◌, ◌<◌, length, Optio
 ghost use Rattle.std.specs.List.{list_any};
 ghost use Rattle.club_core.specs.Limits.{most_events};
 ghost use Rattle.club_core.specs.Members.{find_id};
-ghost use Rattle.club_core.specs.Events.{has_event_name, is_event, is_offered, same_game, has_good_values, event_refusal, event_step};
+ghost use Rattle.club_core.specs.Events.{has_event_name, is_event, same_game, has_good_values, event_refusal, event_step};
 ghost use Rattle.club_core.specs.Outcome.{by_officer};
 ghost use Rattle.club_core.specs.Answer.{event_of, events_of, added_event, outcome_of, answered};
 
@@ -30,13 +30,6 @@ fn is_same_game(a: GameKind, b: GameKind) -> bool
     a == b
 }
 
-/// The club holds events in draughts alone so far.
-fn is_offered(game: GameKind) -> bool
-    ensures { result ≡ is_offered game }
-{
-    game == GameKind::Draughts
-}
-
 impl Event {
     fn is(&self, command: &AddEvent) -> bool
         ensures { result ≡ is_event (added_event command.now) (event_of self.now) }
@@ -60,10 +53,7 @@ fn find_event(events: &[Event], command: &AddEvent) -> Option<u32>
 fn has_good_values(command: &AddEvent) -> bool
     ensures { result ≡ has_good_values (added_event command.now) }
 {
-    is_name(command.name.as_str())
-        && is_offered(command.game)
-        && is_budget(command.budget)
-        && is_increment(command.increment)
+    is_name(command.name.as_str()) && is_budget(command.budget) && is_increment(command.increment)
 }
 
 /// Whether an event has the name.

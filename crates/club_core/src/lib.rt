@@ -2,12 +2,16 @@
 #![tactic(auto)]
 
 pub mod answers;
+pub mod decisions;
+mod draws;
+mod endings;
 mod ends;
 pub mod events;
 mod ids;
 pub mod laws;
 pub mod members;
-pub mod moves;
+mod moves;
+mod players;
 pub mod refusals;
 pub mod requests;
 pub mod rows;
@@ -15,11 +19,11 @@ pub mod seats;
 pub mod values;
 
 pub use answers::{Answer, Decision, Moved, Outcome};
+pub use decisions::{decide, refusal_without_game};
 pub use events::{Event, add_event};
 pub use members::{Member, add_member, identify};
-pub use moves::decide;
 pub use refusals::Refusal;
-pub use requests::{AddEvent, AddMember, Caller, Command, Move, Request, Seat, Who};
+pub use requests::{AddEvent, AddMember, Caller, Command, GameCommand, OnGame, Request, Seat, Who};
 pub use rows::{Asked, GameEnd, GameRow, GameView, Made, Offer, OutsideEnd};
 pub use seats::{KeyedGame, Pairing, Seating, seat, seated_row};
 pub use values::{is_member_key, is_name};

@@ -2,58 +2,24 @@
 
 ghost use Rattle.std.specs.Prelude.{◌≡◌, ℕ, Ok, ◌+◌, ◌-◌, ◌^◌, ◌<◌, ◌≤◌, ◌++◌, ◌∷◌, [], Option, Some, None, IfOk, IfErr, IfNone, IfSome, string_bytes, length};
 ghost use Rattle.std.specs.Option.{option_map};
-ghost use Rattle.squares.specs.Sides.{same_side};
 ghost use Rattle.club_core.specs.declared.rows.GameEnd.TheVariants.{Rule};
 ghost use Rattle.club_core.specs.Limits.{most_text_bytes};
 ghost use Rattle.club_core.specs.Answer.{reply_of};
-ghost use Rattle.club_core.specs.Game.{Game, spend, side_after, left_of, left_after};
+ghost use Rattle.club_core.specs.Game.{Game, spend, left_of, left_after};
 ghost use Rattle.club_core.specs.Legal.{IsLegalGame};
-ghost use Rattle.club_core.specs.Step.{move, move_refusal, checked, step_move, repeat_of, move_at, plays, reads_as, side_of_member, game_step};
+ghost use Rattle.club_core.specs.Step.{move_refusal, checked, step_move, repeat_of, move_at, plays, reads_as};
 ghost use Rattle.club_core.specs.View.{Shows, ShowsPly, IsSound, CanPlay, IsDecision, terms_of, clocks_in};
 
 use crate::answers::{Answer, Decision, Moved};
 use crate::ends::{game_end, rule_in, score_of_end};
+use crate::players::{is_side, left_in, side_of_ply};
 use crate::refusals::Refusal;
-use crate::requests::{Caller, Move};
-use crate::rows::{GameRow, GameView, Made};
+use crate::rows::{GameRow, GameView, Made, copy_key};
 use crate::values::MOST_TEXT_BYTES;
 use clocks::{Clock, Moment};
 use club_rules::{EndName, Memory, MoveRefusal, Rules};
 use squares::{Score, Side};
 use std::alloc::Global;
-
-/// The side whose move the ply is.
-fn side_of_ply(ply: u64) -> Side
-    ensures { result ≡ side_after (ply - 1) }
-{
-    if ply == 0 {
-        return Side::First;
-    }
-    if ply % 2 == 1 {
-        Side::First
-    } else {
-        Side::Second
-    }
-}
-
-/// The side that a member plays.
-fn side_of_member<E>(row: &GameRow<E>, id: u32) -> Option<Side>
-    ensures { result ≡ side_of_member row.now.first row.now.second id }
-{
-    if id == row.first {
-        return Some(Side::First);
-    }
-    if id == row.second {
-        return Some(Side::Second);
-    }
-    None
-}
-
-fn is_side(a: Side, b: Side) -> bool
-    ensures { result ≡ same_side a b }
-{
-    a == b
-}
 
 /// Whether what the text reads as is that move.
 fn reads_as<R: Rules>(
@@ -113,15 +79,9 @@ fn read_legal<R: Rules>(
 fn clock_in<E>(row: &GameRow<E>, side: Side, increment: u64) -> Clock
     ensures { result ≡ record { left = left_of side (clocks_in row.now); increment = increment } }
 {
-    match side {
-        Side::First => Clock {
-            left: row.left_first,
-            increment,
-        },
-        Side::Second => Clock {
-            left: row.left_second,
-            increment,
-        },
+    Clock {
+        left: left_in(row, side),
+        increment,
     }
 }
 
@@ -210,16 +170,6 @@ fn clock_after<R: Rules>(
     Ok(clock)
 }
 
-/// The key of a row once more.
-fn copy_key(key: &Option<String>) -> Result<Option<String>, Memory>
-    ensures { IfOk result (λ copy. option_map (λ k. string_bytes k) copy ≡ option_map (λ k. string_bytes k) key.now) }
-{
-    match key {
-        Some(key) => Ok(Some(key.clone()?)),
-        None => Ok(None),
-    }
-}
-
 /// The row after a move that leaves so many seconds to the mover.
 fn moved_row<E: Copy + Drop>(
     row: &GameRow<E>,
@@ -305,7 +255,7 @@ fn accept_move<R: Rules>(
 }
 
 /// A move by the player of a side.
-fn play_move<R: Rules>(
+pub fn play_move<R: Rules>(
     alloc: Global,
     view: &GameView<R>,
     side: Side,
@@ -335,39 +285,5 @@ fn play_move<R: Rules>(
         }
     };
     let decision = accept_move(alloc, view, side, made, clock.left, moment)?;
-    Ok(decision)
-}
-
-/// What a move does to the game that the view shows, at the effective moment: the later of the request's own and that of
-/// the last accepted request. The officer's move is that of the side of its ply.
-pub fn decide<R: Rules>(
-    alloc: Global,
-    view: &GameView<R>,
-    caller: Caller,
-    command: &Move,
-    moment: Moment,
-) -> Result<Decision<R>, Memory>
-    requires sound { IsSound R.rules view.now }
-    requires later { view.now.row.since ≤ moment }
-    ensures { IfOk result (λ d. (game : Game R.Move) → Shows R.rules game view.now → ShowsPly R.rules game command.now.ply view.now →
-        IsLegalGame R.rules (terms_of view.now) game →
-        IsDecision R.rules (terms_of view.now) game
-        (game_step R.rules (terms_of view.now) game moment caller (move command.now.ply (string_bytes command.now.text))) d) }
-{
-    let side = match caller {
-        Caller::Officer => side_of_ply(command.ply),
-        Caller::Member(id) => match side_of_member(&view.row, id) {
-            Some(side) => side,
-            None => return Ok(Decision::Refused(Refusal::NotAPlayer)),
-        },
-    };
-    let decision = play_move(
-        alloc,
-        view,
-        side,
-        command.ply,
-        command.text.as_str(),
-        moment,
-    )?;
     Ok(decision)
 }

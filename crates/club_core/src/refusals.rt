@@ -7,12 +7,12 @@ use club_rules::MoveRefusal;
 use std::fmt;
 
 /// Why a command is refused. Of several reasons the first in this order is given, a repeat of an accepted command coming
-/// after `NotAPlayer` and before `GameOver`; those of a text or a move come last.
+/// after `NotInThisGame` and before `GameOver`; those of a text or a move come last.
 #[derive(Clone, Copy, Debug, PartialEq, Eq)]
 pub enum Refusal {
     /// No member has the key.
     UnknownKey,
-    /// The command is the officer's.
+    /// The command is the officer's, or a player's own.
     NotAllowed,
     /// No event has the name.
     UnknownEvent,
@@ -20,16 +20,22 @@ pub enum Refusal {
     UnknownGame,
     /// The member plays neither side of the game.
     NotAPlayer,
+    /// The players of this game do not agree on draws.
+    NotInThisGame,
     /// The game has ended.
     GameOver,
-    /// The ply is 0, or not yet due.
+    /// The ply is 0 or not yet due, or for a draw not the next one.
     WrongPly,
-    /// Another move was played at the ply, or another game stands under the key.
+    /// Another move was played at the ply, another game stands under the key, or the other side has offered a draw.
     Conflict,
-    /// The other side is to move.
+    /// The other side is to move, or for a claim the caller's own.
     NotYourTurn,
     /// The side to move has used all its seconds.
     OutOfTime,
+    /// The side to move has seconds left.
+    TimeLeft,
+    /// The other side has offered no draw.
+    NoOffer,
     /// The name or the key is in use.
     NameTaken,
     /// A value is outside its limits, or a player is unknown or twice the same.
@@ -51,11 +57,14 @@ impl Refusal {
             Refusal::UnknownEvent => 52,
             Refusal::UnknownGame => 53,
             Refusal::NotAPlayer => 55,
+            Refusal::NotInThisGame => 63,
             Refusal::GameOver => 56,
             Refusal::WrongPly => 57,
             Refusal::Conflict => 58,
             Refusal::NotYourTurn => 59,
             Refusal::OutOfTime => 60,
+            Refusal::TimeLeft => 61,
+            Refusal::NoOffer => 62,
             Refusal::NameTaken => 64,
             Refusal::BadValue => 65,
             Refusal::Full => 66,
@@ -73,11 +82,14 @@ impl Refusal {
             Refusal::UnknownEvent => "UnknownEvent",
             Refusal::UnknownGame => "UnknownGame",
             Refusal::NotAPlayer => "NotAPlayer",
+            Refusal::NotInThisGame => "NotInThisGame",
             Refusal::GameOver => "GameOver",
             Refusal::WrongPly => "WrongPly",
             Refusal::Conflict => "Conflict",
             Refusal::NotYourTurn => "NotYourTurn",
             Refusal::OutOfTime => "OutOfTime",
+            Refusal::TimeLeft => "TimeLeft",
+            Refusal::NoOffer => "NoOffer",
             Refusal::NameTaken => "NameTaken",
             Refusal::BadValue => "BadValue",
             Refusal::Full => "Full",

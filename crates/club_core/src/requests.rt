@@ -1,5 +1,9 @@
 //! Requests: who asks, for what, and when.
 
+ghost use Rattle.std.specs.Prelude.{◌≡◌};
+ghost use Rattle.club_core.specs.Answer.{game_command_of};
+ghost use Rattle.club_core.specs.Step.{asked_ply};
+
 use clocks::Moment;
 use club_rules::GameKind;
 
@@ -42,12 +46,38 @@ pub struct Seat {
     pub second: String,
 }
 
-/// Plays a move, given as text, at a ply of a game. Plies count from 1.
+/// A command on a game. Plies count from 1.
 #[derive(Debug, Drop)]
-pub struct Move {
+pub enum GameCommand {
+    /// Plays a move, given as text, at a ply.
+    Move { ply: u64, text: String },
+    /// Offers a draw at the next ply. The offer stands until the next move.
+    OfferDraw { ply: u64 },
+    /// Accepts the other side's offer of the next ply.
+    AcceptDraw { ply: u64 },
+    /// Gives the game up, by the side to move.
+    Resign,
+    /// Claims that the side to move has used more seconds than it had, by the other side.
+    ClaimTime,
+}
+
+impl GameCommand {
+    /// The ply that the command names a move of, and else 0.
+    pub fn asked_ply(&self) -> u64
+        ensures { result ≡ asked_ply (game_command_of self.now) }
+    {
+        match self {
+            GameCommand::Move { ply, text: _ } => *ply,
+            _ => 0,
+        }
+    }
+}
+
+/// A command on the game of that id.
+#[derive(Debug, Drop)]
+pub struct OnGame {
     pub game: u64,
-    pub ply: u64,
-    pub text: String,
+    pub command: GameCommand,
 }
 
 /// A command to the club.
@@ -56,7 +86,7 @@ pub enum Command {
     AddMember(AddMember),
     AddEvent(AddEvent),
     Seat(Seat),
-    Move(Move),
+    OnGame(OnGame),
 }
 
 /// A command, with the one who gives it and the moment at which it came.

@@ -1,8 +1,13 @@
 //! The values that a command on a game is decided over.
 
+ghost use Rattle.std.specs.Prelude.{◌≡◌, IfOk, string_bytes};
+ghost use Rattle.std.specs.Option.{option_map};
+ghost use Rattle.club_core.specs.OutsideEnd.{outside_text};
+
 use clocks::Moment;
-use club_rules::Rules;
+use club_rules::{Memory, Rules};
 use squares::{Score, Side};
+use std::fmt;
 
 /// How a game ended other than by its rules.
 #[derive(Clone, Copy, Debug, PartialEq, Eq)]
@@ -15,6 +20,32 @@ pub enum OutsideEnd {
     Time,
     /// A record says so.
     Recorded(Score),
+}
+
+impl OutsideEnd {
+    /// The name of the end, as it is printed and stored.
+    pub fn name(self) -> &'static str
+        ensures { result.now ≡ outside_text self }
+    {
+        match self {
+            OutsideEnd::Resigned => "Resigned",
+            OutsideEnd::Agreed => "Agreed",
+            OutsideEnd::Time => "Time",
+            OutsideEnd::Recorded(_) => "Recorded",
+        }
+    }
+}
+
+/// Writes the name of the end: `Agreed`.
+impl fmt::Display for OutsideEnd {
+    ghost use Rattle.std.specs.Prelude.{Some};
+    ghost use Rattle.club_core.specs.OutsideEnd.{outside_text};
+
+    ghost output = { λ end. Some (outside_text end) };
+
+    fn fmt<W: fmt::Write>(&self, f: &mut fmt::Formatter<W>) -> fmt::Result {
+        f.write_str(self.name())
+    }
 }
 
 /// Why a game is over.
@@ -78,4 +109,38 @@ pub struct GameView<R: Rules> {
 pub struct Made<R: Rules> {
     pub made: R::Move,
     pub position: R::Position,
+}
+
+/// The key of a row once more.
+pub fn copy_key(key: &Option<String>) -> Result<Option<String>, Memory>
+    ensures { IfOk result (λ copy. option_map (λ k. string_bytes k) copy ≡ option_map (λ k. string_bytes k) key.now) }
+{
+    match key {
+        Some(key) => Ok(Some(key.clone()?)),
+        None => Ok(None),
+    }
+}
+
+/// A row once more.
+pub fn copy_row<E: Copy + Drop>(row: &GameRow<E>) -> Result<GameRow<E>, Memory>
+    ensures key { IfOk result (λ copy.
+        option_map (λ k. string_bytes k) copy.key ≡ option_map (λ k. string_bytes k) row.now.key) }
+    ensures position { IfOk result (λ copy. string_bytes copy.position ≡ string_bytes row.now.position) }
+    ensures others { IfOk result (λ copy. copy ≡ record row.now { key = copy.key; position = copy.position }) }
+{
+    Ok(GameRow {
+        key: copy_key(&row.key)?,
+        event: row.event,
+        first: row.first,
+        second: row.second,
+        start: row.start,
+        since: row.since,
+        plies: row.plies,
+        left_first: row.left_first,
+        left_second: row.left_second,
+        offer: row.offer,
+        end: row.end,
+        result: row.result,
+        position: row.position.clone()?,
+    })
 }

@@ -1,13 +1,16 @@
-//! Adding members and events, and seating, on lists that stand; and how refusals are written.
+//! Adding members and events, and seating, on lists that stand; and how answers and refusals are written.
 
 use crate::answers::{Answer, Outcome};
+use crate::decisions::refusal_without_game;
 use crate::events::{Event, add_event};
 use crate::members::{Member, add_member, identify};
 use crate::refusals::Refusal;
-use crate::requests::{AddEvent, AddMember, Caller, Seat, Who};
+use crate::requests::{AddEvent, AddMember, Caller, GameCommand, Seat, Who};
+use crate::rows::OutsideEnd;
 use crate::seats::{KeyedGame, Pairing, Seating, seat};
 use crate::values::{is_member_key, is_name};
 use club_rules::{GameKind, Memory, MoveRefusal};
+use squares::Score;
 use std::alloc::Global;
 use std::test::Fail;
 
@@ -163,5 +166,44 @@ fn refusals_are_written(rt: HostRuntime) -> Result<(), Fail> {
     let none = play(MoveRefusal::NoSuchMove(GameKind::Shogi));
     let shogi = format!(in rt.alloc(); "{}", none)?;
     assert_eq!(rt; shogi.as_str(), "13 NoSuchMove");
+    Ok(())
+}
+
+#[test]
+fn answers_are_written(rt: HostRuntime) -> Result<(), Fail> {
+    let offer = format!(in rt.alloc(); "{}", Answer::Offered { ply: 5 })?;
+    assert_eq!(rt; offer.as_str(), "offer ply 5");
+    let agreed = Answer::Ended {
+        end: OutsideEnd::Agreed,
+        result: Score::Draw,
+    };
+    let text = format!(in rt.alloc(); "{}", Outcome::Accepted(agreed))?;
+    assert_eq!(rt; text.as_str(), "accepted end Agreed 1-1");
+    let resigned = Answer::Ended {
+        end: OutsideEnd::Resigned,
+        result: Score::SecondWins,
+    };
+    let text = format!(in rt.alloc(); "{}", Outcome::Repeated(resigned))?;
+    assert_eq!(rt; text.as_str(), "repeated end Resigned 0-2");
+    let refusal = Outcome::Refused(Refusal::NotInThisGame);
+    let text = format!(in rt.alloc(); "{}", refusal)?;
+    assert_eq!(rt; text.as_str(), "refused 63 NotInThisGame");
+    Ok(())
+}
+
+#[test]
+fn officers_do_not_play(rt: HostRuntime) -> Result<(), Fail> {
+    let first = GameCommand::Move {
+        ply: 1,
+        text: text(rt.alloc(), "32-28")?,
+    };
+    let officer = Caller::Officer;
+    assert_eq!(rt; refusal_without_game(officer, &first), Refusal::UnknownGame);
+    let resign = GameCommand::Resign;
+    assert_eq!(rt; refusal_without_game(officer, &resign), Refusal::NotAllowed);
+    let anna = Caller::Member(1);
+    assert_eq!(rt; refusal_without_game(anna, &resign), Refusal::UnknownGame);
+    assert_eq!(rt; first.asked_ply(), 1);
+    assert_eq!(rt; resign.asked_ply(), 0);
     Ok(())
 }

@@ -8,6 +8,7 @@ use Rattle.draughts_moves.specs.declared.checking.Illegal.{Illegal}
 use Rattle.draughts_moves.specs.declared.checking.Illegal.TheVariants as illegal
 use Rattle.draughts_moves.specs.Check.{check_of}
 use Rattle.draughts_moves.specs.Legal.{play}
+use Rattle.draughts_moves.specs.Listing.{move_cmp}
 use Rattle.draughts_draws.specs.declared.ends.DEnd.{DEnd}
 use Rattle.draughts_draws.specs.declared.ends.DEnd.TheVariants as draughts_end
 use Rattle.draughts_draws.specs.declared.tails.Tail.{Tail}
@@ -55,6 +56,7 @@ draughts = record {
   start = opening;
   turn = λ p. p.turn;
   check = λ p m. refused_by refusal_of (check_of p m);
+  move_order = move_cmp;
   same = same_move;
   same_position = same_position;
   play = play;

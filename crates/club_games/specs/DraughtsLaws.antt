@@ -1,5 +1,6 @@
 -- What holds of draughts as a game of the club.
-use Rattle.std.proofs.Common.{◌≡◌, ◌⊎◌, inl, inr, ℕ, zero, suc, ◌+◌, ◌-◌, ◌≤◌, ◌<◌, Bool, true, false, cond, not, nat_eq, nat_le, List, [], ◌∷◌, length, Option, Some, None, is_some, Ok, IsSome, refl, sym, ap, ◌∙◌, subst, arith, eqb-true, eq-eqb}
+use Rattle.std.proofs.Common.{Contains, ◌↔◌, ◌≡◌, ◌⊎◌, inl, inr, ℕ, zero, suc, ◌+◌, ◌-◌, ◌≤◌, ◌<◌, Bool, true, false, cond, not, nat_eq, nat_le, List, [], ◌∷◌, length, Option, Some, None, is_some, Ok, IsSome, refl, sym, ap, ◌∙◌, subst, arith, eqb-true, eq-eqb}
+use Rattle.std.specs.List.Sorted.{IsStrictlySortedBy}
 use Rattle.std.specs.Prelude.{if◌then◌else◌, count_by, map as list_map}
 use Rattle.std.specs.List.{range_with_len}
 use Rattle.std.specs.Ordering.{nat_cmp, eq_by_cmp}
@@ -33,6 +34,8 @@ use Rattle.pdn.specs.Laws.{IsOnBoard}
 use Rattle.pdn.specs.ReadFen.{IsFen}
 use Rattle.pdn.specs.MoveValue.{move_text}
 use Rattle.pdn.proofs.Proved.{quiet-on, same_move-same, same_move-itself, text-is, reads-back, reading-ok, fen-back, fen-one, Route-on}
+use Rattle.draughts_moves.specs.Listing.{move_cmp}
+use Rattle.club_rules.specs.Listed.{IsLegalList}
 use Rattle.club_rules.specs.Line.{position_after, positions, line_track}
 use Rattle.club_rules.specs.Line as game_line
 use Rattle.club_rules.specs.Laws.{FirstStarts, TurnPasses, ReadsBack, SameIs, SamePositionIs, EndsAtLimit, StandsForOne, WritesPositions, TextsTellPositions, TracksTellEnds, NumbersGiveTracks, TracksGiveNumbers, NumbersAreFew}
@@ -46,6 +49,10 @@ check-legal p m e = (check_of-is p m).legal.0 (passed-by refusal_of (check_of p 
 
 pub legal-check : (p : Position) (m : DMove) → Legal p m → draughts.check p m ≡ Ok tt
 legal-check p m legal = passes-by refusal_of (check_of p m) ((check_of-is p m).legal.1 legal)
+
+pub draughts-listed : (p : Position) (ms : List DMove) → IsStrictlySortedBy move_cmp ms → ((m : DMove) → Contains ms m ↔ Legal p m) → IsLegalList draughts p ms
+draughts-listed p ms in_order members =
+    record { in_order = in_order; members = λ m. ((λ listed. legal-check p m ((members m).0 listed)), (λ e. (members m).1 (check-legal p m e))) }
 
 pub draughts-first_starts : FirstStarts draughts
 unfolding opening

@@ -13,6 +13,7 @@ use Rattle.shogi_moves.specs.declared.checking.Illegal.{Illegal}
 use Rattle.shogi_moves.specs.declared.checking.Illegal.TheVariants as illegal
 use Rattle.shogi_moves.specs.Computed.{check_of}
 use Rattle.shogi_moves.specs.Rules.{play}
+use Rattle.shogi_moves.specs.Listing.{move_cmp}
 use Rattle.shogi_repetition.specs.declared.ends.SEnd.{SEnd}
 use Rattle.shogi_repetition.specs.declared.ends.SEnd.TheVariants as shogi_end
 use Rattle.shogi_repetition.specs.declared.tails.Tail.{Tail}
@@ -71,6 +72,7 @@ shogi = record {
   start = opening;
   turn = λ p. p.turn;
   check = λ p m. refused_by refusal_of (check_of p m);
+  move_order = move_cmp;
   same = same_move;
   same_position = same_shogi_position;
   play = play;

@@ -1,5 +1,6 @@
 -- What holds of shogi as a game of the club.
-use Rattle.std.proofs.Common.{◌≡◌, ℕ, ◌+◌, ◌-◌, ◌≤◌, ◌<◌, Bool, true, false, cond, not, ◌&&◌, nat_eq, List, [], ◌∷◌, length, take, Option, Some, None, Ok, IsSome, refl, sym, ap, ◌∙◌, arith, eqb-true, eq-eqb}
+use Rattle.std.proofs.Common.{Contains, ◌↔◌, ◌≡◌, ℕ, ◌+◌, ◌-◌, ◌≤◌, ◌<◌, Bool, true, false, cond, not, ◌&&◌, nat_eq, List, [], ◌∷◌, length, take, Option, Some, None, Ok, IsSome, refl, sym, ap, ◌∙◌, arith, eqb-true, eq-eqb}
+use Rattle.std.specs.List.Sorted.{IsStrictlySortedBy}
 use Rattle.std.specs.Prelude.{if◌then◌else◌, count_by, map as list_map}
 use Rattle.std.specs.List.{range_with_len}
 use Rattle.std.specs.Option.{option_map_or}
@@ -39,6 +40,8 @@ use Rattle.sfen.specs.SfenGrammar.{IsOnSquares}
 use Rattle.sfen.specs.UsiReading.{usi_reach}
 use Rattle.sfen.specs.UsiText.{IsOnBoard, usi_text}
 use Rattle.sfen.proofs.Proved.{usi_reading-text, position-alone, stands-for-one}
+use Rattle.shogi_moves.specs.Listing.{move_cmp}
+use Rattle.club_rules.specs.Listed.{IsLegalList}
 use Rattle.club_rules.specs.Line.{position_after, positions, line_track, FirstStands}
 use Rattle.club_rules.specs.Line as game_line
 use Rattle.club_rules.specs.Laws.{FirstStarts, TurnPasses, ReadsBack, SameIs, SamePositionIs, EndsAtLimit, StandsForOne, WritesPositions, TextsTellPositions, TracksTellEnds, NumbersGiveTracks, TracksGiveNumbers, NumbersAreFew}
@@ -52,6 +55,10 @@ check-legal p m e = (check_of-legal p m).0 (passed-by refusal_of (check_of p m) 
 
 pub legal-check : (p : ShogiPosition) (m : SMove) → Legal p m → shogi.check p m ≡ Ok tt
 legal-check p m legal = passes-by refusal_of (check_of p m) ((check_of-legal p m).1 legal)
+
+pub shogi-listed : (p : ShogiPosition) (ms : List SMove) → IsStrictlySortedBy move_cmp ms → ((m : SMove) → Contains ms m ↔ Legal p m) → IsLegalList shogi p ms
+shogi-listed p ms in_order members =
+    record { in_order = in_order; members = λ m. ((λ listed. legal-check p m ((members m).0 listed)), (λ e. (members m).1 (check-legal p m e))) }
 
 pub shogi-first_starts : FirstStarts shogi
 unfolding opening

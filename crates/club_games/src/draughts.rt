@@ -55,6 +55,13 @@ impl Rules for Draughts {
         }
     }
 
+    fn legal(alloc: Global, position: &DPos) -> Result<Vec<DMove>, Memory> {
+        match draughts_moves::legal(alloc, position) {
+            Ok(moves) => Ok(moves),
+            Err(_) => Err(Memory),
+        }
+    }
+
     fn same(a: &DMove, b: &DMove) -> bool {
         a == b
     }

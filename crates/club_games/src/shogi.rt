@@ -66,6 +66,13 @@ impl Rules for Shogi {
         }
     }
 
+    fn legal(alloc: Global, position: &SPos) -> Result<Vec<SMove>, Memory> {
+        match shogi_moves::legal(alloc, position) {
+            Ok(moves) => Ok(moves),
+            Err(_) => Err(Memory),
+        }
+    }
+
     fn same(a: &SMove, b: &SMove) -> bool {
         is_same(a, b)
     }

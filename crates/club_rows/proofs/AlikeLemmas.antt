@@ -1,11 +1,8 @@
 -- Legal games with the same rows are one, and so are legal clubs.
-use Rattle.std.proofs.Common.{◌≡◌, ℕ, zero, suc, pos, List, [], ◌∷◌, ◌++◌, length, map, Option, Some, None, Result, Ok, refl, ap, sym, ◌∙◌, subst, arith}
+use Rattle.std.proofs.Common.{◌≡◌, ℕ, pos, List, [], ◌∷◌, ◌++◌, map, Option, Some, None, Result, Ok, refl, ap, sym, ◌∙◌, subst, arith}
 use Rattle.std.specs.Prelude.{IsSome}
-use Rattle.std.specs.Option.{option_map}
-use Rattle.sqlite_value.specs.declared.value.Value.{Value}
-use Rattle.sqlite_value.specs.declared.value.Value.TheVariants.{Int, Text}
+use Rattle.sqlite_value.specs.declared.value.Value.TheVariants.{Text}
 use Rattle.sqlite.specs.Values.{or_null}
-use Rattle.sqlite.specs.Order.{Row}
 use Rattle.squares.specs.declared.sides.Side.{Side}
 use Rattle.squares.specs.declared.sides.Side.TheVariants.{First, Second}
 use Rattle.squares.specs.declared.sides.Score.{Score}
@@ -18,11 +15,12 @@ use Rattle.club_core.specs.declared.rows.Offer.{Offer}
 use Rattle.club_core.specs.declared.rows.OutsideEnd.{OutsideEnd}
 use Rattle.club_core.specs.declared.rows.OutsideEnd.TheVariants.{Resigned, Agreed, Time, Recorded}
 use Rattle.club_core.specs.Events.{Terms}
-use Rattle.club_core.specs.Game.{Entry, Game, end_with, score_with, rule_end, end_of, result_of, turn_of, last_position, moves_of}
+use Rattle.club_core.specs.Game.{Entry, Game, end_with, score_with, rule_end, end_of, result_of, turn_of, last_position}
 use Rattle.club_core.specs.Legal.{IsLegalGame}
-use Rattle.club_rows.specs.Tables.{game_row, move_rows, entry_row, entry_rows, with_entry, at_start, number, side_number, outside_text, end_name_text}
+use Rattle.club_core.specs.OutsideEnd.{outside_text}
+use Rattle.club_rows.specs.Tables.{game_row, move_rows, entry_row, entry_rows, with_entry, at_start, number, side_number, end_name_text}
 use Rattle.club_rows.proofs.NextLemmas.{six-parts}
-use Rattle.club_rows.proofs.SameLemmas.{seventeen-parts, same-int, same-bytes, same-texts, same-ints, option_map-itself}
+use Rattle.club_rows.proofs.SameLemmas.{seventeen-parts, same-int, same-bytes, same-texts, option_map-itself}
 use Rattle.club_rows.proofs.ToldLemmas.{same-pos}
 use Rattle.club_rows.proofs.WholeLemmas.{rows-alike}
 

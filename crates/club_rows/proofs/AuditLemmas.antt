@@ -7,15 +7,12 @@ use Rattle.std.proofs.lemmas.List.{map-append, append-nil, take_all}
 use Rattle.std.proofs.lemmas.Option.{same_Some, slice_get_within}
 use Rattle.sqlite_value.specs.declared.value.Value.TheVariants.{Int}
 use Rattle.sqlite.specs.Order.{Row, column}
-use Rattle.squares.specs.declared.draughts.moves.DMove.{DMove}
-use Rattle.club_rules.specs.declared.names.GameKind.TheVariants.{Draughts, Shogi}
 use Rattle.club_rules.specs.GameRules.{GameRules}
 use Rattle.club_core.specs.Events.{Event, Terms}
 use Rattle.club_core.specs.Game.{Entry, Game}
-use Rattle.club_core.specs.LegalState.{Each, AreApartIfAny, IsGameOf, IsLegalIn}
+use Rattle.club_core.specs.LegalState.{Each, AreApartIfAny, IsLegalIn}
 use Rattle.club_core.specs.State.{draughts, shogi, place, terms_at, key_of}
 use Rattle.club_core.proofs.Lists.{each-append}
-use Rattle.club_core.proofs.LegalSteps.{in-place}
 use Rattle.store_tables.specs.Cells.{move_cells, game_cells}
 use Rattle.store_tables.specs.declared.rows.GameRecord.{GameRecord}
 use Rattle.store_tables.specs.declared.rows.MoveRow.{MoveRow}
@@ -24,7 +21,7 @@ use Rattle.club_rows.specs.Audit.{HasPeople, IsGameAt, AreGames}
 use Rattle.club_rows.specs.Club.{both_games, ClubGame, ClubState, IsClub, IsStoredAs}
 use Rattle.club_rows.specs.Tables.{entry_rows, with_entry, gathered_from, numbered_from, row_of_game, rows_of_moves}
 use Rattle.club_rows.proofs.PlacedLemmas.{numbered-at, numbered-back, numbered-length, numbered-append}
-use Rattle.club_rows.proofs.ToldLemmas.{IsToldBy, columns-told}
+use Rattle.club_rows.proofs.ToldLemmas.{columns-told}
 
 -- ---- lists
 
@@ -124,9 +121,8 @@ module _ (s : ClubState) where
   pub shown-start : (games : List GameRecord) (moves : List MoveRow) → WereShown s games moves 0 moves
   shown-start games moves = record { shown = []; count = refl; legal = λ n x at. cc; rows_are = refl; moves_are = refl }
 
-  pub shown-more : (games : List GameRecord) (moves : List MoveRow) (index : ℕ) (rest own others : List MoveRow) (row : GameRecord) → WereShown s games moves index rest → slice_get games index ≡ Some row → rest ≡ own ++ others → (g : Game DMove) × IsGameAt s (index + 1) row own g → WereShown s games moves (index + 1) others
-  shown-more games moves index rest own others row was at parts (g, is) =
-      let any : ClubGame = draughts g in
+  pub shown-more : (games : List GameRecord) (moves : List MoveRow) (index : ℕ) (rest own others : List MoveRow) (row : GameRecord) → WereShown s games moves index rest → slice_get games index ≡ Some row → rest ≡ own ++ others → (g : ClubGame) × IsGameAt s (index + 1) row own g → WereShown s games moves (index + 1) others
+  shown-more games moves index rest own others row was at parts (any, is) =
       let place_is : 1 + length was.shown ≡ index + 1 = ap (λ n. 1 + n) was.count ∙ same-step index in
       record {
         shown = was.shown ++ any ∷ [];
@@ -159,24 +155,19 @@ module _ (s : ClubState) where
     },
   )
 
-  -- each game is one of draughts
-  draughts-alone : (rows : Rows) → HasPeople s rows → (any : ClubGame) → IsLegalIn both_games s any → (g : Game DMove) × (any ≡ draughts g) × IsGameOf both_games.draughts Draughts s g
-  draughts-alone rows people (draughts g) legal = (g, refl, legal)
-  draughts-alone rows people (shogi g) legal =
-      let of = in-place (λ x. x.game ≡ Draughts) s.events g.event legal.event people.events.of_draughts legal.in_event in
-      let is : Draughts ≡ Shogi = sym of ∙ legal.of_kind in
-      absurd cc
+  -- the row of a game has its id
+  id-told : (id : ℕ) (row : GameRecord) (any : ClubGame) → game_cells row ≡ row_of_game both_games s.events id any → row.id ≡ pos id
+  id-told id row (draughts g) cells = let told = columns-told both_games.draughts (terms_at (place s.events g.event)) id g row cells in told.numbers.id
+  id-told id row (shogi g) cells = let told = columns-told both_games.shogi (terms_at (place s.events g.event)) id g row cells in told.numbers.id
 
   -- the next row is that of the next game, the moves that begin with it are the game's, and the others are left
   pub left-more : (rows : Rows) → HasPeople s rows → (all : List ClubGame) (games : List GameRecord) (moves : List MoveRow) → AreGames s all games moves → (index : ℕ) (rest own others : List MoveRow) (row : GameRecord) → AreLeft s all index rest → slice_get games index ≡ Some row → rest ≡ own ++ others
       → Each (λ r. r.game ≡ row.id) own → ((r : MoveRow) → slice_get others 0 ≡ Some r → r.game ≢ row.id)
-      → (index < length all) × ((g : Game DMove) × IsGameAt s (index + 1) row own g) × AreLeft s all (index + 1) others
+      → (index < length all) × ((g : ClubGame) × IsGameAt s (index + 1) row own g) × AreLeft s all (index + 1) others
   left-more rows people all games moves are index rest own others row left at parts of_game of_others =
       let (any, stands, cells) = numbered-at game_cells (row_of_game both_games s.events) 1 games all are.rows_are index row at in
-      let (g, is_draughts, legal) = draughts-alone rows people any (are.legal index any stands) in
-      let row_is : game_cells row ≡ row_of_game both_games s.events (index + 1) (draughts g) = cells ∙ (λ i. row_of_game both_games s.events (same-step index i) (is_draughts i)) in
-      let told : IsToldBy both_games.draughts (index + 1) g row = columns-told both_games.draughts (terms_at (place s.events g.event)) (index + 1) g row row_is in
-      let id : row.id ≡ pos (index + 1) = told.numbers.id in
+      let row_is : game_cells row ≡ row_of_game both_games s.events (index + 1) any = cells ∙ (λ i. row_of_game both_games s.events (same-step index i) any) in
+      let id : row.id ≡ pos (index + 1) = id-told (index + 1) row any row_is in
       let rows_of = rows_of_moves both_games s.events in
       let whole : map move_cells own ++ map move_cells others ≡ rows_of (index + 1) any ++ gathered_from rows_of (suc (index + 1)) (drop (suc index) all) =
       sym (map-append move_cells own others) ∙ (sym (ap (map move_cells) parts) ∙ (left ∙ ap (gathered_from rows_of (index + 1)) (drop-got all index any stands))) in
@@ -187,7 +178,7 @@ module _ (s : ClubState) where
       (others-begin s.events (index + 1) (suc (index + 1)) (drop (suc index) all) (omega arith))
       whole in (
         slice_get_within all index any stands,
-        (g, record { legal = legal; row_is = row_is; moves_are = split.0 ∙ ap (rows_of (index + 1)) is_draughts }),
+        (any, record { legal = are.legal index any stands; row_is = row_is; moves_are = split.0 }),
         split.1 ∙ (λ i. gathered_from rows_of (suc-step (index + 1) i) (drop (suc-step index i) all)),
       )
 
@@ -228,22 +219,22 @@ module _ (s : ClubState) (games : List ClubGame) (rows : List GameRecord) (rows_
 pub people-of : (s : ClubState) (rows : Rows) → IsClub s → IsStoredAs s rows → HasPeople s rows
 people-of s rows club stored = record {
   moment = stored.last;
-  within = club.legal.last;
-  members = record { rows_are = stored.members; legal = club.legal.members; count = club.legal.member_count; names = club.legal.member_names; keys = club.legal.member_keys };
-  events = record { rows_are = stored.events; legal = club.legal.events; of_draughts = club.kinds; count = club.legal.event_count; names = club.legal.event_names };
+  within = club.last;
+  members = record { rows_are = stored.members; legal = club.members; count = club.member_count; names = club.member_names; keys = club.member_keys };
+  events = record { rows_are = stored.events; legal = club.events; count = club.event_count; names = club.event_names };
 }
 
 pub games-of : (s : ClubState) (rows : Rows) → IsClub s → IsStoredAs s rows → AreGames s s.games rows.games.items rows.moves.items
-games-of s rows club stored = record { rows_are = stored.games; moves_are = stored.moves; legal = club.legal.games }
+games-of s rows club stored = record { rows_are = stored.games; moves_are = stored.moves; legal = club.games }
 
 pub games-count : (s : ClubState) (rows : Rows) → IsClub s → IsStoredAs s rows → length rows.games.items ≤ 5000
 games-count s rows club stored =
     let same = numbered-length game_cells (row_of_game both_games s.events) 1 rows.games.items s.games stored.games in
-    let most = club.legal.game_count in
+    let most = club.game_count in
     omega (arith, same, most)
 
 pub keys-apart : (s : ClubState) (rows : Rows) → IsClub s → IsStoredAs s rows → AreApartIfAny key_in rows.games.items
-keys-apart s rows club stored = keys-in s s.games rows.games.items stored.games club.legal.game_keys
+keys-apart s rows club stored = keys-in s s.games rows.games.items stored.games club.game_keys
 
 -- a game of a club is a game of a club with the same members and events
 game-elsewhere : (s : ClubState) (games : List ClubGame) (any : ClubGame) → IsLegalIn both_games s any → IsLegalIn both_games (record s { games = games }) any
@@ -279,20 +270,17 @@ club-of s rows people games are few apart challenges seen scores =
     let t : ClubState = record s { games = games } in (
       t,
       record {
-        legal = record {
-          last = people.within;
-          members = people.members.legal;
-          member_count = people.members.count;
-          member_names = people.members.names;
-          member_keys = people.members.keys;
-          events = people.events.legal;
-          event_count = people.events.count;
-          event_names = people.events.names;
-          games = λ n any at. game-elsewhere s games any (are.legal n any at);
-          game_count = omega (arith, numbered-length game_cells (row_of_game both_games s.events) 1 rows.games.items games are.rows_are, few);
-          game_keys = keys-of s games rows.games.items are.rows_are apart;
-        };
-        kinds = people.events.of_draughts;
+        last = people.within;
+        members = people.members.legal;
+        member_count = people.members.count;
+        member_names = people.members.names;
+        member_keys = people.members.keys;
+        events = people.events.legal;
+        event_count = people.events.count;
+        event_names = people.events.names;
+        games = λ n any at. game-elsewhere s games any (are.legal n any at);
+        game_count = omega (arith, numbered-length game_cells (row_of_game both_games s.events) 1 rows.games.items games are.rows_are, few);
+        game_keys = keys-of s games rows.games.items are.rows_are apart;
       },
       record {
         last = people.moment;

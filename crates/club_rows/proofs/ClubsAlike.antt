@@ -1,22 +1,21 @@
 -- Legal clubs with the same tables are one.
-use Rattle.std.proofs.Common.{◌≡◌, ℕ, zero, suc, pos, List, [], ◌∷◌, ◌++◌, length, Option, Some, None, Ok, refl, ap, sym, ◌∙◌, subst}
-use Rattle.std.specs.Prelude.{slice_get}
+use Rattle.std.proofs.Common.{◌≡◌, ℕ, zero, suc, List, [], ◌∷◌, ◌++◌, length, refl, ap, sym, ◌∙◌, subst}
 use Rattle.sqlite_value.specs.declared.value.Value.{Value}
-use Rattle.sqlite_value.specs.declared.value.Value.TheVariants.{Int, Text}
 use Rattle.sqlite.specs.Order.{Row}
 use Rattle.club_rules.specs.declared.names.GameKind.{GameKind}
 use Rattle.club_rules.specs.declared.names.GameKind.TheVariants.{Draughts, Shogi}
 use Rattle.club_rules.specs.Laws.{ReadsBack}
 use Rattle.club_core.specs.ClubRules.{ClubRules}
 use Rattle.club_core.specs.Members.{Member}
-use Rattle.club_core.specs.Events.{Terms, Event}
+use Rattle.club_core.specs.Events.{Event}
 use Rattle.club_core.specs.Game.{Game}
 use Rattle.club_core.specs.Legal.{IsLegalGame}
 use Rattle.club_core.specs.LegalState.{Each, IsGameOf, IsLegalState}
 use Rattle.club_core.specs.State.{AnyGame, draughts, shogi, State, place, terms_at, kind_at}
-use Rattle.club_rows.specs.Tables.{number, kind_number, member_row, event_row, game_row, move_rows, at_start, row_of_game, rows_of_moves, numbered_from, gathered_from, tables_of}
-use Rattle.club_rows.proofs.SameLemmas.{seventeen-parts, same-int, same-bytes}
+use Rattle.club_rows.specs.Tables.{number, member_row, event_row, game_row, move_rows, at_start, row_of_game, rows_of_moves, numbered_from, gathered_from, tables_of}
+use Rattle.club_rows.proofs.SameLemmas.{seventeen-parts, same-bytes}
 use Rattle.club_rows.proofs.WholeLemmas.{rows-count}
+use Rattle.club_rows.proofs.KindLemmas.{kinds-alike}
 use Rattle.club_rows.proofs.AlikeLemmas.{heads-alike, tails-alike, numbers-alike, games-alike}
 
 -- ---- lists of rows
@@ -57,12 +56,6 @@ members-alike id m n is =
     let name = same-bytes m.name n.name (heads-alike _ _ _ _ rest) in
     let key = same-bytes m.key n.key (heads-alike _ _ _ _ (tails-alike _ _ _ _ rest)) in
     λ i. record { name = name i; key = key i }
-
-kinds-alike : (a b : GameKind) → kind_number a ≡ kind_number b → a ≡ b
-kinds-alike Draughts Draughts is = refl
-kinds-alike Shogi Shogi is = refl
-kinds-alike Draughts Shogi is = cc
-kinds-alike Shogi Draughts is = cc
 
 events-alike : (id : ℕ) (d e : Event) → event_row id d ≡ event_row id e → d ≡ e
 events-alike id d e is =

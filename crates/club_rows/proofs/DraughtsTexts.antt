@@ -1,5 +1,5 @@
 -- The texts of draughts are in ASCII.
-use Rattle.std.proofs.Common.{◌≡◌, ℕ, zero, suc, ◌+◌, ◌/◌, ◌%◌, ◌<◌, ◌≤◌, List, [], ◌∷◌, ◌++◌, Option, Some, None, Result, Bool, true, false, cond, Ok, Err, ◌⊎◌, inl, inr, refl, sym, subst, arith, nat_lt}
+use Rattle.std.proofs.Common.{◌≡◌, ℕ, zero, suc, ◌+◌, ◌/◌, ◌%◌, ◌≤◌, List, [], ◌∷◌, ◌++◌, Option, Some, None, Bool, true, false, cond, Ok, Err, inl, inr, refl, sym, subst, arith, nat_lt}
 use Rattle.std.specs.Prelude.{IfSome}
 use Rattle.std.specs.List.{AllByRecursion, cons_option, filter_map, join_with_byte, range_with_len}
 use Rattle.std.specs.FinMap as finite_map
@@ -12,10 +12,9 @@ use Rattle.squares.specs.DraughtsBoard.{Board, Position}
 use Rattle.pdn.specs.FenText.{side_letter, piece_text, piece_of, pieces_on, all_squares, fen_text}
 use Rattle.pdn.specs.Forms.{Form, FormReading, quiet, capture, read_form}
 use Rattle.pdn.specs.Grammar.{IsSquareText, AreLandings, HasForm}
-use Rattle.pdn.specs.MoveValue.{Reading, move_reading, move_text, with_form}
+use Rattle.pdn.specs.MoveValue.{move_reading, move_text, with_form}
 use Rattle.pdn.specs.SquareText.{square_text}
 use Rattle.pdn.proofs.GrammarLemmas.{read_form-text}
-use Rattle.club_rules.specs.declared.refusals.MoveRefusal.{MoveRefusal}
 use Rattle.club_games.specs.Draughts.{draughts, move_read}
 use Rattle.club_games.specs.DraughtsLaws.{draughts-reads_back}
 use Rattle.club_rows.proofs.PlainTexts.{Plain, plain-append, ArePlain}

@@ -3,14 +3,11 @@ use Rattle.std.proofs.Common.{◌≡◌, ℕ, zero, suc, pos, ◌+◌, ◌<◌, 
 use Rattle.std.specs.Prelude.{slice_get, IsSome}
 use Rattle.std.specs.Option.{option_map}
 use Rattle.std.proofs.lemmas.Option.{same_Some, slice_get-map}
-use Rattle.squares.specs.DraughtsBoard.{Position}
-use Rattle.squares.specs.declared.draughts.moves.DMove.{DMove}
 use Rattle.squares.specs.declared.sides.Side.{Side}
-use Rattle.squares.specs.declared.sides.Side.TheVariants.{First, Second}
+use Rattle.squares.specs.declared.sides.Side.TheVariants.{First}
 use Rattle.squares.specs.Sides.{other}
-use Rattle.draughts_draws.specs.declared.ends.DEnd.{DEnd}
-use Rattle.draughts_draws.specs.declared.tails.Tail.{Tail}
-use Rattle.club_rules.specs.declared.names.GameKind.TheVariants.{Draughts}
+use Rattle.club_rules.specs.declared.names.GameKind.{GameKind}
+use Rattle.club_rules.specs.declared.names.GameKind.TheVariants.{Draughts, Shogi}
 use Rattle.club_rules.specs.GameRules.{GameRules}
 use Rattle.club_core.specs.declared.rows.GameEnd.TheVariants.{Outside}
 use Rattle.club_core.specs.declared.rows.GameView.{GameView}
@@ -20,8 +17,8 @@ use Rattle.club_core.specs.Members.{Member}
 use Rattle.club_core.specs.Events.{Event, Terms}
 use Rattle.club_core.specs.Game.{Entry, Game, Clocks, clocks_of, end_with, left_of, moments_of, opening_clocks, rule_end, spend, spend_all, turn_of}
 use Rattle.club_core.specs.Legal.{IsTimely, IsLegalGame}
-use Rattle.club_core.specs.LegalState.{Each}
-use Rattle.club_core.specs.State.{place, terms_at}
+use Rattle.club_core.specs.LegalState.{Each, IsGameOf}
+use Rattle.club_core.specs.State.{draughts, shogi, place, kind_at, terms_at}
 use Rattle.club_core.specs.View.{IsRowOf, Shows, clocks_in, terms_of}
 use Rattle.club_core.proofs.LegalSteps.{in-place}
 use Rattle.store_tables.specs.Cells.{event_cells}
@@ -31,11 +28,12 @@ use Rattle.store_tables.specs.declared.rows.MemberRow.{MemberRow}
 use Rattle.store_tables.specs.declared.rows.MoveRow.{MoveRow}
 use Rattle.store_tables.specs.declared.rows.Rows.{Rows}
 use Rattle.store_tables.specs.Cells.{member_cells}
-use Rattle.club_rows.specs.Audit.{AreMembers, AreEvents, GivesTerms, HasPeople, NamesEvent, IsWithin, IsGameAt}
-use Rattle.club_rows.specs.Club.{both_games, ClubState}
+use Rattle.club_rows.specs.Audit.{AreMembers, AreEvents, GivesTerms, HasPeople, NamesEvent, IsWithin, EndsBy, HaveGame, IsGameAt}
+use Rattle.club_rows.specs.Club.{ClubGame, ClubState}
 use Rattle.club_rows.specs.Replay.{terms_with}
 use Rattle.club_rows.specs.Shown.{AreRowsOf}
-use Rattle.club_rows.specs.Tables.{event_row, member_row, game_row, move_rows}
+use Rattle.club_rows.specs.Tables.{event_row, member_row, kind_number, game_row, move_rows}
+use Rattle.club_rows.proofs.KindLemmas.{Kind, event_in, in_draughts, in_shogi, kinds-alike}
 use Rattle.club_rows.proofs.PeopleLemmas.{EventParts, event-parts}
 use Rattle.club_rows.proofs.PlacedLemmas.{numbered-at, numbered-back, numbered-length}
 use Rattle.club_rows.proofs.ToldLemmas.{IsToldBy, columns-told, same-pos, since-rises, spend-since}
@@ -141,17 +139,22 @@ module _ {R P M E T : Type 0} (rules : GameRules P M E T) (terms : Terms) (game 
   left-is : left_of (rules.turn view.position) (clocks_in view.row) ≡ left_of (turn_of rules game) (clocks_of game terms)
   left-is = λ i. left_of (rules.turn (shows.position i)) (row-of.clocks i)
 
-  pub time-lost : (last : ℕ) → IsLegalGame rules terms game → IsWithin rules view last → game.outside ≡ Some Time → (clocks_of game terms).since + left_of (turn_of rules game) (clocks_of game terms) < last
-  time-lost last legal within lost =
-      let late = within.lost_by_time (row-of.end ∙ outside-end (rule_end rules game) game.outside Time (legal.outside_alone (some-is game.outside Time lost)) lost) in
-      subst (λ n. n < last) (λ i. since-is i + left-is i) late
+  -- a game whose view is within the last moment ends by it
+  pub ends-by : (last : ℕ) → IsLegalGame rules terms game → IsWithin rules view last → EndsBy rules terms last game
+  ends-by last legal within = record {
+    start = start-within last legal within.since;
+    entries = entries-within last legal within.since;
+    lost_by_time = λ lost.
+        let late = within.lost_by_time (row-of.end ∙ outside-end (rule_end rules game) game.outside Time (legal.outside_alone (some-is game.outside Time lost)) lost) in
+        subst (λ n. n < last) (λ i. since-is i + left-is i) late;
+  }
 
-  pub view-within : (last : ℕ) → game.start ≤ last → Each (λ e. e.moment ≤ last) game.entries → (game.outside ≡ Some Time → (clocks_of game terms).since + left_of (turn_of rules game) (clocks_of game terms) < last) → IsWithin rules view last
-  view-within last start entries lost = record {
+  pub view-within : (last : ℕ) → EndsBy rules terms last game → IsWithin rules view last
+  view-within last ends = record {
     since =
-        let most = since-within terms.increment First (moments_of game) (opening_clocks game terms) last start (λ n m at. let (e, stands, is) = moment-in game.entries n m at in subst (λ k. k ≤ last) is (entries n e stands)) in
+        let most = since-within terms.increment First (moments_of game) (opening_clocks game terms) last ends.start (λ n m at. let (e, stands, is) = moment-in game.entries n m at in subst (λ k. k ≤ last) is (ends.entries n e stands)) in
         omega (arith, most, since-is);
-    lost_by_time = λ end. subst (λ n. n < last) (λ i. sym since-is i + sym left-is i) (lost (end-outside (rule_end rules game) game.outside Time (sym row-of.end ∙ end)));
+    lost_by_time = λ end. subst (λ n. n < last) (λ i. sym since-is i + sym left-is i) (ends.lost_by_time (end-outside (rule_end rules game) game.outside Time (sym row-of.end ∙ end)));
   }
 
 -- ---- a game of the club
@@ -162,15 +165,20 @@ terms-are e row id budget increment parts gives =
     let i : e.terms.increment ≡ increment = same-pos _ _ (sym parts.increment_is ∙ gives.increment_is) in
     λ j. record { budget = b j; increment = i j }
 
+-- the row has the number of this kind
+abbrev pub HasKind : EventRow → GameKind → Type 0
+HasKind row kind = row.game ≡ pos (kind_number kind)
+
 module _ (s : ClubState) (rows : Rows) (people : HasPeople s rows) (index : ℕ) (row : GameRecord) (moves : List MoveRow) where
-  -- the rows of a game whose view is sound, and within the last moment, are those of a game of the club
-  pub game-shown : {R : Type 0} (event first second : ℕ) (e : EventRow) (budget increment : ℕ) (view : GameView R Position DMove DEnd Tail) → NamesEvent rows row event first second e → GivesTerms e budget increment → row.id ≡ pos (index + 1)
-      → (id : ℕ) × (game : Game DMove) × AreRowsOf both_games.draughts (terms_with budget increment) id row moves game × (terms_of view ≡ terms_with budget increment) × Shows both_games.draughts game view
-      → IsWithin both_games.draughts view s.last → (g : Game DMove) × IsGameAt s (index + 1) row moves g
-  game-shown event first second e budget increment view named gives id_is (id, game, are, terms_are, shows) within =
+  -- the rows of a game of one kind that is played in an event of this kind are those of a game of the club
+  pub game-shown : {P M E T : Type 0} {rules : GameRules P M E T} {kind : GameKind} → Kind rules kind → (event first second : ℕ) (e : EventRow) (budget increment : ℕ) → NamesEvent rows row event first second e → GivesTerms e budget increment → HasKind e kind → row.id ≡ pos (index + 1)
+      → HaveGame rules (terms_with budget increment) s.last row moves → (g : ClubGame) × IsGameAt s (index + 1) row moves g
+  game-shown {rules = rules} {kind = kind} k event first second e budget increment named gives has_kind id_is have =
       let terms = terms_with budget increment in
-      let told : IsToldBy both_games.draughts id game row = columns-told both_games.draughts terms id game row are.row in
-      let id_same : id ≡ index + 1 = same-pos _ _ (sym told.numbers.id ∙ id_is) in
+      let game = have.game in
+      let are = have.are in
+      let told : IsToldBy rules have.id game row = columns-told rules terms have.id game row are.row in
+      let id_same : have.id ≡ index + 1 = same-pos _ _ (sym told.numbers.id ∙ id_is) in
       let event_same : game.event ≡ event = same-pos _ _ (sym told.numbers.event ∙ named.event_is) in
       let first_same : game.first ≡ first = same-pos _ _ (sym told.numbers.first ∙ named.first_is) in
       let second_same : game.second ≡ second = same-pos _ _ (sym told.numbers.second ∙ named.second_is) in
@@ -179,39 +187,40 @@ module _ (s : ClubState) (rows : Rows) (people : HasPeople s rows) (index : ℕ)
       let same : known.terms ≡ terms = terms-are known e event budget increment parts gives in
       let by : terms_at (place s.events game.event) ≡ terms = ap terms_at stands ∙ same in
       let count = same-count s.members rows.members.items people.members in (
-        game,
+        k.into game,
         record {
-          legal = record {
+          legal = k.is_legal s game (record {
             event = known;
             in_event = stands;
-            of_kind = in-place (λ x. x.game ≡ Draughts) s.events event known people.events.of_draughts at;
-            legal = subst (λ t. IsLegalGame both_games.draughts t game) (sym same) are.legal;
+            of_kind = kinds-alike known.game kind (same-pos _ _ (sym parts.game_is ∙ has_kind));
+            legal = subst (λ t. IsLegalGame rules t game) (sym same) are.legal;
             first = subst (λ n. IsSome (place s.members n)) (sym first_same) (placed-some s.members first named.first_low (omega (arith, named.first_high, count)));
             second = subst (λ n. IsSome (place s.members n)) (sym second_same) (placed-some s.members second named.second_low (omega (arith, named.second_high, count)));
             key = are.fits.key;
-            start = start-within both_games.draughts terms game view shows terms_are s.last are.legal within.since;
-            entries = entries-within both_games.draughts terms game view shows terms_are s.last are.legal within.since;
-            lost_by_time = subst (λ t. game.outside ≡ Some Time → (clocks_of game t).since + left_of (turn_of both_games.draughts game) (clocks_of game t) < s.last) (sym same) (time-lost both_games.draughts terms game view shows terms_are s.last are.legal within);
-          };
-          row_is = are.row ∙ (λ i. game_row both_games.draughts (sym by i) (id_same i) game);
-          moves_are = are.moves ∙ (λ i. move_rows both_games.draughts (sym by i) (id_same i) game);
+            start = have.within.start;
+            entries = have.within.entries;
+            lost_by_time = subst (λ t. game.outside ≡ Some Time → (clocks_of game t).since + left_of (turn_of rules game) (clocks_of game t) < s.last) (sym same) have.within.lost_by_time;
+          });
+          row_is = are.row ∙ ((λ i. game_row rules (sym by i) (id_same i) game) ∙ sym (k.row s.events (index + 1) game));
+          moves_are = are.moves ∙ ((λ i. move_rows rules (sym by i) (id_same i) game) ∙ sym (k.moves s.events (index + 1) game));
         },
       )
 
-  module _ (g : Game DMove) (is : IsGameAt s (index + 1) row moves g) where
-    told-at : IsToldBy both_games.draughts (index + 1) g row
-    told-at = columns-told both_games.draughts (terms_at (place s.events g.event)) (index + 1) g row is.row_is
+  -- what the rows tell of a game of one kind
+  module _ {P M E T : Type 0} {rules : GameRules P M E T} {kind : GameKind} (k : Kind rules kind) (g : Game M) (is : IsGameAt s (index + 1) row moves (k.into g)) where
+    abbrev pub of-game : IsGameOf rules kind s g
+    of-game = k.legal s g is.legal
 
-    pub id-at : row.id ≡ pos (index + 1)
-    id-at = told-at.numbers.id
+    told-at : IsToldBy rules (index + 1) g row
+    told-at = columns-told rules (terms_at (place s.events g.event)) (index + 1) g row (is.row_is ∙ k.row s.events (index + 1) g)
 
     -- the game's event has a row, and its players exist
-    pub names-event : (e : EventRow) × NamesEvent rows row g.event g.first g.second e × EventParts g.event is.legal.event e
+    pub names-event : (e : EventRow) × NamesEvent rows row g.event g.first g.second e
     names-event =
-        let (e, stands, parts) = event-back s.events rows.events.items people.events g.event is.legal.event is.legal.in_event in
+        let (e, stands, parts) = event-back s.events rows.events.items people.events g.event of-game.event of-game.in_event in
         let count = same-count s.members rows.members.items people.members in
-        let one = some-placed s.members g.first is.legal.first in
-        let two = some-placed s.members g.second is.legal.second in (
+        let one = some-placed s.members g.first of-game.first in
+        let two = some-placed s.members g.second of-game.second in (
           e,
           record {
             event_is = told-at.numbers.event;
@@ -223,58 +232,92 @@ module _ (s : ClubState) (rows : Rows) (people : HasPeople s rows) (index : ℕ)
             second_low = two.0;
             second_high = omega (arith, two.1, count);
           },
-          parts,
         )
 
-    -- the row that is named is that of the game's event
-    named-parts : (event first second : ℕ) (e : EventRow) → NamesEvent rows row event first second e → EventParts g.event is.legal.event e
-    named-parts event first second e named =
-        let same : event ≡ g.event = same-pos _ _ (sym named.event_is ∙ told-at.numbers.event) in
-        let (known, at, parts) = event-at s.events rows.events.items people.events g.event e (subst (λ n. place rows.events.items n ≡ Some e) same named.row_is) in
-        subst (λ x. EventParts g.event x e) (same_Some known is.legal.event (sym at ∙ is.legal.in_event)) parts
+    module _ (event first second : ℕ) (e : EventRow) (named : NamesEvent rows row event first second e) where
+      -- the row that is named is that of the game's event
+      named-parts : EventParts g.event of-game.event e
+      named-parts =
+          let same : event ≡ g.event = same-pos _ _ (sym named.event_is ∙ told-at.numbers.event) in
+          let (known, at, parts) = event-at s.events rows.events.items people.events g.event e (subst (λ n. place rows.events.items n ≡ Some e) same named.row_is) in
+          subst (λ x. EventParts g.event x e) (same_Some known of-game.event (sym at ∙ of-game.in_event)) parts
 
-    -- the event gives seconds
-    pub gives-terms : (event first second : ℕ) (e : EventRow) → NamesEvent rows row event first second e → GivesTerms e is.legal.event.terms.budget is.legal.event.terms.increment
-    gives-terms event first second e named =
-        let parts = named-parts event first second e named in
-        let legal = in-place _ s.events g.event is.legal.event people.events.legal is.legal.in_event in
-        record { budget_is = parts.budget_is; increment_is = parts.increment_is; has_budget = legal.budget; has_increment = legal.increment }
+      -- the event gives seconds
+      pub gives-terms : GivesTerms e of-game.event.terms.budget of-game.event.terms.increment
+      gives-terms =
+          let parts = named-parts in
+          let legal = in-place _ s.events g.event of-game.event people.events.legal of-game.in_event in
+          record { budget_is = parts.budget_is; increment_is = parts.increment_is; has_budget = legal.budget; has_increment = legal.increment }
 
-    module _ (event first second : ℕ) (e : EventRow) (named : NamesEvent rows row event first second e) (budget increment : ℕ) (gives : GivesTerms e budget increment) where
-      known-terms : is.legal.event.terms ≡ terms_with budget increment
-      known-terms = terms-are is.legal.event e g.event budget increment (named-parts event first second e named) gives
+      pub has-kind : HasKind e kind
+      has-kind = named-parts.game_is ∙ ap (λ x. pos (kind_number x)) of-game.of_kind
 
-      by-terms : terms_at (place s.events g.event) ≡ terms_with budget increment
-      by-terms = ap terms_at is.legal.in_event ∙ known-terms
+      module _ (budget increment : ℕ) (gives : GivesTerms e budget increment) where
+        known-terms : of-game.event.terms ≡ terms_with budget increment
+        known-terms = terms-are of-game.event e g.event budget increment named-parts gives
 
-      -- the rows are those of a legal game by these seconds
-      pub rows-of : index < 5000 → AreRowsOf both_games.draughts (terms_with budget increment) (index + 1) row moves g
-      rows-of low =
-          let one = some-placed s.members g.first is.legal.first in
-          let two = some-placed s.members g.second is.legal.second in
-          let three = some-placed s.events g.event (some-is _ is.legal.event is.legal.in_event) in
-          let few = people.members.count in
-          let events = people.events.count in
-          let last = people.within in
-          record {
-            budget = gives.has_budget;
-            increment = gives.has_increment;
-            legal = subst (λ t. IsLegalGame both_games.draughts t g) known-terms is.legal.legal;
-            fits = record {
-              id = omega (arith, low);
-              event = omega (arith, three.1, events);
-              first = omega (arith, one.1, few);
-              second = omega (arith, two.1, few);
-              key = is.legal.key;
-              start = omega (arith, is.legal.start, last);
-              entries = λ n x at. let most : x.moment ≤ s.last = is.legal.entries n x at in omega (arith, most, last);
-            };
-            row = is.row_is ∙ ap (λ t. game_row both_games.draughts t (index + 1) g) by-terms;
-            moves = is.moves_are ∙ ap (λ t. move_rows both_games.draughts t (index + 1) g) by-terms;
-          }
+        by-terms : terms_at (place s.events g.event) ≡ terms_with budget increment
+        by-terms = ap terms_at of-game.in_event ∙ known-terms
 
-      -- a view that shows the game is within the club's last moment
-      pub shown-within : {R : Type 0} (view : GameView R Position DMove DEnd Tail) → (terms_of view ≡ terms_with budget increment) × Shows both_games.draughts g view → IsWithin both_games.draughts view s.last
-      shown-within view (terms_are, shows) =
-          view-within both_games.draughts (terms_with budget increment) g view shows terms_are s.last is.legal.start is.legal.entries
-          (subst (λ t. g.outside ≡ Some Time → (clocks_of g t).since + left_of (turn_of both_games.draughts g) (clocks_of g t) < s.last) known-terms is.legal.lost_by_time)
+        -- the rows are those of a legal game by these seconds
+        pub rows-of : index < 5000 → AreRowsOf rules (terms_with budget increment) (index + 1) row moves g
+        rows-of low =
+            let one = some-placed s.members g.first of-game.first in
+            let two = some-placed s.members g.second of-game.second in
+            let three = some-placed s.events g.event (some-is _ of-game.event of-game.in_event) in
+            let few = people.members.count in
+            let events = people.events.count in
+            let last = people.within in
+            record {
+              budget = gives.has_budget;
+              increment = gives.has_increment;
+              legal = subst (λ t. IsLegalGame rules t g) known-terms of-game.legal;
+              fits = record {
+                id = omega (arith, low);
+                event = omega (arith, three.1, events);
+                first = omega (arith, one.1, few);
+                second = omega (arith, two.1, few);
+                key = of-game.key;
+                start = omega (arith, of-game.start, last);
+                entries = λ n x at. let most : x.moment ≤ s.last = of-game.entries n x at in omega (arith, most, last);
+              };
+              row = is.row_is ∙ (k.row s.events (index + 1) g ∙ ap (λ t. game_row rules t (index + 1) g) by-terms);
+              moves = is.moves_are ∙ (k.moves s.events (index + 1) g ∙ ap (λ t. move_rows rules t (index + 1) g) by-terms);
+            }
+
+        -- the game ends by the club's last moment
+        pub in-time : EndsBy rules (terms_with budget increment) s.last g
+        in-time = record {
+          start = of-game.start;
+          entries = of-game.entries;
+          lost_by_time = subst (λ t. g.outside ≡ Some Time → (clocks_of g t).since + left_of (turn_of rules g) (clocks_of g t) < s.last) known-terms of-game.lost_by_time;
+        }
+
+  -- ---- a game of either kind
+
+  pub any-names : (g : ClubGame) → IsGameAt s (index + 1) row moves g → (event first second : ℕ) × (e : EventRow) × NamesEvent rows row event first second e
+  any-names (draughts g) is = let (e, named) = names-event in_draughts g is in (g.event, g.first, g.second, e, named)
+  any-names (shogi g) is = let (e, named) = names-event in_shogi g is in (g.event, g.first, g.second, e, named)
+
+  module _ (event first second : ℕ) (e : EventRow) (named : NamesEvent rows row event first second e) where
+    pub any-gives : (g : ClubGame) → IsGameAt s (index + 1) row moves g → (budget increment : ℕ) × GivesTerms e budget increment
+    any-gives (draughts g) is = (_, _, gives-terms in_draughts g is event first second e named)
+    any-gives (shogi g) is = (_, _, gives-terms in_shogi g is event first second e named)
+
+    pub any-kind : (g : ClubGame) → IsGameAt s (index + 1) row moves g → (kind : GameKind) × HasKind e kind
+    any-kind (draughts g) is = (Draughts, has-kind in_draughts g is event first second e named)
+    any-kind (shogi g) is = (Shogi, has-kind in_shogi g is event first second e named)
+
+    any-event : (g : ClubGame) → IsGameAt s (index + 1) row moves g → (known : Event) × (place s.events (event_in g) ≡ Some known) × (e.game ≡ pos (kind_number known.game))
+    any-event (draughts g) is = (is.legal.event, is.legal.in_event, (named-parts in_draughts g is event first second e named).game_is)
+    any-event (shogi g) is = (is.legal.event, is.legal.in_event, (named-parts in_shogi g is event first second e named).game_is)
+
+    -- in an event of this kind the rows of the game are those of a game of this kind
+    pub rows-in : {P M E T : Type 0} {rules : GameRules P M E T} {kind : GameKind} → Kind rules kind → (g : ClubGame) → IsGameAt s (index + 1) row moves g → (budget increment : ℕ) → GivesTerms e budget increment → HasKind e kind → index < 5000
+        → (game : Game M) × AreRowsOf rules (terms_with budget increment) (index + 1) row moves game × EndsBy rules (terms_with budget increment) s.last game
+    rows-in {kind = kind} k g is budget increment gives has_kind low =
+        let (known, at, game_is) = any-event g is in
+        let kind_is : kind_at (place s.events (event_in g)) ≡ kind = ap kind_at at ∙ kinds-alike known.game kind (same-pos _ _ (sym game_is ∙ has_kind)) in
+        let (game, same) = k.back s g is.legal kind_is in
+        let one = subst (IsGameAt s (index + 1) row moves) same is in
+        (game, rows-of k game one event first second e named budget increment gives low, in-time k game one event first second e named budget increment gives)

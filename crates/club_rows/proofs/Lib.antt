@@ -4,6 +4,7 @@ pub mod ClubsAlike
 pub mod AuditLemmas
 pub mod GameLemmas
 pub mod KeyLemmas
+pub mod KindLemmas
 pub mod LineLemmas
 pub mod MadeLemmas
 pub mod NextLemmas

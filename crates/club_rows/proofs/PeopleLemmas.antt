@@ -3,7 +3,7 @@ use Rattle.std.proofs.Common.{◌≡◌, ◌≢◌, ℕ, suc, pos, ◌+◌, ◌�
 use Rattle.std.specs.Prelude.{ℤ, slice_get, string_bytes}
 use Rattle.std.proofs.lemmas.Bool.{cases_eq}
 use Rattle.sqlite_value.specs.declared.value.Value.TheVariants.{Int, Text}
-use Rattle.club_rules.specs.declared.names.GameKind.TheVariants.{Draughts}
+use Rattle.club_rules.specs.declared.names.GameKind.{GameKind}
 use Rattle.club_core.specs.Members.{Member}
 use Rattle.club_core.specs.Events.{Event}
 use Rattle.club_core.specs.LegalState.{IsLegalMember, IsLegalEvent}
@@ -94,22 +94,21 @@ pub record EventParts (id : ℕ) (e : Event) (r : EventRow) : Type 0 where
 pub event-parts : (id : ℕ) (e : Event) (r : EventRow) → event_cells r ≡ event_row id e → EventParts id e r
 event-parts id e r is = record { id_is = cc; name_is = cc; game_is = cc; budget_is = cc; increment_is = cc }
 
-abbrev pub event_told : EventRow → ℕ → ℕ → Event
-event_told r budget increment = record { name = string_bytes r.name; game = Draughts; terms = record { budget = budget; increment = increment } }
+abbrev pub event_told : EventRow → GameKind → ℕ → ℕ → Event
+event_told r kind budget increment = record { name = string_bytes r.name; game = kind; terms = record { budget = budget; increment = increment } }
 
-pub event-cells : (id budget increment : ℕ) (r : EventRow) → r.id ≡ pos id → r.game ≡ pos 0 → r.budget ≡ pos budget → r.increment ≡ pos increment → event_cells r ≡ event_row id (event_told r budget increment)
-event-cells id budget increment r id_is game_is budget_is increment_is =
+pub event-cells : (id budget increment : ℕ) (kind : GameKind) (r : EventRow) → r.id ≡ pos id → r.game ≡ pos (kind_number kind) → r.budget ≡ pos budget → r.increment ≡ pos increment → event_cells r ≡ event_row id (event_told r kind budget increment)
+event-cells id budget increment kind r id_is game_is budget_is increment_is =
     λ i. Int (id_is i) ∷ Text (string_bytes r.name) ∷ Int (game_is i) ∷ Int (budget_is i) ∷ Int (increment_is i) ∷ []
 
 pub events-from : (rows : List EventRow) → length rows ≤ 50 → ((k : ℕ) (r : EventRow) → slice_get rows k ≡ Some r → IsEventAt rows k r) → (es : List Event) × AreEvents es rows
 events-from rows few each =
-    let made = numbered-of event_cells event_row (λ e. IsLegalEvent e × (e.game ≡ Draughts)) 1 rows (λ k r at. let is = each k r at in (is.event, subst (λ n. event_cells r ≡ event_row n is.event) (next-is k) is.cells, (is.legal, is.of_draughts))) in
+    let made = numbered-of event_cells event_row IsLegalEvent 1 rows (λ k r at. let is = each k r at in (is.event, subst (λ n. event_cells r ≡ event_row n is.event) (next-is k) is.cells, is.legal)) in
     let es = made.0 in (
       es,
       record {
         rows_are = made.1;
-        legal = λ k e at. (made.2 k e at).0;
-        of_draughts = λ k e at. (made.2 k e at).1;
+        legal = made.2;
         count = omega (arith, numbered-length event_cells event_row 1 rows es made.1, few);
         names = λ i j x y one two same. same-by i j (λ apart.
             let a = numbered-back event_cells event_row 1 rows es made.1 i x one in
@@ -132,7 +131,6 @@ events-at es rows are k r at =
       event = e;
       cells = subst (λ n. event_cells r ≡ event_row n e) (sym (next-is k)) cells;
       legal = are.legal k e stands;
-      of_draughts = are.of_draughts k e stands;
       others = λ j o there other same.
           let (n, stands', cells') = place j o there in
           let q = event-parts _ n o cells' in

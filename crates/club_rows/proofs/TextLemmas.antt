@@ -1,5 +1,5 @@
 -- The texts of a club are in ASCII, so each row of its tables has the types of its columns.
-use Rattle.std.proofs.Common.{◌≡◌, ℕ, zero, suc, pos, List, [], ◌∷◌, ◌++◌, map, Option, Some, None, refl, ap, sym, subst, ◌∙◌, inl, inr}
+use Rattle.std.proofs.Common.{◌≡◌, ℕ, suc, pos, List, [], ◌∷◌, ◌++◌, map, Option, Some, None, refl, ap, sym, subst, ◌∙◌, inl, inr}
 use Rattle.std.specs.Prelude.{codes, IfSome, IsTrue}
 use Rattle.std.specs.List.{AllByRecursion}
 use Rattle.sqlite_value.specs.declared.value.Value.TheVariants.{Int, Text}
@@ -26,7 +26,8 @@ use Rattle.club_core.specs.LegalState.{Each, IsLegalMember, IsLegalEvent, IsLega
 use Rattle.club_core.specs.State.{draughts, shogi, place, terms_at}
 use Rattle.store_tables.specs.Cells.{IsText, OrNull, IsMember, IsEvent, IsMove, IsGame}
 use Rattle.club_rows.specs.Club.{ClubGame, ClubState, IsClub, both_games}
-use Rattle.club_rows.specs.Tables.{member_row, event_row, game_row, entry_rows, with_entry, outside_text, end_name_text, numbered_from, gathered_from, row_of_game, rows_of_moves, tables_of}
+use Rattle.club_core.specs.OutsideEnd.{outside_text}
+use Rattle.club_rows.specs.Tables.{member_row, event_row, game_row, entry_rows, with_entry, end_name_text, numbered_from, gathered_from, row_of_game, rows_of_moves, tables_of}
 use Rattle.club_rows.proofs.PlainTexts.{is-text, name-plain, key-plain, written, ArePlain}
 use Rattle.club_rows.proofs.DraughtsTexts.{draughts-plain}
 use Rattle.club_rows.proofs.ShogiTexts.{shogi-plain}
@@ -143,10 +144,10 @@ module _ {P M E T : Type 0} (laws : GameRules P M E T) (plain : ArePlain laws) w
 
 module _ (s : ClubState) (club : IsClub s) where
   pub members-typed : AllByRecursion IsMember (tables_of both_games s 1)
-  members-typed = numbered-all member_row IsLegalMember IsMember member-typed 1 s.members club.legal.members
+  members-typed = numbered-all member_row IsLegalMember IsMember member-typed 1 s.members club.members
 
   pub events-typed : AllByRecursion IsEvent (tables_of both_games s 4)
-  events-typed = numbered-all event_row IsLegalEvent IsEvent event-typed 1 s.events club.legal.events
+  events-typed = numbered-all event_row IsLegalEvent IsEvent event-typed 1 s.events club.events
 
   any-game : (id : ℕ) (any : ClubGame) → IsLegalIn both_games s any → IsGame (row_of_game both_games s.events id any)
   any-game id (draughts g) legal = game-typed both_games.draughts draughts-plain (terms_at (place s.events g.event)) id g legal.key
@@ -157,7 +158,7 @@ module _ (s : ClubState) (club : IsClub s) where
   any-moves id (shogi g) legal = entries-typed both_games.shogi shogi-plain (terms_at (place s.events g.event)) id (record g { entries = [] }) g.entries legal.legal.line.legal
 
   pub moves-typed : AllByRecursion IsMove (tables_of both_games s 8)
-  moves-typed = gathered-all (rows_of_moves both_games s.events) (IsLegalIn both_games s) IsMove any-moves 1 s.games club.legal.games
+  moves-typed = gathered-all (rows_of_moves both_games s.events) (IsLegalIn both_games s) IsMove any-moves 1 s.games club.games
 
   pub games-typed : AllByRecursion IsGame (tables_of both_games s 10)
-  games-typed = numbered-all (row_of_game both_games s.events) (IsLegalIn both_games s) IsGame any-game 1 s.games club.legal.games
+  games-typed = numbered-all (row_of_game both_games s.events) (IsLegalIn both_games s) IsGame any-game 1 s.games club.games

@@ -21,7 +21,8 @@ use Rattle.club_core.specs.View.{IsRowOf, rule_in}
 use Rattle.store_tables.specs.Cells.{game_cells}
 use Rattle.store_tables.specs.declared.rows.GameRecord.{GameRecord}
 use Rattle.store_tables.specs.declared.rows.MoveRow.{MoveRow}
-use Rattle.club_rows.specs.Tables.{game_row, move_rows, side_number, outside_text, end_name_text}
+use Rattle.club_core.specs.OutsideEnd.{outside_text}
+use Rattle.club_rows.specs.Tables.{game_row, move_rows, side_number, end_name_text}
 use Rattle.club_rows.specs.Replay.{IsPlayedAs, game_from}
 use Rattle.club_rows.specs.Shown.{AreRowsOf}
 use Rattle.club_rows.specs.Told.{HasNumbers, may_have_key, may_have_offer, may_have_end, may_stand}

@@ -1,17 +1,15 @@
 -- What the rows of single tables are tested for: the members, the events and the games of a legal club.
 use Rattle.std.specs.Prelude.{◌≡◌, ◌≢◌, ◌+◌, ◌<◌, ◌≤◌, ℕ, pos, List, map, length, Some, IsTrue, string_bytes}
-use Rattle.squares.specs.declared.draughts.moves.DMove.{DMove}
-use Rattle.club_rules.specs.declared.names.GameKind.TheVariants.{Draughts}
 use Rattle.club_rules.specs.GameRules.{GameRules}
 use Rattle.club_core.specs.declared.rows.GameEnd.TheVariants.{Outside}
 use Rattle.club_core.specs.declared.rows.GameView.{GameView}
 use Rattle.club_core.specs.declared.rows.OutsideEnd.TheVariants.{Time}
 use Rattle.club_core.specs.Limits.{last_moment, most_members, most_events, is_budget, is_increment}
 use Rattle.club_core.specs.Members.{Member}
-use Rattle.club_core.specs.Events.{Event}
-use Rattle.club_core.specs.Game.{Game, left_of}
-use Rattle.club_core.specs.LegalState.{Each, AreApart, IsLegalMember, IsLegalEvent, IsGameOf, IsLegalIn}
-use Rattle.club_core.specs.State.{place, terms_at}
+use Rattle.club_core.specs.Events.{Event, Terms}
+use Rattle.club_core.specs.Game.{Game, clocks_of, left_of, turn_of}
+use Rattle.club_core.specs.LegalState.{Each, AreApart, IsLegalMember, IsLegalEvent, IsLegalIn}
+use Rattle.club_core.specs.State.{place}
 use Rattle.club_core.specs.View.{clocks_in}
 use Rattle.store_tables.specs.Cells.{member_cells, event_cells, move_cells, game_cells}
 use Rattle.store_tables.specs.declared.rows.MemberRow.{MemberRow}
@@ -20,7 +18,8 @@ use Rattle.store_tables.specs.declared.rows.MoveRow.{MoveRow}
 use Rattle.store_tables.specs.declared.rows.GameRecord.{GameRecord}
 use Rattle.store_tables.specs.declared.rows.Rows.{Rows}
 use Rattle.club_rows.specs.Club.{ClubState, ClubGame, both_games}
-use Rattle.club_rows.specs.Tables.{member_row, event_row, game_row, move_rows, numbered_from, gathered_from, row_of_game, rows_of_moves}
+use Rattle.club_rows.specs.Shown.{AreRowsOf}
+use Rattle.club_rows.specs.Tables.{member_row, event_row, numbered_from, gathered_from, row_of_game, rows_of_moves}
 
 -- ---- members
 
@@ -57,19 +56,17 @@ pub record GivesTerms (row : EventRow) (budget increment : ℕ) : Type 0 where
 abbrev pub IsOtherEvent : EventRow → EventRow → Type 0
 IsOtherEvent row other = other.id ≢ row.id → string_bytes other.name ≢ string_bytes row.name
 
--- the row is that of a legal event of draughts at this place, from 0, and no other row has the event's name
+-- the row is that of a legal event at this place, from 0, and no other row has the event's name
 pub record IsEventAt (rows : List EventRow) (index : ℕ) (row : EventRow) : Type 0 where
   pub event : Event
   pub cells : event_cells row ≡ event_row (index + 1) event
   pub legal : IsLegalEvent event
-  pub of_draughts : event.game ≡ Draughts
   pub others : Each (IsOtherEvent row) rows
 
 -- the rows are those of the events of a legal club
 pub record AreEvents (events : List Event) (rows : List EventRow) : Type 0 where
   pub rows_are : map event_cells rows ≡ numbered_from event_row 1 events
   pub legal : Each IsLegalEvent events
-  pub of_draughts : Each (λ e. e.game ≡ Draughts) events
   pub count : length events ≤ most_events
   pub names : AreApart (λ e. e.name) events
 
@@ -98,11 +95,24 @@ pub record IsWithin {R P M E T : Type 0} (rules : GameRules P M E T) (view : Gam
   pub since : view.row.since ≤ last
   pub lost_by_time : view.row.end ≡ Some (Outside Time) → view.row.since + left_of (rules.turn view.position) (clocks_in view.row) < last
 
+-- no moment of the game is above the last one, and a side that lost by its time had run out of it before then
+pub record EndsBy {P M E T : Type 0} (rules : GameRules P M E T) (terms : Terms) (last : ℕ) (game : Game M) : Type 0 where
+  pub start : game.start ≤ last
+  pub entries : Each (λ e. e.moment ≤ last) game.entries
+  pub lost_by_time : game.outside ≡ Some Time → (clocks_of game terms).since + left_of (turn_of rules game) (clocks_of game terms) < last
+
+-- the rows are those of some legal game of these rules and terms, up to the last moment
+pub record HaveGame {P M E T : Type 0} (rules : GameRules P M E T) (terms : Terms) (last : ℕ) (row : GameRecord) (moves : List MoveRow) : Type 0 where
+  pub id : ℕ
+  pub game : Game M
+  pub are : AreRowsOf rules terms id row moves game
+  pub within : EndsBy rules terms last game
+
 -- the rows are those of this game of the club, which has this id
-pub record IsGameAt (s : ClubState) (id : ℕ) (row : GameRecord) (moves : List MoveRow) (game : Game DMove) : Type 0 where
-  pub legal : IsGameOf both_games.draughts Draughts s game
-  pub row_is : game_cells row ≡ game_row both_games.draughts (terms_at (place s.events game.event)) id game
-  pub moves_are : map move_cells moves ≡ move_rows both_games.draughts (terms_at (place s.events game.event)) id game
+pub record IsGameAt (s : ClubState) (id : ℕ) (row : GameRecord) (moves : List MoveRow) (game : ClubGame) : Type 0 where
+  pub legal : IsLegalIn both_games s game
+  pub row_is : game_cells row ≡ row_of_game both_games s.events id game
+  pub moves_are : map move_cells moves ≡ rows_of_moves both_games s.events id game
 
 -- the rows are those of these games of the club
 pub record AreGames (s : ClubState) (games : List ClubGame) (rows : List GameRecord) (moves : List MoveRow) : Type 0 where

@@ -11,11 +11,12 @@ use Rattle.shogi_repetition.specs.declared.tails.Tail as shogi_track
 use Rattle.club_games.specs.Draughts.{draughts}
 use Rattle.club_games.specs.Shogi.{shogi}
 use Rattle.club_core.specs.ClubRules.{ClubRules, both}
+use Rattle.club_core.specs.LegalState.{IsLegalState}
 use Rattle.club_core.specs.State.{AnyGame, State}
 use Rattle.store_tables.specs.Cells.{member_cells, event_cells, move_cells, game_cells}
 use Rattle.store_tables.specs.Contents.{Content}
 use Rattle.store_tables.specs.declared.rows.Rows.{Rows}
-use Rattle.club_rows.specs.Tables.{member_row, event_row, numbered_from, gathered_from, row_of_game, rows_of_moves, tables_of, IsLegalClub}
+use Rattle.club_rows.specs.Tables.{member_row, event_row, numbered_from, gathered_from, row_of_game, rows_of_moves, tables_of}
 
 -- the rules of the club's games
 abbrev pub both_games : ClubRules Position DMove DEnd draughts_track.Tail ShogiPosition SMove SEnd shogi_track.Tail
@@ -30,7 +31,7 @@ ClubState = State DMove SMove
 
 -- a legal state of it
 abbrev pub IsClub : ClubState → Type 0
-IsClub s = IsLegalClub both_games s
+IsClub s = IsLegalState both_games s
 
 -- the rows of its tables
 abbrev pub tables : ClubState → Content

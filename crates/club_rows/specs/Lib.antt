@@ -1,6 +1,7 @@
 pub mod Asked
 pub mod Audit
 pub mod Club
+pub mod Listed
 pub mod Made
 pub mod Records
 pub mod Replay

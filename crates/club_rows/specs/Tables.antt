@@ -1,5 +1,5 @@
 -- The tables of a club: the rows that stand for a state, each column by what follows from the games.
-use Rattle.std.specs.Prelude.{◌≡◌, ℕ, suc, pos, ◌+◌, ◌==◌, List, [], ◌∷◌, ◌++◌, length, codes, if◌then◌else◌}
+use Rattle.std.specs.Prelude.{ℕ, suc, pos, ◌+◌, ◌==◌, List, [], ◌∷◌, ◌++◌, length, codes, if◌then◌else◌}
 use Rattle.sqlite_value.specs.declared.value.Value.{Value}
 use Rattle.sqlite_value.specs.declared.value.Value.TheVariants.{Int, Text}
 use Rattle.sqlite.specs.Values.{or_null}
@@ -10,6 +10,7 @@ use Rattle.squares.specs.Sides.{score_text}
 use Rattle.club_rules.specs.declared.names.GameKind.{GameKind}
 use Rattle.club_rules.specs.declared.names.GameKind.TheVariants.{Draughts, Shogi}
 use Rattle.club_rules.specs.GameRules.{GameRules}
+use Rattle.club_core.specs.OutsideEnd.{outside_text}
 use Rattle.club_core.specs.ClubRules.{ClubRules}
 use Rattle.club_rules.specs.EndName.{end_text}
 use Rattle.club_core.specs.declared.rows.OutsideEnd.{OutsideEnd}
@@ -19,7 +20,6 @@ use Rattle.club_core.specs.declared.rows.GameEnd.TheVariants.{Rule, Outside}
 use Rattle.club_core.specs.Members.{Member}
 use Rattle.club_core.specs.Events.{Terms, Event}
 use Rattle.club_core.specs.Game.{Entry, Game, clocks_of, left_of, last_position, turn_of, end_of, result_of}
-use Rattle.club_core.specs.LegalState.{Each, IsLegalState}
 use Rattle.club_core.specs.State.{AnyGame, draughts, shogi, State, place, terms_at}
 use Rattle.store_tables.specs.Contents.{Content}
 
@@ -33,13 +33,6 @@ side_number Second = 1
 abbrev pub kind_number : GameKind → ℕ
 kind_number Draughts = 0
 kind_number Shogi = 1
-
--- the name of an end other than by the rules
-abbrev pub outside_text : OutsideEnd → List ℕ
-outside_text Resigned = codes "Resigned"
-outside_text Agreed = codes "Agreed"
-outside_text Time = codes "Time"
-outside_text (Recorded score) = codes "Recorded"
 
 -- the name of an end
 abbrev pub end_name_text : {P M E T : Type 0} → GameRules P M E T → GameEnd E → List ℕ
@@ -136,8 +129,3 @@ module _ {DP DM DE DT SP SM SE ST : Type 0} (rules : ClubRules DP DM DE DT SP SM
       else (if t == 8 then gathered_from (rows_of_moves s.events) 1 s.games
       else (if t == 10 then numbered_from (row_of_game s.events) 1 s.games
       else []))))
-
--- a legal state of a club that plays draughts alone so far
-pub record IsLegalClub {DP DM DE DT SP SM SE ST : Type 0} (rules : ClubRules DP DM DE DT SP SM SE ST) (s : State DM SM) : Type 0 where
-  pub legal : IsLegalState rules s
-  pub kinds : Each (λ e. e.game ≡ Draughts) s.events

@@ -14,7 +14,8 @@ use Rattle.club_rules.specs.GameRules.{GameRules}
 use Rattle.club_core.specs.declared.rows.OutsideEnd.{OutsideEnd}
 use Rattle.squares.specs.declared.sides.Score.{Score}
 use Rattle.squares.specs.Sides.{score_text}
-use Rattle.club_rows.specs.Tables.{side_number, outside_text}
+use Rattle.club_core.specs.OutsideEnd.{outside_text}
+use Rattle.club_rows.specs.Tables.{side_number}
 use Rattle.club_rows.specs.declared.view.Numbers.{Numbers}
 use Rattle.club_rows.specs.declared.view.Told.{Told}
 

@@ -2,22 +2,25 @@
 
 ghost use Rattle.std.specs.Prelude.{◌≡◌, ◌≢◌, ◌+◌, ◌++◌, ◌<◌, ◌≤◌, ◌^◌, ℕ, List, pos, true, false, None, Some, IfOk, length, IfSome, slice_get, string_bytes};
 ghost use Rattle.std.specs.Option.{option_map};
-ghost use Rattle.squares.specs.declared.draughts.moves.DMove.{DMove};
 ghost use Rattle.club_core.specs.Game.{Game, left_of};
 ghost use Rattle.club_core.specs.LegalState.{Each, AreApartIfAny};
 ghost use Rattle.club_core.specs.Limits.{most_games};
 ghost use Rattle.club_core.specs.View.{clocks_in};
-ghost use Rattle.club_rows.specs.Audit.{HasPeople, NamesEvent, IsWithin, IsGameAt, AreGames};
+ghost use Rattle.club_rows.specs.Audit.{HasPeople, NamesEvent, IsWithin, EndsBy, HaveGame, IsGameAt, AreGames};
 ghost use Rattle.club_rows.specs.Club.{ClubGame, ClubState, IsClub, IsStoredAs};
+ghost use Rattle.club_rows.specs.Replay.{terms_given};
+ghost use Rattle.club_rows.specs.Shown.{AreRowsOf};
 
+use crate::kinds::kind_of;
 use crate::numbers::moment;
 use crate::people::{are_events, are_members, is_place, terms_of};
+use crate::replay::Terms;
 use crate::view::{Shown, view_of};
 use clocks::Moment;
 use club_core::values::MOST_GAMES;
 use club_core::{GameEnd, GameView, OutsideEnd};
-use club_games::Draughts;
-use club_rules::{Memory, Rules};
+use club_games::{Draughts, Shogi};
+use club_rules::{GameKind, Memory, Rules};
 use squares::Side;
 use std::alloc::Global;
 use std::collections::HashSet;
@@ -103,6 +106,31 @@ fn event_of<'a>(rows: &'a Rows, game: &GameRecord) -> Option<&'a EventRow>
     }
 }
 
+// The first wrong table by the rows of a game that is played by these rules and terms, up to the last moment.
+fn wrong_by_rules<R: Rules>(
+    alloc: Global,
+    game: &GameRecord,
+    terms: Terms,
+    moves: &[MoveRow],
+    last: Moment,
+) -> Result<Option<Table>, Memory>
+    ensures sound { IfOk result (λ wrong. wrong ≡ None → HaveGame R.rules (terms_given terms) last game.now moves.now) }
+    ensures complete { IfOk result (λ wrong. (id : ℕ) (g : Game R.Move) →
+        AreRowsOf R.rules (terms_given terms) id game.now moves.now g → EndsBy R.rules (terms_given terms) last g →
+        wrong ≡ None) }
+{
+    match view_of::<R>(alloc, game, terms, moves)? {
+        Shown::Game(view) => {
+            if !is_within(&view, last) {
+                return Ok(Some(Table::Meta));
+            }
+            Ok(None)
+        }
+        Shown::WrongMoves => Ok(Some(Table::Moves)),
+        Shown::WrongGame => Ok(Some(Table::Games)),
+    }
+}
+
 // The first wrong table by the rows of the game at this place, from 0, up to the last moment.
 fn wrong_by_game(
     alloc: Global,
@@ -115,9 +143,9 @@ fn wrong_by_game(
     requires room { place + 1 < 2 ^ 64 }
     requires last { rows.now.meta.last ≡ pos last }
     ensures sound { IfOk result (λ wrong. wrong ≡ None → (s : ClubState) → HasPeople s rows.now →
-        (g : Game DMove) × IsGameAt s (place + 1) game.now moves.now g) }
+        (g : ClubGame) × IsGameAt s (place + 1) game.now moves.now g) }
     ensures complete { IfOk result (λ wrong. (s : ClubState) → HasPeople s rows.now → place < most_games →
-        (g : Game DMove) → IsGameAt s (place + 1) game.now moves.now g → wrong ≡ None) }
+        (g : ClubGame) → IsGameAt s (place + 1) game.now moves.now g → wrong ≡ None) }
 {
     if !is_place(game.id, place) {
         return Ok(Some(Table::Games));
@@ -130,15 +158,10 @@ fn wrong_by_game(
         Some(terms) => terms,
         None => return Ok(Some(Table::Games)),
     };
-    match view_of::<Draughts>(alloc, game, terms, moves)? {
-        Shown::Game(view) => {
-            if !is_within(&view, last) {
-                return Ok(Some(Table::Meta));
-            }
-            Ok(None)
-        }
-        Shown::WrongMoves => Ok(Some(Table::Moves)),
-        Shown::WrongGame => Ok(Some(Table::Games)),
+    match kind_of(event.game) {
+        Some(GameKind::Draughts) => wrong_by_rules::<Draughts>(alloc, game, terms, moves, last),
+        Some(GameKind::Shogi) => wrong_by_rules::<Shogi>(alloc, game, terms, moves, last),
+        None => Ok(Some(Table::Events)),
     }
 }
 

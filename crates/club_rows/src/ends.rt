@@ -6,7 +6,8 @@ ghost use Rattle.squares.specs.declared.sides.Score.{Score};
 ghost use Rattle.squares.specs.Sides.{score_text};
 ghost use Rattle.club_core.specs.declared.rows.OutsideEnd.{OutsideEnd};
 ghost use Rattle.club_core.specs.declared.rows.OutsideEnd.TheVariants.{Recorded};
-ghost use Rattle.club_rows.specs.Tables.{side_number, outside_text, end_name_text};
+ghost use Rattle.club_core.specs.OutsideEnd.{outside_text};
+ghost use Rattle.club_rows.specs.Tables.{side_number, end_name_text};
 
 use club_core::{GameEnd, OutsideEnd};
 use club_rules::Rules;
@@ -33,25 +34,13 @@ pub fn side_of(number: i64) -> Option<Side>
     }
 }
 
-/// The name of an end other than by the rules.
-pub fn outside_name(end: OutsideEnd) -> &'static str
-    ensures { result.now ≡ outside_text end }
-{
-    match end {
-        OutsideEnd::Resigned => "Resigned",
-        OutsideEnd::Agreed => "Agreed",
-        OutsideEnd::Time => "Time",
-        OutsideEnd::Recorded(_) => "Recorded",
-    }
-}
-
 /// The name of an end.
 pub fn end_name<R: Rules>(end: &GameEnd<R::End>) -> &'static str
     ensures { result.now ≡ end_name_text R.rules end.now }
 {
     match end {
         GameEnd::Rule(end) => R::end_name(end).name(),
-        GameEnd::Outside(end) => outside_name(*end),
+        GameEnd::Outside(end) => end.name(),
     }
 }
 

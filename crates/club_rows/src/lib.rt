@@ -4,8 +4,10 @@
 pub mod asked;
 pub mod audit;
 pub mod ends;
+pub mod kinds;
 pub mod laws;
 pub mod lines;
+mod listing;
 pub mod numbers;
 mod people;
 pub mod records;
@@ -17,6 +19,8 @@ pub mod view;
 
 pub use asked::ask;
 pub use audit::wrong_table;
+pub use kinds::{kind_number, kind_of};
+pub use listing::legal_texts;
 pub use people::terms_of;
 pub use records::{move_row, record_of};
 pub use replay::Terms;

@@ -6,6 +6,7 @@ ghost use Rattle.club_core.specs.Events.{Event};
 ghost use Rattle.club_core.specs.LegalState.{Each};
 ghost use Rattle.club_rows.specs.Audit.{IsOtherMember, IsMemberAt, AreMembers, GivesTerms, IsOtherEvent, IsEventAt, AreEvents};
 
+use crate::kinds::kind_of;
 use crate::numbers::counted;
 use crate::replay::Terms;
 use club_core::values::{MOST_EVENTS, MOST_MEMBERS, is_budget, is_increment};
@@ -128,7 +129,7 @@ fn is_used(events: &[EventRow], event: &EventRow) -> bool
     false
 }
 
-// Whether the row is that of a legal event at its place, from 0. Events are of draughts alone so far.
+// Whether the row is that of a legal event at its place, from 0.
 fn is_event(events: &[EventRow], place: usize, event: &EventRow) -> bool
     requires { place + 1 < 2 ^ 64 }
     ensures sound { result ≡ true → IsEventAt events.now place event.now }
@@ -140,8 +141,9 @@ fn is_event(events: &[EventRow], place: usize, event: &EventRow) -> bool
     if !is_name(event.name.as_str()) {
         return false;
     }
-    if event.game != 0 {
-        return false;
+    match kind_of(event.game) {
+        Some(_) => {}
+        None => return false,
     }
     match terms_of(event) {
         Some(_) => !is_used(events, event),

@@ -1,5 +1,6 @@
 -- What a game is, as functions of its positions P, its moves M, its ends E and the tracks T that its lines leave.
 use Rattle.std.specs.Prelude.{List, ℕ, Option, Result, Bool}
+use Rattle.std.specs.declared.cmp.Ordering.{Ordering}
 use Rattle.squares.specs.declared.sides.Side.{Side}
 use Rattle.squares.specs.declared.sides.Score.{Score}
 use Rattle.club_rules.specs.declared.names.EndName.{EndName}
@@ -14,6 +15,8 @@ pub record GameRules (P M E T : Type 0) : Type 0 where
   pub turn : P → Side
   -- Ok where the move is legal, else the first refusal that holds
   pub check : P → M → Result (Unit {0}) MoveRefusal
+  -- the order in which legal moves are listed
+  pub move_order : M → M → Ordering
   pub same : M → M → Bool
   pub same_position : P → P → Bool
   pub play : P → M → P

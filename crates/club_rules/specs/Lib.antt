@@ -2,4 +2,5 @@ pub mod EndName
 pub mod GameRules
 pub mod Laws
 pub mod Line
+pub mod Listed
 pub mod MoveRefusal

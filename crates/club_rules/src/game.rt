@@ -4,6 +4,7 @@ ghost use Rattle.std.specs.Prelude.{◌≡◌, ◌<◌, ℕ, List, IfOk, Ok, str
 ghost use Rattle.club_rules.specs.GameRules.{GameRules};
 ghost use Rattle.club_rules.specs.Laws.{FirstStarts, TurnPasses, ReadsBack, SameIs, SamePositionIs, EndsAtLimit, IsPositionRead, WritesPositions, StandsForOne, TextsTellPositions, TracksTellEnds, NumbersGiveTracks, TracksGiveNumbers, NumbersAreFew};
 ghost use Rattle.club_rules.specs.Line.{IsPlayedLine};
+ghost use Rattle.club_rules.specs.Listed.{IsLegalList};
 
 use crate::names::EndName;
 use crate::refusals::MoveRefusal;
@@ -39,6 +40,10 @@ pub trait Rules {
     /// Ok where the move is legal, else the first refusal that holds.
     fn check(position: &Self::Position, made: &Self::Move) -> Result<(), MoveRefusal>
         ensures { result ≡ rules.check position.now made.now };
+
+    /// The legal moves, each once, in the order of the game.
+    fn legal(alloc: Global, position: &Self::Position) -> Result<Vec<Self::Move>, Memory>
+        ensures { IfOk result (λ moves. IsLegalList rules position.now moves.items) };
 
     /// Whether two moves are one.
     fn same(a: &Self::Move, b: &Self::Move) -> bool

@@ -3,7 +3,7 @@
 use clap::error::ErrorKind;
 use clap::{Arg, ArgAction, ArgMatches, value_parser};
 use clocks::Moment;
-use club_core::{AddEvent, AddMember, Command, Move, Seat};
+use club_core::{AddEvent, AddMember, Command, GameCommand, OnGame, Seat};
 use club_rules::GameKind;
 use std::alloc::{AllocError, Global};
 
@@ -199,10 +199,12 @@ fn task_of(alloc: Global, name: &str, words: &ArgMatches<'_>) -> Result<Task, Ba
             first: text(alloc, words, "FIRST")?,
             second: text(alloc, words, "SECOND")?,
         }),
-        "move" => Command::Move(Move {
+        "move" => Command::OnGame(OnGame {
             game: number_of(words, "GAME"),
-            ply: number_of(words, "PLY"),
-            text: text(alloc, words, "TEXT")?,
+            command: GameCommand::Move {
+                ply: number_of(words, "PLY"),
+                text: text(alloc, words, "TEXT")?,
+            },
         }),
         _ => return Err(unknown(alloc, name)?),
     };

@@ -15,25 +15,27 @@ use Rattle.sqlite_schema.specs.Rules.{equal}
 use Rattle.sqlite_value.specs.Keys.{first_key}
 use Rattle.sqlite_value.proofs.OrderLemmas.{value_cmp_total, value_cmp-Text, value_cmp-Null}
 use Rattle.sqlite_rules.specs.Lists.{Has}
-use Rattle.squares.specs.declared.draughts.moves.DMove.{DMove}
-use Rattle.squares.specs.declared.shogi.moves.SMove.{SMove}
-use Rattle.club_rules.specs.declared.names.GameKind.TheVariants.{Draughts, Shogi}
+use Rattle.club_rules.specs.declared.names.GameKind.{GameKind}
 use Rattle.club_rules.specs.GameRules.{GameRules}
 use Rattle.club_core.specs.Events.{Terms}
 use Rattle.club_core.specs.Members.{find_id}
 use Rattle.club_core.specs.Seats.{KeyedGame}
-use Rattle.club_core.specs.Game.{Game}
-use Rattle.club_core.specs.LegalState.{IsLegalIn, IsGameOf}
+use Rattle.club_core.specs.Game.{Game, clocks_of}
+use Rattle.club_core.specs.LegalState.{IsLegalIn}
+use Rattle.club_core.specs.Step.{GameCommand, game_step}
+use Rattle.club_core.specs.declared.requests.Caller.{Caller}
+use Rattle.club_core.proofs.LegalSteps.{in-place}
+use Rattle.club_rows.specs.Replay.{terms_given}
 use Rattle.club_core.specs.Limits.{last_moment}
 use Rattle.club_core.specs.State as club
-use Rattle.club_core.specs.State.{AnyGame, place, terms_at, key_of, is_key, has_key, keyed_at, keyed_game, game_under}
+use Rattle.club_core.specs.State.{AnyGame, place, terms_at, key_of, is_key, has_key, keyed_at, keyed_game, game_under, pairing_of, on_game}
 use Rattle.club_core.specs.View.{Shows, terms_of}
 use Rattle.club_core.specs.declared.rows.GameView.{GameView}
-use Rattle.club_core.proofs.LegalSteps.{in-place}
 use Rattle.club_core.proofs.Lists.{bytes_eq-same, same-bytes_eq, find_id-found, find_id-none}
 use Rattle.club_rows.specs.Shown.{AreRowsOf, ShowsGame, IsSoundIfShown}
 use Rattle.club_rows.specs.declared.view.Shown.{Shown}
 use Rattle.club_rows.specs.declared.view.Shown.TheVariants as shown
+use Rattle.club_rows.proofs.KindLemmas.{Kind}
 use Rattle.club_rows.specs.Tables.{number, game_row, move_rows, rows_of_moves, at_start}
 use Rattle.store_tables.specs.Cells.{game_cells, move_cells}
 use Rattle.store_tables.specs.Content.{same_key}
@@ -42,10 +44,13 @@ use Rattle.store_tables.specs.declared.rows.GameRecord.{GameRecord}
 use Rattle.store_tables.specs.declared.rows.MoveRow.{MoveRow}
 use Rattle.store_tables.proofs.Laws.{equal_cmp, equal_from}
 use Rattle.club_rows.specs.Club.{ClubGame, both_games, ClubState, IsClub, tables}
-use Rattle.store.specs.Steps.{game_in, HaveSame, IsRecordOf}
+use Rattle.store.specs.declared.command.Decided.{Decided}
+use Rattle.store.specs.declared.game.StoredGame.{StoredGame}
+use Rattle.store.specs.Steps.{caller_step, game_in, HaveSame, IsRecordOf, IsDecided, IsDecidedIn}
+use Rattle.store.specs.Stored.{IsStoredGame}
 use Rattle.store.proofs.PutSame.{numbered_had, numbered_has, gathered_had, gathered_has, ids_same as same_ids, ids_agree, one_line, AreAtPlaces}
 use Rattle.store.proofs.NextRows.{entry_rows_at, move_rows_had, first_of_game, moves_had}
-use Rattle.store.proofs.PlayedLemmas.{place_at, game_is}
+use Rattle.store.proofs.PlayedLemmas.{place_at, game_is, no_later, decided_club}
 
 -- ---- keys that are texts
 
@@ -87,7 +92,7 @@ module _ (s : ClubState) (is_club : IsClub s) (key : List ℕ) where
   found_under n g (Some id) at keyed is =
       let (x, stands, passes) = find_id-found (has_key key) s.games id is in
       let (m, id_is, there) = place_at s.games id x stands in
-      let same : m ≡ n = is_club.legal.game_keys m n x g key there at (key_has key (key_of x) passes) keyed in
+      let same : m ≡ n = is_club.game_keys m n x g key there at (key_has key (key_of x) passes) keyed in
       let id_next : id ≡ 1 + n = omega (arith, id_is, same) in
       ap (keyed_at s.games) (ap Some id_next) ∙ ap (λ p. keyed_game p (1 + n)) (place_next s.games n ∙ at)
 
@@ -110,23 +115,13 @@ module _ (s : ClubState) (is_club : IsClub s) (key : List ℕ) where
 -- ---- the game of an id
 
 module _ (s : ClubState) (is_club : IsClub s) where
-  pub is_draughts : (id : ℕ) (g : ClubGame) → place s.games id ≡ Some g → (old : Game DMove) × (g ≡ club.draughts old)
-  is_draughts id (club.draughts old) at = (old, refl)
-  is_draughts id (club.shogi old) at =
-      let of : IsGameOf both_games.shogi Shogi s old = in-place (IsLegalIn both_games s) s.games id (club.shogi old) is_club.legal.games at in
-      let one : of.event.game ≡ Draughts = in-place (λ e. e.game ≡ Draughts) s.events old.event of.event is_club.kinds of.in_event in
-      let other : of.event.game ≡ Shogi = of.of_kind in
-      cc
-
-  pub id_some : (id : ℕ) (found : List Row) (z : Row) → AreThose (0 ∷ []) (number id ∷ []) (tables s 10) found → Has found z → (old : Game DMove) × (place s.games id ≡ Some (club.draughts old)) × (z ≡ game_in s id (club.draughts old))
+  pub id_some : (id : ℕ) (found : List Row) (z : Row) → AreThose (0 ∷ []) (number id ∷ []) (tables s 10) found → Has found z → (g : ClubGame) × (place s.games id ≡ Some g) × (z ≡ game_in s id g)
   id_some id found z those has =
       let those_z = those.sound z has in
       let (n, g, at, is) = numbered_had (game_in s) 1 s.games z those_z.0 in
       let first : column z 0 ≡ number (1 + n) = ap (λ w. column w 0) is ∙ first_of_game both_games s.events (1 + n) g in
       let same : 1 + n ≡ id = same_ids z (number id ∷ []) (1 + n) id first refl those_z.1 in
-      let stands : place s.games id ≡ Some g = ap (place s.games) (sym same) ∙ (place_next s.games n ∙ at) in
-      let (old, g_is) = is_draughts id g stands in
-      (old, stands ∙ ap Some g_is, is ∙ (ap (λ k. game_in s k g) same ∙ ap (game_in s id) g_is))
+      (g, ap (place s.games) (sym same) ∙ (place_next s.games n ∙ at), is ∙ ap (λ k. game_in s k g) same)
 
   pub id_none : (id : ℕ) (found : List Row) → AreThose (0 ∷ []) (number id ∷ []) (tables s 10) found → found ≡ [] → place s.games id ≡ None
   id_none id found those none = nothing (place s.games id) refl
@@ -147,26 +142,26 @@ module _ (s : ClubState) (is_club : IsClub s) where
       nothing (Some g) at =
           let (n, id_is, there) = place_at s.games id g at in
           let within : n < length s.games = slice_get_within s.games n g there in
-          let most : id ≤ 5000 = omega (arith, id_is, within, is_club.legal.game_count) in
+          let most : id ≤ 5000 = omega (arith, id_is, within, is_club.game_count) in
           absurd (past (omega (arith, ints, most)))
 
   -- the rows of the moves of a game
-  pub moves_those : (id : ℕ) (old : Game DMove) (found : List Row) → place s.games id ≡ Some (club.draughts old) → AreThose (0 ∷ []) (number id ∷ []) (tables s 8) found → HaveSame found (move_rows both_games.draughts (terms_at (place s.events old.event)) id old)
+  pub moves_those : (id : ℕ) (old : ClubGame) (found : List Row) → place s.games id ≡ Some old → AreThose (0 ∷ []) (number id ∷ []) (tables s 8) found → HaveSame found (rows_of_moves both_games s.events id old)
   moves_those id old found at those =
       let rows = rows_of_moves both_games s.events in
-      let (m, id_is, there) = place_at s.games id (club.draughts old) at in
+      let (m, id_is, there) = place_at s.games id old at in
       record {
         there = λ z has.
             let those_z = those.sound z has in
             let (n, g, stands, in_rows) = gathered_had rows 1 s.games z those_z.0 in
             let same : 1 + n ≡ id = same_ids z (number id ∷ []) (1 + n) id (moves_had both_games s.events (1 + n) g z in_rows) refl those_z.1 in
             let n_is : n ≡ m = omega (arith, same, id_is) in
-            let here : slice_get s.games n ≡ Some (club.draughts old) = subst (λ k. slice_get s.games k ≡ Some (club.draughts old)) (sym n_is) there in
-            let g_is : g ≡ club.draughts old = cc in
+            let here : slice_get s.games n ≡ Some old = subst (λ k. slice_get s.games k ≡ Some old) (sym n_is) there in
+            let g_is : g ≡ old = cc in
             subst₂ (λ k x. Has (rows k x) z) same g_is in_rows;
         back = λ z has.
-            those.complete z (gathered_has rows 1 s.games m (club.draughts old) z there (subst (λ k. Has (rows k (club.draughts old)) z) id_is has))
-            (ids_agree z (number id ∷ []) id (move_rows_had both_games.draughts (terms_at (place s.events old.event)) id old z has).0 refl);
+            those.complete z (gathered_has rows 1 s.games m old z there (subst (λ k. Has (rows k old) z) id_is has))
+            (ids_agree z (number id ∷ []) id (moves_had both_games s.events id old z has) refl);
       }
 
   within_place : {A : Type 0} (xs : List A) (id : ℕ) (o : Option A) → place xs id ≡ o → IsSome o → id ≤ length xs
@@ -176,28 +171,28 @@ module _ (s : ClubState) (is_club : IsClub s) where
       let within : n < length xs = slice_get_within xs n x there in
       omega (arith, id_is, within)
 
-  pub is_record : (id : ℕ) (old : Game DMove) (row : GameRecord) → place s.games id ≡ Some (club.draughts old) → game_cells row ≡ game_in s id (club.draughts old) → IsRecordOf both_games.draughts (terms_at (place s.events old.event)) id row old
-  is_record id old row at cells =
-      let game = game_is s id old is_club at in
-      let id_most : id ≤ length s.games = within_place s.games id (Some (club.draughts old)) at refl in
+  pub is_record : {P M E T : Type 0} {laws : GameRules P M E T} {kind : GameKind} (k : Kind laws kind) (id : ℕ) (old : Game M) (row : GameRecord) → place s.games id ≡ Some (k.into old) → game_cells row ≡ game_in s id (k.into old) → IsRecordOf laws (terms_at (place s.events old.event)) id row old
+  is_record k id old row at cells =
+      let game = game_is k s is_club id old at in
+      let id_most : id ≤ length s.games = within_place s.games id (Some (k.into old)) at refl in
       let event_most : old.event ≤ length s.events = within_place s.events old.event (Some game.of.event) game.of.in_event refl in
       let first_most : old.first ≤ length s.members = within_place s.members old.first (place s.members old.first) refl game.of.first in
       let second_most : old.second ≤ length s.members = within_place s.members old.second (place s.members old.second) refl game.of.second in
-      let last : s.last ≤ last_moment = is_club.legal.last in
+      let last : s.last ≤ last_moment = is_club.last in
       record {
         budget = game.budget;
         increment = game.increment;
         legal = game.legal;
         fits = record {
-          id = omega (arith, id_most, is_club.legal.game_count);
-          event = omega (arith, event_most, is_club.legal.event_count);
-          first = omega (arith, first_most, is_club.legal.member_count);
-          second = omega (arith, second_most, is_club.legal.member_count);
+          id = omega (arith, id_most, is_club.game_count);
+          event = omega (arith, event_most, is_club.event_count);
+          first = omega (arith, first_most, is_club.member_count);
+          second = omega (arith, second_most, is_club.member_count);
           key = game.of.key;
           start = omega (arith, game.of.start, last);
           entries = λ n e stands. let before = game.of.entries n e stands in omega (arith, before, last);
         };
-        row = cells;
+        row = cells ∙ k.row s.events id old;
       }
 
 -- ---- the view of a game
@@ -223,10 +218,33 @@ module _ {R P M E T : Type 0} (laws : GameRules P M E T) (terms : Terms) (row : 
 int_same : (a b : ℤ) → ◌≡◌ {A = Value} (Int a) (Int b) → a ≡ b
 int_same a b is = cc
 
-pub row_id : {P M E T : Type 0} (laws : GameRules P M E T) (terms : Terms) (id : ℕ) (game : Game M) (row : GameRecord) → game_cells row ≡ game_row laws terms id game → row.id ≡ pos id
-row_id laws terms id game row cells = int_same row.id (pos id) (ap (λ w. column w 0) cells)
+pub row_id : (s : ClubState) (id : ℕ) (g : ClubGame) (row : GameRecord) → game_cells row ≡ game_in s id g → row.id ≡ pos id
+row_id s id g row cells = int_same row.id (pos id) (ap (λ w. column w 0) cells ∙ first_of_game both_games s.events id g)
 
-pub ids_same : (k : KeyedGame) (id : ℕ) (old : Game DMove) → Some k ≡ keyed_game {DM = DMove} {SM = SMove} (Some (club.draughts old)) id → (k.id ≡ id) × (k.pairing.event ≡ old.event)
-ids_same k id old is =
-    let e : k ≡ record { id = id; pairing = record { event = old.event; first = old.first; second = old.second } } = cc in
+pub ids_same : (k : KeyedGame) (id : ℕ) (g : ClubGame) → Some k ≡ keyed_game (Some g) id → (k.id ≡ id) × (k.pairing.event ≡ (pairing_of g).event)
+ids_same k id g is =
+    let e : k ≡ record { id = id; pairing = pairing_of g } = cc in
     (ap (λ x. x.id) e, ap (λ x. x.pairing.event) e)
+
+-- ---- a stored game
+
+-- what was decided by the rules of its kind was decided in the club
+pub stored_decided : {P M E T : Type 0} {laws : GameRules P M E T} {kind : GameKind} (k : Kind laws kind) (s : ClubState) → IsClub s → (id : ℕ) (game : ClubGame) (stored : StoredGame) (moment : ℕ) (who : Caller) (command : GameCommand) (d : Decided) → s.last ≤ moment → place s.games id ≡ Some game → IsStoredGame s id game stored → stored.kind ≡ kind
+    → ((old : Game M) → IsRecordOf laws (terms_given stored.terms) stored.id stored.row old → HaveSame (map move_cells stored.moves.items) (move_rows laws (terms_given stored.terms) stored.id old) → (clocks_of old (terms_given stored.terms)).since ≤ moment
+    → IsDecidedIn laws (terms_given stored.terms) stored.id moment old (game_step laws (terms_given stored.terms) old moment who command) d)
+    → IsDecided s (caller_step s moment who (on_game id command)) d
+stored_decided {laws = laws} k s is_club id game stored moment who command d later at is kind_is step =
+    let legal = in-place (IsLegalIn both_games s) s.games id game is_club.games at in
+    let (g, same) = k.back s game legal (sym is.kind ∙ kind_is) in
+    let here : place s.games id ≡ Some (k.into g) = at ∙ ap Some same in
+    let event : (pairing_of game).event ≡ g.event = ap (λ x. (pairing_of x).event) same ∙ k.event g in
+    let terms : terms_given stored.terms ≡ terms_at (place s.events g.event) = is.terms ∙ ap (λ e. terms_at (place s.events e)) event in
+    let cells : game_cells stored.row ≡ game_in s id (k.into g) = is.row ∙ ap (game_in s id) same in
+    let moves : HaveSame (map move_cells stored.moves.items) (move_rows laws (terms_at (place s.events g.event)) id g) =
+    subst (HaveSame (map move_cells stored.moves.items)) (ap (rows_of_moves both_games s.events id) same ∙ k.moves s.events id g) is.moves in
+    let since = no_later k s is_club id g (terms_given stored.terms) here in
+    let decided = step g
+    (subst₂ (λ t i. IsRecordOf laws t i stored.row g) (sym terms) (sym is.id_is) (is_record s is_club k id g stored.row here cells))
+    (subst₂ (λ t i. HaveSame (map move_cells stored.moves.items) (move_rows laws t i g)) (sym terms) (sym is.id_is) moves)
+    (omega (arith, since, later)) in
+    decided_club k s id moment who command g d here (subst₂ (λ t i. IsDecidedIn laws t i moment g (game_step laws t g moment who command) d) terms is.id_is decided)

@@ -183,20 +183,17 @@ one_cut s sessions r db led before after (inr changed) = record {
 
 opening_legal : IsClub opening_state
 opening_legal = record {
-  legal = record {
-    last = omega arith;
-    members = λ n x at. absurd (let h = at in cc);
-    member_count = omega arith;
-    member_names = λ i j x y at. absurd (let h = at in cc);
-    member_keys = λ i j x y at. absurd (let h = at in cc);
-    events = λ n x at. absurd (let h = at in cc);
-    event_count = omega arith;
-    event_names = λ i j x y at. absurd (let h = at in cc);
-    games = λ n x at. absurd (let h = at in cc);
-    game_count = omega arith;
-    game_keys = λ i j x y b at. absurd (let h = at in cc);
-  };
-  kinds = λ n x at. absurd (let h = at in cc);
+  last = omega arith;
+  members = λ n x at. absurd (let h = at in cc);
+  member_count = omega arith;
+  member_names = λ i j x y at. absurd (let h = at in cc);
+  member_keys = λ i j x y at. absurd (let h = at in cc);
+  events = λ n x at. absurd (let h = at in cc);
+  event_count = omega arith;
+  event_names = λ i j x y at. absurd (let h = at in cc);
+  games = λ n x at. absurd (let h = at in cc);
+  game_count = omega arith;
+  game_keys = λ i j x y b at. absurd (let h = at in cc);
 }
 
 pub opening_led : (trees : Trees) → Leaves (tables opening_state) trees → IsLed [] trees

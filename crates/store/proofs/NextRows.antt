@@ -14,11 +14,12 @@ use Rattle.club_core.specs.Game.{Game, Entry}
 use Rattle.club_core.specs.LegalState.{Each, IsLegalIn}
 use Rattle.club_core.specs.State.{AnyGame, draughts, shogi, State, place, kind_at, terms_at, seated_as, with_members, with_events, with_new_game}
 use Rattle.club_core.proofs.Lists.{place-append}
+use Rattle.club_rows.proofs.KindLemmas.{plies_in}
 use Rattle.club_rows.specs.Tables.{number, game_row, entry_row, entry_rows, move_rows, at_start, with_entry, member_row, event_row, row_of_game, rows_of_moves, tables_of}
 use Rattle.store_tables.specs.Contents.{Content, put_in, put_each}
 use Rattle.store_tables.specs.Content.{same_key}
 use Rattle.store.specs.Steps.{AreSame}
-use Rattle.store.proofs.PutSame.{same_itself, same_by, one_replaced, row_added, row_replaced, nothing_added, one_row_more, numbered_alike, gathered_alike, pairs_apart}
+use Rattle.store.proofs.PutSame.{same_itself, same_by, one_replaced, row_added, row_replaced, nothing_added, one_row_more, rows_kept, numbered_alike, gathered_alike, pairs_apart}
 
 abbrev pub meta_row : ℕ → Row
 meta_row last = number 1 ∷ number 1 ∷ number last ∷ []
@@ -136,19 +137,38 @@ module _ {DP DM DE DT SP SM SE ST : Type 0} (kinds : ClubRules DP DM DE DT SP SM
         ),
       )
 
-  -- a move more in a game
-  abbrev plies_of : AnyGame DM SM → ℕ
-  plies_of (draughts g) = length g.entries
-  plies_of (shogi g) = length g.entries
+  -- a game that changes, and no move of it
+  pub change_next : (s : State DM SM) (n : ℕ) (old new : AnyGame DM SM) (moment : ℕ) → slice_get s.games n ≡ Some old → rows_of_moves kinds s.events (1 + n) new ≡ rows_of_moves kinds s.events (1 + n) old
+      → AreSame (puts moment [] [] (row_of_game kinds s.events (1 + n) new ∷ []) [] (tables_of kinds s)) (tables_of kinds (record s { last = moment; games = slice_set s.games n new }))
+  change_next s n old new moment at stays = (
+    one_replaced (meta_row s.last) (meta_row moment) 1 refl refl,
+    (
+      same_itself _,
+      (
+        same_itself _,
+        (
+          same_itself _,
+          (
+            rows_kept (rows_of_moves kinds s.events) s.games n old new at stays,
+            (
+              row_replaced (row_of_game kinds s.events) (first_of_game s.events) s.games n old new (row_of_game kinds s.events (1 + n) new) at refl,
+              (same_itself _, (same_itself _, tt)),
+            ),
+          ),
+        ),
+      ),
+    ),
+  )
 
-  ply_had : (events : List Event) (id : ℕ) (g : AnyGame DM SM) (z : Row) → Has (rows_of_moves kinds events id g) z → (k : ℕ) × (column z 1 ≡ number k) × (k ≤ plies_of g)
+  -- a move more in a game
+  ply_had : (events : List Event) (id : ℕ) (g : AnyGame DM SM) (z : Row) → Has (rows_of_moves kinds events id g) z → (k : ℕ) × (column z 1 ≡ number k) × (k ≤ plies_in g)
   ply_had events id (draughts g) z has = (move_rows_had kinds.draughts (terms_at (place events g.event)) id g z has).1
   ply_had events id (shogi g) z has = (move_rows_had kinds.shogi (terms_at (place events g.event)) id g z has).1
 
   module _ (s : State DM SM) (n : ℕ) (old new : AnyGame DM SM) (row : Row) (ply : ℕ)
       (at : slice_get s.games n ≡ Some old)
       (grown : rows_of_moves kinds s.events (1 + n) new ≡ rows_of_moves kinds s.events (1 + n) old ++ row ∷ [])
-      (first : column row 0 ≡ number (1 + n)) (second : column row 1 ≡ number ply) (later : plies_of old < ply) where
+      (first : column row 0 ≡ number (1 + n)) (second : column row 1 ≡ number ply) (later : plies_in old < ply) where
     fresh : (m : ℕ) (g : AnyGame DM SM) (z : Row) → slice_get s.games m ≡ Some g → Has (rows_of_moves kinds s.events (1 + m) g) z → same_key (0 ∷ 1 ∷ []) z row ≡ false
     fresh m g z stands has =
         let (k, is, most) = ply_had s.events (1 + m) g z has in
@@ -156,7 +176,7 @@ module _ {DP DM DE DT SP SM SE ST : Type 0} (kinds : ClubRules DP DM DE DT SP SM
         let here : m ≡ n = omega (arith, same_game) in
         let there : slice_get s.games m ≡ Some old = subst (λ j. slice_get s.games j ≡ Some old) (sym here) at in
         let g_is : g ≡ old = cc in
-        let count : plies_of g ≡ plies_of old = ap plies_of g_is in
+        let count : plies_in g ≡ plies_in old = ap plies_in g_is in
         absurd (omega (arith, most, later, count, same_ply)))
 
     pub play_next : (moment : ℕ) → AreSame (puts moment [] [] (row_of_game kinds s.events (1 + n) new ∷ []) (row ∷ []) (tables_of kinds s)) (tables_of kinds (record s { last = moment; games = slice_set s.games n new }))

@@ -1,7 +1,6 @@
 -- What is decided of a command, by what it is answered and the rows that are put.
 use Rattle.std.proofs.Common.{◌≡◌, ℕ, zero, suc, ◌+◌, List, [], ◌∷◌, ◌++◌, length, Option, Some, None, Bool, true, false, ◌&&◌, refl, ap, sym, subst, ◌∙◌, true≢false, arith}
 use Rattle.std.specs.Prelude.{slice_get, max}
-use Rattle.club_rules.specs.declared.names.GameKind.TheVariants.{Draughts}
 use Rattle.club_core.specs.declared.answers.Outcome as given
 use Rattle.club_core.specs.declared.answers.Outcome.TheVariants as given_is
 use Rattle.club_core.specs.declared.answers.Answer.TheVariants as answer_is
@@ -16,24 +15,23 @@ use Rattle.club_core.specs.Answer.{outcome_of, answered, who_of, command_of}
 use Rattle.club_core.specs.Members as core_members
 use Rattle.club_core.specs.Members.{find_id, member_step, same_member, member_refusal}
 use Rattle.club_core.specs.Limits.{is_name, is_budget, is_increment}
-use Rattle.club_core.specs.Events.{Event, has_event_name, has_good_values, is_offered, event_step, same_event, event_refusal, event_tests}
+use Rattle.club_core.specs.Events.{Event, has_event_name, has_good_values, event_step, same_event, event_refusal, event_tests}
 use Rattle.club_core.specs.Seats.{Pairing, KeyedGame, pair, seat_found, seat_step, same_seats, seat_refusal, has_member_name}
-use Rattle.club_core.specs.State.{state_after, is_accepted, add_member, add_event, seat, with_members, with_events, with_new_game, seated, seated_as, kind_at, terms_at, place, game_under, caller_of, step_by}
-use Rattle.club_core.specs.LegalState.{Each}
+use Rattle.club_core.specs.State.{state_after, is_accepted, add_member, add_event, seat, with_members, with_events, with_new_game, game_under, caller_of, step_by}
 use Rattle.club_core.proofs.Folds.{unmoved}
 use Rattle.club_core.proofs.LegalSteps.{not-false}
 use Rattle.club_core.proofs.Legals.{none-holds}
-use Rattle.club_rows.specs.Tables.{member_row, event_row, game_row}
+use Rattle.club_rows.specs.Tables.{member_row, event_row}
 use Rattle.sqlite.specs.Order.{Row}
 use Rattle.store_tables.specs.declared.rows.Changes.{Changes}
 use Rattle.store.specs.declared.command.Decided.{Decided}
 use Rattle.club_rows.specs.Club.{both_games, ClubState, IsClub, tables}
-use Rattle.store.specs.Steps.{request, club_step, caller_step, game_in, AreSame, PutsOnly, IsDecided, changed_if}
+use Rattle.store.specs.Steps.{request, club_step, caller_step, started, AreSame, PutsOnly, IsDecided, changed_if}
 use Rattle.store.proofs.PutSame.{same_itself}
 use Rattle.store.proofs.NextRows.{puts, member_next, event_next, seat_next}
 use Rattle.store.proofs.SameLemmas.{puts_changed}
 
-same_content : (s : ClubState) → AreSame (tables s) (tables s)
+pub same_content : (s : ClubState) → AreSame (tables s) (tables s)
 same_content s = (same_itself _, (same_itself _, (same_itself _, (same_itself _, (same_itself _, (same_itself _, (same_itself _, (same_itself _, tt))))))))
 
 accepted_alike : {S : Type 0} (o : Outcome S) → is_accepted (answered o) ≡ is_accepted o
@@ -107,7 +105,7 @@ event_decided s moment who e o c club answer is_in are =
     (answer ∙ sym (answered_officer s f who (event_step s.events e)))
     (officer_added s f who (same_event s.events e) (event_refusal s.events e) (s.events ++ e ∷ []) (event_added (length s.events + 1)) (ap is_accepted (sym answer) ∙ is_in))
     are
-    (event_next both_games s e moment club.legal.games)
+    (event_next both_games s e moment club.games)
 
 -- ---- what an accepted command meets
 
@@ -117,28 +115,18 @@ unrefused_by Officer (Some reply) refusal o is = absurd (true≢false (sym is))
 unrefused_by Officer None (Some why) o is = absurd (true≢false (sym is))
 unrefused_by Officer None None o is = refl
 
-four_true : (a b c e : Bool) → (a && b && c && e) ≡ true → (c ≡ true) × (e ≡ true)
-four_true true true true true is = (refl, refl)
-four_true true true true false is = absurd (true≢false (sym is))
-four_true true true false e is = absurd (true≢false (sym is))
-four_true true false c e is = absurd (true≢false (sym is))
-four_true false b c e is = absurd (true≢false (sym is))
+three_true : (a b c : Bool) → (a && b && c) ≡ true → (b ≡ true) × (c ≡ true)
+three_true true true true is = (refl, refl)
+three_true true true false is = absurd (true≢false (sym is))
+three_true true false c is = absurd (true≢false (sym is))
+three_true false b c is = absurd (true≢false (sym is))
 
 -- the seconds of an event that is added keep their limits
 pub event_limits : (who : Caller) (events : List Event) (e : Event) (o : given.Outcome) → outcome_of o ≡ answered (by_officer who (event_step events e)) → is_accepted (outcome_of o) ≡ true → (is_budget e.terms.budget ≡ true) × (is_increment e.terms.increment ≡ true)
 event_limits who events e o answer is_in =
     let none : event_refusal events e ≡ None = unrefused_by who (same_event events e) (event_refusal events e) (accepted (events ++ e ∷ []) (event_added (length events + 1))) (ap is_accepted (sym answer) ∙ is_in) in
     let fails = none-holds (event_tests events e) none in
-    four_true (is_name e.name) (is_offered e.game) (is_budget e.terms.budget) (is_increment e.terms.increment) (not-false (has_good_values e) fails.1.0)
-
--- where the events are of draughts alone, so is that of a game
-kind_got : (events : List Event) (n : ℕ) (o : Option Event) → slice_get events n ≡ o → Each (λ e. e.game ≡ Draughts) events → kind_at o ≡ Draughts
-kind_got events n None at alone = refl
-kind_got events n (Some e) at alone = alone n e at
-
-kind_draughts : (events : List Event) (id : ℕ) → Each (λ e. e.game ≡ Draughts) events → kind_at (place events id) ≡ Draughts
-kind_draughts events zero alone = refl
-kind_draughts events (suc n) alone = kind_got events n (slice_get events n) refl alone
+    three_true (is_name e.name) (is_budget e.terms.budget) (is_increment e.terms.increment) (not-false (has_good_values e) fails.1.0)
 
 unrefused : {T : Type 0} (again : Option Reply) (refusal : Option Refusal) (o : Outcome T) (t : T) (r : Reply) → accepted t r ≡ unless_repeat again (unless refusal o) → accepted t r ≡ o
 unrefused (Some reply) refusal o t r is = cc
@@ -166,18 +154,15 @@ seat_same seating who key event first second members ms events es under u games 
     is ∙ (λ i. by_officer who (seat_step (m i) (e i) (k i) (c i) key event first second))
 
 pub seat_decided : (s : ClubState) (moment : ℕ) (who : Caller) (key event first second : List ℕ) (p : Pairing) (id : ℕ) (c : Changes) → IsClub s → accepted p (game_seated id) ≡ by_officer who (seat_step s.members s.events (game_under s.games key) (length s.games) key event first second)
-    → PutsOnly c moment [] [] (game_row both_games.draughts (terms_at (place s.events p.event)) id (seated (Some key) p moment) ∷ []) []
+    → PutsOnly c moment [] [] (started s.events id key p moment ∷ []) []
     → IsDecided s (caller_step s moment who (seat key event first second)) (record { outcome = given_is.Accepted (answer_is.Game id); changes = Some c })
 seat_decided s moment who key event first second p id c club answer are =
     let f = with_new_game s moment key in
     let step = seat_step s.members s.events (game_under s.games key) (length s.games) key event first second in
     let next : id ≡ length s.games + 1 = officer_id who (find_id (has_event_name event) s.events) (find_id (has_member_name first) s.members) (find_id (has_member_name second) s.members) (game_under s.games key) (length s.games) key p id answer in
     let same_id : id ≡ 1 + length s.games = omega (arith, next) in
-    let kind : kind_at (place s.events p.event) ≡ Draughts = kind_draughts s.events p.event club.kinds in
-    let row : game_row both_games.draughts (terms_at (place s.events p.event)) id (seated (Some key) p moment) ≡ game_in s (1 + length s.games) (seated_as (kind_at (place s.events p.event)) (Some key) p moment) =
-    ap (λ k. game_row both_games.draughts (terms_at (place s.events p.event)) k (seated (Some key) p moment)) same_id
-    ∙ ap (λ k. game_in s (1 + length s.games) (seated_as k (Some key) p moment)) (sym kind) in
-    put_decided s (caller_step s moment who (seat key event first second)) (f p) (given_is.Accepted (answer_is.Game id)) c moment [] [] (game_in s (1 + length s.games) (seated_as (kind_at (place s.events p.event)) (Some key) p moment) ∷ []) []
+    let row : started s.events id key p moment ≡ started s.events (1 + length s.games) key p moment = ap (λ k. started s.events k key p moment) same_id in
+    put_decided s (caller_step s moment who (seat key event first second)) (f p) (given_is.Accepted (answer_is.Game id)) c moment [] [] (started s.events (1 + length s.games) key p moment ∷ []) []
     (ap answered answer ∙ sym (answered_officer s f who step))
     (officer_stands s f who step p (game_seated id) answer)
     (subst (λ r. PutsOnly c moment [] [] (r ∷ []) []) row are)

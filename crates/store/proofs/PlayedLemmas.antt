@@ -1,19 +1,14 @@
--- What is decided of a move, by the decision on the game that it is played in.
-use Rattle.std.proofs.Common.{◌≡◌, ℕ, zero, suc, ◌+◌, ◌-◌, ◌*◌, ◌<◌, ◌≤◌, ◌^◌, List, [], ◌∷◌, ◌++◌, length, map, Option, Some, None, Result, Ok, Err, true, refl, ap, sym, subst, ◌∙◌, arith, length-append}
-use Rattle.std.specs.Prelude.{slice_get, slice_set, IsTrue, nat_le}
+-- What is decided of a command on a game, by the decision on that game.
+use Rattle.std.proofs.Common.{◌≡◌, ◌⊎◌, inl, inr, Bool, false, ℕ, zero, suc, ◌+◌, ◌-◌, ◌*◌, ◌<◌, ◌≤◌, ◌^◌, List, [], ◌∷◌, ◌++◌, length, map, Option, Some, None, Result, Ok, Err, true, refl, ap, sym, subst, ◌∙◌, arith, length-append}
+use Rattle.std.specs.Prelude.{if◌then◌else◌, slice_get, slice_set, IsTrue, nat_le}
 use Rattle.std.proofs.lemmas.Bool.Decides.{nat_tests}
 use Rattle.std.proofs.lemmas.List.{length-map}
 use Rattle.squares.specs.declared.sides.Side.{Side}
 use Rattle.squares.specs.declared.sides.Side.TheVariants.{First, Second}
-use Rattle.squares.specs.declared.draughts.moves.DMove.{DMove}
-use Rattle.squares.specs.DraughtsBoard.{Position}
 use Rattle.squares.specs.Sides.{other}
-use Rattle.draughts_draws.specs.declared.ends.DEnd.{DEnd}
-use Rattle.draughts_draws.specs.declared.tails.Tail.{Tail}
 use Rattle.club_rules.specs.declared.refusals.MoveRefusal.{MoveRefusal}
-use Rattle.club_rules.specs.declared.names.GameKind.TheVariants.{Draughts}
-use Rattle.club_games.specs.ShogiLaws.{shogi-first_starts, shogi-turn_passes, shogi-same_is, shogi-ends_at_limit}
-use Rattle.club_games.specs.DraughtsLaws.{draughts-first_starts, draughts-turn_passes, draughts-same_is, draughts-ends_at_limit}
+use Rattle.club_rules.specs.declared.names.GameKind.{GameKind}
+use Rattle.club_rules.specs.declared.names.GameKind.TheVariants.{Draughts, Shogi}
 use Rattle.club_rules.specs.GameRules.{GameRules}
 use Rattle.club_core.specs.declared.answers.Answer.{Answer}
 use Rattle.club_core.specs.declared.answers.Answer.TheVariants as answer_is
@@ -26,49 +21,39 @@ use Rattle.club_core.specs.declared.rows.Made.{Made}
 use Rattle.club_core.specs.declared.requests.Caller.{Caller}
 use Rattle.club_core.specs.declared.requests.Caller.TheVariants.{Officer, Member}
 use Rattle.club_core.specs.declared.refusals.Refusal.{Refusal}
-use Rattle.club_core.specs.declared.refusals.Refusal.TheVariants.{UnknownGame}
+use Rattle.club_core.specs.declared.rows.Offer.{Offer}
+use Rattle.club_core.specs.declared.rows.OutsideEnd.{OutsideEnd}
+use Rattle.club_core.specs.declared.rows.OutsideEnd.TheVariants.{Resigned, Agreed, Time}
 use Rattle.club_core.specs.Limits.{is_budget, is_increment, most_plies}
-use Rattle.club_core.specs.Outcome.{Reply, MoveReply, moved, Outcome, accepted, repeated, refused, map_outcome, unless, unless_repeat}
-use Rattle.club_core.specs.Answer.{answered, reply_of, move_reply_of}
+use Rattle.club_core.specs.Outcome.{Reply, MoveReply, moved, draw_offered, game_ended, Outcome, accepted, repeated, refused, map_outcome, unless, unless_repeat}
+use Rattle.club_core.specs.Answer.{outcome_of, answered, reply_of, move_reply_of}
 use Rattle.club_core.specs.Events.{Event, Terms}
 use Rattle.club_core.specs.Game.{Game, Entry, Clocks, spend, spend_all, clocks_of, left_of, turn_of, last_position}
 use Rattle.club_core.specs.Legal.{IsLegalGame}
 use Rattle.club_core.specs.LegalState.{Each, IsLegalEvent, IsLegalIn, IsGameOf}
-use Rattle.club_core.specs.Step.{move, played, plays, by_side, officer_side, side_of_member, repeat_of, move_refusal, move_at, checked, game_step, reply_of_move}
-use Rattle.club_core.specs.State as club
+use Rattle.club_core.specs.Step.{GameCommand, move, offer_draw, accept_draw, resign, claim_time, played, offered, ended, plays, ends, by_side, side_step, caller_side, may_give, asked_ply, no_game_refusal, repeat_of, repeat_of_offer, repeat_of_accept, repeat_of_resign, repeat_of_claim, move_refusal, offer_refusal, accept_refusal, resign_refusal, claim_refusal, move_at, checked, game_step, reply_of_move}
 use Rattle.club_core.specs.Seats.{Pairing}
-use Rattle.club_core.specs.State.{AnyGame, State, seated, state_after, is_accepted, place, terms_at, with_game, step_game, on_game}
+use Rattle.club_core.specs.State.{seated, seated_as, state_after, place, kind_at, terms_at, with_game, step_game, on_game}
 use Rattle.club_core.specs.View.{IsDecision, IsRowOf}
 use Rattle.club_core.proofs.Legals.{AreRules}
 use Rattle.club_core.proofs.LegalSteps.{in-place}
 use Rattle.club_core.proofs.Played.{reply-played}
 use Rattle.club_rows.specs.Made.{made_row}
-use Rattle.club_rows.specs.Tables.{game_row, move_rows, number}
+use Rattle.club_rows.specs.Replay.{game_from}
+use Rattle.club_rows.specs.Tables.{game_row, move_rows, entry_row, entry_rows, with_entry, at_start, number, row_of_game, rows_of_moves}
+use Rattle.club_rows.proofs.KindLemmas.{Kind}
 use Rattle.club_rows.proofs.MadeLemmas.{made-last}
 use Rattle.store_tables.specs.Cells.{game_cells}
 use Rattle.store_tables.specs.declared.rows.GameRecord.{GameRecord}
 use Rattle.store_tables.specs.declared.rows.Changes.{Changes}
 use Rattle.store.specs.declared.command.Decided.{Decided}
 use Rattle.club_rows.specs.Club.{both_games, ClubState, IsClub, tables}
-use Rattle.store.specs.Steps.{caller_step, AreSame, PutsOnly, IsDecided}
-use Rattle.store.proofs.NextRows.{puts, play_next}
-use Rattle.store.proofs.OutcomeLemmas.{none_decided, put_decided, answered_mapped}
-
-pub draughts_laws : AreRules both_games.draughts
-draughts_laws = record {
-  first_starts = draughts-first_starts;
-  turn_passes = draughts-turn_passes;
-  same_is = draughts-same_is;
-  ends_at_limit = draughts-ends_at_limit;
-}
-
-pub shogi_laws : AreRules both_games.shogi
-shogi_laws = record {
-  first_starts = shogi-first_starts;
-  turn_passes = shogi-turn_passes;
-  same_is = shogi-same_is;
-  ends_at_limit = shogi-ends_at_limit;
-}
+use Rattle.sqlite.specs.Order.{Row}
+use Rattle.store_tables.specs.Changed.{changed}
+use Rattle.store.specs.Steps.{caller_step, AreSame, PutsOnly, PutsMove, PutsRow, PutsGame, answered_rows, left_answered, IsDecided, IsDecidedIn, changed_if, first_row, started}
+use Rattle.store.proofs.NextRows.{play_next, change_next}
+use Rattle.store.proofs.OutcomeLemmas.{none_decided, answered_mapped, same_content}
+use Rattle.store.proofs.SameLemmas.{puts_changed}
 
 -- ---- how many seconds a player can have
 
@@ -105,41 +90,70 @@ room_for g terms budget increment plies =
     let left = left_most terms.increment First (map (λ e. e.moment) g.entries) (record { left_first = terms.budget; left_second = terms.budget; since = g.start }) most in
     (omega (arith, left.0, count, plies, starts), omega (arith, left.1, count, plies, starts))
 
--- ---- what a move does
+-- ---- what a command does
 
 module _ {P M E T : Type 0} (laws : GameRules P M E T) (terms : Terms) (g : Game M) (moment : ℕ) where
-  abbrev pub IsMoved : Outcome (Game M) → Type 0
-  IsMoved (accepted new reply) = (m : M) × (new ≡ played g m moment) × (reply ≡ reply_of_move laws terms (played g m moment) (length g.entries + 1) m)
-  IsMoved (repeated reply) = Unit {0}
-  IsMoved (refused refusal) = Unit {0}
+  -- a move was played, and this is its answer
+  abbrev pub IsMoved : Game M → Reply → Type 0
+  IsMoved new reply = (m : M) × (new ≡ played g m moment) × (reply ≡ reply_of_move laws terms (played g m moment) (length g.entries + 1) m)
 
-  plays_moved : (r : Result M MoveRefusal) → IsMoved (plays laws terms g moment r)
-  plays_moved (Ok m) = (m, refl, refl)
-  plays_moved (Err why) = tt
+  -- an offer or an end: the event, the start and the entries stay, and the answer is not that to a move
+  pub record IsChanged (new : Game M) (reply : Reply) : Type 0 where
+    pub event : new.event ≡ g.event
+    pub start : new.start ≡ g.start
+    pub entries : new.entries ≡ g.entries
+    pub unmoved : (r : MoveReply) → reply ≡ moved r → ⊥
 
-  unless_moved : (again : Option Reply) (refusal : Option Refusal) (o : Outcome (Game M)) → IsMoved o → IsMoved (unless_repeat again (unless refusal o))
-  unless_moved (Some reply) refusal o is = tt
-  unless_moved None (Some why) o is = tt
-  unless_moved None None o is = is
+  abbrev pub IsDone : Outcome (Game M) → Type 0
+  IsDone (accepted new reply) = IsMoved new reply ⊎ IsChanged new reply
+  IsDone (repeated reply) = Unit {0}
+  IsDone (refused refusal) = Unit {0}
 
-  side_moved : (side : Option Side) (ply : ℕ) (text : List ℕ) → IsMoved (by_side laws terms g moment side (move ply text))
-  side_moved None ply text = tt
-  side_moved (Some side) ply text =
+  plays_done : (r : Result M MoveRefusal) → IsDone (plays laws terms g moment r)
+  plays_done (Ok m) = inl (m, refl, refl)
+  plays_done (Err why) = tt
+
+  unless_done : (again : Option Reply) (refusal : Option Refusal) (o : Outcome (Game M)) → IsDone o → IsDone (unless_repeat again (unless refusal o))
+  unless_done (Some reply) refusal o is = tt
+  unless_done None (Some why) o is = tt
+  unless_done None None o is = is
+
+  if_done : (b : Bool) (o other : Outcome (Game M)) → IsDone o → IsDone other → IsDone (if b then o else other)
+  if_done true o other is also = is
+  if_done false o other is also = also
+
+  offered_done : (offer : Offer) (ply : ℕ) → IsDone (accepted (offered g offer) (draw_offered ply))
+  offered_done offer ply = inr (record { event = refl; start = refl; entries = refl; unmoved = λ r is. cc })
+
+  ends_done : (end : OutsideEnd) → IsDone (ends laws g end)
+  ends_done end = inr (record { event = refl; start = refl; entries = refl; unmoved = λ r is. cc })
+
+  side_done : (side : Side) (command : GameCommand) → IsDone (side_step laws terms g moment side command)
+  side_done side (move ply text) =
       let read = checked laws (last_position laws g) (laws.read_move (last_position laws g) text) in
-      unless_moved (repeat_of laws terms g ply (move_at g ply) side text) (move_refusal laws terms g moment side ply text) (plays laws terms g moment read) (plays_moved read)
+      unless_done (repeat_of laws terms g ply (move_at g ply) side text) (move_refusal laws terms g moment side ply text) (plays laws terms g moment read) (plays_done read)
+  side_done side (offer_draw ply) =
+      let offer : Offer = record { side = side; ply = ply } in
+      if_done laws.has_draw_offers _ _ (unless_done (repeat_of_offer g.offer side ply) (offer_refusal laws g side ply) (accepted (offered g offer) (draw_offered ply)) (offered_done offer ply)) tt
+  side_done side (accept_draw ply) =
+      if_done laws.has_draw_offers _ _ (unless_done (repeat_of_accept laws g side ply) (accept_refusal laws g side ply) (ends laws g Agreed) (ends_done Agreed)) tt
+  side_done side resign = unless_done (repeat_of_resign laws g side) (resign_refusal laws g side) (ends laws g Resigned) (ends_done Resigned)
+  side_done side claim_time = unless_done (repeat_of_claim laws g side) (claim_refusal laws terms g moment side) (ends laws g Time) (ends_done Time)
 
-  pub step_moved : (who : Caller) (ply : ℕ) (text : List ℕ) → IsMoved (game_step laws terms g moment who (move ply text))
-  step_moved Officer ply text = side_moved (officer_side laws terms g moment (move ply text)) ply text
-  step_moved (Member id) ply text = side_moved (side_of_member g.first g.second id) ply text
+  by_done : (side : Option Side) (command : GameCommand) → IsDone (by_side laws terms g moment side command)
+  by_done None command = tt
+  by_done (Some side) command = side_done side command
 
-  -- what was accepted is a move that was played, with its answer
-  pub decided_move : {R : Type 0} (o : Outcome (Game M)) (row : GameRow E) (made : Option (Made R P M E T)) (answer : Answer) → IsMoved o → IsDecision laws terms g o (decision.Accepted row made answer)
-      → (m : M) × (o ≡ accepted (played g m moment) (reply_of answer)) × IsRowOf laws terms (played g m moment) row × (reply_of answer ≡ reply_of_move laws terms (played g m moment) (length g.entries + 1) m)
-  decided_move (accepted new reply) row made answer is shown =
-      let (m, new_is, reply_is) = is in
-      (m, ap (λ x. accepted x reply) new_is ∙ ap (accepted (played g m moment)) (sym shown.2), subst (λ x. IsRowOf laws terms x row) new_is shown.0, shown.2 ∙ reply_is)
-  decided_move (repeated reply) row made answer is shown = absurd shown
-  decided_move (refused refusal) row made answer is shown = absurd shown
+  pub step_done : (who : Caller) (command : GameCommand) → IsDone (game_step laws terms g moment who command)
+  step_done who command = if_done (may_give who command) _ _ (by_done (caller_side g.first g.second who (asked_ply command)) command) tt
+
+  -- what was accepted, with its answer
+  pub decided_change : {R : Type 0} (o : Outcome (Game M)) (row : GameRow E) (made : Option (Made R P M E T)) (answer : Answer) → IsDone o → IsDecision laws terms g o (decision.Accepted row made answer)
+      → (new : Game M) × (o ≡ accepted new (reply_of answer)) × IsRowOf laws terms new row × (IsMoved new (reply_of answer) ⊎ IsChanged new (reply_of answer))
+  decided_change (accepted new reply) row made answer is shown =
+      (new, ap (accepted new) (sym shown.2), shown.0, subst (λ r. IsMoved new r ⊎ IsChanged new r) (sym shown.2) is)
+  decided_change (repeated reply) row made answer is shown = absurd shown
+  decided_change (refused refusal) row made answer is shown = absurd shown
 
   pub repeated_answers : (R : Type 0) (o : Outcome (Game M)) (answer : Answer) → IsDecision {R = R} laws terms g o (decision.Repeated answer) → ◌≡◌ {A = Outcome (Unit {0})} (repeated (reply_of answer)) (answered o)
   repeated_answers R (accepted new reply) answer shown = absurd shown
@@ -154,124 +168,6 @@ module _ {P M E T : Type 0} (laws : GameRules P M E T) (terms : Terms) (g : Game
 same_moved : (a b : MoveReply) → ◌≡◌ {A = Reply} (moved a) (moved b) → a ≡ b
 same_moved a b is = cc
 
-pub place_at : {A : Type 0} (xs : List A) (id : ℕ) (x : A) → place xs id ≡ Some x → (n : ℕ) × (id ≡ 1 + n) × (slice_get xs n ≡ Some x)
-place_at xs zero x at = cc
-place_at xs (suc n) x at = (n, omega arith, at)
-
--- ---- in a game of the club
-
--- a game of the club by its terms
-pub record IsGameIn (s : ClubState) (terms : Terms) (g : Game DMove) : Type 0 where
-  pub terms_are : terms ≡ terms_at (place s.events g.event)
-  pub budget : IsTrue (is_budget terms.budget)
-  pub increment : IsTrue (is_increment terms.increment)
-  pub legal : IsLegalGame both_games.draughts terms g
-  pub of : IsGameOf both_games.draughts Draughts s g
-
-pub game_is : (s : ClubState) (id : ℕ) (g : Game DMove) → IsClub s → place s.games id ≡ Some (club.draughts g) → IsGameIn s (terms_at (place s.events g.event)) g
-game_is s id g legal at =
-    let of : IsGameOf both_games.draughts Draughts s g = in-place (IsLegalIn both_games s) s.games id (club.draughts g) legal.legal.games at in
-    let event : IsLegalEvent of.event = in-place IsLegalEvent s.events g.event of.event legal.legal.events of.in_event in
-    let same : of.event.terms ≡ terms_at (place s.events g.event) = ap terms_at (sym of.in_event) in
-    record {
-      terms_are = refl;
-      budget = subst (λ t. IsTrue (is_budget t.budget)) same event.budget;
-      increment = subst (λ t. IsTrue (is_increment t.increment)) same event.increment;
-      legal = subst (λ t. IsLegalGame both_games.draughts t g) same of.legal;
-      of = of;
-    }
-
-module _ (s : ClubState) (id : ℕ) (g : Game DMove) (moment : ℕ) (who : Caller) (ply : ℕ) (text : List ℕ) (is_club : IsClub s) (at : place s.games id ≡ Some (club.draughts g)) where
-  abbrev terms_in : Terms
-  terms_in = terms_at (place s.events g.event)
-
-  abbrev step_in : Outcome (Game DMove)
-  step_in = game_step both_games.draughts terms_in g moment who (move ply text)
-
-  placed_step : caller_step s moment who (on_game id (move ply text)) ≡ map_outcome (λ new. with_game s moment id (club.draughts new)) step_in
-  placed_step = ap (step_game both_games s moment id who (move ply text)) at
-
-  answered_step : answered (caller_step s moment who (on_game id (move ply text))) ≡ answered step_in
-  answered_step = ap answered placed_step ∙ answered_mapped s (λ new. with_game s moment id (club.draughts new)) step_in
-
-  pub repeated_decided : (R : Type 0) (answer : Answer) (d : Decided) → IsDecision {R = R} both_games.draughts terms_in g step_in (decision.Repeated answer) → d.outcome ≡ given_is.Repeated answer → d.changes ≡ None → IsDecided s (caller_step s moment who (on_game id (move ply text))) d
-  repeated_decided R answer d shown is none =
-      none_decided s (caller_step s moment who (on_game id (move ply text))) d (given_is.Repeated answer) is none (repeated_answers both_games.draughts terms_in g moment R step_in answer shown ∙ sym answered_step) refl
-
-  pub refused_decided : (R : Type 0) (why : Refusal) (d : Decided) → IsDecision {R = R} both_games.draughts terms_in g step_in (decision.Refused why) → d.outcome ≡ given_is.Refused why → d.changes ≡ None → IsDecided s (caller_step s moment who (on_game id (move ply text))) d
-  refused_decided R why d shown is none =
-      none_decided s (caller_step s moment who (on_game id (move ply text))) d (given_is.Refused why) is none (refused_answers both_games.draughts terms_in g moment R step_in why shown ∙ sym answered_step) refl
-
-  -- what is put of a move that is played
-  abbrev pub ArePlayed : GameRow DEnd → Moved → Changes → Type 0
-  ArePlayed row mv c =
-      (terms : Terms) (new : Game DMove) → row.left_first < 2 ^ 63 → row.left_second < 2 ^ 63 → mv.left < 2 ^ 63 → IsRowOf both_games.draughts terms new row
-      → PutsOnly c moment [] [] (game_row both_games.draughts terms id new ∷ []) (made_row id (move_reply_of mv) moment ∷ [])
-
-  pub move_decided : {R : Type 0} (row : GameRow DEnd) (made : Option (Made R Position DMove DEnd Tail)) (mv : Moved) (c : Changes) → IsDecision both_games.draughts terms_in g step_in (decision.Accepted row made (answer_is.Moved mv)) → ArePlayed row mv c
-      → IsDecided s (caller_step s moment who (on_game id (move ply text))) (record { outcome = given_is.Accepted (answer_is.Moved mv); changes = Some c })
-  move_decided row made mv c shown are =
-      let game = game_is s id g is_club at in
-      let (m, step_is, is_row, reply_is) = decided_move both_games.draughts terms_in g moment step_in row made (answer_is.Moved mv) (step_moved both_games.draughts terms_in g moment who ply text) shown in
-      let new : Game DMove = played g m moment in
-      let (n, id_is, stands) = place_at s.games id (club.draughts g) at in
-      let shows = same_moved _ _ (reply_is ∙ reply-played both_games.draughts draughts-turn_passes draughts-first_starts g game.legal.line.legal m moment terms_in) in
-      let grown : move_rows both_games.draughts terms_in id new ≡ move_rows both_games.draughts terms_in id g ++ made_row id (move_reply_of mv) moment ∷ [] =
-      made-last both_games.draughts draughts_laws terms_in id g m moment (move_reply_of mv) game.legal.line.legal (sym reply_is) in
-      let count : length new.entries ≡ length g.entries + 1 = simp length-append in
-      let plies : length g.entries ≤ most_plies = game.legal.plies in
-      let room = room_for new terms_in game.budget game.increment (omega (arith, count, plies)) in
-      let first : row.left_first < 2 ^ 63 = subst (λ k. k.left_first < 2 ^ 63) (sym is_row.clocks) room.0 in
-      let second : row.left_second < 2 ^ 63 = subst (λ k. k.left_second < 2 ^ 63) (sym is_row.clocks) room.1 in
-      let left : mv.left < 2 ^ 63 = subst (λ k. k < 2 ^ 63) (sym (ap (λ r. r.left) shows)) (left_side (turn_of both_games.draughts g) (clocks_of new terms_in) (2 ^ 63) room.0 room.1) in
-      let rows = are terms_in new first second left is_row in
-      let previous : id - 1 ≡ n = omega (arith, id_is) in
-      put_decided s (caller_step s moment who (on_game id (move ply text))) (with_game s moment id (club.draughts new)) (given_is.Accepted (answer_is.Moved mv)) c moment [] []
-      (game_row both_games.draughts terms_in id new ∷ []) (made_row id (move_reply_of mv) moment ∷ [])
-      (ap answered (sym step_is) ∙ sym answered_step)
-      (ap (state_after s) (placed_step ∙ ap (map_outcome (λ new. with_game s moment id (club.draughts new))) step_is))
-      rows
-      (subst (λ k. AreSame (puts moment [] [] (game_row both_games.draughts terms_in id new ∷ []) (made_row id (move_reply_of mv) moment ∷ []) (tables s)) (tables (record s { last = moment; games = slice_set s.games k (club.draughts new) }))) (sym previous)
-      (subst (λ k. AreSame (puts moment [] [] (game_row both_games.draughts terms_in k new ∷ []) (made_row id (move_reply_of mv) moment ∷ []) (tables s)) (tables (record s { last = moment; games = slice_set s.games n (club.draughts new) }))) (sym id_is)
-      (play_next both_games s n (club.draughts g) (club.draughts new) (made_row id (move_reply_of mv) moment) (length g.entries + 1) stands
-      (subst (λ k. move_rows both_games.draughts terms_in k new ≡ move_rows both_games.draughts terms_in k g ++ made_row id (move_reply_of mv) moment ∷ []) id_is grown)
-      (ap number id_is) (ap (λ r. number r.ply) shows) (omega arith) moment)))
-
--- ---- a game that starts
-
-pub seated_cells : {P M E T : Type 0} (laws : GameRules P M E T) (r : GameRecord) (row : GameRow E) (given : Terms) (e : Event) (events : List Event) (p : Pairing) (id : ℕ) (key : List ℕ) (moment : ℕ) → Each IsLegalEvent events → place events p.event ≡ Some e → given ≡ e.terms
-    → ((increment : ℕ) → IsRowOf laws (record { budget = given.budget; increment = increment }) (seated (Some key) p moment) row)
-    → (row.left_first < 2 ^ 63 → row.left_second < 2 ^ 63 → (terms : Terms) (game : Game M) → IsRowOf laws terms game row → game_cells r ≡ game_row laws terms id game)
-    → game_cells r ≡ game_row laws (terms_at (place events p.event)) id (seated (Some key) p moment)
-seated_cells {P} {M} laws r row given e events p id key moment legal at given_is shows cells =
-    let is_row = shows given.increment in
-    let budget : given.budget ≤ 31536000 = budget_most given.budget (subst (λ t. IsTrue (is_budget t.budget)) (sym given_is) (in-place IsLegalEvent events p.event e legal at).budget) in
-    let first : row.left_first ≡ given.budget = ap (λ c. c.left_first) is_row.clocks in
-    let second : row.left_second ≡ given.budget = ap (λ c. c.left_second) is_row.clocks in
-    let start : Game M = seated (Some key) p moment in
-    cells (omega (arith, first, budget)) (omega (arith, second, budget)) given start is_row
-    ∙ ap (λ t. game_row laws t id start) (given_is ∙ ap terms_at (sym at))
-
--- ---- by the decision as it was given
-
-module _ (s : ClubState) (id : ℕ) (g : Game DMove) (moment : ℕ) (who : Caller) (ply : ℕ) (text : List ℕ) (is_club : IsClub s) (at : place s.games id ≡ Some (club.draughts g)) (R : Type 0) (shown : Decision R Position DMove DEnd Tail)
-    (is : IsDecision both_games.draughts (terms_at (place s.events g.event)) g (game_step both_games.draughts (terms_at (place s.events g.event)) g moment who (move ply text)) shown) where
-  abbrev decided_of : Decision R Position DMove DEnd Tail → Type 0
-  decided_of d = IsDecision both_games.draughts (terms_at (place s.events g.event)) g (game_step both_games.draughts (terms_at (place s.events g.event)) g moment who (move ply text)) d
-
-  pub given_repeated : (answer : Answer) (d : Decided) → shown ≡ decision.Repeated answer → d.outcome ≡ given_is.Repeated answer → d.changes ≡ None → IsDecided s (caller_step s moment who (on_game id (move ply text))) d
-  given_repeated answer d was = repeated_decided s id g moment who ply text is_club at R answer d (subst decided_of was is)
-
-  pub given_refused : (why : Refusal) (d : Decided) → shown ≡ decision.Refused why → d.outcome ≡ given_is.Refused why → d.changes ≡ None → IsDecided s (caller_step s moment who (on_game id (move ply text))) d
-  given_refused why d was = refused_decided s id g moment who ply text is_club at R why d (subst decided_of was is)
-
-  pub given_move : (row : GameRow DEnd) (made : Option (Made R Position DMove DEnd Tail)) (answer : Answer) (mv : Moved) (c : Changes) → shown ≡ decision.Accepted row made answer → answer ≡ answer_is.Moved mv
-      → ((terms : Terms) (new : Game DMove) → row.left_first < 2 ^ 63 → row.left_second < 2 ^ 63 → mv.left < 2 ^ 63 → IsRowOf both_games.draughts terms new row → PutsOnly c moment [] [] (game_row both_games.draughts terms id new ∷ []) (made_row id (move_reply_of mv) moment ∷ []))
-      → IsDecided s (caller_step s moment who (on_game id (move ply text))) (record { outcome = given_is.Accepted answer; changes = Some c })
-  given_move row made answer mv c was moved_is are =
-      subst (λ a. IsDecided s (caller_step s moment who (on_game id (move ply text))) (record { outcome = given_is.Accepted a; changes = Some c })) (sym moved_is)
-      (move_decided s id g moment who ply text is_club at row made mv c (subst (λ a. decided_of (decision.Accepted row made a)) moved_is (subst decided_of was is)) are)
-
 -- ---- the effective moment
 
 spend_since : (increment : ℕ) (side : Side) (m : ℕ) (c : Clocks) → (spend increment side m c).since ≡ m
@@ -283,15 +179,251 @@ since_within increment side [] c last within each = within
 since_within increment side (e ∷ es) c last within each =
     since_within increment (other side) es (spend increment side e.moment c) last (rw (spend_since increment side e.moment c) (each 0 e refl)) (λ n x at. each (suc n) x at)
 
--- no game of the club has a moment after the last accepted command's
-pub no_later : (s : ClubState) (id : ℕ) (g : Game DMove) (terms : Terms) → IsClub s → place s.games id ≡ Some (club.draughts g) → (clocks_of g terms).since ≤ s.last
-no_later s id g terms is_club at =
-    let game = game_is s id g is_club at in
-    since_within terms.increment First g.entries _ s.last game.of.start game.of.entries
+-- ---- what is decided in a game
+
+module _ {P M E T : Type 0} (laws : GameRules P M E T) (terms : Terms) (id : ℕ) (g : Game M) (moment : ℕ) where
+  repeated_puts : (R : Type 0) (o : Outcome (Game M)) (answer : Answer) → IsDecision {R = R} laws terms g o (decision.Repeated answer) → PutsGame laws terms id moment g o None
+  repeated_puts R (accepted new reply) answer shown = absurd shown
+  repeated_puts R (repeated reply) answer shown = tt
+  repeated_puts R (refused refusal) answer shown = absurd shown
+
+  refused_puts : (R : Type 0) (o : Outcome (Game M)) (why : Refusal) → IsDecision {R = R} laws terms g o (decision.Refused why) → PutsGame laws terms id moment g o None
+  refused_puts R (accepted new reply) why shown = absurd shown
+  refused_puts R (repeated reply) why shown = absurd shown
+  refused_puts R (refused refusal) why shown = tt
+
+  repeated_decided : (R : Type 0) (o : Outcome (Game M)) (answer : Answer) (d : Decided) → IsDecision {R = R} laws terms g o (decision.Repeated answer) → d.outcome ≡ given_is.Repeated answer → d.changes ≡ None → IsDecidedIn laws terms id moment g o d
+  repeated_decided R o answer d shown is none = record {
+    answer = ap outcome_of is ∙ repeated_answers laws terms g moment R o answer shown;
+    puts = subst (PutsGame laws terms id moment g o) (sym none) (repeated_puts R o answer shown);
+  }
+
+  refused_decided : (R : Type 0) (o : Outcome (Game M)) (why : Refusal) (d : Decided) → IsDecision {R = R} laws terms g o (decision.Refused why) → d.outcome ≡ given_is.Refused why → d.changes ≡ None → IsDecidedIn laws terms id moment g o d
+  refused_decided R o why d shown is none = record {
+    answer = ap outcome_of is ∙ refused_answers laws terms g moment R o why shown;
+    puts = subst (PutsGame laws terms id moment g o) (sym none) (refused_puts R o why shown);
+  }
+
+-- the rows of the moves are those of the start and the entries
+module _ {P M E T : Type 0} (laws : GameRules P M E T) (terms : Terms) (id : ℕ) where
+  rows_from : (g : Game M) (es : List (Entry M)) → entry_rows laws terms id g es ≡ entry_rows laws terms id (game_from g.start g.entries) es
+  rows_from g [] = refl
+  rows_from g (e ∷ es) = ap (λ rest. entry_row laws terms id g e ∷ rest) (rows_from (with_entry g e) es)
+
+  pub rows_stay : (new g : Game M) → new.start ≡ g.start → new.entries ≡ g.entries → move_rows laws terms id new ≡ move_rows laws terms id g
+  rows_stay new g start entries =
+      rows_from (at_start new) new.entries
+      ∙ ((λ i. entry_rows laws terms id (game_from (start i) []) (entries i)) ∙ sym (rows_from (at_start g) g.entries))
+
+-- an answer to a move
+moved_answer : (answer : Answer) (r : MoveReply) → reply_of answer ≡ moved r → (mv : Moved) × (answer ≡ answer_is.Moved mv)
+moved_answer (answer_is.Moved mv) r is = (mv, refl)
+moved_answer (answer_is.Member id) r is = cc
+moved_answer (answer_is.Event id) r is = cc
+moved_answer (answer_is.Game id) r is = cc
+moved_answer (answer_is.Offered ply) r is = cc
+moved_answer (answer_is.Ended end result) r is = cc
+
+-- any other answer puts no move
+unmoved_rows : (id moment : ℕ) (answer : Answer) → ((r : MoveReply) → reply_of answer ≡ moved r → ⊥) → (answered_rows id answer moment ≡ []) × (left_answered answer ≡ 0)
+unmoved_rows id moment (answer_is.Moved mv) unmoved = absurd (unmoved (move_reply_of mv) refl)
+unmoved_rows id moment (answer_is.Member n) unmoved = (refl, refl)
+unmoved_rows id moment (answer_is.Event n) unmoved = (refl, refl)
+unmoved_rows id moment (answer_is.Game n) unmoved = (refl, refl)
+unmoved_rows id moment (answer_is.Offered ply) unmoved = (refl, refl)
+unmoved_rows id moment (answer_is.Ended end result) unmoved = (refl, refl)
+
+module _ {P M E T : Type 0} (laws : GameRules P M E T) (are_rules : AreRules laws) (terms : Terms) (id : ℕ) (g : Game M) (moment : ℕ) (who : Caller) (command : GameCommand)
+    (budget : IsTrue (is_budget terms.budget)) (increment : IsTrue (is_increment terms.increment)) (legal : IsLegalGame laws terms g) where
+  abbrev pub step_in : Outcome (Game M)
+  step_in = game_step laws terms g moment who command
+
+  -- what is put of a game with this answer
+  abbrev pub ArePut : GameRow E → Answer → Changes → Type 0
+  ArePut row answer c =
+      (terms : Terms) (new : Game M) → row.left_first < 2 ^ 63 → row.left_second < 2 ^ 63 → left_answered answer < 2 ^ 63 → IsRowOf laws terms new row
+      → PutsOnly c moment [] [] (game_row laws terms id new ∷ []) (answered_rows id answer moment)
+
+  move_puts : (row : GameRow E) (mv : Moved) (c : Changes) (m : M) → reply_of (answer_is.Moved mv) ≡ reply_of_move laws terms (played g m moment) (length g.entries + 1) m
+      → IsRowOf laws terms (played g m moment) row → ArePut row (answer_is.Moved mv) c → PutsMove laws terms id moment g (played g m moment) c
+  move_puts row mv c m reply_is is_row are =
+      let new : Game M = played g m moment in
+      let shows = same_moved _ _ (reply_is ∙ reply-played laws are_rules.turn_passes are_rules.first_starts g legal.line.legal m moment terms) in
+      let count : length new.entries ≡ length g.entries + 1 = simp length-append in
+      let plies : length g.entries ≤ most_plies = legal.plies in
+      let room = room_for new terms budget increment (omega (arith, count, plies)) in
+      let first : row.left_first < 2 ^ 63 = subst (λ k. k.left_first < 2 ^ 63) (sym is_row.clocks) room.0 in
+      let second : row.left_second < 2 ^ 63 = subst (λ k. k.left_second < 2 ^ 63) (sym is_row.clocks) room.1 in
+      let left : mv.left < 2 ^ 63 = subst (λ k. k < 2 ^ 63) (sym (ap (λ r. r.left) shows)) (left_side (turn_of laws g) (clocks_of new terms) (2 ^ 63) room.0 room.1) in
+      record {
+        event = refl;
+        reply = move_reply_of mv;
+        ply = ap (λ r. r.ply) shows;
+        puts = are terms new first second left is_row;
+        grown = made-last laws are_rules terms id g m moment (move_reply_of mv) legal.line.legal (sym reply_is);
+      }
+
+  change_puts : (row : GameRow E) (answer : Answer) (c : Changes) (new : Game M) → IsChanged laws terms g moment new (reply_of answer) → IsRowOf laws terms new row → ArePut row answer c
+      → PutsRow laws terms id moment g new c
+  change_puts row answer c new is is_row are =
+      let none = unmoved_rows id moment answer is.unmoved in
+      let count : length new.entries ≡ length g.entries = ap length is.entries in
+      let plies : length g.entries ≤ most_plies = legal.plies in
+      let room = room_for new terms budget increment (omega (arith, count, plies)) in
+      let first : row.left_first < 2 ^ 63 = subst (λ k. k.left_first < 2 ^ 63) (sym is_row.clocks) room.0 in
+      let second : row.left_second < 2 ^ 63 = subst (λ k. k.left_second < 2 ^ 63) (sym is_row.clocks) room.1 in
+      let left : left_answered answer < 2 ^ 63 = omega (arith, none.1) in
+      record {
+        event = is.event;
+        puts = subst (λ rows. PutsOnly c moment [] [] (game_row laws terms id new ∷ []) rows) none.0 (are terms new first second left is_row);
+        stays = rows_stay laws terms id new g is.start is.entries;
+      }
+
+  puts_either : (row : GameRow E) (answer : Answer) (c : Changes) (new : Game M) → IsMoved laws terms g moment new (reply_of answer) ⊎ IsChanged laws terms g moment new (reply_of answer) → IsRowOf laws terms new row
+      → ArePut row answer c → PutsMove laws terms id moment g new c ⊎ PutsRow laws terms id moment g new c
+  puts_either row answer c new (inl (m, new_is, reply_is)) is_row are =
+      let (mv, moved_is) = moved_answer answer _ reply_is in
+      inl (subst (λ x. PutsMove laws terms id moment g x c) (sym new_is)
+      (move_puts row mv c m (subst (λ a. reply_of a ≡ reply_of_move laws terms (played g m moment) (length g.entries + 1) m) moved_is reply_is)
+      (subst (λ x. IsRowOf laws terms x row) new_is is_row) (subst (λ a. ArePut row a c) moved_is are)))
+  puts_either row answer c new (inr is) is_row are = inr (change_puts row answer c new is is_row are)
+
+  change_decided : {R : Type 0} (row : GameRow E) (made : Option (Made R P M E T)) (answer : Answer) (c : Changes) → IsDecision laws terms g step_in (decision.Accepted row made answer) → ArePut row answer c
+      → IsDecidedIn laws terms id moment g step_in (record { outcome = given_is.Accepted answer; changes = Some c })
+  change_decided row made answer c shown are =
+      let (new, step_is, is_row, how) = decided_change laws terms g moment step_in row made answer (step_done laws terms g moment who command) shown in
+      subst (λ o. IsDecidedIn laws terms id moment g o (record { outcome = given_is.Accepted answer; changes = Some c })) (sym step_is)
+      (record { answer = refl; puts = puts_either row answer c new how is_row are })
+
+  -- by the decision as it was given
+  module _ (R : Type 0) (shown : Decision R P M E T) (is : IsDecision laws terms g step_in shown) where
+    abbrev decided_of : Decision R P M E T → Type 0
+    decided_of d = IsDecision laws terms g step_in d
+
+    pub given_repeated : (answer : Answer) (d : Decided) → shown ≡ decision.Repeated answer → d.outcome ≡ given_is.Repeated answer → d.changes ≡ None → IsDecidedIn laws terms id moment g step_in d
+    given_repeated answer d was = repeated_decided laws terms id g moment R step_in answer d (subst decided_of was is)
+
+    pub given_refused : (why : Refusal) (d : Decided) → shown ≡ decision.Refused why → d.outcome ≡ given_is.Refused why → d.changes ≡ None → IsDecidedIn laws terms id moment g step_in d
+    given_refused why d was = refused_decided laws terms id g moment R step_in why d (subst decided_of was is)
+
+    pub given_change : (row : GameRow E) (made : Option (Made R P M E T)) (answer : Answer) (c : Changes) → shown ≡ decision.Accepted row made answer → ArePut row answer c
+        → IsDecidedIn laws terms id moment g step_in (record { outcome = given_is.Accepted answer; changes = Some c })
+    given_change row made answer c was are = change_decided row made answer c (subst decided_of was is) are
+
+-- ---- in a game of the club
+
+pub place_at : {A : Type 0} (xs : List A) (id : ℕ) (x : A) → place xs id ≡ Some x → (n : ℕ) × (id ≡ 1 + n) × (slice_get xs n ≡ Some x)
+place_at xs zero x at = cc
+place_at xs (suc n) x at = (n, omega arith, at)
+
+-- a game of the club by its terms
+pub record IsGameIn {P M E T : Type 0} (laws : GameRules P M E T) (kind : GameKind) (s : ClubState) (terms : Terms) (g : Game M) : Type 0 where
+  pub budget : IsTrue (is_budget terms.budget)
+  pub increment : IsTrue (is_increment terms.increment)
+  pub legal : IsLegalGame laws terms g
+  pub of : IsGameOf laws kind s g
+
+module _ {P M E T : Type 0} {laws : GameRules P M E T} {kind : GameKind} (k : Kind laws kind) (s : ClubState) (is_club : IsClub s) where
+  pub game_is : (id : ℕ) (g : Game M) → place s.games id ≡ Some (k.into g) → IsGameIn laws kind s (terms_at (place s.events g.event)) g
+  game_is id g at =
+      let of : IsGameOf laws kind s g = k.legal s g (in-place (IsLegalIn both_games s) s.games id (k.into g) is_club.games at) in
+      let event : IsLegalEvent of.event = in-place IsLegalEvent s.events g.event of.event is_club.events of.in_event in
+      let same : of.event.terms ≡ terms_at (place s.events g.event) = ap terms_at (sym of.in_event) in
+      record {
+        budget = subst (λ t. IsTrue (is_budget t.budget)) same event.budget;
+        increment = subst (λ t. IsTrue (is_increment t.increment)) same event.increment;
+        legal = subst (λ t. IsLegalGame laws t g) same of.legal;
+        of = of;
+      }
+
+  -- no game of the club has a moment after the last accepted command's
+  pub no_later : (id : ℕ) (g : Game M) (terms : Terms) → place s.games id ≡ Some (k.into g) → (clocks_of g terms).since ≤ s.last
+  no_later id g terms at =
+      let game = game_is id g at in
+      since_within terms.increment First g.entries _ s.last game.of.start game.of.entries
+
+module _ {P M E T : Type 0} {laws : GameRules P M E T} {kind : GameKind} (k : Kind laws kind) (s : ClubState) where
+  -- the rows that are put make the tables of the club with the game after the move
+  put_at : (n moment : ℕ) (g new : Game M) (c : Changes) → slice_get s.games n ≡ Some (k.into g) → PutsMove laws (terms_at (place s.events g.event)) (1 + n) moment g new c → AreSame (changed c (tables s)) (tables (with_game s moment (1 + n) (k.into new)))
+  put_at n moment g new c at p =
+      let made : Row = made_row (1 + n) p.reply moment in
+      let row : game_row laws (terms_at (place s.events g.event)) (1 + n) new ≡ row_of_game both_games s.events (1 + n) (k.into new) =
+      ap (λ e. game_row laws (terms_at (place s.events e)) (1 + n) new) (sym p.event) ∙ sym (k.row s.events (1 + n) new) in
+      let grown : rows_of_moves both_games s.events (1 + n) (k.into new) ≡ rows_of_moves both_games s.events (1 + n) (k.into g) ++ made ∷ [] =
+      k.moves s.events (1 + n) new ∙ (ap (λ e. move_rows laws (terms_at (place s.events e)) (1 + n) new) p.event ∙ (p.grown ∙ ap (λ rs. rs ++ made ∷ []) (sym (k.moves s.events (1 + n) g)))) in
+      let puts_are = subst (λ r. PutsOnly c moment [] [] (r ∷ []) (made ∷ [])) row p.puts in
+      let count = k.plies g in
+      let next = play_next both_games s n (k.into g) (k.into new) made (length g.entries + 1) at grown refl (ap number p.ply) (omega (arith, count)) moment in
+      let back : (1 + n) - 1 ≡ n = omega arith in
+      subst (λ m. AreSame (changed c (tables s)) (tables (record s { last = moment; games = slice_set s.games m (k.into new) }))) (sym back)
+      (subst (λ content. AreSame content (tables (record s { last = moment; games = slice_set s.games n (k.into new) }))) (sym (puts_changed c moment [] [] (row_of_game both_games s.events (1 + n) (k.into new) ∷ []) (made ∷ []) puts_are (tables s))) next)
+
+  -- and so do those of a game that changes without a move
+  change_at : (n moment : ℕ) (g new : Game M) (c : Changes) → slice_get s.games n ≡ Some (k.into g) → PutsRow laws (terms_at (place s.events g.event)) (1 + n) moment g new c → AreSame (changed c (tables s)) (tables (with_game s moment (1 + n) (k.into new)))
+  change_at n moment g new c at p =
+      let row : game_row laws (terms_at (place s.events g.event)) (1 + n) new ≡ row_of_game both_games s.events (1 + n) (k.into new) =
+      ap (λ e. game_row laws (terms_at (place s.events e)) (1 + n) new) (sym p.event) ∙ sym (k.row s.events (1 + n) new) in
+      let stays : rows_of_moves both_games s.events (1 + n) (k.into new) ≡ rows_of_moves both_games s.events (1 + n) (k.into g) =
+      k.moves s.events (1 + n) new ∙ (ap (λ e. move_rows laws (terms_at (place s.events e)) (1 + n) new) p.event ∙ (p.stays ∙ sym (k.moves s.events (1 + n) g))) in
+      let puts_are = subst (λ r. PutsOnly c moment [] [] (r ∷ []) []) row p.puts in
+      let next = change_next both_games s n (k.into g) (k.into new) moment at stays in
+      let back : (1 + n) - 1 ≡ n = omega arith in
+      subst (λ m. AreSame (changed c (tables s)) (tables (record s { last = moment; games = slice_set s.games m (k.into new) }))) (sym back)
+      (subst (λ content. AreSame content (tables (record s { last = moment; games = slice_set s.games n (k.into new) }))) (sym (puts_changed c moment [] [] (row_of_game both_games s.events (1 + n) (k.into new) ∷ []) [] puts_are (tables s))) next)
+
+  put_game : (id moment : ℕ) (g : Game M) → place s.games id ≡ Some (k.into g) → (o : Outcome (Game M)) (c : Option Changes) → PutsGame laws (terms_at (place s.events g.event)) id moment g o c
+      → AreSame (changed_if c (tables s)) (tables (state_after s (map_outcome (λ new. with_game s moment id (k.into new)) o)))
+  put_game id moment g at (accepted new reply) (Some c) p =
+      let (n, id_is, stands) = place_at s.games id (k.into g) at in
+      subst (λ i. AreSame (changed c (tables s)) (tables (with_game s moment i (k.into new)))) (sym id_is)
+      (elim p [
+        | inl made ↦ put_at n moment g new c stands (subst (λ i. PutsMove laws (terms_at (place s.events g.event)) i moment g new c) id_is made)
+        | inr row ↦ change_at n moment g new c stands (subst (λ i. PutsRow laws (terms_at (place s.events g.event)) i moment g new c) id_is row)
+      ])
+  put_game id moment g at (repeated reply) None p = same_content s
+  put_game id moment g at (refused refusal) None p = same_content s
+  put_game id moment g at (accepted new reply) None p = absurd p
+  put_game id moment g at (repeated reply) (Some c) p = absurd p
+  put_game id moment g at (refused refusal) (Some c) p = absurd p
+
+  -- what was decided in the game was decided in the club
+  pub decided_club : (id moment : ℕ) (who : Caller) (command : GameCommand) (g : Game M) (d : Decided) → place s.games id ≡ Some (k.into g)
+      → IsDecidedIn laws (terms_at (place s.events g.event)) id moment g (game_step laws (terms_at (place s.events g.event)) g moment who command) d
+      → IsDecided s (caller_step s moment who (on_game id command)) d
+  decided_club id moment who command g d at decided =
+      let f = λ (new : Game M). with_game s moment id (k.into new) in
+      let o = game_step laws (terms_at (place s.events g.event)) g moment who command in
+      let step : caller_step s moment who (on_game id command) ≡ map_outcome f o = ap (step_game both_games s moment id who command) at ∙ k.step s moment id who command g in
+      record {
+        answer = decided.answer ∙ (sym (answered_mapped s f o) ∙ ap answered (sym step));
+        rows = subst (λ x. AreSame (changed_if d.changes (tables s)) (tables (state_after s x))) (sym step) (put_game id moment g at o d.changes decided.puts);
+      }
+
+-- ---- a game that starts
+
+pub seated_cells : {P M E T : Type 0} (laws : GameRules P M E T) (r : GameRecord) (row : GameRow E) (terms : Terms) (p : Pairing) (id : ℕ) (key : List ℕ) (moment : ℕ) → IsTrue (is_budget terms.budget)
+    → ((increment : ℕ) → IsRowOf laws (record { budget = terms.budget; increment = increment }) (seated (Some key) p moment) row)
+    → (row.left_first < 2 ^ 63 → row.left_second < 2 ^ 63 → (terms : Terms) (game : Game M) → IsRowOf laws terms game row → game_cells r ≡ game_row laws terms id game)
+    → game_cells r ≡ game_row laws terms id (seated (Some key) p moment)
+seated_cells {P} {M} laws r row terms p id key moment legal shows cells =
+    let is_row = shows terms.increment in
+    let budget : terms.budget ≤ 31536000 = budget_most terms.budget legal in
+    let first : row.left_first ≡ terms.budget = ap (λ c. c.left_first) is_row.clocks in
+    let second : row.left_second ≡ terms.budget = ap (λ c. c.left_second) is_row.clocks in
+    let start : Game M = seated (Some key) p moment in
+    cells (omega (arith, first, budget)) (omega (arith, second, budget)) terms start is_row
+
+pub started_first : (events : List Event) (p : Pairing) (id : ℕ) (key : List ℕ) (moment : ℕ) (kind : GameKind) → kind_at (place events p.event) ≡ kind → started events id key p moment ≡ first_row kind (terms_at (place events p.event)) id key p moment
+started_first events p id key moment kind is =
+    ap (λ k. row_of_game both_games events id (seated_as k (Some key) p moment)) is ∙ first kind
+  where
+    first : (k : GameKind) → row_of_game both_games events id (seated_as k (Some key) p moment) ≡ first_row k (terms_at (place events p.event)) id key p moment
+    first Draughts = refl
+    first Shogi = refl
 
 -- ---- a game that there is not
 
-pub unknown_decided : (s : ClubState) (id : ℕ) (moment : ℕ) (who : Caller) (ply : ℕ) (text : List ℕ) (d : Decided) → place s.games id ≡ None → d.outcome ≡ given_is.Refused UnknownGame → d.changes ≡ None → IsDecided s (caller_step s moment who (on_game id (move ply text))) d
-unknown_decided s id moment who ply text d absent is none =
-    none_decided s (caller_step s moment who (on_game id (move ply text))) d (given_is.Refused UnknownGame) is none
-    (sym (ap (λ o. answered (step_game both_games s moment id who (move ply text) o)) absent)) refl
+pub unknown_decided : (s : ClubState) (id : ℕ) (moment : ℕ) (who : Caller) (command : GameCommand) (d : Decided) → place s.games id ≡ None → d.outcome ≡ given_is.Refused (no_game_refusal who command) → d.changes ≡ None → IsDecided s (caller_step s moment who (on_game id command)) d
+unknown_decided s id moment who command d absent is none =
+    none_decided s (caller_step s moment who (on_game id command)) d (given_is.Refused (no_game_refusal who command)) is none
+    (sym (ap (λ o. answered (step_game both_games s moment id who command o)) absent)) refl

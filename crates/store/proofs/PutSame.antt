@@ -253,6 +253,31 @@ module _ {A : Type 0} (rows : ℕ → A → List Row) where
         ];
   }
 
+  -- one element is replaced by another with the same rows
+  pub rows_kept : (xs : List A) (i : ℕ) (old new : A) → slice_get xs i ≡ Some old → rows (1 + i) new ≡ rows (1 + i) old
+      → HaveSame (gathered_from rows 1 xs) (gathered_from rows 1 (slice_set xs i new))
+  rows_kept xs i old new at_i kept_rows = record {
+    there = λ z h.
+        let (n, y, at, has) = gathered_had 1 xs z h in
+        elim (set-got xs i new n y at) [
+          | inl kept ↦ gathered_has 1 (slice_set xs i new) n y z kept has
+          | inr here ↦
+              let there : slice_get xs n ≡ Some old = subst (λ k. slice_get xs k ≡ Some old) (sym here.0) at_i in
+              let y_is : y ≡ old = cc in
+              let has_old : Has (rows (1 + i) old) z = subst₂ (λ k w. Has (rows (1 + k) w) z) here.0 y_is has in
+              gathered_has 1 (slice_set xs i new) n new z here.1
+              (subst (λ k. Has (rows (1 + k) new) z) (sym here.0) (subst (λ l. Has l z) (sym kept_rows) has_old))
+        ];
+    back = λ z h.
+        let (n, y, at, has) = gathered_had 1 (slice_set xs i new) z h in
+        elim (got-set xs i new n y at) [
+          | inl was ↦ gathered_has 1 xs n y z was has
+          | inr here ↦
+              let in_new : Has (rows (1 + i) new) z = subst₂ (λ k w. Has (rows (1 + k) w) z) here.0 (sym here.1) has in
+              gathered_has 1 xs i old z at_i (subst (λ l. Has l z) kept_rows in_new)
+        ];
+  }
+
 -- ---- rows that do not change
 
 pub numbered_alike : {A : Type 0} (row other : ℕ → A → Row) (id : ℕ) (xs : List A) → ((n : ℕ) (x : A) → slice_get xs n ≡ Some x → (k : ℕ) → row k x ≡ other k x) → numbered_from row id xs ≡ numbered_from other id xs

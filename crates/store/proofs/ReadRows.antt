@@ -8,8 +8,8 @@ use Rattle.sqlite_rules.specs.Lists.{Has}
 use Rattle.club_core.specs.declared.members.Member as given_member
 use Rattle.club_core.specs.Answer.{member_of}
 use Rattle.club_core.specs.Members.{Member}
-use Rattle.club_core.specs.Events.{Event, Terms}
-use Rattle.club_core.specs.State.{place, terms_at}
+use Rattle.club_core.specs.Events.{Event}
+use Rattle.club_core.specs.State.{place}
 use Rattle.club_rows.specs.Tables.{number, numbered_from, member_row, event_row}
 use Rattle.store_tables.specs.Cells.{member_cells}
 use Rattle.store_tables.specs.declared.rows.MemberRow.{MemberRow}
@@ -94,10 +94,6 @@ games_begin s = begins (game_in s) (first_of_game both_games s.events) s.games
 pub meta_begins : (s : ClubState) → BeginWithPlaces (tables s 0)
 meta_begins s zero within = refl
 meta_begins s (suc k) within = absurd (omega arith)
-
-pub terms_same : (events : List Event) (event : ℕ) (e : Event) (given : Terms) (s : ClubState) (named : ℕ) → place events event ≡ Some e → given ≡ e.terms → events ≡ s.events → event ≡ named → given ≡ terms_at (place s.events named)
-terms_same events event e given s named at given_is same event_is =
-    given_is ∙ (ap terms_at (sym at) ∙ (ap (λ es. terms_at (place es event)) same ∙ ap (λ n. terms_at (place s.events n)) event_is))
 
 -- the first of rows that are known
 pub first_is : {R : Type 0} (cells : R → Row) (rows : List R) (r : R) (z : Row) (zs : List Row) → slice_get rows 0 ≡ Some r → map cells rows ≡ z ∷ zs → cells r ≡ z

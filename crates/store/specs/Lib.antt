@@ -6,4 +6,5 @@ pub mod Lives
 pub mod Places
 pub mod Runs
 pub mod Steps
+pub mod Stored
 pub mod Whole

@@ -4,39 +4,36 @@ ghost use Rattle.std.specs.Prelude.{◌≡◌, ◌≤◌, ◌<◌, ◌^◌, ℕ,
 ghost use Rattle.std.specs.Option.{option_map};
 ghost use Rattle.sqlite.specs.State.{HasCleanDisk};
 ghost use Rattle.sqlite.specs.Held.{state};
-ghost use Rattle.squares.specs.declared.draughts.moves.DMove.{DMove};
-ghost use Rattle.club_core.specs.Answer.{outcome_of, members_of, event_of, events_of, added_event, keyed_of, pairing_of, command_of, move_reply_of};
+ghost use Rattle.club_core.specs.Answer.{outcome_of, members_of, event_of, events_of, added_event, keyed_of, pairing_of, command_of, game_command_of};
 ghost use Rattle.club_core.specs.Events as core;
 ghost use Rattle.club_core.specs.Members as core_members;
-ghost use Rattle.club_core.specs.Game.{Game};
-ghost use Rattle.club_core.specs.Step.{move, game_step};
 ghost use Rattle.club_core.specs.State as club;
-ghost use Rattle.club_core.specs.State.{is_accepted, place, terms_at, game_under, keyed_game, seated, add_member, add_event, on_game};
+ghost use Rattle.club_core.specs.State.{is_accepted, place, game_under, keyed_game, add_member, add_event, on_game};
 ghost use Rattle.club_core.specs.LegalState.{Each, IsLegalEvent};
-ghost use Rattle.club_core.specs.View.{IsSound, IsRowOf, IsDecision, Shows, ShowsPly, terms_of};
-ghost use Rattle.club_rows.specs.Made.{made_row};
 ghost use Rattle.club_rows.specs.Replay.{terms_given};
-ghost use Rattle.club_rows.specs.Tables.{number, kind_number, numbered_from, member_row, event_row, game_row, move_rows};
-ghost use Rattle.store_tables.specs.Cells.{meta_cells, member_cells, event_cells, game_cells, move_cells};
+ghost use Rattle.club_rows.specs.Tables.{number, numbered_from, member_row, event_row};
+ghost use Rattle.store_tables.specs.Cells.{meta_cells, member_cells, event_cells, game_cells};
 ghost use Rattle.store_tables.specs.Club.{IsExactly};
 ghost use Rattle.store_tables.specs.Reading.{OnlyReads};
 ghost use Rattle.store_sql.specs.Read.{KeepsContent};
-ghost use Rattle.club_rows.specs.Club.{both_games, ClubGame, ClubState, IsClub, tables};
-ghost use Rattle.store.specs.Steps.{request, club_step, caller_step, game_in, HaveSame, PutsOnly, IsDecided, IsRecordOf};
+ghost use Rattle.club_rows.specs.Club.{ClubGame, ClubState, IsClub, tables};
+ghost use Rattle.store.specs.Steps.{request, club_step, caller_step, game_in, started, PutsOnly, IsDecided};
+ghost use Rattle.store.specs.Stored.{IsStoredGame};
 ghost use Rattle.store.specs.Whole.{IsWhole};
 
 use crate::fault::CallFault;
+use crate::game::StoredGame;
+use crate::kinds::{act_in, seat_in};
 use clocks::Moment;
 use club_core::values::{MOST_EVENTS, MOST_MEMBERS};
 use club_core::{
-    AddEvent, AddMember, Answer, Caller, Command, Decision, Event, GameRow, GameView, KeyedGame,
-    Member, Move, Moved, Outcome, Pairing, Refusal, Seat, Seating, Who, add_event, add_member,
-    decide, identify, seat, seated_row,
+    AddEvent, AddMember, Answer, Caller, Command, Event, KeyedGame, Member, OnGame, Outcome,
+    Pairing, Refusal, Seat, Seating, Who, add_event, add_member, identify, refusal_without_game,
+    seat,
 };
-use club_games::Draughts;
 use club_rows::numbers::{counted, id, moment as moment_of, stored};
-use club_rows::{Shown, Terms, ask, move_row, record_of, view_of};
-use club_rules::{GameKind, Memory, Rules};
+use club_rows::{Terms, kind_number, kind_of};
+use club_rules::Memory;
 use sqlite::{Alter, Connection};
 use std::alloc::Global;
 use store_sql::{GameKey, count, find, find_by_first, list};
@@ -75,7 +72,7 @@ fn first<T: Drop>(rows: Vec<T>) -> Option<T>
 }
 
 // Refused or repeated: nothing is put.
-fn unchanged(outcome: Outcome) -> Decided
+pub(crate) fn unchanged(outcome: Outcome) -> Decided
     ensures outcome { result.outcome ≡ outcome }
     ensures none { result.changes ≡ None }
 {
@@ -86,7 +83,7 @@ fn unchanged(outcome: Outcome) -> Decided
 }
 
 // No rows but that of `meta`, at the moment of an accepted command.
-fn at(alloc: Global, moment: Moment) -> Changes
+pub(crate) fn at(alloc: Global, moment: Moment) -> Changes
     ensures { PutsOnly result moment [] [] [] [] }
 {
     Changes {
@@ -140,10 +137,9 @@ fn event_of(row: &EventRow) -> Result<Event, CallFault>
     ensures { IfOk result (λ e. (id : ℕ) (event : core.Event) → event_cells row.now ≡ event_row id event →
         event_of e ≡ event) }
 {
-    let game = match row.game {
-        0 => GameKind::Draughts,
-        1 => GameKind::Shogi,
-        _ => return Err(CallFault::Store),
+    let game = match kind_of(row.game) {
+        Some(game) => game,
+        None => return Err(CallFault::Store),
     };
     let (Some(budget), Some(increment)) = (counted(row.budget), counted(row.increment)) else {
         return Err(CallFault::Store);
@@ -210,16 +206,6 @@ fn on_member(
         outcome,
         changes: Some(changes),
     })
-}
-
-// The number of a game.
-fn kind_number(game: GameKind) -> i64
-    ensures { result ≡ pos (kind_number game) }
-{
-    match game {
-        GameKind::Draughts => 0,
-        GameKind::Shogi => 1,
-    }
 }
 
 // The row of an event that is added.
@@ -308,25 +294,31 @@ fn game_under<S: Alter>(
     }
 }
 
-// The seconds that the event of this id gives.
-fn terms_at(events: &[Event], event: u32) -> Result<Terms, CallFault>
-    ensures { IfOk result (λ terms. (e : core.Event) × (place (events_of events.now) event ≡ Some e) ×
-        (terms_given terms ≡ e.terms)) }
+// The event of this id.
+fn event_at(events: &[Event], event: u32) -> Result<&Event, CallFault>
+    ensures { IfOk result (λ e. place (events_of events.now) event ≡ Some (event_of e.now)) }
 {
     if event == 0 {
         return Err(CallFault::Store);
     }
     match events.get(event as usize - 1) {
-        Some(event) => Ok(Terms {
-            budget: event.budget,
-            increment: event.increment,
-        }),
+        Some(event) => Ok(event),
         None => Err(CallFault::Store),
     }
 }
 
-// The rows of a game that starts.
-fn seated<R: Rules>(
+// The seconds that an event gives.
+fn terms_of(event: &Event) -> Terms
+    ensures { terms_given result ≡ (event_of event.now).terms }
+{
+    Terms {
+        budget: event.budget,
+        increment: event.increment,
+    }
+}
+
+// The rows of a game of an event that starts.
+fn seated_rows(
     alloc: Global,
     events: &[Event],
     new: KeyedGame,
@@ -334,13 +326,10 @@ fn seated<R: Rules>(
     moment: Moment,
 ) -> Result<Changes, CallFault>
     ensures { IfOk result (λ changes. Each IsLegalEvent (events_of events.now) →
-        PutsOnly changes moment [] [] (game_row R.rules (terms_at (place (events_of events.now) new.pairing.event)) new.game (seated (Some key.now) (pairing_of new.pairing) moment) ∷ []) []) }
+        PutsOnly changes moment [] [] (started (events_of events.now) new.game key.now (pairing_of new.pairing) moment ∷ []) []) }
 {
-    let terms = terms_at(events, new.pairing.event)?;
-    let row = seated_row::<R>(alloc, key, new.pairing, terms.budget, moment)?;
-    let mut changes = at(alloc, moment);
-    changes.games.push(record_of::<R>(alloc, new.game, &row)?)?;
-    Ok(changes)
+    let event = event_at(events, new.pairing.event)?;
+    seat_in(alloc, event.game, terms_of(event), new, key, moment)
 }
 
 // What seating a game does.
@@ -370,7 +359,7 @@ fn on_seat<S: Alter>(
     };
     match seat(members, events, under_key, games, caller, command) {
         Seating::Starts(new) => {
-            let changes = seated::<Draughts>(alloc, events, new, command.key.as_str(), moment)?;
+            let changes = seated_rows(alloc, events, new, command.key.as_str(), moment)?;
             Ok(Decided {
                 outcome: Outcome::Accepted(Answer::Game(new.game)),
                 changes: Some(changes),
@@ -381,132 +370,38 @@ fn on_seat<S: Alter>(
     }
 }
 
-// The rows of a game in which a move was played.
-fn moved_rows<R: Rules>(
-    alloc: Global,
-    game: u32,
-    row: &GameRow<R::End>,
-    moved: &Moved,
-    moment: Moment,
-) -> Result<Changes, CallFault>
-    // Seconds that 63 bits hold are stored as they are.
-    ensures { IfOk result (λ changes. (terms : core.Terms) (new : Game R.Move) → row.now.left_first < 2 ^ 63 →
-        row.now.left_second < 2 ^ 63 → moved.now.left < 2 ^ 63 →
-        IsRowOf R.rules terms new row.now →
-        PutsOnly changes moment [] [] (game_row R.rules terms game new ∷ []) (made_row game (move_reply_of moved.now) moment ∷ [])) }
-{
-    let mut changes = at(alloc, moment);
-    changes.games.push(record_of::<R>(alloc, game, row)?)?;
-    changes.moves.push(move_row(game, moved, moment)?)?;
-    Ok(changes)
-}
-
-// What a move does to the game that is shown.
-fn played(
-    alloc: Global,
-    game: u32,
-    shown: Decision<Draughts>,
-    moment: Moment,
-) -> Result<Decided, CallFault>
-    ensures acts { IfOk result IsWhole }
-    ensures step { IfOk result (λ d. (s : ClubState) (old : Game DMove) (who : Caller) (ply : ℕ) (text : List ℕ) →
-        IsClub s → place s.games game ≡ Some (club.draughts old) →
-        IsDecision both_games.draughts (terms_at (place s.events old.event)) old (game_step both_games.draughts (terms_at (place s.events old.event)) old moment who (move ply text)) shown →
-        IsDecided s (caller_step s moment who (on_game game (move ply text))) d) }
-{
-    let (row, answer) = match shown {
-        Decision::Accepted {
-            row,
-            made: _,
-            answer,
-        } => (row, answer),
-        Decision::Repeated(answer) => return Ok(unchanged(Outcome::Repeated(answer))),
-        Decision::Refused(refusal) => return Ok(unchanged(Outcome::Refused(refusal))),
-    };
-    let changes = match &answer {
-        Answer::Moved(moved) => moved_rows::<Draughts>(alloc, game, &row, moved, moment)?,
-        _ => return Err(CallFault::Store),
-    };
-    Ok(Decided {
-        outcome: Outcome::Accepted(answer),
-        changes: Some(changes),
-    })
-}
-
-// The view of a game, asked of a ply.
-fn asked_view<R: Rules>(
-    alloc: Global,
-    row: &GameRecord,
-    terms: Terms,
-    moves: &[MoveRow],
-    ply: u64,
-) -> Result<GameView<R>, CallFault>
-    ensures sound { IfOk result (λ view. IsSound R.rules view) }
-    ensures terms { IfOk result (λ view. terms_of view ≡ terms_given terms) }
-    // The order and the number of the rows of the moves are found here, so that these may be any that are the game's.
-    ensures shows { IfOk result (λ view. (id : ℕ) (game : Game R.Move) →
-        IsRecordOf R.rules (terms_given terms) id row.now game →
-        HaveSame (map move_cells moves.now) (move_rows R.rules (terms_given terms) id game) → Shows R.rules game view × ShowsPly R.rules game ply view) }
-{
-    match view_of::<R>(alloc, row, terms, moves)? {
-        Shown::Game(view) => Ok(ask(view, moves, ply)),
-        _ => Err(CallFault::Store),
-    }
-}
-
-// What a move does in a game that there is.
-fn on_game<S: Alter>(
+// A game as its rows and those of its event and its moves tell it.
+fn read_game<S: Alter>(
     alloc: Global,
     conn: &mut Connection<S>,
-    row: &GameRecord,
-    caller: Caller,
-    command: &Move,
-    moment: Moment,
-) -> Result<Decided, CallFault>
+    row: GameRecord,
+) -> Result<StoredGame, CallFault>
     ensures reads { OnlyReads (state S.Store conn.old) (state S.Store conn.new) }
     ensures kept { HasCleanDisk (state S.Store conn.new) → OnOk result (KeepsContent (state S.Store conn.old)
         (state S.Store conn.new)) }
-    ensures acts { IfOk result IsWhole }
-    ensures step { HasCleanDisk (state S.Store conn.new) →
-        IfOk result (λ d. (s : ClubState) (number : ℕ) (old : Game DMove) → IsClub s → s.last ≤ moment →
-        place s.games number ≡ Some (club.draughts old) → game_cells row.now ≡ game_in s number (club.draughts old) →
-        IsExactly (tables s) (state S.Store conn.old) → IsDecided s (caller_step s moment caller (on_game number (move command.now.ply (string_bytes command.now.text)))) d) }
+    ensures found { HasCleanDisk (state S.Store conn.new) → IfOk result (λ stored. (s : ClubState) (id : ℕ)
+        (game : ClubGame) → IsClub s → place s.games id ≡ Some game → game_cells row ≡ game_in s id game →
+        IsExactly (tables s) (state S.Store conn.old) → IsStoredGame s id game stored) }
 {
-    let ids = ids_in(row)?;
+    let ids = ids_in(&row)?;
     let events = events_of(alloc, &list::<EventRow, S>(alloc, conn)?)?;
     let moves = find_by_first::<MoveRow, S>(alloc, conn, &row.id)?;
-    let terms = terms_at(&events, ids.pairing.event)?;
-    let view = asked_view::<Draughts>(alloc, row, terms, moves.as_slice(), command.ply)?;
-    on_view(alloc, ids.game, &view, caller, command, moment)
+    let event = event_at(&events, ids.pairing.event)?;
+    Ok(StoredGame {
+        id: ids.game,
+        kind: event.game,
+        terms: terms_of(event),
+        row,
+        moves,
+    })
 }
 
-// What a move does in the game that the view shows.
-fn on_view(
-    alloc: Global,
-    game: u32,
-    view: &GameView<Draughts>,
-    caller: Caller,
-    command: &Move,
-    moment: Moment,
-) -> Result<Decided, CallFault>
-    requires { IsSound both_games.draughts view.now }
-    ensures acts { IfOk result IsWhole }
-    ensures step { IfOk result (λ d. (s : ClubState) (old : Game DMove) → IsClub s → s.last ≤ moment →
-        place s.games game ≡ Some (club.draughts old) →
-        terms_of view.now ≡ terms_at (place s.events old.event) → Shows both_games.draughts old view.now → ShowsPly both_games.draughts old command.now.ply view.now →
-        IsDecided s (caller_step s moment caller (on_game game (move command.now.ply (string_bytes command.now.text)))) d) }
-{
-    let moment = moment.later(view.row.since);
-    let decision = decide(alloc, view, caller, command, moment)?;
-    played(alloc, game, decision, moment)
-}
-
-// What a move does.
-fn on_move<S: Alter>(
+// What a command on a game does.
+fn on_game<S: Alter>(
     alloc: Global,
     conn: &mut Connection<S>,
     caller: Caller,
-    command: &Move,
+    command: &OnGame,
     moment: Moment,
 ) -> Result<Decided, CallFault>
     ensures reads { OnlyReads (state S.Store conn.old) (state S.Store conn.new) }
@@ -515,14 +410,18 @@ fn on_move<S: Alter>(
     ensures acts { IfOk result IsWhole }
     ensures step { HasCleanDisk (state S.Store conn.new) → IfOk result (λ d. (s : ClubState) → IsClub s →
         s.last ≤ moment → IsExactly (tables s) (state S.Store conn.old) →
-        IsDecided s (caller_step s moment caller (on_game command.now.game (move command.now.ply (string_bytes command.now.text)))) d) }
+        IsDecided s (caller_step s moment caller (on_game command.now.game (game_command_of command.now.command))) d) }
 {
+    let absent = refusal_without_game(caller, &command.command);
     let Ok(game) = i64::try_from(command.game) else {
-        return Ok(unchanged(Outcome::Refused(Refusal::UnknownGame)));
+        return Ok(unchanged(Outcome::Refused(absent)));
     };
     match first(find_by_first::<GameRecord, S>(alloc, conn, &game)?) {
-        Some(row) => on_game(alloc, conn, &row, caller, command, moment),
-        None => Ok(unchanged(Outcome::Refused(Refusal::UnknownGame))),
+        Some(row) => {
+            let stored = read_game(alloc, conn, row)?;
+            act_in(alloc, &stored, caller, &command.command, moment)
+        }
+        None => Ok(unchanged(Outcome::Refused(absent))),
     }
 }
 
@@ -554,7 +453,7 @@ fn on_command<S: Alter>(
             let events = events_of(alloc, &list::<EventRow, S>(alloc, conn)?)?;
             on_seat(alloc, conn, members, &events, caller, command, moment)
         }
-        Command::Move(command) => on_move(alloc, conn, caller, command, moment),
+        Command::OnGame(command) => on_game(alloc, conn, caller, command, moment),
     }
 }
 

@@ -6,6 +6,8 @@ mod club;
 mod command;
 mod examine;
 mod fault;
+mod game;
+mod kinds;
 pub mod laws;
 mod read;
 mod reopen;

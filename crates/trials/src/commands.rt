@@ -4,7 +4,7 @@ ghost use Rattle.std.specs.Prelude.{◌≡◌, false};
 
 use crate::tables::{Tables, stored};
 use clocks::Moment;
-use club_core::{AddEvent, AddMember, Command, Move, Outcome, Seat, Who};
+use club_core::{AddEvent, AddMember, Command, GameCommand, OnGame, Outcome, Seat, Who};
 use club_rules::GameKind;
 use sqlite::{Connection, MemStore};
 use std::alloc::Global;
@@ -30,6 +30,14 @@ pub(crate) enum Given<'a> {
     Event(&'a str, GameKind, u64, u64),
     Seat(&'a str, &'a str, &'a str, &'a str),
     Move(u64, u64, &'a str),
+    OfferDraw(u64, u64),
+    AcceptDraw(u64, u64),
+    Resign(u64),
+    ClaimTime(u64),
+}
+
+fn on_game(game: u64, command: GameCommand) -> Command {
+    Command::OnGame(OnGame { game, command })
 }
 
 impl Given<'_> {
@@ -51,11 +59,14 @@ impl Given<'_> {
                 first: text(alloc, first)?,
                 second: text(alloc, second)?,
             }),
-            Given::Move(game, ply, letters) => Command::Move(Move {
-                game,
-                ply,
-                text: text(alloc, letters)?,
-            }),
+            Given::Move(game, ply, letters) => {
+                let text = text(alloc, letters)?;
+                on_game(game, GameCommand::Move { ply, text })
+            }
+            Given::OfferDraw(game, ply) => on_game(game, GameCommand::OfferDraw { ply }),
+            Given::AcceptDraw(game, ply) => on_game(game, GameCommand::AcceptDraw { ply }),
+            Given::Resign(game) => on_game(game, GameCommand::Resign),
+            Given::ClaimTime(game) => on_game(game, GameCommand::ClaimTime),
         })
     }
 }
@@ -147,6 +158,57 @@ pub(crate) fn opened(alloc: Global) -> Result<Club<MemStore>, Fail> {
         Ok(club) => Ok(club),
         Err(unopened) => Err(Fail::from(unopened.fault)),
     }
+}
+
+/// A club with a game of this kind, of a day for each player, after these moves, which are legal.
+pub(crate) fn played<R: Abort + AllocGlobal>(
+    rt: &R,
+    game: GameKind,
+    moves: &str,
+) -> Result<Club<MemStore>, Fail> {
+    let mut club = serve_at_once(
+        rt,
+        opened(rt.alloc())?,
+        &[
+            (
+                900,
+                By::Officer,
+                Given::Member("anna", "keyanna1"),
+                "accepted",
+            ),
+            (
+                900,
+                By::Officer,
+                Given::Member("bert", "keybert2"),
+                "accepted",
+            ),
+            (
+                900,
+                By::Officer,
+                Given::Event("autumn", game, 86_400, 0),
+                "accepted",
+            ),
+            (
+                900,
+                By::Officer,
+                Given::Seat("g1", "autumn", "anna", "bert"),
+                "accepted",
+            ),
+        ],
+    )?;
+    let mut ply = 0_u64;
+    for text in moves.split_whitespace() {
+        ply = ply.saturating_add(1);
+        club = give(
+            rt,
+            club,
+            1000,
+            By::Officer,
+            Given::Move(1, ply, text),
+            "accepted",
+        )?;
+    }
+    Ok(club)
 }
 
 const ANNA: By<'static> = By::Key("keyanna1");

@@ -1,59 +1,9 @@
 //! Games of draughts with captures, each move with what it must come to. What is legal where, and how it is written, was
 //! worked out apart from these crates, by the rules.
 
-use crate::commands::{By, Given, give, opened, serve_at_once};
+use crate::commands::{By, Given, played, serve_at_once};
 use club_rules::GameKind;
-use sqlite::MemStore;
-use std::process::Abort;
 use std::test::Fail;
-use store::Club;
-
-/// A club with a game of draughts, of a day for each player, after these moves, which are legal.
-fn played<R: Abort + AllocGlobal>(rt: &R, moves: &str) -> Result<Club<MemStore>, Fail> {
-    let mut club = serve_at_once(
-        rt,
-        opened(rt.alloc())?,
-        &[
-            (
-                900,
-                By::Officer,
-                Given::Member("anna", "keyanna1"),
-                "accepted",
-            ),
-            (
-                900,
-                By::Officer,
-                Given::Member("bert", "keybert2"),
-                "accepted",
-            ),
-            (
-                900,
-                By::Officer,
-                Given::Event("autumn", GameKind::Draughts, 86_400, 0),
-                "accepted",
-            ),
-            (
-                900,
-                By::Officer,
-                Given::Seat("g1", "autumn", "anna", "bert"),
-                "accepted",
-            ),
-        ],
-    )?;
-    let mut ply = 0_u64;
-    for text in moves.split_whitespace() {
-        ply = ply.saturating_add(1);
-        club = give(
-            rt,
-            club,
-            1000,
-            By::Officer,
-            Given::Move(1, ply, text),
-            "accepted",
-        )?;
-    }
-    Ok(club)
-}
 
 // A capture is compulsory; of two captures of one piece each either may be played.
 #[test]
@@ -61,7 +11,7 @@ fn captures_are_compulsory(rt: HostRuntime) -> Result<(), Fail> {
     let moves = "34-30 19-23 31-27 20-25 40-34 17-22 37-31 22-28 33x22";
     let club = serve_at_once(
         &rt,
-        played(&rt, moves)?,
+        played(&rt, GameKind::Draughts, moves)?,
         &[
             (
                 1000,
@@ -101,7 +51,7 @@ fn captures_are_compulsory(rt: HostRuntime) -> Result<(), Fail> {
 fn the_longest_capture_is_played(rt: HostRuntime) -> Result<(), Fail> {
     let club = serve_at_once(
         &rt,
-        played(&rt, "32-28 17-21 31-27")?,
+        played(&rt, GameKind::Draughts, "32-28 17-21 31-27")?,
         &[
             (
                 1000,
@@ -140,7 +90,7 @@ const AMBIGUOUS: &str =
 fn a_short_text_may_be_ambiguous(rt: HostRuntime) -> Result<(), Fail> {
     let club = serve_at_once(
         &rt,
-        played(&rt, AMBIGUOUS)?,
+        played(&rt, GameKind::Draughts, AMBIGUOUS)?,
         &[
             (
                 1000,
@@ -178,7 +128,7 @@ const REPETITION: &str =
 fn a_repetition_ends_a_game(rt: HostRuntime) -> Result<(), Fail> {
     let club = serve_at_once(
         &rt,
-        played(&rt, REPETITION)?,
+        played(&rt, GameKind::Draughts, REPETITION)?,
         &[(
             1000,
             By::Officer,

@@ -2,7 +2,7 @@
 
 use crate::tables::{Tables, stored};
 use clocks::Moment;
-use club_core::{AddEvent, AddMember, Command, Move, Outcome, Seat, Who};
+use club_core::{AddEvent, AddMember, Command, GameCommand, OnGame, Outcome, Seat, Who};
 use club_rules::GameKind;
 use sqlite::{Connection, MemStore};
 use std::alloc::Global;
@@ -41,10 +41,10 @@ fn member(alloc: Global, name: &str, key: &str) -> Result<Command, Fail> {
 }
 
 fn a_move(alloc: Global, ply: u64, letters: &str) -> Result<Command, Fail> {
-    Ok(Command::Move(Move {
+    let text = text(alloc, letters)?;
+    Ok(Command::OnGame(OnGame {
         game: 1,
-        ply,
-        text: text(alloc, letters)?,
+        command: GameCommand::Move { ply, text },
     }))
 }
 

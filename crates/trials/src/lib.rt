@@ -6,7 +6,11 @@ mod commands;
 #[cfg(test)]
 mod draughts;
 #[cfg(test)]
+mod endings;
+#[cfg(test)]
 mod first_path;
+#[cfg(test)]
+mod shogi;
 #[cfg(test)]
 mod stops;
 #[cfg(test)]

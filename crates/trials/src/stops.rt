@@ -4,7 +4,7 @@ ghost use Rattle.std.specs.Prelude.{◌≡◌, false, IfOk};
 
 use crate::tables::{Tables, stored};
 use clocks::Moment;
-use club_core::{AddEvent, AddMember, Command, Move, Outcome, Seat, Who};
+use club_core::{AddEvent, AddMember, Command, GameCommand, OnGame, Outcome, Seat, Who};
 use club_rules::GameKind;
 use sqlite::{Connection, FileStore, Files, Options};
 use sqlite_disk::{Crash, Disk, Fuse, Memory};
@@ -115,10 +115,10 @@ fn given(
 }
 
 fn a_move(alloc: Global, ply: u64, letters: &str) -> Result<Command, Fail> {
-    Ok(Command::Move(Move {
+    let text = text(alloc, letters)?;
+    Ok(Command::OnGame(OnGame {
         game: 1,
-        ply,
-        text: text(alloc, letters)?,
+        command: GameCommand::Move { ply, text },
     }))
 }
 

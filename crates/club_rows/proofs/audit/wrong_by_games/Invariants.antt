@@ -1,5 +1,4 @@
 use Rattle.std.proofs.Common.{◌≡◌, List}
-use Rattle.squares.specs.declared.draughts.moves.DMove.{DMove}
 use Rattle.club_rows.specs.Audit.{HasPeople, AreGames}
 use Rattle.club_rows.specs.Club.{ClubGame, ClubState}
 use Rattle.club_rows.proofs.AuditLemmas.{WereShown, AreLeft}

@@ -4,7 +4,7 @@ use Rattle.std.specs.Option.{option_map}
 use Rattle.club_core.specs.declared.rows.OutsideEnd.{OutsideEnd}
 use Rattle.squares.specs.declared.sides.Score.{Score}
 use Rattle.club_core.specs.declared.rows.OutsideEnd.TheVariants.{Recorded}
-use Rattle.club_rows.specs.Tables.{outside_text}
+use Rattle.club_core.specs.OutsideEnd.{outside_text}
 use Rattle.club_rows.proofs.view.outside_in.Goals as goal
 
 -- the end that was read is the one that the name and the score stand for

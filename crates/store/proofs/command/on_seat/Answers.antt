@@ -2,16 +2,14 @@ use Rattle.store_tables.specs.Tables.{club_schema}
 use Rattle.std.proofs.Common.{◌≡◌, [], ◌∷◌, length, Some, string_bytes, refl, ap, sym, subst, ◌∙◌, arith}
 use Rattle.sqlite.specs.Held.{state}
 use Rattle.sqlite.specs.State.{HasCleanDisk}
-use Rattle.club_games.specs.Draughts.{draughts}
 use Rattle.club_core.specs.declared.answers.Outcome.TheVariants as given
 use Rattle.club_core.specs.declared.answers.Answer.TheVariants as answer
 use Rattle.club_core.specs.Answer.{answered, pairing_of}
 use Rattle.club_core.specs.LegalState.{Each, IsLegalEvent}
 use Rattle.club_core.specs.Seats.{seat_step}
-use Rattle.club_core.specs.State.{game_under, with_new_game, seated, place, terms_at}
-use Rattle.club_rows.specs.Tables.{game_row}
+use Rattle.club_core.specs.State.{game_under, with_new_game}
 use Rattle.club_rows.specs.Club.{tables}
-use Rattle.store.specs.Steps.{game_in, PutsOnly}
+use Rattle.store.specs.Steps.{game_in, started, PutsOnly}
 use Rattle.store.proofs.PutSame.{numbered_length}
 use Rattle.store.proofs.OutcomeLemmas.{officer_none, seat_same, seat_decided}
 use Rattle.store.proofs.ReadRows.{games_begin}
@@ -30,9 +28,10 @@ returns-in_ok-changes-in-Starts-clause-step g c clean s is_club ms es k =
     let games : c.in-Ok.games ≡ length s.games = omega (arith, c.in-Ok.ensures, count, numbered_length (game_in s) 1 s.games) in
     let same = seat_same _ who key event first second _ s.members _ s.events _ (game_under s.games key) _ (length s.games) c.in-Starts.ensures ms es under games in
     let p = pairing_of c.in-Starts.new.pairing in
-    let legal = subst (Each IsLegalEvent) (sym es) is_club.legal.events in
-    let by_events = subst (λ e. PutsOnly c.in_ok-changes-in-Starts.changes c.args.moment [] [] (game_row draughts (terms_at (place e p.event)) c.in-Starts.new.game (seated (Some c.as_str-in-Starts.result.now) p c.args.moment) ∷ []) []) es (c.in_ok-changes-in-Starts.ensures legal) in
-    let are = subst (λ n. PutsOnly c.in_ok-changes-in-Starts.changes c.args.moment [] [] (game_row draughts (terms_at (place s.events p.event)) c.in-Starts.new.game (seated (Some n) p c.args.moment) ∷ []) []) c.as_str-in-Starts.ensures.value by_events in
+    let legal = subst (Each IsLegalEvent) (sym es) is_club.events in
+    let id = c.in-Starts.new.game in
+    let by_events = subst (λ e. PutsOnly c.in_ok-changes-in-Starts.changes c.args.moment [] [] (started e id c.as_str-in-Starts.result.now p c.args.moment ∷ []) []) es (c.in_ok-changes-in-Starts.ensures legal) in
+    let are = subst (λ n. PutsOnly c.in_ok-changes-in-Starts.changes c.args.moment [] [] (started s.events id n p c.args.moment ∷ []) []) c.as_str-in-Starts.ensures.value by_events in
     seat_decided s c.args.moment who key event first second p c.in-Starts.new.game c.in_ok-changes-in-Starts.changes is_club same are
 
 pub returns-in-Repeated-clause-step : goal.returns-in-Repeated-clause-step

@@ -1,0 +1,143 @@
+//! Ends from outside: by the side to move that gives up, or by the other that claims a loss by time.
+
+ghost use Rattle.std.specs.Prelude.{◌≡◌, ◌≤◌, None, IfOk, IfNone};
+ghost use Rattle.std.specs.Option.{option_map};
+ghost use Rattle.club_core.specs.Answer.{reply_of};
+ghost use Rattle.club_core.specs.Game.{Game};
+ghost use Rattle.club_core.specs.Legal.{IsLegalGame};
+ghost use Rattle.club_core.specs.Step.{reply_of_end, ends, repeat_of_resign, resign_refusal, step_resign, repeat_of_claim, claim_refusal, step_claim};
+ghost use Rattle.club_core.specs.View.{Shows, IsDecision, terms_of};
+
+use crate::answers::{Answer, Decision};
+use crate::ends::{is_lost_by_time, is_resigned, outside_score};
+use crate::players::{is_side, left_in};
+use crate::refusals::Refusal;
+use crate::rows::{GameEnd, GameView, OutsideEnd, copy_row};
+use clocks::Moment;
+use club_rules::{Memory, Rules};
+use squares::Side;
+
+/// The answer to a command that ends the game so.
+pub fn answer_of_end<R: Rules>(view: &GameView<R>, end: OutsideEnd) -> Answer
+    ensures { (game : Game R.Move) → Shows R.rules game view.now → reply_of result ≡ reply_of_end R.rules game end }
+{
+    Answer::Ended {
+        end,
+        result: outside_score(end, R::turn(&view.position)),
+    }
+}
+
+/// Ends a running game from outside.
+pub fn accept_end<R: Rules>(view: &GameView<R>, end: OutsideEnd) -> Result<Decision<R>, Memory>
+    requires { view.now.row.result ≡ None }
+    ensures { IfOk result (λ d. (game : Game R.Move) → Shows R.rules game view.now →
+        IsDecision R.rules (terms_of view.now) game (ends R.rules game end) d) }
+{
+    let answer = answer_of_end(view, end);
+    let mut row = copy_row(&view.row)?;
+    row.end = Some(GameEnd::Outside(end));
+    row.result = Some(outside_score(end, R::turn(&view.position)));
+    Ok(Decision::Accepted {
+        row,
+        made: None,
+        answer,
+    })
+}
+
+/// The answer to a repeat of the resignation that ended the game, if it is one.
+fn repeat_of_resign<R: Rules>(view: &GameView<R>, side: Side) -> Option<Answer>
+    ensures { (game : Game R.Move) → Shows R.rules game view.now → IsLegalGame R.rules (terms_of view.now) game →
+        option_map reply_of result ≡ repeat_of_resign R.rules game side }
+{
+    if is_resigned(&view.row.end) && is_side(side, R::turn(&view.position)) {
+        return Some(answer_of_end(view, OutsideEnd::Resigned));
+    }
+    None
+}
+
+/// Why a side may not give up.
+fn refusal_of_resign<R: Rules>(view: &GameView<R>, side: Side) -> Option<Refusal>
+    ensures value { (game : Game R.Move) → Shows R.rules game view.now → result ≡ resign_refusal R.rules game side }
+    ensures running { IfNone result (view.now.row.result ≡ None) }
+{
+    if view.row.result.is_some() {
+        return Some(Refusal::GameOver);
+    }
+    if !is_side(side, R::turn(&view.position)) {
+        return Some(Refusal::NotYourTurn);
+    }
+    None
+}
+
+/// A resignation by the player of a side.
+pub fn resign<R: Rules>(view: &GameView<R>, side: Side) -> Result<Decision<R>, Memory>
+    ensures { IfOk result (λ d. (game : Game R.Move) → Shows R.rules game view.now →
+        IsLegalGame R.rules (terms_of view.now) game →
+        IsDecision R.rules (terms_of view.now) game (step_resign R.rules game side) d) }
+{
+    match repeat_of_resign(view, side) {
+        Some(answer) => return Ok(Decision::Repeated(answer)),
+        None => {}
+    }
+    match refusal_of_resign(view, side) {
+        Some(refusal) => return Ok(Decision::Refused(refusal)),
+        None => {}
+    }
+    let decision = accept_end(view, OutsideEnd::Resigned)?;
+    Ok(decision)
+}
+
+/// The answer to a repeat of the claim that ended the game, if it is one.
+fn repeat_of_claim<R: Rules>(view: &GameView<R>, side: Side) -> Option<Answer>
+    ensures { (game : Game R.Move) → Shows R.rules game view.now → IsLegalGame R.rules (terms_of view.now) game →
+        option_map reply_of result ≡ repeat_of_claim R.rules game side }
+{
+    if is_lost_by_time(&view.row.end) && !is_side(side, R::turn(&view.position)) {
+        return Some(answer_of_end(view, OutsideEnd::Time));
+    }
+    None
+}
+
+/// Why a side may not claim that the other has lost by time.
+fn refusal_of_claim<R: Rules>(view: &GameView<R>, side: Side, moment: Moment) -> Option<Refusal>
+    requires { view.now.row.since ≤ moment }
+    ensures value { (game : Game R.Move) → Shows R.rules game view.now →
+        result ≡ claim_refusal R.rules (terms_of view.now) game moment side }
+    ensures running { IfNone result (view.now.row.result ≡ None) }
+{
+    if view.row.result.is_some() {
+        return Some(Refusal::GameOver);
+    }
+    let turn = R::turn(&view.position);
+    if is_side(side, turn) {
+        return Some(Refusal::NotYourTurn);
+    }
+    let elapsed = moment.seconds() - view.row.since.seconds();
+    if elapsed <= left_in(&view.row, turn) {
+        return Some(Refusal::TimeLeft);
+    }
+    None
+}
+
+/// A claim by the player of a side that the other has lost by time.
+pub fn claim_time<R: Rules>(
+    view: &GameView<R>,
+    side: Side,
+    moment: Moment,
+) -> Result<Decision<R>, Memory>
+    requires { view.now.row.since ≤ moment }
+    ensures { IfOk result (λ d. (game : Game R.Move) → Shows R.rules game view.now →
+        IsLegalGame R.rules (terms_of view.now) game →
+        IsDecision R.rules (terms_of view.now) game (step_claim R.rules (terms_of view.now) game moment side) d) }
+{
+    match repeat_of_claim(view, side) {
+        Some(answer) => return Ok(Decision::Repeated(answer)),
+        None => {}
+    }
+    match refusal_of_claim(view, side, moment) {
+        Some(refusal) => return Ok(Decision::Refused(refusal)),
+        None => {}
+    }
+    let decision = accept_end(view, OutsideEnd::Time)?;
+    Ok(decision)
+}

@@ -1,0 +1,110 @@
+-- The kinds of games: how the games of one kind stand among the games of the club.
+use Rattle.std.proofs.Common.{◌≡◌, ℕ, List, length, Some, refl, ap, sym, ◌∙◌}
+use Rattle.std.specs.Prelude.{Option}
+use Rattle.squares.specs.declared.draughts.moves.DMove.{DMove}
+use Rattle.squares.specs.declared.shogi.moves.SMove.{SMove}
+use Rattle.club_rules.specs.declared.names.GameKind.{GameKind}
+use Rattle.club_rules.specs.declared.names.GameKind.TheVariants.{Draughts, Shogi}
+use Rattle.club_rules.specs.GameRules.{GameRules}
+use Rattle.club_games.specs.DraughtsLaws.{draughts-first_starts, draughts-turn_passes, draughts-same_is, draughts-ends_at_limit}
+use Rattle.club_games.specs.ShogiLaws.{shogi-first_starts, shogi-turn_passes, shogi-same_is, shogi-ends_at_limit}
+use Rattle.club_core.specs.declared.requests.Caller.{Caller}
+use Rattle.club_core.specs.Events.{Event}
+use Rattle.club_core.specs.Game.{Game}
+use Rattle.club_core.specs.LegalState.{IsGameOf, IsLegalIn}
+use Rattle.club_core.specs.Outcome.{map_outcome}
+use Rattle.club_core.specs.Seats.{Pairing}
+use Rattle.club_core.specs.State.{AnyGame, draughts, shogi, place, kind_at, terms_at, pairing_of, seated, seated_as, with_game, step_game}
+use Rattle.club_core.specs.Step.{GameCommand, game_step}
+use Rattle.club_core.proofs.Legals.{AreRules}
+use Rattle.club_rows.specs.Club.{both_games, ClubGame, ClubState}
+use Rattle.club_rows.specs.Tables.{kind_number, game_row, move_rows, row_of_game, rows_of_moves}
+
+-- the event of a game
+abbrev pub event_in : ClubGame → ℕ
+event_in any = (pairing_of any).event
+
+-- how many moves were played in a game
+abbrev pub plies_in : {DM SM : Type 0} → AnyGame DM SM → ℕ
+plies_in (draughts g) = length g.entries
+plies_in (shogi g) = length g.entries
+
+-- the games of one kind as games of the club, which step, and have rows, as its rules say
+pub record Kind {P M E T : Type 0} (rules : GameRules P M E T) (kind : GameKind) : Type 0 where
+  pub laws : AreRules rules
+  pub into : Game M → ClubGame
+  pub event : (g : Game M) → event_in (into g) ≡ g.event
+  pub plies : (g : Game M) → plies_in (into g) ≡ length g.entries
+  pub row : (events : List Event) (id : ℕ) (g : Game M) → row_of_game both_games events id (into g) ≡ game_row rules (terms_at (place events g.event)) id g
+  pub moves : (events : List Event) (id : ℕ) (g : Game M) → rows_of_moves both_games events id (into g) ≡ move_rows rules (terms_at (place events g.event)) id g
+  pub legal : (s : ClubState) (g : Game M) → IsLegalIn both_games s (into g) → IsGameOf rules kind s g
+  pub is_legal : (s : ClubState) (g : Game M) → IsGameOf rules kind s g → IsLegalIn both_games s (into g)
+  -- the games of the events of this kind are the games of this kind
+  pub back : (s : ClubState) (any : ClubGame) → IsLegalIn both_games s any → kind_at (place s.events (event_in any)) ≡ kind → (g : Game M) × (any ≡ into g)
+  pub starts : (key : Option (List ℕ)) (pairing : Pairing) (moment : ℕ) → seated_as kind key pairing moment ≡ into (seated key pairing moment)
+  pub step : (s : ClubState) (moment id : ℕ) (who : Caller) (command : GameCommand) (g : Game M) → step_game both_games s moment id who command (Some (into g)) ≡ map_outcome (λ new. with_game s moment id (into new)) (game_step rules (terms_at (place s.events g.event)) g moment who command)
+
+pub back-draughts : (s : ClubState) (any : ClubGame) → IsLegalIn both_games s any → kind_at (place s.events (event_in any)) ≡ Draughts → (g : Game DMove) × (any ≡ draughts g)
+back-draughts s (draughts g) legal is = (g, refl)
+back-draughts s (shogi g) legal is =
+    let clash : Draughts ≡ Shogi = sym is ∙ (ap kind_at legal.in_event ∙ legal.of_kind) in
+    absurd cc
+
+pub back-shogi : (s : ClubState) (any : ClubGame) → IsLegalIn both_games s any → kind_at (place s.events (event_in any)) ≡ Shogi → (g : Game SMove) × (any ≡ shogi g)
+back-shogi s (shogi g) legal is = (g, refl)
+back-shogi s (draughts g) legal is =
+    let clash : Shogi ≡ Draughts = sym is ∙ (ap kind_at legal.in_event ∙ legal.of_kind) in
+    absurd cc
+
+pub draughts_laws : AreRules both_games.draughts
+draughts_laws = record {
+  first_starts = draughts-first_starts;
+  turn_passes = draughts-turn_passes;
+  same_is = draughts-same_is;
+  ends_at_limit = draughts-ends_at_limit;
+}
+
+pub shogi_laws : AreRules both_games.shogi
+shogi_laws = record {
+  first_starts = shogi-first_starts;
+  turn_passes = shogi-turn_passes;
+  same_is = shogi-same_is;
+  ends_at_limit = shogi-ends_at_limit;
+}
+
+abbrev pub in_draughts : Kind both_games.draughts Draughts
+in_draughts = record {
+  laws = draughts_laws;
+  into = λ g. draughts g;
+  event = λ g. refl;
+  plies = λ g. refl;
+  row = λ events id g. refl;
+  moves = λ events id g. refl;
+  legal = λ s g is. is;
+  is_legal = λ s g is. is;
+  back = back-draughts;
+  starts = λ key pairing moment. refl;
+  step = λ s moment id who command g. refl;
+}
+
+abbrev pub in_shogi : Kind both_games.shogi Shogi
+in_shogi = record {
+  laws = shogi_laws;
+  into = λ g. shogi g;
+  event = λ g. refl;
+  plies = λ g. refl;
+  row = λ events id g. refl;
+  moves = λ events id g. refl;
+  legal = λ s g is. is;
+  is_legal = λ s g is. is;
+  back = back-shogi;
+  starts = λ key pairing moment. refl;
+  step = λ s moment id who command g. refl;
+}
+
+-- kinds with one number are one
+pub kinds-alike : (a b : GameKind) → kind_number a ≡ kind_number b → a ≡ b
+kinds-alike Draughts Draughts is = refl
+kinds-alike Shogi Shogi is = refl
+kinds-alike Draughts Shogi is = cc
+kinds-alike Shogi Draughts is = cc

@@ -1,0 +1,27 @@
+use Rattle.std.proofs.Common.{◌≡◌, [], ◌∷◌, Some, ap, sym, subst, ◌∙◌}
+use Rattle.std.specs.Prelude.{IsTrue}
+use Rattle.std.proofs.lemmas.Result.{IfOk-weaker}
+use Rattle.club_core.specs.Answer.{event_of, events_of, pairing_of}
+use Rattle.club_core.specs.LegalState.{IsLegalEvent}
+use Rattle.club_core.specs.Limits.{is_budget}
+use Rattle.club_core.specs.State.{place, kind_at, terms_at}
+use Rattle.club_core.proofs.LegalSteps.{in-place}
+use Rattle.club_rows.specs.Replay.{terms_given}
+use Rattle.store.specs.Steps.{first_row, PutsOnly}
+use Rattle.store.proofs.PlayedLemmas.{started_first}
+use Rattle.store.proofs.command.seated_rows.Goals as goal
+
+pub returns : goal.returns
+returns c =
+    IfOk-weaker c.seat_in.result _ _ (λ changes puts legal.
+    let events = events_of c.args.events.now in
+    let event = event_of c.in_ok-event.event.now in
+    let pairing = pairing_of c.args.new.pairing in
+    let id = c.args.new.game in
+    let at : place events pairing.event ≡ Some event = c.in_ok-event.ensures in
+    let terms : terms_given c.terms_of.result ≡ terms_at (place events pairing.event) = c.terms_of.ensures ∙ ap terms_at (sym at) in
+    let budget = (in-place IsLegalEvent events pairing.event event legal at).budget in
+    let is = started_first events pairing id c.args.key.now c.args.moment event.game (ap kind_at at) in
+    subst (λ r. PutsOnly changes c.args.moment [] [] (r ∷ []) [])
+    (ap (λ t. first_row event.game t id c.args.key.now pairing c.args.moment) terms ∙ sym is)
+    (puts (subst (λ t. IsTrue (is_budget t.budget)) (sym c.terms_of.ensures) budget))) c.seat_in.ensures

@@ -1,0 +1,193 @@
+//! What is done in one game, by its rules and its rows.
+
+ghost use Rattle.std.specs.Prelude.{◌≡◌, ◌≤◌, ◌<◌, ◌^◌, ℕ, List, [], ◌∷◌, map, Some, IfOk, IsTrue, string_bytes};
+ghost use Rattle.club_core.specs.Answer.{pairing_of, game_command_of};
+ghost use Rattle.club_core.specs.Events as core;
+ghost use Rattle.club_core.specs.Game.{Game, clocks_of};
+ghost use Rattle.club_core.specs.Legal.{IsLegalGame};
+ghost use Rattle.club_core.specs.Limits.{is_budget, is_increment};
+ghost use Rattle.club_core.specs.State.{seated};
+ghost use Rattle.club_core.specs.Step as machine;
+ghost use Rattle.club_core.specs.Step.{asked_ply, game_step};
+ghost use Rattle.club_core.specs.View.{IsSound, IsRowOf, IsDecision, Shows, ShowsPly, terms_of};
+ghost use Rattle.club_rows.specs.Replay.{terms_given};
+ghost use Rattle.club_rows.specs.Tables.{game_row, move_rows};
+ghost use Rattle.store_tables.specs.Cells.{move_cells};
+ghost use Rattle.store.specs.Steps.{HaveSame, PutsOnly, IsDecidedIn, IsRecordOf, answered_rows, left_answered};
+ghost use Rattle.store.specs.Whole.{IsWhole};
+
+use crate::command::{Decided, at, unchanged};
+use crate::fault::CallFault;
+use clocks::Moment;
+use club_core::{
+    Answer, Caller, Decision, GameCommand, GameRow, GameView, KeyedGame, Outcome, decide,
+    seated_row,
+};
+use club_rows::{Shown, Terms, ask, move_row, record_of, view_of};
+use club_rules::{GameKind, Rules};
+use std::alloc::Global;
+use store_tables::{Changes, GameRecord, MoveRow};
+
+/// A game as it is stored, with the kind and the terms of its event.
+#[derive(Drop)]
+pub(crate) struct StoredGame {
+    pub id: u32,
+    pub kind: GameKind,
+    pub terms: Terms,
+    pub row: GameRecord,
+    pub moves: Vec<MoveRow>,
+}
+
+// The rows of a game that starts by these terms.
+pub(crate) fn start<R: Rules>(
+    alloc: Global,
+    terms: Terms,
+    new: KeyedGame,
+    key: &str,
+    moment: Moment,
+) -> Result<Changes, CallFault>
+    ensures { IfOk result (λ changes. IsTrue (is_budget terms.budget) →
+        PutsOnly changes moment [] [] (game_row R.rules (terms_given terms) new.game (seated (Some key.now) (pairing_of new.pairing) moment) ∷ []) []) }
+{
+    let row = seated_row::<R>(alloc, key, new.pairing, terms.budget, moment)?;
+    let mut changes = at(alloc, moment);
+    changes.games.push(record_of::<R>(alloc, new.game, &row)?)?;
+    Ok(changes)
+}
+
+// The row of the move that is answered so, if it is one.
+fn answered_moves(
+    alloc: Global,
+    game: u32,
+    answer: &Answer,
+    moment: Moment,
+) -> Result<Vec<MoveRow>, CallFault>
+    // Seconds that 63 bits hold are stored as they are.
+    ensures { IfOk result (λ rows. left_answered answer.now < 2 ^ 63 →
+        map move_cells rows.items ≡ answered_rows game answer.now moment) }
+{
+    let mut rows = Vec::new(alloc);
+    match answer {
+        Answer::Moved(moved) => rows.push(move_row(game, moved, moment)?)?,
+        Answer::Member(_) => {}
+        Answer::Event(_) => {}
+        Answer::Game(_) => {}
+        Answer::Offered { ply: _ } => {}
+        Answer::Ended { end: _, result: _ } => {}
+    }
+    Ok(rows)
+}
+
+// The rows of a game that changed, with its move where one was played.
+fn changed_rows<R: Rules>(
+    alloc: Global,
+    game: u32,
+    row: &GameRow<R::End>,
+    answer: &Answer,
+    moment: Moment,
+) -> Result<Changes, CallFault>
+    // Seconds that 63 bits hold are stored as they are.
+    ensures { IfOk result (λ changes. (terms : core.Terms) (new : Game R.Move) → row.now.left_first < 2 ^ 63 →
+        row.now.left_second < 2 ^ 63 → left_answered answer.now < 2 ^ 63 → IsRowOf R.rules terms new row.now →
+        PutsOnly changes moment [] [] (game_row R.rules terms game new ∷ []) (answered_rows game answer.now moment)) }
+{
+    let mut changes = at(alloc, moment);
+    changes.games.push(record_of::<R>(alloc, game, row)?)?;
+    changes.moves = answered_moves(alloc, game, answer, moment)?;
+    Ok(changes)
+}
+
+// What a command does to the game that is shown.
+fn done<R: Rules>(
+    alloc: Global,
+    game: u32,
+    shown: Decision<R>,
+    moment: Moment,
+) -> Result<Decided, CallFault>
+    ensures acts { IfOk result IsWhole }
+    ensures step { IfOk result (λ d. (terms : core.Terms) (old : Game R.Move) (who : Caller) (command : machine.GameCommand) →
+        IsTrue (is_budget terms.budget) → IsTrue (is_increment terms.increment) → IsLegalGame R.rules terms old →
+        IsDecision R.rules terms old (game_step R.rules terms old moment who command) shown →
+        IsDecidedIn R.rules terms game moment old (game_step R.rules terms old moment who command) d) }
+{
+    let (row, answer) = match shown {
+        Decision::Accepted {
+            row,
+            made: _,
+            answer,
+        } => (row, answer),
+        Decision::Repeated(answer) => return Ok(unchanged(Outcome::Repeated(answer))),
+        Decision::Refused(refusal) => return Ok(unchanged(Outcome::Refused(refusal))),
+    };
+    let changes = changed_rows::<R>(alloc, game, &row, &answer, moment)?;
+    Ok(Decided {
+        outcome: Outcome::Accepted(answer),
+        changes: Some(changes),
+    })
+}
+
+// The view of a game, asked of a ply.
+fn asked_view<R: Rules>(
+    alloc: Global,
+    row: &GameRecord,
+    terms: Terms,
+    moves: &[MoveRow],
+    ply: u64,
+) -> Result<GameView<R>, CallFault>
+    ensures sound { IfOk result (λ view. IsSound R.rules view) }
+    ensures terms { IfOk result (λ view. terms_of view ≡ terms_given terms) }
+    // The order and the number of the rows of the moves are found here, so that these may be any that are the game's.
+    ensures shows { IfOk result (λ view. (id : ℕ) (game : Game R.Move) →
+        IsRecordOf R.rules (terms_given terms) id row.now game →
+        HaveSame (map move_cells moves.now) (move_rows R.rules (terms_given terms) id game) →
+        Shows R.rules game view × ShowsPly R.rules game ply view) }
+{
+    match view_of::<R>(alloc, row, terms, moves)? {
+        Shown::Game(view) => Ok(ask(view, moves, ply)),
+        _ => Err(CallFault::Store),
+    }
+}
+
+// What a command does in the game that the view shows.
+fn on_view<R: Rules>(
+    alloc: Global,
+    game: u32,
+    view: &GameView<R>,
+    caller: Caller,
+    command: &GameCommand,
+    moment: Moment,
+) -> Result<Decided, CallFault>
+    requires { IsSound R.rules view.now }
+    ensures acts { IfOk result IsWhole }
+    ensures step { IfOk result (λ d. (old : Game R.Move) → IsTrue (is_budget view.now.budget) →
+        IsTrue (is_increment view.now.increment) → IsLegalGame R.rules (terms_of view.now) old → Shows R.rules old view.now →
+        ShowsPly R.rules old (asked_ply (game_command_of command.now)) view.now → (clocks_of old (terms_of view.now)).since ≤ moment →
+        IsDecidedIn R.rules (terms_of view.now) game moment old
+        (game_step R.rules (terms_of view.now) old moment caller (game_command_of command.now)) d) }
+{
+    let moment = moment.later(view.row.since);
+    let decision = decide(alloc, view, caller, command, moment)?;
+    done(alloc, game, decision, moment)
+}
+
+// What a command does in a stored game.
+pub(crate) fn act<R: Rules>(
+    alloc: Global,
+    stored: &StoredGame,
+    caller: Caller,
+    command: &GameCommand,
+    moment: Moment,
+) -> Result<Decided, CallFault>
+    ensures acts { IfOk result IsWhole }
+    ensures step { IfOk result (λ d. (old : Game R.Move) →
+        IsRecordOf R.rules (terms_given stored.now.terms) stored.now.id stored.now.row old →
+        HaveSame (map move_cells stored.now.moves.items) (move_rows R.rules (terms_given stored.now.terms) stored.now.id old) →
+        (clocks_of old (terms_given stored.now.terms)).since ≤ moment →
+        IsDecidedIn R.rules (terms_given stored.now.terms) stored.now.id moment old
+        (game_step R.rules (terms_given stored.now.terms) old moment caller (game_command_of command.now)) d) }
+{
+    let moves = stored.moves.as_slice();
+    let ply = command.asked_ply();
+    let view = asked_view::<R>(alloc, &stored.row, stored.terms, moves, ply)?;
+    on_view(alloc, stored.id, &view, caller, command, moment)
+}

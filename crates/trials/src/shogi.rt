@@ -1,0 +1,150 @@
+//! Games of shogi, each move with what it must come to, and the rows that they make, written out by hand.
+
+use crate::commands::{By, Given, played, serve_at_once};
+use crate::tables::stored;
+use club_rules::GameKind;
+use std::alloc::Global;
+use std::test::Fail;
+use store_tables::{EventRow, GameRecord, MoveRow};
+
+const LAST: &str = "lnsgkg1nl/1r5s1/pppppp1pp/6p2/4B4/2P6/PP1PPPPPP/7R1/LNSGKGSNL w b";
+
+fn text(alloc: Global, letters: &str) -> Result<String, Fail> {
+    Ok(String::from_str(alloc, letters)?)
+}
+
+// The row of a move of the first game, played at 1000.
+fn made(
+    alloc: Global,
+    ply: i64,
+    letters: &str,
+    left: i64,
+    position: &str,
+) -> Result<MoveRow, Fail> {
+    Ok(MoveRow {
+        game: 1,
+        ply,
+        text: text(alloc, letters)?,
+        moment: 1000,
+        left,
+        position: text(alloc, position)?,
+    })
+}
+
+// The rows of five moves, of which the third promotes and the fifth is a drop.
+fn five_moves(alloc: Global) -> Result<Vec<MoveRow>, Fail> {
+    Ok(vec![in alloc;
+        made(
+            alloc,
+            1,
+            "7g7f",
+            86_300,
+            "lnsgkgsnl/1r5b1/ppppppppp/9/9/2P6/PP1PPPPPP/1B5R1/LNSGKGSNL w -",
+        )?,
+        made(
+            alloc,
+            2,
+            "3c3d",
+            86_400,
+            "lnsgkgsnl/1r5b1/pppppp1pp/6p2/9/2P6/PP1PPPPPP/1B5R1/LNSGKGSNL b -",
+        )?,
+        made(
+            alloc,
+            3,
+            "8h2b+",
+            86_300,
+            "lnsgkgsnl/1r5+B1/pppppp1pp/6p2/9/2P6/PP1PPPPPP/7R1/LNSGKGSNL w B",
+        )?,
+        made(
+            alloc,
+            4,
+            "3a2b",
+            86_400,
+            "lnsgkg1nl/1r5s1/pppppp1pp/6p2/9/2P6/PP1PPPPPP/7R1/LNSGKGSNL b Bb",
+        )?,
+        made(alloc, 5, "B*5e", 86_300, LAST)?,
+    ]?)
+}
+
+// The row of the game after them.
+fn game(alloc: Global) -> Result<GameRecord, Fail> {
+    Ok(GameRecord {
+        id: 1,
+        key: Some(text(alloc, "g1")?),
+        event: 1,
+        first: 1,
+        second: 2,
+        start: 900,
+        since: 1000,
+        plies: 5,
+        left1: 86_300,
+        left2: 86_400,
+        offer_side: None,
+        offer_ply: None,
+        end: None,
+        result: None,
+        position: text(alloc, LAST)?,
+        track_a: 0,
+        track_b: 0,
+    })
+}
+
+// The row of the event.
+fn autumn(alloc: Global) -> Result<EventRow, Fail> {
+    Ok(EventRow {
+        id: 1,
+        name: text(alloc, "autumn")?,
+        game: 1,
+        budget: 86_400,
+        increment: 0,
+    })
+}
+
+#[test]
+fn a_promotion_and_a_drop_make_their_rows(rt: HostRuntime) -> Result<(), Fail> {
+    let alloc = rt.alloc();
+    let club = serve_at_once(
+        &rt,
+        played(&rt, GameKind::Shogi, "7g7f 3c3d 8h2b+ 3a2b B*5e")?,
+        &[
+            (1000, By::Officer, Given::Move(1, 5, "B*5e"), "repeated"),
+            (1000, By::Officer, Given::Move(1, 6, "P*5d"), "14 NotInHand"),
+            (
+                1000,
+                By::Officer,
+                Given::Move(1, 6, "3d3f"),
+                "13 NoSuchMove",
+            ),
+        ],
+    )?;
+    let mut conn = club.into_connection();
+    let tables = stored(alloc, &mut conn)?;
+    let events = vec![in alloc; autumn(alloc)?]?;
+    assert!(rt; tables.events == events);
+    let games = vec![in alloc; game(alloc)?]?;
+    assert!(rt; tables.games == games);
+    let moves = five_moves(alloc)?;
+    assert!(rt; tables.moves == moves);
+    Ok(())
+}
+
+const ROUNDS: &str = "2h3h 8b7b 3h2h 7b8b 2h3h 8b7b 3h2h 7b8b 2h3h 8b7b 3h2h 7b8b";
+
+// Two rooks go to and fro, until the start stands for the fourth time.
+#[test]
+fn a_fourfold_repetition_ends_a_game(rt: HostRuntime) -> Result<(), Fail> {
+    let club = serve_at_once(
+        &rt,
+        played(&rt, GameKind::Shogi, ROUNDS)?,
+        &[(1000, By::Officer, Given::Move(1, 13, "2h3h"), "56 GameOver")],
+    )?;
+    let mut conn = club.into_connection();
+    let row = conn.query_row("SELECT plies, end, result FROM games", &[])?;
+    let plies: i64 = row.get(0)?;
+    let end: String = row.get(1)?;
+    let result: String = row.get(2)?;
+    assert_eq!(rt; plies, 12);
+    assert_eq!(rt; end.as_str(), "Fourfold");
+    assert_eq!(rt; result.as_str(), "1-1");
+    Ok(())
+}
