@@ -76,6 +76,8 @@ at 1 'refused 11 MustCapture' move 1 3 33-29
 at 1 'refused 10 NoSuchMove' move 1 3 28x17
 at 1 'refused 20 BadText 3' move 1 3 28x
 says 1 'refused 60 OutOfTime' --now 1066 c.db move 1 3 28x19
+at 0 '28x19' legal 1
+at 1 'refused 53 UnknownGame' legal 2
 at 3 'store 70 Foreign' init
 says 3 'store 73 Store' --now 1000 nowhere/c.db init
 says 2 'error: a word is not UTF-8' --now 1000 c.db $'\xff'
@@ -88,6 +90,37 @@ reads '1|1|32-28|1000|65|B:W28,31,33,34,35,36,37,38,39,40,41,42,43,44,45,46,47,4
 1|2|19-23|1000|65|W:W28,31,33,34,35,36,37,38,39,40,41,42,43,44,45,46,47,48,49,50:B1,2,3,4,5,6,7,8,9,10,11,12,13,14,15,16,17,18,20,23' 'SELECT * FROM moves ORDER BY game, ply'
 reads '1|g1|1|1|2|1000|1000|2|65|65|||||W:W28,31,33,34,35,36,37,38,39,40,41,42,43,44,45,46,47,48,49,50:B1,2,3,4,5,6,7,8,9,10,11,12,13,14,15,16,17,18,20,23|0|0' 'SELECT * FROM games'
 reads '0|0|0' 'SELECT (SELECT count(*) FROM challenges), (SELECT count(*) FROM seen), (SELECT count(*) FROM scores)'
+
+# A club of both games.
+both() { says "$1" "$2" --now 1000 both.db "${@:3}"; }
+both 0 'ready' init
+both 0 'accepted member 1' member anna keyanna1
+both 0 'accepted member 2' member bert keybert2
+both 0 'accepted event 1' event fuji shogi 86400 0
+both 0 'accepted event 2' event autumn draughts 86400 0
+both 0 'accepted game 1' seat s1 fuji anna bert
+both 0 'accepted game 2' seat d1 autumn bert anna
+both 0 '31-26
+31-27
+32-27
+32-28
+33-28
+33-29
+34-29
+34-30
+35-30' legal 2
+both 1 'refused 13 NoSuchMove' move 1 1 7g7e
+both 1 'refused 30 BadText 3' move 1 1 7g7
+both 1 'refused 14 NotInHand' move 1 1 'P*5e'
+ply=0
+for made in 2h3h 8b7b 3h2h 7b8b 2h3h 8b7b 3h2h 7b8b 2h3h 8b7b 3h2h; do
+    ply=$((ply + 1))
+    both 0 "accepted ply $ply $made" move 1 $ply $made
+done
+both 0 'accepted ply 12 7b8b end Fourfold' move 1 12 7b8b
+both 0 'repeated ply 12 7b8b end Fourfold' move 1 12 7b8b
+both 1 'refused 56 GameOver' move 1 13 2h3h
+both 0 '' legal 1
 
 # told FILE: all rows of all tables, as sqlite3 reads them.
 told() {

@@ -13,7 +13,7 @@ ghost use Rattle.store.specs.Steps.{club_step};
 ghost use Rattle.lives.specs.Finds.{IsFoundIn, AreLed, AreVoid};
 ghost use Rattle.club_words.specs.declared.words.Task.TheVariants.{Init};
 ghost use Rattle.club_words.specs.declared.report.Report.TheVariants.{InUse, NotOpened};
-ghost use Rattle.club_words.specs.Report.{given, Answers, IfRequest, IsBegun, task_sessions};
+ghost use Rattle.club_words.specs.Report.{given, Answers, IfRequest, IfLegal, ListsMoves, IsBegun, task_sessions};
 
 use clocks::Moment;
 use club_words::{Order, Report, act};
@@ -32,12 +32,12 @@ fn unopened(error: Error) -> Report
 }
 
 /// Does what is ordered, at that moment, over the files of the order's path, which hold at first what `S` stands for: opens
-/// them, makes a club or gives the club that stands there a command of the officer's, and closes. Gives what it came to,
+/// them, makes a club, gives the club that stands there a command of the officer's or lists a game's moves, and closes. Gives what it came to,
 /// and the files where they were opened.
 ///
 /// Where sessions led to whatever an opening finds in the files, they lead, with this command as one more, to whatever an
 /// opening finds in them after it, of whatever a stop leaves. Where they were new, and a club was to be made, no session
-/// leads to that, or there is no table still. The answer is the machine's.
+/// leads to that, or there is no table still. The answer is the machine's, and a listing that of the game's legal moves.
 pub fn obey<S: Start>(
     rt: &HostRuntime,
     order: &Order,
@@ -53,6 +53,9 @@ pub fn obey<S: Start>(
         (s : ClubState) → IsClub s → ((found : Trees) → IsFoundIn (image_at S.Start) found → Leaves (tables s) found) →
         IfRequest order.entry.now.task (λ command. Answers result.0 (λ outcome.
         outcome_of outcome ≡ answered (club_step s (given command moment))))) }
+    ensures moves { IfSome result.1 (λ store. IsClean (store_view store) →
+        (s : ClubState) → IsClub s → ((found : Trees) → IsFoundIn (image_at S.Start) found → Leaves (tables s) found) →
+        IfLegal order.entry.now.task (λ game. ListsMoves s game result.0)) }
     ensures led { IfSome result.1 (λ store. IsClean (store_view store) →
         (sessions : _) → AreLed sessions (image_at S.Start) →
         (left : Image) → (store_state store).may_leave left →

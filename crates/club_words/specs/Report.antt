@@ -1,36 +1,42 @@
--- What an order came to: the line that is printed, the status of the program, and the sessions that it adds to a club's life.
-use Rattle.std.specs.Prelude.{◌≡◌, ◌⊎◌, ℕ, List, [], ◌∷◌, ◌++◌, codes, ⊤}
+-- What an order came to: what is printed, the status of the program, and the sessions that it adds to a club's life.
+use Rattle.std.specs.Prelude.{◌≡◌, ◌⊎◌, ℕ, List, [], ◌∷◌, ◌++◌, map, Some, None, codes, string_bytes, ⊤}
 use Rattle.sqlite.specs.Tree.{Trees}
 use Rattle.store_tables.specs.Contents.{IsEmpty}
 use Rattle.club_core.specs.declared.requests.Who.TheVariants.{Officer}
 use Rattle.club_core.specs.declared.requests.Command.{Command}
 use Rattle.club_core.specs.declared.answers.Outcome.{Outcome}
 use Rattle.club_core.specs.declared.answers.Outcome.TheVariants as outcome
+use Rattle.club_core.specs.declared.refusals.Refusal.TheVariants.{UnknownGame}
 use Rattle.club_core.specs.AnswerText.{outcome_text}
 use Rattle.club_core.specs.State.{Request}
+use Rattle.club_rows.specs.Club.{ClubState}
 use Rattle.store.specs.declared.fault.OpenFault.TheVariants as open_fault
 use Rattle.store.specs.declared.fault.StoreFault.TheVariants as store_fault
 use Rattle.store.specs.FaultText.{open_fault_text, store_fault_text}
 use Rattle.store.specs.Lives.{Session, IsLed, answered_session, cut_session}
 use Rattle.store.specs.Steps.{request}
+use Rattle.store.specs.Stored.{AreLegalRows}
 use Rattle.club_words.specs.declared.report.Report.{Report}
-use Rattle.club_words.specs.declared.report.Report.TheVariants.{Ready, Answered, Unopened, Stopped, InUse, NotOpened, NoMoment, NoMemory}
+use Rattle.club_words.specs.declared.report.Report.TheVariants.{Ready, Answered, Listed, Unopened, Stopped, InUse, NotOpened, NoMoment, NoMemory}
 use Rattle.club_words.specs.declared.words.Task.{Task}
 use Rattle.club_words.specs.declared.words.Task.TheVariants as task
 
-abbrev pub report_text : Report → List ℕ
-report_text Ready = codes "ready"
-report_text (Answered outcome) = outcome_text outcome
-report_text (Unopened fault) = codes "store " ++ open_fault_text fault
-report_text (Stopped fault) = codes "store " ++ store_fault_text fault
-report_text InUse = codes "store 73 Store"
-report_text NotOpened = codes "store 73 Store"
-report_text NoMoment = codes "store 76 Input"
-report_text NoMemory = codes "store 75 Memory"
+-- each text, with the end of its line
+abbrev pub lines : List (List ℕ) → List ℕ
+lines [] = []
+lines (text ∷ texts) = text ++ codes "\n" ++ lines texts
 
--- the text with the end of its line
-abbrev pub report_line : Report → List ℕ
-report_line report = report_text report ++ codes "\n"
+-- what is printed of an order
+abbrev pub report_text : Report → List ℕ
+report_text Ready = codes "ready\n"
+report_text (Answered outcome) = outcome_text outcome ++ codes "\n"
+report_text (Listed texts) = lines (map (λ t. string_bytes t) texts.items)
+report_text (Unopened fault) = codes "store " ++ open_fault_text fault ++ codes "\n"
+report_text (Stopped fault) = codes "store " ++ store_fault_text fault ++ codes "\n"
+report_text InUse = codes "store 73 Store\n"
+report_text NotOpened = codes "store 73 Store\n"
+report_text NoMoment = codes "store 76 Input\n"
+report_text NoMemory = codes "store 75 Memory\n"
 
 abbrev pub outcome_status : Outcome → ℕ
 outcome_status (outcome.Accepted answer) = 0
@@ -41,6 +47,7 @@ outcome_status (outcome.Refused refusal) = 1
 abbrev pub report_status : Report → ℕ
 report_status Ready = 0
 report_status (Answered outcome) = outcome_status outcome
+report_status (Listed texts) = 0
 report_status (Unopened fault) = 3
 report_status (Stopped fault) = 3
 report_status InUse = 3
@@ -60,9 +67,10 @@ request_sessions asked (Answered outcome) = answered_session asked outcome ∷ [
 request_sessions asked (Stopped fault) = cut_session asked ∷ []
 request_sessions asked _ = []
 
--- making a club adds no session
+-- making a club adds no session, nor does reading
 abbrev pub task_sessions : Task → ℕ → Report → List Session
 task_sessions task.Init moment report = []
+task_sessions (task.Legal game) moment report = []
 task_sessions (task.Request command) moment report = request_sessions (given command moment) report
 
 -- the command was answered so, or a call of the database failed or memory was refused
@@ -75,6 +83,20 @@ Answers _ Holds = ⊥
 abbrev pub IfRequest : Task → (Command → Type 0) → Type 0
 IfRequest task.Init Holds = ⊤
 IfRequest (task.Request command) Holds = Holds command
+IfRequest (task.Legal game) Holds = ⊤
+
+abbrev pub IfLegal : Task → (ℕ → Type 0) → Type 0
+IfLegal task.Init Holds = ⊤
+IfLegal (task.Request command) Holds = ⊤
+IfLegal (task.Legal game) Holds = Holds game
+
+-- the legal moves of the game are listed, or there is no such game; or a call of the database failed, or memory was refused
+abbrev pub ListsMoves : ClubState → ℕ → Report → Type 0
+ListsMoves s game (Listed texts) = AreLegalRows s game (Some (map (λ t. string_bytes t) texts.items))
+ListsMoves s game (Answered answer) = (answer ≡ outcome.Refused UnknownGame) × AreLegalRows s game None
+ListsMoves s game (Unopened fault) = (fault ≡ open_fault.Store) ⊎ (fault ≡ open_fault.Memory)
+ListsMoves s game (Stopped fault) = (fault ≡ store_fault.Store) ⊎ (fault ≡ store_fault.Memory)
+ListsMoves s game _ = ⊥
 
 -- The club with nothing in it stands; or none was made, and there is still no table, or it stands nevertheless.
 abbrev pub IsBegun : Report → Trees → Type 0

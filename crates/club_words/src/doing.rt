@@ -1,6 +1,6 @@
 //! What an order does over a connection.
 
-ghost use Rattle.std.specs.Prelude.{◌≡◌, ◌≤◌, ◌++◌, false};
+ghost use Rattle.std.specs.Prelude.{◌≡◌, ◌≤◌, ◌++◌, ℕ, map, false, string_bytes};
 ghost use Rattle.sqlite.specs.State.{HasCleanDisk, Opens, IsLive};
 ghost use Rattle.sqlite.specs.Held.{state};
 ghost use Rattle.sqlite_trees.specs.View.{doubt};
@@ -9,14 +9,16 @@ ghost use Rattle.store_tables.specs.Club.{Leaves};
 ghost use Rattle.club_core.specs.Answer.{answered, outcome_of};
 ghost use Rattle.club_rows.specs.Club.{ClubState, IsClub, tables};
 ghost use Rattle.store.specs.Steps.{club_step};
+ghost use Rattle.std.specs.Option.{option_map};
 ghost use Rattle.store.specs.Lives.{IsLed};
+ghost use Rattle.store.specs.Stored.{AreLegalRows};
 ghost use Rattle.club_words.specs.declared.words.Task.TheVariants.{Init};
-ghost use Rattle.club_words.specs.Report.{given, Answers, IfRequest, IsBegun, request_sessions, task_sessions};
+ghost use Rattle.club_words.specs.Report.{given, Answers, IfRequest, IfLegal, ListsMoves, IsBegun, request_sessions, task_sessions};
 
 use crate::report::Report;
 use crate::words::Task;
 use clocks::Moment;
-use club_core::{Command, Who};
+use club_core::{Command, Outcome, Refusal, Who};
 use sqlite::{Alter, Connection};
 use std::alloc::Global;
 use store::{
@@ -84,8 +86,49 @@ fn request<S: Alter>(
     }
 }
 
+// What is reported of the legal moves of a game, where none are those of no game.
+fn listed(found: Option<Vec<String>>) -> Report
+    ensures { (s : ClubState) (game : ℕ) →
+        AreLegalRows s game (option_map (λ texts. map (λ t. string_bytes t) texts.items) found) →
+        ListsMoves s game result }
+{
+    match found {
+        Some(texts) => Report::Listed(texts),
+        None => Report::Answered(Outcome::Refused(Refusal::UnknownGame)),
+    }
+}
+
+// Lists the legal moves of a game.
+fn legal<S: Alter>(alloc: Global, conn: Connection<S>, game: u64) -> (Report, Connection<S>)
+    requires { conn.in_transaction ≡ false }
+    ensures idle { result.1.in_transaction ≡ false }
+    ensures clean { doubt (state S.Store conn).is_clean ≤ doubt (state S.Store result.1).is_clean }
+    ensures moves { HasCleanDisk (state S.Store result.1) → Opens (state S.Store conn) → IsLive (state S.Store conn) →
+        (s : ClubState) → IsClub s → Leaves (tables s) (state S.Store conn).committed.trees →
+        ListsMoves s game result.0 }
+    ensures led { HasCleanDisk (state S.Store result.1) → Opens (state S.Store conn) → IsLive (state S.Store conn) →
+        (sessions : _) → IsLed sessions (state S.Store conn).committed.trees →
+        (db : _) → (state S.Store result.1).may_leave db → IsLed sessions db }
+{
+    holds_exactly(&conn);
+    holds_what_sessions_left(&conn);
+    leaves_what_sessions_left(&conn);
+    let mut club = match adopt(alloc, conn) {
+        Ok(club) => club,
+        Err(unopened) => return (Report::Unopened(unopened.fault), unopened.conn),
+    };
+    match club.legal_rows(alloc, game) {
+        Ok(found) => {
+            let conn = club.into_connection();
+            leaves_what_sessions_left(&conn);
+            (listed(found), conn)
+        }
+        Err(fault) => (Report::Stopped(fault), club.into_connection()),
+    }
+}
+
 /// Does what is asked for over a connection that was just opened, at that moment, and gives the connection back: makes a
-/// club, or gives the club that stands there a command of the officer's. The answer is the machine's. Sessions that led to
+/// club, gives the club that stands there a command of the officer's, or lists the legal moves of a game. The answer is the machine's. Sessions that led to
 /// what the opening found lead, with this request as one more, to whatever a stop leaves; where there was no table, and a
 /// club was to be made, none led to it, or there is no table still.
 pub fn act<S: Alter>(
@@ -104,6 +147,9 @@ pub fn act<S: Alter>(
         (s : ClubState) → IsClub s → Leaves (tables s) (state S.Store conn).committed.trees →
         IfRequest task.now (λ command. Answers result.0 (λ outcome.
         outcome_of outcome ≡ answered (club_step s (given command moment)))) }
+    ensures moves { HasCleanDisk (state S.Store result.1) → Opens (state S.Store conn) → IsLive (state S.Store conn) →
+        (s : ClubState) → IsClub s → Leaves (tables s) (state S.Store conn).committed.trees →
+        IfLegal task.now (λ game. ListsMoves s game result.0) }
     ensures led { HasCleanDisk (state S.Store result.1) → Opens (state S.Store conn) → IsLive (state S.Store conn) →
         (sessions : _) → IsLed sessions (state S.Store conn).committed.trees →
         (db : _) → (state S.Store result.1).may_leave db →
@@ -112,5 +158,6 @@ pub fn act<S: Alter>(
     match task {
         Task::Init => init(alloc, conn),
         Task::Request(command) => request(alloc, conn, command, moment),
+        Task::Legal(game) => legal(alloc, conn, *game),
     }
 }

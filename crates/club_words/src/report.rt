@@ -1,11 +1,11 @@
 //! What an order came to, and how it is printed.
 
-ghost use Rattle.std.specs.Prelude.{◌≡◌, ◌≢◌, ◌⊎◌, ◌++◌, ◌∷◌, [], string_bytes};
+ghost use Rattle.std.specs.Prelude.{◌≡◌, ◌≢◌, ◌⊎◌, ◌++◌, ◌∷◌, [], OnOk, map, string_bytes};
 ghost use Rattle.std.specs.Io.KnownBytes.{Appends};
-ghost use Rattle.club_words.specs.Report.{report_status, report_line};
+ghost use Rattle.club_words.specs.Report.{report_status, report_text, lines};
 
 use club_core::Outcome;
-use std::fmt;
+use std::alloc::AllocError;
 use std::io::Write;
 use store::{OpenFault, StoreFault};
 
@@ -28,6 +28,8 @@ pub enum Report {
     Ready,
     /// A command was answered.
     Answered(Outcome),
+    /// The legal moves of a game, as they are written.
+    Listed(Vec<String>),
     /// No club was made, or none was found.
     Unopened(OpenFault),
     /// A call on the open club failed.
@@ -52,6 +54,7 @@ impl Report {
             Report::Answered(Outcome::Accepted(_)) => DONE,
             Report::Answered(Outcome::Repeated(_)) => DONE,
             Report::Answered(Outcome::Refused(_)) => REFUSED,
+            Report::Listed(_) => DONE,
             Report::Unopened(_) => FAULT,
             Report::Stopped(_) => FAULT,
             Report::InUse => FAULT,
@@ -62,24 +65,31 @@ impl Report {
     }
 }
 
-/// Writes what was done, why it was refused, or after `store` the number and name of the fault.
-impl fmt::Display for Report {
-    ghost use Rattle.std.specs.Prelude.{Some};
-    ghost use Rattle.club_words.specs.Report.{report_text};
+// Adds each of the moves to a text, a line each.
+fn write_lines(text: &mut String, moves: &[String]) -> Result<(), AllocError>
+    ensures { OnOk result (string_bytes text.new
+        ≡ string_bytes text.old ++ lines (map (λ t. string_bytes t) moves.now)) }
+{
+    for made in moves {
+        writeln!(text, "{made}")?;
+    }
+    Ok(())
+}
 
-    ghost output = { λ report. Some (report_text report) };
-
-    fn fmt<W: fmt::Write>(&self, f: &mut fmt::Formatter<W>) -> fmt::Result {
-        match self {
-            Report::Ready => f.write_str("ready"),
-            Report::Answered(outcome) => write!(f, "{outcome}"),
-            Report::Unopened(fault) => write!(f, "store {fault}"),
-            Report::Stopped(fault) => write!(f, "store {fault}"),
-            Report::InUse => f.write_str("store 73 Store"),
-            Report::NotOpened => f.write_str("store 73 Store"),
-            Report::NoMoment => f.write_str("store 76 Input"),
-            Report::NoMemory => f.write_str("store 75 Memory"),
-        }
+// Adds the report to a text: what was done, why it was refused, or after `store` the number and name of the fault.
+fn write_report(text: &mut String, report: &Report) -> Result<(), AllocError>
+    ensures { OnOk result (string_bytes text.new ≡ string_bytes text.old ++ report_text report.now) }
+{
+    match report {
+        Report::Ready => writeln!(text, "ready"),
+        Report::Answered(outcome) => writeln!(text, "{outcome}"),
+        Report::Listed(moves) => write_lines(text, moves.as_slice()),
+        Report::Unopened(fault) => writeln!(text, "store {fault}"),
+        Report::Stopped(fault) => writeln!(text, "store {fault}"),
+        Report::InUse => writeln!(text, "store 73 Store"),
+        Report::NotOpened => writeln!(text, "store 73 Store"),
+        Report::NoMoment => writeln!(text, "store 76 Input"),
+        Report::NoMemory => writeln!(text, "store 75 Memory"),
     }
 }
 
@@ -91,18 +101,18 @@ fn unprinted<E: Write>(err: &mut E, line: &str) -> u8
     FAULT
 }
 
-/// Prints the line of a report by one call: what was done to the standard output, a refusal or a fault to the standard
+/// Prints a report by one call: what was done to the standard output, a refusal or a fault to the standard
 /// error. Gives the status, which is that of a fault where the line could not be written. `line` is empty, and has the room
 /// that was set aside for it.
 pub fn print<O: Write, E: Write>(line: String, report: &Report, out: &mut O, err: &mut E) -> u8
     requires { string_bytes line ≡ [] }
     ensures status { (result ≡ report_status report.now) ⊎ (result ≡ 3) }
-    ensures done { result ≡ 0 → Appends (O.contents out.old) (O.contents out.new) (report_line report.now) }
-    ensures refused { result ≡ 1 → Appends (E.contents err.old) (E.contents err.new) (report_line report.now) }
+    ensures done { result ≡ 0 → Appends (O.contents out.old) (O.contents out.new) (report_text report.now) }
+    ensures refused { result ≡ 1 → Appends (E.contents err.old) (E.contents err.new) (report_text report.now) }
     ensures silent { report_status report.now ≢ 0 → out.new ≡ out.old }
 {
     let mut line = line;
-    match writeln!(line, "{report}") {
+    match write_report(&mut line, report) {
         Ok(()) => {}
         Err(_) => return unprinted(err, "store 75 Memory\n"),
     }

@@ -102,6 +102,14 @@ fn the_first_path(rt: HostRuntime) -> Result<(), Fail> {
         DONE,
         "accepted game 1",
     )?;
+    let conn = says(
+        &rt,
+        conn,
+        "legal 1",
+        DONE,
+        "31-26\n31-27\n32-27\n32-28\n33-28\n33-29\n34-29\n34-30\n35-30",
+    )?;
+    let conn = says(&rt, conn, "legal 2", REFUSED, "refused 53 UnknownGame")?;
     let conn = says(&rt, conn, "move 1 1 32-28", DONE, "accepted ply 1 32-28")?;
     let conn = says(&rt, conn, "move 1 1 32-28", DONE, "repeated ply 1 32-28")?;
     let conn = says(&rt, conn, "move 1 1 32-27", REFUSED, "refused 58 Conflict")?;

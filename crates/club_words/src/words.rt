@@ -14,6 +14,8 @@ pub enum Task {
     Init,
     /// Give the club a command of the officer's.
     Request(Command),
+    /// List the legal moves of a game.
+    Legal(u64),
 }
 
 /// A file, the moment that is to count if the words give one, and what to do.
@@ -115,8 +117,14 @@ fn move_words<'a>(alloc: Global) -> Result<clap::Command<'a>, AllocError> {
         .arg(word(
             alloc,
             "TEXT",
-            "The move: in draughts the squares left and come to, as 32-28, or 28x19 for a capture",
+            "The move: in draughts 32-28, or 28x19 for a capture; in shogi 7g7f, 8h2b+ or P*5e",
         ))
+}
+
+fn legal_words<'a>(alloc: Global) -> Result<clap::Command<'a>, AllocError> {
+    clap::Command::new(alloc, "legal")
+        .about("Lists the legal moves of a game, a line each; nothing where it has ended")
+        .arg(number(alloc, "GAME", "The game's number, as 'seat' printed it"))
 }
 
 // The program's words, as the parser takes them.
@@ -144,7 +152,8 @@ fn club_words<'a>(alloc: Global) -> Result<clap::Command<'a>, AllocError> {
         .subcommand(member_words(alloc)?)?
         .subcommand(event_words(alloc)?)?
         .subcommand(seat_words(alloc)?)?
-        .subcommand(move_words(alloc)?)
+        .subcommand(move_words(alloc)?)?
+        .subcommand(legal_words(alloc)?)
 }
 
 // A copy of a word that has to be there.
@@ -188,6 +197,7 @@ fn event_of(alloc: Global, words: &ArgMatches<'_>) -> Result<AddEvent, BadWords>
 fn task_of(alloc: Global, name: &str, words: &ArgMatches<'_>) -> Result<Task, BadWords> {
     let command = match name {
         "init" => return Ok(Task::Init),
+        "legal" => return Ok(Task::Legal(number_of(words, "GAME"))),
         "member" => Command::AddMember(AddMember {
             name: text(alloc, words, "NAME")?,
             key: text(alloc, words, "KEY")?,

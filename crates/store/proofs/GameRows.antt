@@ -228,12 +228,17 @@ ids_same k id g is =
 
 -- ---- a stored game
 
--- what was decided by the rules of its kind was decided in the club
-pub stored_decided : {P M E T : Type 0} {laws : GameRules P M E T} {kind : GameKind} (k : Kind laws kind) (s : ClubState) → IsClub s → (id : ℕ) (game : ClubGame) (stored : StoredGame) (moment : ℕ) (who : Caller) (command : GameCommand) (d : Decided) → s.last ≤ moment → place s.games id ≡ Some game → IsStoredGame s id game stored → stored.kind ≡ kind
-    → ((old : Game M) → IsRecordOf laws (terms_given stored.terms) stored.id stored.row old → HaveSame (map move_cells stored.moves.items) (move_rows laws (terms_given stored.terms) stored.id old) → (clocks_of old (terms_given stored.terms)).since ≤ moment
-    → IsDecidedIn laws (terms_given stored.terms) stored.id moment old (game_step laws (terms_given stored.terms) old moment who command) d)
-    → IsDecided s (caller_step s moment who (on_game id command)) d
-stored_decided {laws = laws} k s is_club id game stored moment who command d later at is kind_is step =
+-- the stored rows are those of this game of one kind
+pub record IsStoredOf {P M E T : Type 0} {laws : GameRules P M E T} {kind : GameKind} (k : Kind laws kind) (s : ClubState) (id : ℕ) (game : ClubGame) (stored : StoredGame) (g : Game M) : Type 0 where
+  pub same : game ≡ k.into g
+  pub here : place s.games id ≡ Some (k.into g)
+  pub terms : terms_given stored.terms ≡ terms_at (place s.events g.event)
+  pub is_row : IsRecordOf laws (terms_given stored.terms) stored.id stored.row g
+  pub moves : HaveSame (map move_cells stored.moves.items) (move_rows laws (terms_given stored.terms) stored.id g)
+
+pub stored_as : {P M E T : Type 0} {laws : GameRules P M E T} {kind : GameKind} (k : Kind laws kind) (s : ClubState) → IsClub s → (id : ℕ) (game : ClubGame) (stored : StoredGame) → place s.games id ≡ Some game → IsStoredGame s id game stored → stored.kind ≡ kind
+    → (g : Game M) × IsStoredOf k s id game stored g
+stored_as {laws = laws} k s is_club id game stored at is kind_is =
     let legal = in-place (IsLegalIn both_games s) s.games id game is_club.games at in
     let (g, same) = k.back s game legal (sym is.kind ∙ kind_is) in
     let here : place s.games id ≡ Some (k.into g) = at ∙ ap Some same in
@@ -242,9 +247,22 @@ stored_decided {laws = laws} k s is_club id game stored moment who command d lat
     let cells : game_cells stored.row ≡ game_in s id (k.into g) = is.row ∙ ap (game_in s id) same in
     let moves : HaveSame (map move_cells stored.moves.items) (move_rows laws (terms_at (place s.events g.event)) id g) =
     subst (HaveSame (map move_cells stored.moves.items)) (ap (rows_of_moves both_games s.events id) same ∙ k.moves s.events id g) is.moves in
-    let since = no_later k s is_club id g (terms_given stored.terms) here in
-    let decided = step g
-    (subst₂ (λ t i. IsRecordOf laws t i stored.row g) (sym terms) (sym is.id_is) (is_record s is_club k id g stored.row here cells))
-    (subst₂ (λ t i. HaveSame (map move_cells stored.moves.items) (move_rows laws t i g)) (sym terms) (sym is.id_is) moves)
-    (omega (arith, since, later)) in
-    decided_club k s id moment who command g d here (subst₂ (λ t i. IsDecidedIn laws t i moment g (game_step laws t g moment who command) d) terms is.id_is decided)
+    let stands : IsStoredOf k s id game stored g = record {
+      same = same;
+      here = here;
+      terms = terms;
+      is_row = subst₂ (λ t i. IsRecordOf laws t i stored.row g) (sym terms) (sym is.id_is) (is_record s is_club k id g stored.row here cells);
+      moves = subst₂ (λ t i. HaveSame (map move_cells stored.moves.items) (move_rows laws t i g)) (sym terms) (sym is.id_is) moves;
+    } in
+    (g, stands)
+
+-- what was decided by the rules of its kind was decided in the club
+pub stored_decided : {P M E T : Type 0} {laws : GameRules P M E T} {kind : GameKind} (k : Kind laws kind) (s : ClubState) → IsClub s → (id : ℕ) (game : ClubGame) (stored : StoredGame) (moment : ℕ) (who : Caller) (command : GameCommand) (d : Decided) → s.last ≤ moment → place s.games id ≡ Some game → IsStoredGame s id game stored → stored.kind ≡ kind
+    → ((old : Game M) → IsRecordOf laws (terms_given stored.terms) stored.id stored.row old → HaveSame (map move_cells stored.moves.items) (move_rows laws (terms_given stored.terms) stored.id old) → (clocks_of old (terms_given stored.terms)).since ≤ moment
+    → IsDecidedIn laws (terms_given stored.terms) stored.id moment old (game_step laws (terms_given stored.terms) old moment who command) d)
+    → IsDecided s (caller_step s moment who (on_game id command)) d
+stored_decided {laws = laws} k s is_club id game stored moment who command d later at is kind_is step =
+    let (g, of) = stored_as k s is_club id game stored at is kind_is in
+    let since = no_later k s is_club id g (terms_given stored.terms) of.here in
+    let decided = step g of.is_row of.moves (omega (arith, since, later)) in
+    decided_club k s id moment who command g d of.here (subst₂ (λ t i. IsDecidedIn laws t i moment g (game_step laws t g moment who command) d) of.terms is.id_is decided)

@@ -19,6 +19,7 @@ ghost use Rattle.club_rows.specs.Club.{ClubState, IsClub, tables};
 ghost use Rattle.store.specs.Steps.{request, club_step, club_next};
 
 mod life;
+mod reading;
 mod run;
 
 use crate::command::{Decided, decide_request};

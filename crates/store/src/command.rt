@@ -18,7 +18,7 @@ ghost use Rattle.store_tables.specs.Reading.{OnlyReads};
 ghost use Rattle.store_sql.specs.Read.{KeepsContent};
 ghost use Rattle.club_rows.specs.Club.{ClubGame, ClubState, IsClub, tables};
 ghost use Rattle.store.specs.Steps.{request, club_step, caller_step, game_in, started, PutsOnly, IsDecided};
-ghost use Rattle.store.specs.Stored.{IsStoredGame};
+ghost use Rattle.store.specs.Stored.{IsStoredGame, IsFoundGame};
 ghost use Rattle.store.specs.Whole.{IsWhole};
 
 use crate::fault::CallFault;
@@ -396,6 +396,30 @@ fn read_game<S: Alter>(
     })
 }
 
+// The game of this number as it is stored, if there is one.
+pub(crate) fn stored_game<S: Alter>(
+    alloc: Global,
+    conn: &mut Connection<S>,
+    game: u64,
+) -> Result<Option<StoredGame>, CallFault>
+    ensures reads { OnlyReads (state S.Store conn.old) (state S.Store conn.new) }
+    ensures kept { HasCleanDisk (state S.Store conn.new) → OnOk result (KeepsContent (state S.Store conn.old)
+        (state S.Store conn.new)) }
+    ensures found { HasCleanDisk (state S.Store conn.new) → IfOk result (λ found. (s : ClubState) → IsClub s →
+        IsExactly (tables s) (state S.Store conn.old) → IsFoundGame s game found) }
+{
+    let Ok(id) = i64::try_from(game) else {
+        return Ok(None);
+    };
+    match first(find_by_first::<GameRecord, S>(alloc, conn, &id)?) {
+        Some(row) => {
+            let stored = read_game(alloc, conn, row)?;
+            Ok(Some(stored))
+        }
+        None => Ok(None),
+    }
+}
+
 // What a command on a game does.
 fn on_game<S: Alter>(
     alloc: Global,
@@ -412,16 +436,12 @@ fn on_game<S: Alter>(
         s.last ≤ moment → IsExactly (tables s) (state S.Store conn.old) →
         IsDecided s (caller_step s moment caller (on_game command.now.game (game_command_of command.now.command))) d) }
 {
-    let absent = refusal_without_game(caller, &command.command);
-    let Ok(game) = i64::try_from(command.game) else {
-        return Ok(unchanged(Outcome::Refused(absent)));
-    };
-    match first(find_by_first::<GameRecord, S>(alloc, conn, &game)?) {
-        Some(row) => {
-            let stored = read_game(alloc, conn, row)?;
-            act_in(alloc, &stored, caller, &command.command, moment)
+    match stored_game(alloc, conn, command.game)? {
+        Some(stored) => act_in(alloc, &stored, caller, &command.command, moment),
+        None => {
+            let refusal = refusal_without_game(caller, &command.command);
+            Ok(unchanged(Outcome::Refused(refusal)))
         }
-        None => Ok(unchanged(Outcome::Refused(absent))),
     }
 }
 

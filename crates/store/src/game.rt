@@ -10,6 +10,7 @@ ghost use Rattle.club_core.specs.State.{seated};
 ghost use Rattle.club_core.specs.Step as machine;
 ghost use Rattle.club_core.specs.Step.{asked_ply, game_step};
 ghost use Rattle.club_core.specs.View.{IsSound, IsRowOf, IsDecision, Shows, ShowsPly, terms_of};
+ghost use Rattle.club_rows.specs.Listed.{AreLegalTexts};
 ghost use Rattle.club_rows.specs.Replay.{terms_given};
 ghost use Rattle.club_rows.specs.Tables.{game_row, move_rows};
 ghost use Rattle.store_tables.specs.Cells.{move_cells};
@@ -23,7 +24,7 @@ use club_core::{
     Answer, Caller, Decision, GameCommand, GameRow, GameView, KeyedGame, Outcome, decide,
     seated_row,
 };
-use club_rows::{Shown, Terms, ask, move_row, record_of, view_of};
+use club_rows::{Shown, Terms, ask, legal_texts, move_row, record_of, view_of};
 use club_rules::{GameKind, Rules};
 use std::alloc::Global;
 use store_tables::{Changes, GameRecord, MoveRow};
@@ -190,4 +191,17 @@ pub(crate) fn act<R: Rules>(
     let ply = command.asked_ply();
     let view = asked_view::<R>(alloc, &stored.row, stored.terms, moves, ply)?;
     on_view(alloc, stored.id, &view, caller, command, moment)
+}
+
+// The legal moves of a stored game, as they are written.
+pub(crate) fn legal<R: Rules>(alloc: Global, stored: &StoredGame) -> Result<Vec<String>, CallFault>
+    ensures { IfOk result (λ texts. (game : Game R.Move) →
+        IsRecordOf R.rules (terms_given stored.now.terms) stored.now.id stored.now.row game →
+        HaveSame (map move_cells stored.now.moves.items) (move_rows R.rules (terms_given stored.now.terms) stored.now.id game) →
+        AreLegalTexts R.rules game (map (λ t. string_bytes t) texts.items)) }
+{
+    let moves = stored.moves.as_slice();
+    let view = asked_view::<R>(alloc, &stored.row, stored.terms, moves, 0)?;
+    let texts = legal_texts(alloc, &view)?;
+    Ok(texts)
 }

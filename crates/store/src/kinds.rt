@@ -1,6 +1,6 @@
 //! The kinds of games: what is done in a game by the rules of its event's kind.
 
-ghost use Rattle.std.specs.Prelude.{◌≡◌, ◌≤◌, ℕ, [], ◌∷◌, IfOk, IsTrue, Some, string_bytes};
+ghost use Rattle.std.specs.Prelude.{◌≡◌, ◌≤◌, ℕ, [], ◌∷◌, map, IfOk, IsTrue, Some, string_bytes};
 ghost use Rattle.club_core.specs.Answer.{pairing_of, game_command_of};
 ghost use Rattle.club_core.specs.Events.{Event};
 ghost use Rattle.club_core.specs.Limits.{is_budget};
@@ -8,12 +8,12 @@ ghost use Rattle.club_core.specs.State.{place, on_game};
 ghost use Rattle.club_rows.specs.Club.{ClubGame, ClubState, IsClub};
 ghost use Rattle.club_rows.specs.Replay.{terms_given};
 ghost use Rattle.store.specs.Steps.{caller_step, first_row, IsDecided, PutsOnly};
-ghost use Rattle.store.specs.Stored.{IsStoredGame};
+ghost use Rattle.store.specs.Stored.{IsStoredGame, AreMovesOf};
 ghost use Rattle.store.specs.Whole.{IsWhole};
 
 use crate::command::Decided;
 use crate::fault::CallFault;
-use crate::game::{StoredGame, act, start};
+use crate::game::{StoredGame, act, legal, start};
 use clocks::Moment;
 use club_core::{Caller, GameCommand, KeyedGame};
 use club_games::{Draughts, Shogi};
@@ -56,5 +56,17 @@ pub(crate) fn act_in(
     match stored.kind {
         GameKind::Draughts => act::<Draughts>(alloc, stored, caller, command, moment),
         GameKind::Shogi => act::<Shogi>(alloc, stored, caller, command, moment),
+    }
+}
+
+// The legal moves of a game of the club, as they are written.
+pub(crate) fn legal_in(alloc: Global, stored: &StoredGame) -> Result<Vec<String>, CallFault>
+    ensures { IfOk result (λ texts. (s : ClubState) (id : ℕ) (game : ClubGame) → IsClub s →
+        place s.games id ≡ Some game → IsStoredGame s id game stored.now →
+        AreMovesOf game (map (λ t. string_bytes t) texts.items)) }
+{
+    match stored.kind {
+        GameKind::Draughts => legal::<Draughts>(alloc, stored),
+        GameKind::Shogi => legal::<Shogi>(alloc, stored),
     }
 }

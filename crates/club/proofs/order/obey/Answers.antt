@@ -29,3 +29,11 @@ returns-clause-led g c clean sessions led left may found finds =
     let here = c.in-Ok.ensures.found before in
     ∥∥₁_elim (led _ (record { holds = here.holds; reads = here.reads })) squash₁ (λ was.
     ∥∥₁_map (c.close.ensures.member clean left may found finds.holds) (λ now. c.act-report.ensures.led after opened.0 opened.1 sessions was found now))
+
+pub returns-clause-moves : goal.returns-clause-moves
+returns-clause-moves g c clean s is_club holds =
+    let after = was_clean _ _ c.close.ensures.clean clean in
+    let before = was_clean _ _ c.act-report.ensures.clean after in
+    let opened = c.in-Ok.ensures.opened before in
+    let here = c.in-Ok.ensures.found before in
+    c.act-report.ensures.moves after opened.0 opened.1 s is_club (holds _ (record { holds = here.holds; reads = here.reads }))

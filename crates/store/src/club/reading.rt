@@ -1,0 +1,75 @@
+//! What a club is asked of its games. Reading changes nothing.
+
+ghost use Rattle.std.specs.Prelude.{◌≡◌, ◌≤◌, ◌⊎◌, true, false, Err, IfOk, IfErr, OnOk, OnErr, map, string_bytes};
+ghost use Rattle.std.specs.Option.{option_map};
+ghost use Rattle.sqlite.specs.State.{HasCleanDisk};
+ghost use Rattle.sqlite.specs.Held.{state};
+ghost use Rattle.store_tables.specs.Club.{IsExactly};
+ghost use Rattle.store_tables.specs.Reading.{OnlyReads};
+ghost use Rattle.store_sql.specs.Read.{KeepsContent};
+ghost use Rattle.club_rows.specs.Club.{ClubState, IsClub, tables};
+ghost use Rattle.store.specs.Stored.{AreLegalRows};
+
+use super::Club;
+use crate::command::stored_game;
+use crate::fault::{CallFault, StoreFault};
+use crate::kinds::legal_in;
+use sqlite::{Alter, Connection};
+use std::alloc::Global;
+
+// The legal moves of a game, as they are written, if there is such a game.
+fn legal_of<S: Alter>(
+    alloc: Global,
+    conn: &mut Connection<S>,
+    game: u64,
+) -> Result<Option<Vec<String>>, CallFault>
+    ensures reads { OnlyReads (state S.Store conn.old) (state S.Store conn.new) }
+    ensures kept { HasCleanDisk (state S.Store conn.new) → OnOk result (KeepsContent (state S.Store conn.old)
+        (state S.Store conn.new)) }
+    ensures rows { HasCleanDisk (state S.Store conn.new) → IfOk result (λ found. (s : ClubState) → IsClub s →
+        IsExactly (tables s) (state S.Store conn.old) →
+        AreLegalRows s game (option_map (λ texts. map (λ t. string_bytes t) texts.items) found)) }
+{
+    match stored_game(alloc, conn, game)? {
+        Some(stored) => {
+            let texts = legal_in(alloc, &stored)?;
+            Ok(Some(texts))
+        }
+        None => Ok(None),
+    }
+}
+
+impl<S: Alter> Club<S> {
+    /// The legal moves of a game as they are written, in the order in which they are listed: none of a game that has
+    /// ended, and no answer for a number that no game has. It changes nothing. After a fault every later call is refused
+    /// with `Reopen`.
+    pub fn legal_rows(
+        &mut self,
+        alloc: Global,
+        game: u64,
+    ) -> Result<Option<Vec<String>>, StoreFault>
+        ensures shut { self.old.needs_reopening ≡ true → (result ≡ Err StoreFault.Reopen) × (self.new ≡ self.old) }
+        ensures goes_on { OnOk result (self.new.needs_reopening ≡ false) }
+        ensures ends { OnErr result (self.new.needs_reopening ≡ true) }
+        ensures named { IfErr result (λ fault. self.old.needs_reopening ≡ false →
+            (fault ≡ StoreFault.Store) ⊎ (fault ≡ StoreFault.Memory)) }
+        ensures reads { self.old.needs_reopening ≡ false →
+            OnlyReads (state S.Store self.old.connection) (state S.Store self.new.connection) }
+        ensures kept { HasCleanDisk (state S.Store self.new.connection) → OnOk result (KeepsContent
+            (state S.Store self.old.connection) (state S.Store self.new.connection)) }
+        ensures rows { HasCleanDisk (state S.Store self.new.connection) → IfOk result (λ found. (s : ClubState) →
+            IsClub s → IsExactly (tables s) (state S.Store self.old.connection) →
+            AreLegalRows s game (option_map (λ texts. map (λ t. string_bytes t) texts.items) found)) }
+    {
+        if self.needs_reopening {
+            return Err(StoreFault::Reopen);
+        }
+        match legal_of(alloc, &mut self.connection, game) {
+            Ok(found) => Ok(found),
+            Err(fault) => {
+                self.needs_reopening = true;
+                Err(StoreFault::from(fault))
+            }
+        }
+    }
+}
