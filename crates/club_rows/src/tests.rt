@@ -6,7 +6,7 @@ ghost use Rattle.club_games.specs.Draughts.{draughts};
 
 use crate::{Shown, Terms, ask, move_row, record_of, view_of, wrong_table};
 use clocks::Moment;
-use club_core::{Answer, Caller, Decision, GameView, Move, Moved, decide};
+use club_core::{Answer, Caller, Decision, GameCommand, GameView, Moved, decide};
 use club_games::Draughts;
 use std::alloc::Global;
 use std::test::Fail;
@@ -90,8 +90,7 @@ fn decided(
     requires { IsSound draughts view.now }
 {
     let moment = Moment::new(seconds).ok_or("in range")?;
-    let command = Move {
-        game: 1,
+    let command = GameCommand::Move {
         ply,
         text: text(alloc, letters)?,
     };
