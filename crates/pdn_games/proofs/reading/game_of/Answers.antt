@@ -1,0 +1,22 @@
+use Rattle.std.proofs.Common.{◌≡◌, List, Err, sym, ap, ap₂, ◌∙◌}
+use Rattle.squares.specs.declared.draughts.moves.DMove.{DMove}
+use Rattle.squares.specs.DraughtsOpening.{opening}
+use Rattle.draughts_draws.specs.Ends.{end_of}
+use Rattle.pdn_games.specs.Tokens.{Placed}
+use Rattle.pdn_games.specs.TokenValues.{all_placed}
+use Rattle.pdn_games.specs.Reading.{said, ruled, settled, score_in}
+use Rattle.pdn_games.proofs.EndingLemmas.{end-fails}
+use Rattle.pdn_games.proofs.reading.game_of.Goals as goal
+
+pub returns-in-Err-clause-fault : goal.returns-in-Err-clause-fault
+returns-in-Err-clause-fault c =
+    let tokens : List Placed = all_placed c.args.placed.now in
+    let ms : List DMove = c.args.replay.moves.items in
+    let follows = c.requires.stands.follows in
+    let claim = c.said-claim.ensures ∙ ap said c.result_in.ensures in
+    let end : c.end.result ≡ end_of opening ms = c.end.ensures opening ms follows in
+    let turn = c.turn.ensures ∙ ap (λ p. p.turn) c.requires.stands.position in
+    let rule = c.ruled-by_rule.ensures ∙ ap₂ ruled end turn in
+    let tag = c.told.ensures in
+    let score : score_in tokens ms ≡ Err c.in-Err.fault = sym (λ i. settled (claim i) (rule i) (tag i)) ∙ sym c.in-Err.ensures in
+    end-fails tokens ms c.in-Err.fault (record { of_club = c.requires.of_club; moves = record { mean = c.requires.mean; played = follows.played } }) score

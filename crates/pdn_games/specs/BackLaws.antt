@@ -1,0 +1,31 @@
+-- What is written of an ended game is read as that game.
+use Rattle.std.specs.Prelude.{◌≡◌, ◌≢◌, ℕ, true, Some, List, [], ◌∷◌, length}
+use Rattle.clocks.specs.declared.dates.CivilTime.{CivilTime}
+use Rattle.squares.specs.declared.sides.Score.{Score}
+use Rattle.squares.specs.declared.draughts.moves.DMove.{DMove}
+use Rattle.squares.specs.DraughtsOpening.{opening}
+use Rattle.draughts_draws.specs.Line.{last_position}
+use Rattle.draughts_draws.specs.Ends.{end_of}
+use Rattle.draughts_draws.specs.Faults.{IsPlayed}
+use Rattle.pdn_games.specs.declared.game.PdnGame.{PdnGame}
+use Rattle.pdn_games.specs.Reading.{agrees, ruled, IsTextOf}
+use Rattle.pdn_games.specs.Writing.{game_text}
+
+-- a text with neither quotes nor backslashes
+abbrev pub IsPlain : List ℕ → Type 0
+IsPlain [] = Unit {0}
+IsPlain (c ∷ text) = (c ≢ 34) × (c ≢ 92) × IsPlain text
+
+-- a game that a text keeps whole: plain names, moves by the rules, and the score of the rules where they ended the game
+pub record IsKept (event white black : List ℕ) (score : Score) (ms : List DMove) : Type 0 where
+  pub event_plain : IsPlain event
+  pub white_plain : IsPlain white
+  pub black_plain : IsPlain black
+  pub played : IsPlayed opening ms (length ms)
+  pub agreed : agrees score (ruled (end_of opening ms) (last_position opening ms).turn) ≡ true
+
+-- the text of such a game is that of its moves and its score
+abbrev pub WrittenIsRead : Type 0
+WrittenIsRead =
+    (event white black : List ℕ) (date : CivilTime) (score : Score) (ms : List DMove) (g : PdnGame) →
+    IsKept event white black score ms → g.moves.items ≡ ms → g.score ≡ score → IsTextOf (game_text event date white black (Some score) ms) g

@@ -1,0 +1,116 @@
+-- The game of a text, and why a text is refused.
+use Rattle.std.specs.Prelude.{◌≡◌, ◌&&◌, ℕ, Bool, true, false, Option, Some, None, List, Result, Ok, Err, codes, if◌then◌else◌}
+use Rattle.squares.specs.declared.sides.Side.{Side}
+use Rattle.squares.specs.declared.sides.Score.{Score}
+use Rattle.squares.specs.declared.sides.Score.TheVariants as score
+use Rattle.squares.specs.declared.draughts.moves.DMove.{DMove}
+use Rattle.squares.specs.DraughtsOpening.{opening}
+use Rattle.draughts_draws.specs.declared.ends.DEnd.{DEnd}
+use Rattle.draughts_draws.specs.Line.{last_position}
+use Rattle.draughts_draws.specs.Ends.{end_of, outcome_of}
+use Rattle.pdn_games.specs.declared.faults.PdnFault.{PdnFault}
+use Rattle.pdn_games.specs.declared.faults.PdnFault.TheVariants as fault
+use Rattle.pdn_games.specs.declared.game.PdnGame.{PdnGame}
+use Rattle.pdn_games.specs.declared.results.ResultWord.{ResultWord}
+use Rattle.pdn_games.specs.Results.{score_of, result_word}
+use Rattle.pdn_games.specs.Tokens.{Placed, TextTokens}
+use Rattle.pdn_games.specs.Order.{bad_at}
+use Rattle.pdn_games.specs.Contents.{first_tag, move_texts, result_in, is_other_type, HasOpening}
+use Rattle.pdn_games.specs.Moves.{AreMoves, RefusesMove}
+
+-- what a result says of the score, if there is one
+abbrev pub said : Option ResultWord → Option Score
+said None = None
+said (Some w) = score_of w
+
+-- what a tag says of the score: nothing, where it is none of the results of an ended game
+abbrev pub told : Option (List ℕ) → Option Score
+told None = None
+told (Some value) = said (result_word value)
+
+abbrev pub same_score : Score → Score → Bool
+same_score score.FirstWins score.FirstWins = true
+same_score score.Draw score.Draw = true
+same_score score.SecondWins score.SecondWins = true
+same_score _ _ = false
+
+-- a score differs from none, or from the same
+abbrev pub agrees : Score → Option Score → Bool
+agrees claim None = true
+agrees claim (Some other) = same_score claim other
+
+-- the score that the rules give, by the side to move, where they ended the game
+abbrev pub ruled : Option DEnd → Side → Option Score
+ruled None turn = None
+ruled (Some end) turn = Some (outcome_of end turn)
+
+-- The score of a text's result, which is that of the rules, where they ended the game, and that of its own tag, if this tells one.
+abbrev pub settled : Option Score → Option Score → Option Score → Result Score PdnFault
+settled None by_rule by_tag = Err fault.Unfinished
+settled (Some claim) by_rule by_tag = if agrees claim by_rule && agrees claim by_tag then Ok claim else Err fault.ResultDiffers
+
+abbrev pub score_in : List Placed → List DMove → Result Score PdnFault
+score_in tokens ms = settled (said (result_in tokens)) (ruled (end_of opening ms) (last_position opening ms).turn) (told (first_tag (codes "Result") tokens))
+
+-- the tokens of a text that has the form of a game's text
+pub record AreTokens (text : List ℕ) (tokens : List Placed) : Type 0 where
+  pub whole : TextTokens text tokens None
+  pub form : bad_at tokens None ≡ None
+
+-- the kind of draughts and the opening are those of the club
+pub record IsOfClub (tokens : List Placed) : Type 0 where
+  pub kind : is_other_type tokens ≡ false
+  pub opening : HasOpening tokens
+
+-- tokens of a game of the club with these moves
+pub record Plays (tokens : List Placed) (ms : List DMove) : Type 0 where
+  pub of_club : IsOfClub tokens
+  pub moves : AreMoves (move_texts tokens) ms
+
+-- tokens of the game
+pub record IsGameOf (tokens : List Placed) (game : PdnGame) : Type 0 where
+  pub plays : Plays tokens game.moves.items
+  pub score : score_in tokens game.moves.items ≡ Ok game.score
+
+-- all moves are played by the rules, and the end has the fault
+pub record EndFails (tokens : List Placed) (f : PdnFault) : Type 0 where
+  pub moves : List DMove
+  pub plays : Plays tokens moves
+  pub score : score_in tokens moves ≡ Err f
+
+-- a move of a game of the club has the fault
+pub record MoveFails (tokens : List Placed) (f : PdnFault) : Type 0 where
+  pub of_club : IsOfClub tokens
+  pub refused : RefusesMove (move_texts tokens) f
+
+-- The faults of a text of the form: another kind of draughts, then another opening, then a move, then the end.
+abbrev pub Fails : List Placed → PdnFault → Type 0
+Fails tokens fault.Memory = Unit {0}
+Fails tokens (fault.BadText offset) = ⊥
+Fails tokens (fault.Ambiguous ply) = MoveFails tokens (fault.Ambiguous ply)
+Fails tokens (fault.Illegal ply cause) = MoveFails tokens (fault.Illegal ply cause)
+Fails tokens fault.OtherType = is_other_type tokens ≡ true
+Fails tokens fault.OtherOpening = (is_other_type tokens ≡ false) × (HasOpening tokens → ⊥)
+Fails tokens fault.Unfinished = EndFails tokens fault.Unfinished
+Fails tokens (fault.AfterEnd ply) = MoveFails tokens (fault.AfterEnd ply)
+Fails tokens fault.ResultDiffers = EndFails tokens fault.ResultDiffers
+
+-- the text is that of the game
+abbrev pub IsTextOf : List ℕ → PdnGame → Type 0
+IsTextOf text game = (tokens : List Placed) × AreTokens text tokens × IsGameOf tokens game
+
+-- a text of the form, whose tokens fail
+abbrev pub TextFails : List ℕ → PdnFault → Type 0
+TextFails text f = (tokens : List Placed) × AreTokens text tokens × Fails tokens f
+
+-- why a text is refused: it has not the form, and then the rest
+abbrev pub IsRefused : List ℕ → PdnFault → Type 0
+IsRefused text fault.Memory = Unit {0}
+IsRefused text (fault.BadText offset) = (tokens : List Placed) × (stop : Option ℕ) × TextTokens text tokens stop × (bad_at tokens stop ≡ Some offset)
+IsRefused text (fault.Ambiguous ply) = TextFails text (fault.Ambiguous ply)
+IsRefused text (fault.Illegal ply cause) = TextFails text (fault.Illegal ply cause)
+IsRefused text fault.OtherType = TextFails text fault.OtherType
+IsRefused text fault.OtherOpening = TextFails text fault.OtherOpening
+IsRefused text fault.Unfinished = TextFails text fault.Unfinished
+IsRefused text (fault.AfterEnd ply) = TextFails text (fault.AfterEnd ply)
+IsRefused text fault.ResultDiffers = TextFails text fault.ResultDiffers

@@ -1,0 +1,69 @@
+-- A replay of the texts of moves.
+use Rattle.std.specs.Prelude.{◌≡◌, ◌⊎◌, ℕ, List, [], ◌∷◌, ◌++◌}
+use Rattle.squares.specs.declared.draughts.moves.DMove.{DMove}
+use Rattle.squares.specs.DraughtsOpening.{opening}
+use Rattle.draughts_draws.specs.Line.{last_position}
+use Rattle.draughts_draws.specs.Counting.{Follows}
+use Rattle.draughts_draws.specs.declared.faults.Fault.{Fault}
+use Rattle.draughts_draws.specs.declared.faults.Fault.TheVariants as line_fault
+use Rattle.pdn.specs.Forms.{Form}
+use Rattle.pdn.specs.Grammar.{HasForm}
+use Rattle.pdn.specs.ReadMove.{IsRead}
+use Rattle.pdn.specs.declared.faults.PdnFault as lone
+use Rattle.pdn.specs.declared.faults.PdnFault.TheVariants as lone_fault
+use Rattle.pdn_games.specs.declared.faults.PdnFault.{PdnFault}
+use Rattle.pdn_games.specs.declared.faults.PdnFault.TheVariants as fault
+use Rattle.pdn_games.specs.declared.replay.Replay.{Replay}
+use Rattle.pdn_games.specs.Tokens.{Token, tag, number, move_by, result, Placed}
+use Rattle.pdn_games.specs.Contents.{texts_in}
+use Rattle.pdn_games.specs.Moves.{MeanAll, RefusesNext}
+
+-- a text of a move's form
+abbrev pub IsMoveForm : List ℕ → Type 0
+IsMoveForm text = (form : Form) × HasForm text form
+
+-- a token that is a move has a move's form
+abbrev pub HasItsForm : Token → Type 0
+HasItsForm (tag name value) = Unit {0}
+HasItsForm number = Unit {0}
+HasItsForm (move_by text) = IsMoveForm text
+HasItsForm (result w) = Unit {0}
+
+abbrev pub HaveForms : List Placed → Type 0
+HaveForms [] = Unit {0}
+HaveForms (placed ∷ more) = HasItsForm placed.token × HaveForms more
+
+-- The position and the counts of a replay are those of its moves.
+pub record Stands (replay : Replay) : Type 0 where
+  pub follows : Follows opening replay.moves.items replay.counts
+  pub position : replay.position ≡ last_position opening replay.moves.items
+
+-- the moves grew by one that the text means
+pub record GrowsBy (text : List ℕ) (old new : List DMove) : Type 0 where
+  pub made : DMove
+  pub grown : new ≡ old ++ made ∷ []
+  pub means : IsRead (last_position opening old) text made
+
+-- whatever the moves so far were written as, they are now written with this token more
+abbrev pub GrowsWith : Token → List DMove → List DMove → Type 0
+GrowsWith t old new = (texts : List (List ℕ)) → MeanAll opening texts old → MeanAll opening (texts ++ texts_in t []) new
+
+-- memory was refused, or the text is
+abbrev pub RefusesText : List DMove → List ℕ → PdnFault → Type 0
+RefusesText ms text f = (f ≡ fault.Memory) ⊎ RefusesNext ms text f
+
+-- memory was refused, or the text of the token is
+abbrev pub RefusesIn : List DMove → Token → PdnFault → Type 0
+RefusesIn ms t f = (f ≡ fault.Memory) ⊎ ((text : List ℕ) × (texts_in t [] ≡ text ∷ []) × RefusesNext ms text f)
+
+-- the fault of a text alone, at its ply
+abbrev pub at_ply : ℕ → lone.PdnFault → PdnFault
+at_ply ply lone_fault.Memory = fault.Memory
+at_ply ply (lone_fault.BadText offset) = fault.BadText offset
+at_ply ply (lone_fault.Ambiguous one) = fault.Ambiguous ply
+at_ply ply (lone_fault.Illegal one cause) = fault.Illegal ply cause
+
+abbrev pub fault_of : Fault → PdnFault
+fault_of line_fault.Memory = fault.Memory
+fault_of (line_fault.Illegal ply cause) = fault.Illegal ply cause
+fault_of (line_fault.AfterEnd ply) = fault.AfterEnd ply

@@ -1,0 +1,74 @@
+-- A tag: `[Name "value"]`, where blanks may stand between its parts.
+use Rattle.std.specs.Prelude.{ℕ, ◌==◌, ◌&&◌, ◌||◌, ◌+◌, nat_le, List, [], ◌∷◌, take, drop, Bool, false, Option, Some, None, if◌then◌else◌}
+use Rattle.std.specs.List.{prefix_len}
+use Rattle.std.specs.Option.{option_map_or}
+use Rattle.pdn.specs.FenItems.{past_byte}
+use Rattle.pdn.specs.SquareText.{is_digit}
+
+-- a letter, a digit or `_`
+abbrev pub is_name_byte : ℕ → Bool
+is_name_byte c = (is_digit c || (nat_le 65 c && nat_le c 90)) || ((nat_le 97 c && nat_le c 122) || c == 95)
+
+abbrev pub is_space : ℕ → Bool
+is_space c = c == 32
+
+abbrev pub past_spaces : List ℕ → List ℕ
+past_spaces text = drop (prefix_len is_space text) text
+
+-- a part read from the front of a text, with what follows it
+pub record Part : Type 0 where
+  pub value : List ℕ
+  pub rest : List ℕ
+
+-- a name of letters, digits and `_`
+abbrev pub name_front : List ℕ → Option Part
+name_front text =
+    if prefix_len is_name_byte text == 0 then None
+    else Some (record { value = take (prefix_len is_name_byte text) text; rest = drop (prefix_len is_name_byte text) text })
+
+-- Whether the byte after this one is escaped, or none where this one is the quote that closes a value. A backslash escapes the
+-- byte after it.
+abbrev pub quote_step : Bool → ℕ → Option Bool
+quote_step escaped c = if escaped then Some false else if c == 34 then None else Some (c == 92)
+
+-- the place of the quote that closes a value, of which so many bytes are passed
+abbrev pub quote_at : ℕ → Bool → List ℕ → Option ℕ
+quote_at at escaped [] = None
+quote_at at escaped (c ∷ rest) = option_map_or (λ next. quote_at (at + 1) next rest) (quote_step escaped c) (Some at)
+
+abbrev pub up_to_quote : List ℕ → Option ℕ → Option Part
+up_to_quote text None = None
+up_to_quote text (Some n) = Some (record { value = take n text; rest = drop (n + 1) text })
+
+-- The value, as it is written, before the quote that closes it. No value that counts in a game's text has a quote or a backslash.
+abbrev pub value_front : List ℕ → Option Part
+value_front text = up_to_quote text (quote_at 0 false text)
+
+-- a tag read from the front of a text, with what follows it
+pub record TagFront : Type 0 where
+  pub name : List ℕ
+  pub value : List ℕ
+  pub rest : List ℕ
+
+abbrev pub with_end : List ℕ → List ℕ → Option (List ℕ) → Option TagFront
+with_end name value None = None
+with_end name value (Some rest) = Some (record { name = name; value = value; rest = rest })
+
+-- the end of a tag, after its value
+abbrev pub with_value : List ℕ → Option Part → Option TagFront
+with_value name None = None
+with_value name (Some value) = with_end name value.value (past_byte 93 (past_spaces value.rest))
+
+-- what stands after the quote that begins a value
+abbrev pub with_quote : List ℕ → Option (List ℕ) → Option TagFront
+with_quote name None = None
+with_quote name (Some text) = with_value name (value_front text)
+
+-- a value and the end, after the name
+abbrev pub with_name : Option Part → Option TagFront
+with_name None = None
+with_name (Some name) = with_quote name.value (past_byte 34 (past_spaces name.rest))
+
+-- what stands after the bracket that begins a tag
+unfoldable pub tag_front : List ℕ → Option TagFront
+tag_front text = with_name (name_front (past_spaces text))

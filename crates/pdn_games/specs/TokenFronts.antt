@@ -1,0 +1,19 @@
+-- Fronts of a text as the reader has them.
+use Rattle.std.specs.Prelude.{◌<◌, ℕ, List, length}
+use Rattle.pdn_games.specs.declared.tokens.Front as answer
+use Rattle.pdn_games.specs.declared.tokens.Front.TheVariants as named
+use Rattle.pdn_games.specs.Tokens.{Front, ended, skipped, found, stuck}
+use Rattle.pdn_games.specs.TokenValues.{token_of}
+
+abbrev pub front_of : answer.Front → Front
+front_of named.Ended = ended
+front_of (named.Skipped rest) = skipped rest.now
+front_of (named.Found token rest) = found (token_of token) rest.now
+front_of named.Stuck = stuck
+
+-- what follows the front of a text is shorter than the text
+abbrev pub IsShorter : List ℕ → answer.Front → Type 0
+IsShorter text named.Ended = Unit {0}
+IsShorter text (named.Skipped rest) = length rest.now < length text
+IsShorter text (named.Found token rest) = length rest.now < length text
+IsShorter text named.Stuck = Unit {0}

@@ -1,0 +1,83 @@
+//! What the tokens of a game's text say.
+ghost use Rattle.std.specs.Prelude.{◌≡◌, MatchOption, Some, None, map};
+ghost use Rattle.std.specs.Option.{option_map};
+ghost use Rattle.pdn_games.specs.Contents.{value_in, first_tag, word_or, result_in, is_other, is_other_type};
+ghost use Rattle.pdn_games.specs.TokenValues.{token_of, all_placed};
+
+use crate::results::ResultWord;
+use crate::tokens::{Placed, Token};
+
+// The value of a token that is a tag of that name.
+fn value_in<'a>(name: &str, token: Token<'a>) -> Option<&'a [u8]>
+    ensures { MatchOption result
+        (value_in name.now (token_of token.entry) ≡ None)
+        (λ value. value_in name.now (token_of token.entry) ≡ Some value.now) }
+{
+    match token {
+        Token::Tag { name: other, value } => {
+            if other == name.as_bytes() {
+                return Some(value);
+            }
+            None
+        }
+        _ => None,
+    }
+}
+
+/// The value of the first tag of that name.
+pub fn first_tag<'a>(name: &str, placed: &[Placed<'a>]) -> Option<&'a [u8]>
+    ensures { MatchOption result
+        (first_tag name.now (all_placed placed.now) ≡ None)
+        (λ value. first_tag name.now (all_placed placed.now) ≡ Some value.now) }
+{
+    for i in 0..placed.len() {
+        match value_in(name, placed[i].token) {
+            Some(value) => return Some(value),
+            None => {}
+        }
+    }
+    None
+}
+
+// The result that a token is.
+fn word_in(token: Token<'_>) -> Option<ResultWord>
+    ensures { result ≡ word_or (token_of token.entry) None }
+{
+    match token {
+        Token::Result(word) => Some(word),
+        _ => None,
+    }
+}
+
+/// The result, if there is one.
+pub fn result_in(placed: &[Placed<'_>]) -> Option<ResultWord>
+    ensures { result ≡ result_in (all_placed placed.now) }
+{
+    for i in 0..placed.len() {
+        match word_in(placed[i].token) {
+            Some(word) => return Some(word),
+            None => {}
+        }
+    }
+    None
+}
+
+// Whether a kind of draughts is another than the international one.
+fn is_other(kind: &[u8]) -> bool
+    ensures { result ≡ is_other (Some kind.now) }
+{
+    if kind == "20".as_bytes() {
+        return false;
+    }
+    !kind.starts_with("20,".as_bytes())
+}
+
+/// Whether the tags name a kind of draughts other than the international one.
+pub fn is_other_type(placed: &[Placed<'_>]) -> bool
+    ensures { result ≡ is_other_type (all_placed placed.now) }
+{
+    match first_tag("GameType", placed) {
+        None => false,
+        Some(kind) => is_other(kind),
+    }
+}

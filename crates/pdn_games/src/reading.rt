@@ -1,0 +1,136 @@
+//! Texts as games.
+ghost use Rattle.std.specs.Prelude.{◌≡◌, ◌↔◌, None, true, false, IfOk, IfErr, OnOk, IsTrue, codes};
+ghost use Rattle.squares.specs.DraughtsOpening.{opening};
+ghost use Rattle.squares.specs.DraughtsSamePosition.{same_position};
+ghost use Rattle.pdn.specs.ReadFen.{IsFen};
+ghost use Rattle.pdn_games.specs.Contents.{first_tag, is_other_type, move_texts, HasOpening};
+ghost use Rattle.pdn_games.specs.Moves.{MeanAll};
+ghost use Rattle.pdn_games.specs.Reading.{told, IsOfClub, IsGameOf, Fails, AreTokens, IsTextOf, IsRefused};
+ghost use Rattle.pdn_games.specs.Replaying.{HaveForms, Stands};
+ghost use Rattle.pdn_games.specs.TokenValues.{all_placed};
+
+use crate::contents::{first_tag, is_other_type, result_in};
+use crate::ending::{ruled, said, score_told, settle};
+use crate::faults::PdnFault;
+use crate::game::PdnGame;
+use crate::order::bad_at;
+use crate::replay::{Replay, replay_of};
+use crate::tokens::{Placed, tokens_of};
+use draughts_moves::Memory;
+use pdn::laws::{fen_forms_are_texts, reads_one_position};
+use pdn::{PdnFault as FenFault, read_fen};
+use squares::{DPos, Score};
+use std::alloc::Global;
+
+// What the text's own tag says of the score.
+fn told(placed: &[Placed<'_>]) -> Option<Score>
+    ensures { result ≡ told (first_tag (codes "Result") (all_placed placed.now)) }
+{
+    match first_tag("Result", placed) {
+        None => None,
+        Some(value) => score_told(value),
+    }
+}
+
+fn is_same(one: &DPos, other: &DPos) -> bool
+    ensures { result ≡ same_position one.now other.now }
+{
+    *one == *other
+}
+
+fn is_opening(position: &DPos) -> bool
+    ensures { IsTrue result ↔ (position.now ≡ opening) }
+{
+    is_same(position, &DPos::opening())
+}
+
+// Whether a text is that of the opening.
+fn is_opening_text(alloc: Global, text: &[u8]) -> Result<bool, Memory>
+    ensures { IfOk result (λ even. IsTrue even ↔ IsFen text.now opening) }
+{
+    fen_forms_are_texts();
+    reads_one_position();
+    let text = match str::from_utf8(text) {
+        Ok(text) => text,
+        Err(_) => return Ok(false),
+    };
+    match read_fen(alloc, text) {
+        Ok(position) => Ok(is_opening(&position)),
+        Err(FenFault::Memory) => Err(Memory),
+        Err(FenFault::BadText(_)) => Ok(false),
+        Err(FenFault::Ambiguous(_)) => Ok(false),
+        Err(FenFault::Illegal { ply: _, cause: _ }) => Ok(false),
+    }
+}
+
+// Whether the game begins with the opening.
+fn has_opening(alloc: Global, placed: &[Placed<'_>]) -> Result<bool, Memory>
+    ensures { IfOk result (λ even. IsTrue even ↔ HasOpening (all_placed placed.now)) }
+{
+    match first_tag("FEN", placed) {
+        None => Ok(true),
+        Some(text) => is_opening_text(alloc, text),
+    }
+}
+
+// Whether the game is one of the club, by its kind and its opening.
+fn check_kind(alloc: Global, placed: &[Placed<'_>]) -> Result<(), PdnFault>
+    ensures of_club { OnOk result (IsOfClub (all_placed placed.now)) }
+    ensures fault { IfErr result (Fails (all_placed placed.now)) }
+{
+    if is_other_type(placed) {
+        return Err(PdnFault::OtherType);
+    }
+    if !has_opening(alloc, placed)? {
+        return Err(PdnFault::OtherOpening);
+    }
+    Ok(())
+}
+
+// The game of a text whose moves are played by the rules.
+fn game_of(placed: &[Placed<'_>], replay: Replay) -> Result<PdnGame, PdnFault>
+    requires stands { Stands replay }
+    requires of_club { IsOfClub (all_placed placed.now) }
+    requires mean { MeanAll opening (move_texts (all_placed placed.now)) replay.moves.items }
+    ensures game { IfOk result (IsGameOf (all_placed placed.now)) }
+    ensures fault { IfErr result (Fails (all_placed placed.now)) }
+{
+    let claim = said(result_in(placed));
+    let by_rule = ruled(replay.counts.end(), replay.position.turn());
+    match settle(claim, by_rule, told(placed)) {
+        Err(fault) => Err(fault),
+        Ok(score) => Ok(PdnGame {
+            moves: replay.moves,
+            score,
+        }),
+    }
+}
+
+// The game of a text of the form.
+fn read_tokens(alloc: Global, placed: &[Placed<'_>]) -> Result<PdnGame, PdnFault>
+    requires { HaveForms (all_placed placed.now) }
+    ensures game { IfOk result (IsGameOf (all_placed placed.now)) }
+    ensures fault { IfErr result (Fails (all_placed placed.now)) }
+{
+    check_kind(alloc, placed)?;
+    let replay = replay_of(alloc, placed)?;
+    game_of(placed, replay)
+}
+
+/// The game of a text in Portable Draughts Notation.
+///
+/// It refuses, in this order: a text that has not the form of a game's text, at the first byte where it has not; another
+/// kind of draughts; another opening; ply by ply a move after the end of the game, one whose text fits two captures, and one
+/// that is not legal; a text that does not say how the game ended; and an end that is not that of the rules, or not that of
+/// the text's own tag. It also fails where memory is refused, and then alone.
+pub fn read_game(alloc: Global, text: &[u8]) -> Result<PdnGame, PdnFault>
+    ensures game { IfOk result (IsTextOf text.now) }
+    ensures fault { IfErr result (IsRefused text.now) }
+{
+    let lexed = tokens_of(alloc, text)?;
+    let placed = lexed.tokens.as_slice();
+    match bad_at(placed, lexed.stop) {
+        Some(offset) => Err(PdnFault::BadText(offset)),
+        None => read_tokens(alloc, placed),
+    }
+}

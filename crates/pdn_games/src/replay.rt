@@ -1,0 +1,150 @@
+//! The moves of a game's text, ply by ply.
+ghost use Rattle.std.specs.Prelude.{[], ◌∷◌, ◌++◌, ◌≡◌, None, IfOk, IfErr, OnOk};
+ghost use Rattle.squares.specs.DraughtsOpening.{opening};
+ghost use Rattle.draughts_moves.specs.Legal.{Legal};
+ghost use Rattle.draughts_draws.specs.Ends.{end_of};
+ghost use Rattle.pdn.specs.ReadMove.{IsRead, HasReadFault};
+ghost use Rattle.pdn_games.specs.Contents.{move_texts};
+ghost use Rattle.pdn_games.specs.Moves.{MeanAll, RefusesMoves};
+ghost use Rattle.pdn_games.specs.Replaying.{IsMoveForm, HasItsForm, HaveForms, Stands, GrowsBy, GrowsWith, RefusesText, RefusesIn, at_ply, fault_of};
+ghost use Rattle.pdn_games.specs.TokenValues.{token_of, all_placed};
+
+use crate::faults::PdnFault;
+use crate::tokens::{Placed, Token};
+use draughts_draws::{Counts, Fault};
+use draughts_moves::laws::check_is;
+use draughts_moves::play;
+use pdn::laws::forms_are_texts;
+use pdn::{PdnFault as MoveFault, read_move};
+use squares::{DMove, DPos};
+use std::alloc::Global;
+
+/// The moves of a text so far, in a game from the opening.
+#[derive(Drop)]
+pub struct Replay {
+    pub position: DPos,
+    pub counts: Counts,
+    pub moves: Vec<DMove>,
+}
+
+// The replay of no move.
+fn beginning(alloc: Global) -> Result<Replay, PdnFault>
+    ensures stands { IfOk result Stands }
+    ensures bare { IfOk result (λ replay. replay.moves.items ≡ []) }
+    ensures fault { IfErr result (λ fault. fault ≡ PdnFault.Memory) }
+{
+    let position = DPos::opening();
+    match Counts::start(alloc, &position) {
+        Err(_) => Err(PdnFault::Memory),
+        Ok(counts) => Ok(Replay {
+            position,
+            counts,
+            moves: Vec::new(alloc),
+        }),
+    }
+}
+
+// The fault of a text alone, at its ply.
+fn at_ply(ply: usize, fault: MoveFault) -> PdnFault
+    ensures { result ≡ at_ply ply fault }
+{
+    match fault {
+        MoveFault::Memory => PdnFault::Memory,
+        MoveFault::BadText(offset) => PdnFault::BadText(offset),
+        MoveFault::Ambiguous(_) => PdnFault::Ambiguous(ply),
+        MoveFault::Illegal { ply: _, cause } => PdnFault::Illegal { ply, cause },
+    }
+}
+
+// The fault of a text, where the counts refuse its next move.
+fn fault_of(fault: Fault) -> PdnFault
+    ensures { result ≡ fault_of fault }
+{
+    match fault {
+        Fault::Memory => PdnFault::Memory,
+        Fault::Illegal { ply, cause } => PdnFault::Illegal { ply, cause },
+        Fault::AfterEnd { ply } => PdnFault::AfterEnd(ply),
+    }
+}
+
+// The move that a text means.
+fn read_text(alloc: Global, position: &DPos, text: &[u8]) -> Result<DMove, MoveFault>
+    requires { IsMoveForm text.now }
+    ensures read { IfOk result (λ m. IsRead position.now text.now m) }
+    ensures fault { IfErr result (λ fault. HasReadFault position.now text.now fault) }
+{
+    match str::from_utf8(text) {
+        Ok(text) => read_move(alloc, position, text),
+        Err(_) => unreachable!(),
+    }
+}
+
+// One legal move more of a game that goes on.
+fn push_move(replay: &mut Replay, played: DMove) -> Result<(), PdnFault>
+    requires stands { Stands replay.old }
+    requires unended { end_of opening replay.old.moves.items ≡ None }
+    requires legal { Legal replay.old.position played }
+    ensures stands { OnOk result (Stands replay.new) }
+    ensures grown { OnOk result (replay.new.moves.items ≡ replay.old.moves.items ++ played ∷ []) }
+    ensures fault { IfErr result (λ fault. fault ≡ PdnFault.Memory) }
+{
+    check_is();
+    match replay.counts.push(&played) {
+        Ok(()) => {}
+        Err(fault) => return Err(fault_of(fault)),
+    }
+    let next = play(&replay.position, &played);
+    replay.moves.push(played)?;
+    replay.position = next;
+    Ok(())
+}
+
+// One text more. It is refused where the game has ended, or where it means no legal move.
+fn push(alloc: Global, replay: &mut Replay, text: &[u8]) -> Result<(), PdnFault>
+    requires stands { Stands replay.old }
+    requires form { IsMoveForm text.now }
+    ensures stands { OnOk result (Stands replay.new) }
+    ensures grown { OnOk result (GrowsBy text.now replay.old.moves.items replay.new.moves.items) }
+    ensures fault { IfErr result (RefusesText replay.old.moves.items text.now) }
+{
+    forms_are_texts();
+    let ply = replay.moves.len() + 1;
+    match replay.counts.end() {
+        Some(_) => return Err(PdnFault::AfterEnd(ply)),
+        None => {}
+    }
+    match read_text(alloc, &replay.position, text) {
+        Ok(played) => push_move(replay, played),
+        Err(fault) => Err(at_ply(ply, fault)),
+    }
+}
+
+// One token more, which may be a move.
+fn push_token(alloc: Global, replay: &mut Replay, token: Token<'_>) -> Result<(), PdnFault>
+    requires stands { Stands replay.old }
+    requires form { HasItsForm (token_of token) }
+    ensures stands { OnOk result (Stands replay.new) }
+    ensures grown { OnOk result
+        (GrowsWith (token_of token.entry) replay.old.moves.items replay.new.moves.items) }
+    ensures fault { IfErr result (RefusesIn replay.old.moves.items (token_of token.entry)) }
+{
+    match token {
+        Token::Move(text) => push(alloc, replay, text),
+        _ => Ok(()),
+    }
+}
+
+/// The moves of a text. It fails at the first of them that the rules refuse.
+pub fn replay_of(alloc: Global, placed: &[Placed<'_>]) -> Result<Replay, PdnFault>
+    requires { HaveForms (all_placed placed.now) }
+    ensures stands { IfOk result Stands }
+    ensures mean { IfOk result
+        (λ replay. MeanAll opening (move_texts (all_placed placed.now)) replay.moves.items) }
+    ensures fault { IfErr result (RefusesMoves (move_texts (all_placed placed.now))) }
+{
+    let mut replay = beginning(alloc)?;
+    for i in 0..placed.len() {
+        push_token(alloc, &mut replay, placed[i].token)?;
+    }
+    Ok(replay)
+}

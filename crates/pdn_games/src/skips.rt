@@ -1,0 +1,161 @@
+//! What is skipped between the tokens of a game's text.
+ghost use Rattle.std.specs.Prelude.{◌≡◌, ◌+◌, ◌<◌, ◌≤◌, false, IfSome, MatchOption, Some, None, length, drop};
+ghost use Rattle.std.specs.List.{prefix_len};
+ghost use Rattle.pdn_games.specs.Skips.{is_blank, is_mark, is_in_line, past_first, step, past_brackets, past_digits, past_marks, past_line, past_skipped};
+
+use crate::lengths::{after, digits_len};
+
+fn is_blank(byte: u8) -> bool
+    ensures { result ≡ is_blank byte }
+{
+    byte == b' ' || byte == b'\t' || (byte == b'\n' || byte == b'\r')
+}
+
+fn is_mark(byte: u8) -> bool
+    ensures { result ≡ is_mark byte }
+{
+    byte == b'!' || byte == b'?'
+}
+
+fn is_in_line(byte: u8) -> bool
+    ensures { result ≡ is_in_line byte }
+{
+    byte != b'\n'
+}
+
+// What follows the first such byte.
+fn past_first(byte: u8, text: &[u8]) -> Option<&[u8]>
+    ensures past { MatchOption result
+        (past_first byte text.now ≡ None) (λ rest. past_first byte text.now ≡ Some rest.now) }
+    ensures shorter { IfSome result (λ rest. length rest.now < length text.now) }
+{
+    for i in 0..text.len() {
+        if text[i] == byte {
+            return Some(after(text, i + 1));
+        }
+    }
+    None
+}
+
+/// How deep in brackets a byte stands, beside the outermost, and whether in a comment in braces.
+#[derive(Clone, Copy, Debug, PartialEq, Eq)]
+pub struct Nesting {
+    pub depth: usize,
+    pub braced: bool,
+}
+
+// Brackets, after a byte more; none is left once the outermost closes.
+fn step(nesting: Nesting, byte: u8) -> Option<Nesting>
+    requires { nesting.depth < 18446744073709551615 }
+    ensures value { result ≡ step nesting byte }
+    ensures within { IfSome result (λ next. next.depth ≤ nesting.depth + 1) }
+{
+    let depth = nesting.depth;
+    if nesting.braced {
+        return Some(Nesting {
+            depth,
+            braced: byte != b'}',
+        });
+    }
+    if byte == b'(' {
+        return Some(Nesting {
+            depth: depth + 1,
+            braced: false,
+        });
+    }
+    if byte != b')' {
+        return Some(Nesting {
+            depth,
+            braced: byte == b'{',
+        });
+    }
+    if depth == 0 {
+        return None;
+    }
+    Some(Nesting {
+        depth: depth - 1,
+        braced: false,
+    })
+}
+
+// What follows the bracket that closes the outermost.
+fn past_brackets(text: &[u8]) -> Option<&[u8]>
+    ensures past { MatchOption result
+        (past_brackets (record { depth = 0; braced = false }) text.now ≡ None)
+        (λ rest. past_brackets (record { depth = 0; braced = false }) text.now ≡ Some rest.now) }
+    ensures shorter { IfSome result (λ rest. length rest.now < length text.now) }
+{
+    let mut nesting = Nesting {
+        depth: 0,
+        braced: false,
+    };
+    for i in 0..text.len() {
+        match step(nesting, text[i]) {
+            None => return Some(after(text, i + 1)),
+            Some(next) => nesting = next,
+        }
+    }
+    None
+}
+
+// What follows digits.
+fn past_digits(text: &[u8]) -> Option<&[u8]>
+    ensures past { MatchOption result
+        (past_digits text.now ≡ None) (λ rest. past_digits text.now ≡ Some rest.now) }
+    ensures shorter { IfSome result (λ rest. length rest.now ≤ length text.now) }
+{
+    let digits = digits_len(text);
+    if digits == 0 {
+        return None;
+    }
+    Some(after(text, digits))
+}
+
+fn marks_len(text: &[u8]) -> usize
+    ensures value { result ≡ prefix_len is_mark text.now }
+    ensures within { result ≤ length text.now }
+{
+    text.iter().take_while(|c| is_mark(**c)).count()
+}
+
+fn line_len(text: &[u8]) -> usize
+    ensures value { result ≡ prefix_len is_in_line text.now }
+    ensures within { result ≤ length text.now }
+{
+    text.iter().take_while(|c| is_in_line(**c)).count()
+}
+
+fn past_marks(text: &[u8]) -> &[u8]
+    ensures past { result.now ≡ past_marks text.now }
+    ensures shorter { length result.now ≤ length text.now }
+{
+    after(text, marks_len(text))
+}
+
+// What follows the rest of a line, its end apart.
+fn past_line(text: &[u8]) -> &[u8]
+    ensures past { result.now ≡ past_line text.now }
+    ensures shorter { length result.now ≤ length text.now }
+{
+    after(text, line_len(text))
+}
+
+/// What follows what is skipped, if a text begins with such; the text may begin a line.
+#[tactic(auto, unfolding(crate::specs::Skips::past_skipped))]
+pub fn past_skipped(begins_line: bool, text: &[u8]) -> Option<&[u8]>
+    ensures past { MatchOption result
+        (past_skipped begins_line text.now ≡ None)
+        (λ rest. past_skipped begins_line text.now ≡ Some rest.now) }
+    ensures shorter { IfSome result (λ rest. length rest.now < length text.now) }
+{
+    match text {
+        [c, rest @ ..] if is_blank(*c) => Some(rest),
+        [b'{', rest @ ..] => past_first(b'}', rest),
+        [b'$', rest @ ..] => past_digits(rest),
+        [b'(', rest @ ..] => past_brackets(rest),
+        [c, rest @ ..] if is_mark(*c) => Some(past_marks(rest)),
+        [b';', rest @ ..] => Some(past_line(rest)),
+        [b'%', rest @ ..] if begins_line => Some(past_line(rest)),
+        _ => None,
+    }
+}

@@ -1,0 +1,221 @@
+//! The tokens of a game's text.
+ghost use Rattle.std.specs.Prelude.{◌≡◌, ◌≤◌, ◌<◌, IfOk, IfSome, MatchOption, Some, None, length};
+ghost use Rattle.pdn_games.specs.Results as results;
+ghost use Rattle.pdn_games.specs.Tokens.{word_len, longest, token_front, front_with, front_at, begins_feed, lets_follow, TextTokens};
+ghost use Rattle.pdn_games.specs.TokenFronts.{front_of, IsShorter};
+ghost use Rattle.pdn_games.specs.TokenValues.{token_of, all_placed};
+
+use crate::lengths::{after, move_len, number_len};
+use crate::results::{ResultWord, result_at};
+use crate::skips::past_skipped;
+use crate::tags::tag_front;
+use std::alloc::{AllocError, Global};
+
+/// A token of a game's text.
+#[derive(Clone, Copy)]
+pub enum Token<'a> {
+    /// A tag by its name and its value as it is written.
+    Tag { name: &'a [u8], value: &'a [u8] },
+    /// A move's number.
+    Number,
+    /// A move, by its text.
+    Move(&'a [u8]),
+    /// A result.
+    Result(ResultWord),
+}
+
+/// A token, and how many bytes of the text stand before it.
+#[derive(Clone, Copy)]
+pub struct Placed<'a> {
+    pub at: usize,
+    pub token: Token<'a>,
+}
+
+/// What a text begins with, and what follows it.
+#[derive(Clone, Copy)]
+pub enum Front<'a> {
+    /// Nothing more.
+    Ended,
+    /// Something that is skipped.
+    Skipped(&'a [u8]),
+    /// A token.
+    Found(Token<'a>, &'a [u8]),
+    /// Neither.
+    Stuck,
+}
+
+// A token read from the front of a text, with what follows it.
+#[derive(Clone, Copy)]
+struct TokenFront<'a> {
+    token: Token<'a>,
+    rest: &'a [u8],
+}
+
+fn word_len(word: Option<ResultWord>) -> usize
+    ensures { result ≡ word_len word }
+{
+    match word {
+        None => 0,
+        Some(word) => word.text().len(),
+    }
+}
+
+// The longest of a move's number, a move and a result; a result before a move of the same length.
+fn longest(
+    text: &[u8],
+    numbered: usize,
+    moved: usize,
+    word: Option<ResultWord>,
+) -> Option<TokenFront<'_>>
+    requires numbered { numbered ≤ length text.now }
+    requires moved { moved ≤ length text.now }
+    requires word { word_len word ≤ length text.now }
+    ensures front { MatchOption result
+        (longest text.now numbered moved word ≡ None)
+        (λ t. longest text.now numbered moved word
+        ≡ Some (record { token = token_of t.token; rest = t.rest.now })) }
+    ensures shorter { IfSome result (λ t. length t.rest.now < length text.now) }
+{
+    if moved < numbered && word_len(word) < numbered {
+        return Some(TokenFront {
+            token: Token::Number,
+            rest: after(text, numbered),
+        });
+    }
+    if word_len(word) < moved {
+        return Some(TokenFront {
+            token: Token::Move(&text[..moved]),
+            rest: after(text, moved),
+        });
+    }
+    match word {
+        None => None,
+        Some(word) => Some(TokenFront {
+            token: Token::Result(word),
+            rest: after(text, word.text().len()),
+        }),
+    }
+}
+
+// The result that a text begins with, whose length is no more than the text's.
+fn result_within(text: &[u8]) -> Option<ResultWord>
+    ensures value { result ≡ results.result_at text.now }
+    ensures within { word_len result ≤ length text.now }
+{
+    match result_at(text) {
+        None => None,
+        Some(word) => Some(word),
+    }
+}
+
+// The token that a text begins with.
+#[tactic(auto, unfolding(crate::specs::Tokens::token_front))]
+fn token_front(text: &[u8]) -> Option<TokenFront<'_>>
+    ensures front { MatchOption result
+        (token_front text.now ≡ None)
+        (λ t. token_front text.now ≡ Some (record { token = token_of t.token; rest = t.rest.now })) }
+    ensures shorter { IfSome result (λ t. length t.rest.now < length text.now) }
+{
+    match text {
+        [] => None,
+        [b'[', rest @ ..] => match tag_front(rest) {
+            None => None,
+            Some(tag) => Some(TokenFront {
+                token: Token::Tag {
+                    name: tag.name,
+                    value: tag.value,
+                },
+                rest: tag.rest,
+            }),
+        },
+        _ => longest(text, number_len(text), move_len(text), result_within(text)),
+    }
+}
+
+// A token at the front of a text, where one may stand.
+fn free_front(free: bool, text: &[u8]) -> Front<'_>
+    ensures value { front_of result ≡ front_with free text.now None }
+    ensures shorter { IsShorter text.now result }
+{
+    if !free {
+        return Front::Stuck;
+    }
+    match token_front(text) {
+        None => Front::Stuck,
+        Some(front) => Front::Found(front.token, front.rest),
+    }
+}
+
+// The front of a text, which may begin a line, and at which a token may stand where it is free.
+#[tactic(auto, unfolding(crate::specs::Tokens::front_at))]
+fn front_at(begins_line: bool, free: bool, text: &[u8]) -> Front<'_>
+    ensures value { front_of result ≡ front_at begins_line free text.now }
+    ensures shorter { IsShorter text.now result }
+{
+    match text {
+        [] => Front::Ended,
+        _ => match past_skipped(begins_line, text) {
+            Some(rest) => Front::Skipped(rest),
+            None => free_front(free, text),
+        },
+    }
+}
+
+fn begins_feed(text: &[u8]) -> bool
+    ensures { result ≡ begins_feed text.now }
+{
+    match text {
+        [b'\n', ..] => true,
+        _ => false,
+    }
+}
+
+// Whether any token may follow a token at once.
+fn lets_follow(token: Token<'_>) -> bool
+    ensures { result ≡ lets_follow (token_of token.entry) }
+{
+    match token {
+        Token::Tag { name: _, value: _ } => true,
+        Token::Number => true,
+        Token::Move(_) => false,
+        Token::Result(_) => false,
+    }
+}
+
+/// The tokens of a text, and where they stop, if not at its end.
+#[derive(Drop)]
+pub struct Lexed<'a> {
+    pub tokens: Vec<Placed<'a>>,
+    pub stop: Option<usize>,
+}
+
+/// The tokens of a text, up to the first byte at which neither a token may stand and begins, nor something that is skipped.
+pub fn tokens_of(alloc: Global, text: &[u8]) -> Result<Lexed<'_>, AllocError>
+    ensures { IfOk result (λ lexed. TextTokens text.now (all_placed lexed.tokens.items) lexed.stop) }
+{
+    let mut tokens = Vec::new(alloc);
+    let mut rest = text;
+    let mut begins_line = true;
+    let mut free = true;
+    loop {
+        match front_at(begins_line, free, rest) {
+            Front::Ended => return Ok(Lexed { tokens, stop: None }),
+            Front::Stuck => {
+                let stop = Some(text.len() - rest.len());
+                return Ok(Lexed { tokens, stop });
+            }
+            Front::Skipped(more) => {
+                begins_line = begins_feed(rest);
+                free = true;
+                rest = more;
+            }
+            Front::Found(token, more) => {
+                let at = text.len() - rest.len();
+                tokens.push(Placed { at, token })?;
+                begins_line = false;
+                free = lets_follow(token);
+                rest = more;
+            }
+        }
+    }
+}
