@@ -6,7 +6,7 @@ mod order;
 use clocks::Moment;
 use club_words::{BAD_WORDS, BadWords, Order, Report, print, read_words};
 use order::obey;
-use sqlite_disk::Unknown;
+use sqlite_disk::Wary;
 use std::alloc::AllocError;
 use std::io::ErrorKind;
 use std::process::ExitCode;
@@ -63,7 +63,7 @@ fn obey_in_turn(rt: &HostRuntime, order: &Order) -> Report {
         return Report::NoMoment;
     };
     for _ in 0..TURNS {
-        match obey(rt, order, moment, Unknown) {
+        match obey(rt, order, moment, Wary) {
             (Report::InUse, _) => sleep(rt, Duration::from_millis(PAUSE_MILLISECONDS)),
             (report, _) => return report,
         }
