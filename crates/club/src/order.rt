@@ -31,9 +31,9 @@ fn unopened(error: Error) -> Report
     }
 }
 
-/// Does what is ordered, at that moment, over the files of the order's path, which hold at first what `S` stands for: opens
-/// them, makes a club, gives the club that stands there a command of the officer's or lists a game's moves, and closes. Gives what it came to,
-/// and the files where they were opened.
+/// Does what is ordered, at that moment, over the files of the order's path, which hold at first what `S` stands for:
+/// opens them, makes a club, gives the club that stands there a command of the officer's or lists a game's moves, and
+/// closes. Gives what it came to, and the files where they were opened.
 ///
 /// Where sessions led to whatever an opening finds in the files, they lead, with this command as one more, to whatever an
 /// opening finds in them after it, of whatever a stop leaves. Where they were new, and a club was to be made, no session

@@ -127,10 +127,10 @@ fn legal<S: Alter>(alloc: Global, conn: Connection<S>, game: u64) -> (Report, Co
     }
 }
 
-/// Does what is asked for over a connection that was just opened, at that moment, and gives the connection back: makes a
-/// club, gives the club that stands there a command of the officer's, or lists the legal moves of a game. The answer is the machine's. Sessions that led to
-/// what the opening found lead, with this request as one more, to whatever a stop leaves; where there was no table, and a
-/// club was to be made, none led to it, or there is no table still.
+/// Does what is asked for over a connection that was just opened, at that moment, and gives the connection back: makes
+/// a club, gives the club that stands there a command of the officer's, or lists the legal moves of a game. The answer
+/// is the machine's. Sessions that led to what the opening found lead, with this request as one more, to whatever a
+/// stop leaves; where there was no table, and a club was to be made, none led to it, or there is no table still.
 pub fn act<S: Alter>(
     alloc: Global,
     conn: Connection<S>,
