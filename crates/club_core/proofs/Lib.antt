@@ -3,6 +3,7 @@ pub mod Turns
 pub mod PlayedLines
 pub mod Played
 pub mod Offered
+pub mod Tracked
 pub mod Folds
 pub mod Lists
 pub mod Legals

@@ -7,17 +7,15 @@ use Rattle.squares.specs.declared.sides.Side.{Side}
 use Rattle.squares.specs.declared.sides.Side.TheVariants.{First, Second}
 use Rattle.squares.specs.Sides.{other}
 use Rattle.club_rules.specs.GameRules.{GameRules}
-use Rattle.club_rules.specs.Line.{position_after}
 use Rattle.club_core.specs.declared.rows.Asked.{Asked}
 use Rattle.club_core.specs.declared.rows.GameView.{GameView}
 use Rattle.club_core.specs.Limits.{is_budget, is_increment, most_plies}
 use Rattle.club_core.specs.Events.{Terms}
-use Rattle.club_core.specs.Game.{Game, Clocks, spend, spend_all, clocks_of, rule_end, end_of, turn_of}
+use Rattle.club_core.specs.Game.{Game, Clocks, spend, spend_all, clocks_of, moves_of}
 use Rattle.club_core.specs.Legal.{IsLegalGame}
 use Rattle.club_core.specs.Step.{move_at}
 use Rattle.club_core.specs.View.{IsAsked, Shows, ShowsPly, IsSound, terms_of}
-use Rattle.club_core.proofs.Legals.{no-rule-end}
-use Rattle.club_core.proofs.Played.{asked-legal, score-none}
+use Rattle.club_core.proofs.Played.{asked-legal}
 
 le-true : (a b : ℕ) → nat_le a b ≡ true → a ≤ b
 le-true a b is = grind (arith, nat_tests)
@@ -50,12 +48,15 @@ shown-sound laws game view ply budget increment legal shows shows_ply =
     let first : view.row.left_first ≡ (clocks_of game (terms_of view)).left_first = ap (λ c. c.left_first) shows.row.clocks in
     let second : view.row.left_second ≡ (clocks_of game (terms_of view)).left_second = ap (λ c. c.left_second) shows.row.clocks in
     let plies : length game.entries ≤ most_plies = legal.plies in
+    let moves : length (map (λ e. e.made) game.entries) ≡ length game.entries = simp length-map in
     record {
-      line = rw shows.line legal.line;
-      running = λ none.
-          let no_end : end_of laws game ≡ None = score-none laws (end_of laws game) (turn_of laws game) (sym shows.row.result ∙ none) in
-          rw shows.line (no-rule-end (rule_end laws game) game.outside no_end);
-      position = shows.position ∙ ap (position_after laws laws.start) (sym shows.line);
+      reached = record {
+        moves = moves_of game;
+        line = legal.line;
+        leads = shows.position;
+        leaves = shows.track;
+        count = shows.row.plies ∙ sym moves;
+      };
       asked = asked-sound laws (terms_of view) game legal ply view.asked shows_ply;
       plies = rw shows.row.plies legal.plies;
       room_first = omega (arith, first, left.0, count, plies, most, starts);

@@ -1,9 +1,9 @@
 -- When the rows and values that a command is decided over are those of a game, and when a decision is the step's outcome.
-use Rattle.std.specs.Prelude.{◌≡◌, ℕ, ◌+◌, ◌-◌, ◌<◌, ◌≤◌, ◌^◌, length, Option, Some, None, Ok, string_bytes, slice_get, IfSome}
+use Rattle.std.specs.Prelude.{◌≡◌, ℕ, List, ◌+◌, ◌-◌, ◌<◌, ◌≤◌, ◌^◌, length, Option, Some, None, Ok, string_bytes, slice_get, IfSome}
 use Rattle.std.specs.Option.{option_map}
 use Rattle.squares.specs.declared.sides.Side.{Side}
 use Rattle.club_rules.specs.GameRules.{GameRules}
-use Rattle.club_rules.specs.Line.{position_after, IsPlayedLine}
+use Rattle.club_rules.specs.Line.{position_after, IsPlayedLine, line_track, times_stood, FirstStands}
 use Rattle.club_core.specs.declared.rows.GameRow.{GameRow}
 use Rattle.club_core.specs.declared.rows.GameEnd.{GameEnd}
 use Rattle.club_core.specs.declared.rows.GameEnd.TheVariants.{Rule, Outside}
@@ -11,17 +11,24 @@ use Rattle.club_core.specs.declared.rows.OutsideEnd.{OutsideEnd}
 use Rattle.club_core.specs.declared.rows.GameView.{GameView}
 use Rattle.club_core.specs.declared.rows.Asked.{Asked}
 use Rattle.club_core.specs.declared.rows.Made.{Made}
+use Rattle.club_core.specs.declared.settling.Settled.{Settled}
+use Rattle.club_core.specs.declared.answers.Answer.{Answer}
+use Rattle.club_core.specs.declared.answers.Answer.TheVariants as given
 use Rattle.club_core.specs.declared.answers.Decision.{Decision}
 use Rattle.club_core.specs.declared.answers.Decision.TheVariants as decision
 use Rattle.club_core.specs.Limits.{most_plies}
 use Rattle.club_core.specs.Events.{Terms}
 use Rattle.club_core.specs.Outcome.{Outcome, accepted, repeated, refused}
 use Rattle.club_core.specs.Answer.{reply_of}
-use Rattle.club_core.specs.Game.{Game, Clocks, clocks_of, moves_of, last_position, end_of, result_of, left_of, left_after, side_after, game_at}
+use Rattle.club_core.specs.Game.{Game, Clocks, clocks_of, moves_of, last_position, end_of, result_of, score_with, left_of, left_after, side_after, game_at}
 use Rattle.club_core.specs.Step.{move_at}
 
 abbrev pub clocks_in : {E : Type 0} → GameRow E → Clocks
 clocks_in row = record { left_first = row.left_first; left_second = row.left_second; since = row.since }
+
+-- the track that the game's line leaves
+abbrev pub track_of_game : {P M E T : Type 0} → GameRules P M E T → Game M → T
+track_of_game rules game = line_track rules rules.start (moves_of game)
 
 -- the row has what follows from the game
 pub record IsRowOf {P M E T : Type 0} (rules : GameRules P M E T) (terms : Terms) (game : Game M) (row : GameRow E) : Type 0 where
@@ -32,6 +39,7 @@ pub record IsRowOf {P M E T : Type 0} (rules : GameRules P M E T) (terms : Terms
   pub start : row.start ≡ game.start
   pub plies : row.plies ≡ length game.entries
   pub clocks : clocks_in row ≡ clocks_of game terms
+  pub track : row.track ≡ rules.track_numbers (track_of_game rules game)
   pub offer : row.offer ≡ game.offer
   pub end : row.end ≡ end_of rules game
   pub result : row.result ≡ result_of rules game
@@ -55,18 +63,23 @@ terms_of view = record { budget = view.budget; increment = view.increment }
 pub record Shows {R P M E T : Type 0} (rules : GameRules P M E T) (game : Game M) (view : GameView R P M E T) : Type 0 where
   pub row : IsRowOf rules (record { budget = view.budget; increment = view.increment }) game view.row
   pub position : view.position ≡ last_position rules game
-  pub line : view.line.items ≡ moves_of game
+  pub track : view.track ≡ track_of_game rules game
 
 -- the view shows what was played at that ply
 abbrev pub ShowsPly : {R P M E T : Type 0} → GameRules P M E T → Game M → ℕ → GameView R P M E T → Type 0
 ShowsPly rules game ply view = IsAsked rules (terms_of view) game ply (move_at game ply) view.asked
 
+-- there is a line that is played by the rules, leads to that position and leaves that track, of so many plies
+pub record IsReached {P M E T : Type 0} (rules : GameRules P M E T) (last : P) (track : T) (plies : ℕ) : Type 0 where
+  pub moves : List M
+  pub line : IsPlayedLine rules rules.start moves
+  pub leads : last ≡ position_after rules rules.start moves
+  pub leaves : track ≡ line_track rules rules.start moves
+  pub count : plies ≡ length moves
+
 -- the view's own values fit together, whichever game it shows
 pub record IsSound {R P M E T : Type 0} (rules : GameRules P M E T) (view : GameView R P M E T) : Type 0 where
-  pub line : IsPlayedLine rules rules.start view.line.items
-  -- a line that the rules have ended has a result
-  pub running : view.row.result ≡ None → rules.judge rules.start view.line.items ≡ None
-  pub position : view.position ≡ position_after rules rules.start view.line.items
+  pub reached : IsReached rules view.position view.track view.row.plies
   pub asked : IfSome view.asked (λ a. rules.check a.before a.made ≡ Ok tt)
   pub plies : view.row.plies ≤ most_plies
   pub room_first : view.row.left_first + view.increment < 2 ^ 64
@@ -91,18 +104,85 @@ IsMade rules game (Some m) None = ⊥
 IsMade rules game None (Some made) = ⊥
 IsMade rules game (Some m) (Some made) = (made.made ≡ m) × (made.position ≡ last_position rules game)
 
--- the decision is the step's outcome
-abbrev pub IsDecision : {R P M E T : Type 0} → GameRules P M E T → Terms → Game M → Outcome (Game M) → Decision R P M E T → Type 0
-IsDecision rules terms old (accepted game reply) (decision.Accepted row made answer) =
-    IsRowOf rules terms game row × IsMade rules game (slice_get (moves_of game) (length old.entries)) made × (reply_of answer ≡ reply)
-IsDecision rules terms old (repeated reply) (decision.Repeated answer) = reply_of answer ≡ reply
-IsDecision rules terms old (refused refusal) (decision.Refused refusal') = refusal' ≡ refusal
-IsDecision rules terms old (accepted game reply) (decision.Repeated answer) = ⊥
-IsDecision rules terms old (accepted game reply) (decision.Refused refusal') = ⊥
-IsDecision rules terms old (repeated reply) (decision.Accepted row made answer) = ⊥
-IsDecision rules terms old (repeated reply) (decision.Refused refusal') = ⊥
-IsDecision rules terms old (refused refusal) (decision.Accepted row made answer) = ⊥
-IsDecision rules terms old (refused refusal) (decision.Repeated answer) = ⊥
+-- the end that the rules give to a game, and its result by the side to move
+abbrev pub settled_by : {R P M E T : Type 0} → GameRules P M E T → Option E → Side → Settled R P M E T
+settled_by rules end turn = record { end = option_map Rule end; result = score_with rules (option_map Rule end) turn }
+
+-- The end and the result of the game after a decision: for a move by the track of the line, the position after it, how
+-- often that position stood and after which ply first; for every other decision those of its row.
+abbrev pub settled_of : {R P M E T : Type 0} → GameRules P M E T → Decision R P M E T → ℕ → ℕ → Settled R P M E T
+settled_of rules (decision.Accepted row None answer) times first = record { end = row.end; result = row.result }
+settled_of rules (decision.Accepted row (Some made) answer) times first =
+    settled_by rules
+    (rules.track_end (rules.track_of row.track.0 row.track.1) made.position row.plies times first)
+    (rules.turn made.position)
+settled_of rules (decision.Repeated answer) times first = record { end = None; result = None }
+settled_of rules (decision.Refused refusal) times first = record { end = None; result = None }
+
+-- the answer to a move with the end that the rules gave at it
+abbrev pub answer_with : {P M E T : Type 0} → GameRules P M E T → Option (GameEnd E) → Answer → Answer
+answer_with rules end (given.Moved m) = given.Moved (record m { end = option_map rules.end_name (rule_in end) })
+answer_with rules end (given.Member id) = given.Member id
+answer_with rules end (given.Event id) = given.Event id
+answer_with rules end (given.Game id) = given.Game id
+answer_with rules end (given.Offered ply) = given.Offered ply
+answer_with rules end (given.Ended by score) = given.Ended by score
+
+-- the decision with that end and that result
+abbrev pub concluded : {R P M E T : Type 0} →
+    GameRules P M E T → Decision R P M E T → Settled R P M E T → Decision R P M E T
+concluded rules (decision.Accepted row made answer) settled =
+    decision.Accepted
+    (record row { end = settled.end; result = settled.result })
+    made
+    (answer_with rules settled.end answer)
+concluded rules (decision.Repeated answer) settled = decision.Repeated answer
+concluded rules (decision.Refused refusal) settled = decision.Refused refusal
+
+-- the decision, with its end and its result, is the step's outcome
+abbrev pub IsConcluded : {R P M E T : Type 0} →
+    GameRules P M E T → Terms → Game M → Outcome (Game M) → Decision R P M E T → Type 0
+IsConcluded rules terms old (accepted new reply) (decision.Accepted row made answer) =
+    IsRowOf rules terms new row
+    × IsMade rules new (slice_get (moves_of new) (length old.entries)) made
+    × (reply_of answer ≡ reply)
+IsConcluded rules terms old (repeated reply) (decision.Repeated answer) = reply_of answer ≡ reply
+IsConcluded rules terms old (refused refusal) (decision.Refused refusal') = refusal' ≡ refusal
+IsConcluded rules terms old (accepted new reply) (decision.Repeated answer) = ⊥
+IsConcluded rules terms old (accepted new reply) (decision.Refused refusal') = ⊥
+IsConcluded rules terms old (repeated reply) (decision.Accepted row made answer) = ⊥
+IsConcluded rules terms old (repeated reply) (decision.Refused refusal') = ⊥
+IsConcluded rules terms old (refused refusal) (decision.Accepted row made answer) = ⊥
+IsConcluded rules terms old (refused refusal) (decision.Repeated answer) = ⊥
+
+-- the decision has the move that the step made, with the position after it
+abbrev pub HasMade : {R P M E T : Type 0} → GameRules P M E T → Game M → Outcome (Game M) → Decision R P M E T → Type 0
+HasMade rules old (accepted new reply) (decision.Accepted row made answer) =
+    IsMade rules new (slice_get (moves_of new) (length old.entries)) made
+HasMade rules old outcome decision = Unit {0}
+
+-- the last position of the game that the step leaves stood so often, and after that ply first
+abbrev pub StoodAfter : {P M E T : Type 0} → GameRules P M E T → Outcome (Game M) → ℕ → ℕ → Type 0
+StoodAfter rules (accepted new reply) times first =
+    (times ≡ times_stood rules rules.start (moves_of new)) × FirstStands rules rules.start (moves_of new) first
+StoodAfter rules (repeated reply) times first = Unit {0}
+StoodAfter rules (refused refusal) times first = Unit {0}
+
+-- the same, where the decision made a move
+abbrev pub Stood : {R P M E T : Type 0} → GameRules P M E T → Outcome (Game M) → Decision R P M E T → ℕ → ℕ → Type 0
+Stood rules outcome (decision.Accepted row (Some made) answer) times first = StoodAfter rules outcome times first
+Stood rules outcome (decision.Accepted row None answer) times first = Unit {0}
+Stood rules outcome (decision.Repeated answer) times first = Unit {0}
+Stood rules outcome (decision.Refused refusal) times first = Unit {0}
+
+-- The decision is the step's outcome, once it is settled by how often the position after a move stood and after which
+-- ply first.
+abbrev pub IsDecision : {R P M E T : Type 0} →
+    GameRules P M E T → Terms → Game M → Outcome (Game M) → Decision R P M E T → Type 0
+IsDecision rules terms old outcome decision =
+    HasMade rules old outcome decision
+    × ((times first : ℕ) → Stood rules outcome decision times first →
+    IsConcluded rules terms old outcome (concluded rules decision (settled_of rules decision times first)))
 
 -- what a move that is accepted meets, the mover having so many seconds after it
 pub record CanPlay {R P M E T : Type 0} (rules : GameRules P M E T) (view : GameView R P M E T) (turn : Side) (m : M) (seconds moment : ℕ) : Type 0 where

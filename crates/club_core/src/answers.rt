@@ -93,7 +93,7 @@ impl fmt::Display for Outcome {
 }
 
 /// What a command does to a game. Where it is accepted: the row that is to stand, the move made if it was one, and the
-/// answer.
+/// answer. After a move the row and the answer have no end until `conclude` puts it in.
 #[derive(Drop)]
 pub enum Decision<R: Rules> {
     Accepted {

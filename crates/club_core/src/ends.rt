@@ -8,7 +8,7 @@ ghost use Rattle.club_core.specs.View.{rule_in, outside_in};
 ghost use Rattle.club_core.specs.Step.{is_resigned, is_agreed, is_lost_by_time};
 
 use crate::rows::{GameEnd, OutsideEnd};
-use club_rules::Rules;
+use club_rules::{EndName, Rules};
 use squares::{Score, Side};
 
 /// The end that the rules gave.
@@ -80,5 +80,15 @@ pub fn outside_score(end: OutsideEnd, turn: Side) -> Score
         OutsideEnd::Time => Score::lost_by(turn),
         OutsideEnd::Agreed => Score::Draw,
         OutsideEnd::Recorded(score) => score,
+    }
+}
+
+/// The name of an end, if there is one.
+pub fn name_of_end<R: Rules>(end: Option<R::End>) -> Option<EndName>
+    ensures { result ≡ option_map R.rules.end_name end }
+{
+    match &end {
+        Some(e) => Some(R::end_name(e)),
+        None => None,
     }
 }

@@ -16,6 +16,7 @@ pub mod refusals;
 pub mod requests;
 pub mod rows;
 pub mod seats;
+pub mod settling;
 pub mod values;
 
 pub use answers::{Answer, Decision, Moved, Outcome};
@@ -26,6 +27,7 @@ pub use refusals::Refusal;
 pub use requests::{AddEvent, AddMember, Caller, Command, GameCommand, OnGame, Request, Seat, Who};
 pub use rows::{Asked, GameEnd, GameRow, GameView, Made, Offer, OutsideEnd};
 pub use seats::{KeyedGame, Pairing, Seating, seat, seated_row};
+pub use settling::{Settled, conclude, settle};
 pub use values::{is_member_key, is_name};
 
 #[cfg(test)]

@@ -1,8 +1,7 @@
 //! A move in one game: played, refused, or a repeat of one that was played.
 
-ghost use Rattle.std.specs.Prelude.{◌≡◌, ℕ, Ok, ◌+◌, ◌-◌, ◌^◌, ◌<◌, ◌≤◌, ◌++◌, ◌∷◌, [], Option, Some, None, IfOk, IfErr, IfNone, IfSome, string_bytes, length};
+ghost use Rattle.std.specs.Prelude.{◌≡◌, ℕ, Ok, ◌+◌, ◌-◌, ◌^◌, ◌<◌, ◌≤◌, Option, Some, None, IfOk, IfErr, IfNone, IfSome, string_bytes, length};
 ghost use Rattle.std.specs.Option.{option_map};
-ghost use Rattle.club_core.specs.declared.rows.GameEnd.TheVariants.{Rule};
 ghost use Rattle.club_core.specs.Limits.{most_text_bytes};
 ghost use Rattle.club_core.specs.Answer.{reply_of};
 ghost use Rattle.club_core.specs.Game.{Game, spend, left_of, left_after};
@@ -11,14 +10,14 @@ ghost use Rattle.club_core.specs.Step.{move_refusal, checked, step_move, repeat_
 ghost use Rattle.club_core.specs.View.{Shows, ShowsPly, IsSound, CanPlay, IsDecision, terms_of, clocks_in};
 
 use crate::answers::{Answer, Decision, Moved};
-use crate::ends::{game_end, rule_in, score_of_end};
+use crate::ends::{name_of_end, rule_in};
 use crate::players::{is_side, left_in, side_of_ply};
 use crate::refusals::Refusal;
 use crate::rows::{GameRow, GameView, Made, copy_key};
 use crate::values::MOST_TEXT_BYTES;
 use clocks::{Clock, Moment};
-use club_rules::{EndName, Memory, MoveRefusal, Rules};
-use squares::{Score, Side};
+use club_rules::{Memory, MoveRefusal, Rules};
+use squares::Side;
 use std::alloc::Global;
 
 /// Whether what the text reads as is that move.
@@ -33,26 +32,6 @@ fn reads_as<R: Rules>(
     match R::read_move(alloc, before, text)? {
         Ok(read) => Ok(R::same(&read, made)),
         Err(_) => Ok(false),
-    }
-}
-
-/// The moves, and one more.
-fn with_move<M: Copy + Drop>(alloc: Global, moves: &[M], last: M) -> Result<Vec<M>, Memory>
-    ensures { IfOk result (λ all. all.items ≡ moves.now ++ last ∷ []) }
-{
-    let mut all = Vec::new(alloc);
-    all.extend_from_slice(moves)?;
-    all.push(last)?;
-    Ok(all)
-}
-
-/// The name of an end, if there is one.
-fn name_of_end<R: Rules>(end: Option<R::End>) -> Option<EndName>
-    ensures { result ≡ option_map R.rules.end_name end }
-{
-    match &end {
-        Some(e) => Some(R::end_name(e)),
-        None => None,
     }
 }
 
@@ -176,9 +155,8 @@ fn moved_row<E: Copy + Drop>(
     turn: Side,
     left: u64,
     moment: Moment,
+    track: (u32, u32),
     position: String,
-    end: Option<E>,
-    score: Option<Score>,
 ) -> Result<GameRow<E>, Memory>
     requires plies { row.now.plies < 2 ^ 32 - 1 }
     ensures clocks { IfOk result (λ new. (increment : ℕ) → left ≡ left_after (left_of turn (clocks_in row.now)) increment (moment - row.now.since) →
@@ -191,9 +169,10 @@ fn moved_row<E: Copy + Drop>(
       plies = row.now.plies + 1;
       left_first = new.left_first;
       left_second = new.left_second;
+      track = track;
       offer = None;
-      end = option_map Rule end;
-      result = score;
+      end = None;
+      result = None;
       position = position;
     }) }
 {
@@ -211,9 +190,10 @@ fn moved_row<E: Copy + Drop>(
         plies: row.plies + 1,
         left_first,
         left_second,
+        track,
         offer: None,
-        end: game_end(end),
-        result: score,
+        end: None,
+        result: None,
         position,
     })
 }
@@ -234,18 +214,17 @@ fn accept_move<R: Rules>(
 {
     let text = R::write_move(alloc, &view.position, &made)?;
     let position = R::play(&view.position, &made);
-    let line = with_move(alloc, &view.line, made)?;
-    let end = R::judge(alloc, &R::start(), &line)?;
-    let score = score_of_end::<R>(end, R::turn(&position));
+    let track = R::track_next(view.track, &view.position, &made, &position);
     let written = R::write_position(alloc, &position)?;
     let shown = written.clone()?;
-    let row = moved_row(&view.row, turn, left, moment, written, end, score)?;
+    let numbers = R::track_numbers(&track);
+    let row = moved_row(&view.row, turn, left, moment, numbers, written)?;
     let answer = Answer::Moved(Moved {
         ply: row.plies,
         text,
         left,
         position: shown,
-        end: name_of_end::<R>(end),
+        end: None,
     });
     Ok(Decision::Accepted {
         row,

@@ -75,6 +75,8 @@ pub struct GameRow<E> {
     pub plies: u32,
     pub left_first: u64,
     pub left_second: u64,
+    /// The numbers of the line's track.
+    pub track: (u32, u32),
     pub offer: Option<Offer>,
     pub end: Option<GameEnd<E>>,
     /// None while the game is running.
@@ -99,7 +101,8 @@ pub struct GameView<R: Rules> {
     pub budget: u64,
     pub increment: u64,
     pub position: R::Position,
-    pub line: Vec<R::Move>,
+    /// What the moves so far have left behind.
+    pub track: R::Track,
     /// None where that ply was not played.
     pub asked: Option<Asked<R>>,
 }
@@ -138,6 +141,7 @@ pub fn copy_row<E: Copy + Drop>(row: &GameRow<E>) -> Result<GameRow<E>, Memory>
         plies: row.plies,
         left_first: row.left_first,
         left_second: row.left_second,
+        track: row.track,
         offer: row.offer,
         end: row.end,
         result: row.result,

@@ -206,6 +206,7 @@ pub fn seated_row<R: Rules>(
     let position = R::start();
     let end = R::judge(alloc, &position, &[])?;
     let score = score_of_end::<R>(end, R::turn(&position));
+    let track = R::track_start(&position);
     let key = String::from_str(alloc, key)?;
     let text = R::write_position(alloc, &position)?;
     Ok(GameRow {
@@ -218,6 +219,7 @@ pub fn seated_row<R: Rules>(
         plies: 0,
         left_first: budget,
         left_second: budget,
+        track: R::track_numbers(&track),
         offer: None,
         end: game_end(end),
         result: score,

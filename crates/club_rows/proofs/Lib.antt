@@ -20,3 +20,4 @@ pub mod ShogiTexts
 pub mod TextLemmas
 pub mod ToldLemmas
 pub mod WholeLemmas
+pub mod TallyLemmas

@@ -51,6 +51,6 @@ record-cells {P} {M} {E} {T} rules terms game id row r of key_is end_is result_i
     let result = or_null-same Text (λ s. string_bytes s) score_text r.result row.result result_is ∙ ap (or_null (λ s. Text (score_text s))) is.result in
     let position = ap (λ (t : List ℕ). Text t) (position_is ∙ is.position) in
     let id_is = int _ _ of.id in
-    let a = int _ _ of.track_a in
-    let b = int _ _ of.track_b in
+    let a = int _ _ of.track_a ∙ ap (λ (t : ℕ × ℕ). number t.0) is.track in
+    let b = int _ _ of.track_b ∙ ap (λ (t : ℕ × ℕ). number t.1) is.track in
     λ i. id_is i ∷ key i ∷ event i ∷ first i ∷ second i ∷ start i ∷ since i ∷ plies i ∷ left1 i ∷ left2 i ∷ side i ∷ ply i ∷ end i ∷ result i ∷ position i ∷ a i ∷ b i ∷ []

@@ -15,11 +15,13 @@ use Rattle.store_tables.specs.declared.rows.GameRecord.{GameRecord}
 use Rattle.store_tables.specs.declared.rows.MoveRow.{MoveRow}
 use Rattle.club_rows.specs.Tables.{game_row}
 use Rattle.club_rows.specs.Replay.{WasReplayed, IsPlayedAs, Replays, game_from}
-use Rattle.club_rows.specs.Shown.{AreRowsOf, ShowsGame, IsSoundIfShown, StandsAs}
+use Rattle.club_rows.specs.Tally.{IsTallyOf}
+use Rattle.club_rows.specs.Shown.{IsHistoryOf, AreRowsOf, ShowsGame, IsSoundIfShown, StandsAs}
 use Rattle.club_rows.specs.Told.{HasNumbers, AreIds, IsTold, game_told}
 use Rattle.club_rows.specs.declared.replay.Replayed.{Replayed}
 use Rattle.club_rows.specs.declared.view.Numbers.{Numbers}
 use Rattle.club_rows.specs.declared.view.Told.{Told}
+use Rattle.club_rows.specs.declared.view.Played.{Played}
 use Rattle.club_rows.specs.declared.view.Shown.{Shown}
 use Rattle.club_rows.specs.declared.view.Shown.TheVariants as shown
 use Rattle.club_rows.proofs.ToldLemmas.{IsToldBy, columns-told, same-pos, told-outside, told-recorded, rows-played, row-stands, stands-legal, legal-stands, is_some-none}
@@ -31,7 +33,7 @@ games-are a b key event first second start entries offer outside =
     λ i. record { key = key i; event = event i; first = first i; second = second i; start = start i; entries = entries i; offer = offer i; outside = outside i }
 
 -- what is known of a view that was made of rows
-pub record WasViewed {R P M E T : Type 0} (rules : GameRules P M E T) (terms : Terms) (stored : GameRecord) (moves : List MoveRow) (given : Numbers) (replayed : Replayed R P M E T) (view : GameView R P M E T) : Type 0 where
+pub record WasViewed {R P M E T : Type 0} (rules : GameRules P M E T) (terms : Terms) (stored : GameRecord) (moves : List MoveRow) (given : Numbers) (replayed : Replayed R P M E T) (full : Played R P M E T) : Type 0 where
   pub budget : IsTrue (is_budget terms.budget)
   pub increment : IsTrue (is_increment terms.increment)
   pub has : HasNumbers stored given.game given.event given.first given.second given.start
@@ -39,16 +41,26 @@ pub record WasViewed {R P M E T : Type 0} (rules : GameRules P M E T) (terms : T
   pub was : WasReplayed rules terms given.game given.start moves (length moves) replayed
   pub told : Told E
   pub is_told : IsTold rules stored given replayed.line.items told
-  pub shows : (entries : List (Entry M)) → Replays rules terms (game_from given.start entries) replayed → Shows rules (game_told told entries) view
-  pub terms_are : terms_of view ≡ terms
-  pub sound : IsSound rules view
+  pub shows : (entries : List (Entry M)) → Replays rules terms (game_from given.start entries) replayed → Shows rules (game_told told entries) full.view
+  pub terms_are : terms_of full.view ≡ terms
+  pub sound : IsSound rules full.view
+  pub line : full.line.items ≡ replayed.line.items
+  pub tally : IsTallyOf rules replayed.line.items full.tally
 
-module _ {R P M E T : Type 0} (rules : GameRules P M E T) (terms : Terms) (stored : GameRecord) (moves : List MoveRow) (given : Numbers) (replayed : Replayed R P M E T) (view : GameView R P M E T) (known : WasViewed rules terms stored moves given replayed view) where
+module _ {R P M E T : Type 0} (rules : GameRules P M E T) (terms : Terms) (stored : GameRecord) (moves : List MoveRow) (given : Numbers) (replayed : Replayed R P M E T) (full : Played R P M E T) (known : WasViewed rules terms stored moves given replayed full) where
+  abbrev view : GameView R P M E T
+  view = full.view
+
   abbrev shown_game : Game M
   shown_game = game_told known.told known.was.entries
 
   showing : Shows rules shown_game view
   showing = known.shows known.was.entries known.was.replays
+
+  history : IsHistoryOf rules shown_game full
+  history =
+      let line = known.was.replays.line in
+      record { line = known.line ∙ line; tally = subst (λ l. IsTallyOf rules l full.tally) line known.tally }
 
   row-of : IsRowOf rules terms shown_game view.row
   row-of = subst (λ t. IsRowOf rules t shown_game view.row) known.terms_are showing.row
@@ -59,7 +71,7 @@ module _ {R P M E T : Type 0} (rules : GameRules P M E T) (terms : Terms) (store
   ruled-is : known.told.ruled ≡ rule_end rules shown_game
   ruled-is = known.is_told.ruled ∙ ap (rules.judge rules.start) known.was.replays.line
 
-  pub shown-sound : (s : Shown R P M E T) → StandsAs rules stored given.game view s → IsSoundIfShown rules terms stored moves s
+  pub shown-sound : (s : Shown R P M E T) → StandsAs rules stored given.game full s → IsSoundIfShown rules terms stored moves s
   shown-sound shown.WrongMoves stands = tt
   shown-sound shown.WrongGame stands = tt
   shown-sound (shown.Game v) stands =
@@ -89,9 +101,10 @@ module _ {R P M E T : Type 0} (rules : GameRules P M E T) (terms : Terms) (store
         given.game,
         shown_game,
         rows,
-        subst (λ x. terms_of x ≡ terms) (sym stands.0) known.terms_are,
-        subst (λ x. Shows rules shown_game x) (sym stands.0) showing,
-        subst (λ x. IsSound rules x) (sym stands.0) known.sound,
+        subst (λ x. terms_of x.view ≡ terms) (sym stands.0) known.terms_are,
+        subst (λ x. Shows rules shown_game x.view) (sym stands.0) showing,
+        subst (λ x. IsSound rules x.view) (sym stands.0) known.sound,
+        subst (IsHistoryOf rules shown_game) (sym stands.0) history,
       )
 
   module _ (id : ℕ) (game : Game M) (is : AreRowsOf rules terms id stored moves game) where
@@ -150,10 +163,13 @@ module _ {R P M E T : Type 0} (rules : GameRules P M E T) (terms : Terms) (store
     row-it : IsRowOf rules terms game view.row
     row-it = subst (λ x. IsRowOf rules terms x view.row) game-same row-of
 
-    pub shown-complete : (s : Shown R P M E T) → StandsAs rules stored given.game view s → ShowsGame rules terms game s
+    pub shown-complete : (s : Shown R P M E T) → StandsAs rules stored given.game full s → ShowsGame rules terms game s
     shown-complete shown.WrongMoves stands = stands
     shown-complete shown.WrongGame stands =
         stands terms game row-it (row-stands rules terms game view.row row-it ∙ legal-stands rules terms game is.legal is.fits.key)
         (is.row ∙ ap (λ n. game_row rules terms n game) (sym id-same))
-    shown-complete (shown.Game v) stands =
-        (subst (λ x. terms_of x ≡ terms) (sym stands.0) known.terms_are, subst (λ x. Shows rules game x) (sym stands.0) shows-it)
+    shown-complete (shown.Game v) stands = (
+      subst (λ x. terms_of x.view ≡ terms) (sym stands.0) known.terms_are,
+      subst (λ x. Shows rules game x.view) (sym stands.0) shows-it,
+      subst (IsHistoryOf rules game) (sym stands.0) (subst (λ x. IsHistoryOf rules x full) game-same history),
+    )

@@ -121,8 +121,8 @@ module _ {P M E T : Type 0} (laws : GameRules P M E T) (plain : ArePlain laws) w
     end = or-text (end_name_text laws) _ (if-some _ _ (end-is_text laws));
     result = or-text score_text _ (if-some _ _ score-is_text);
     position = is-text _ (plain.position (last_position laws g));
-    track_a = int 0;
-    track_b = int 0;
+    track_a = (_, refl);
+    track_b = (_, refl);
   }
 
   entries-typed : (terms : Terms) (id : ℕ) (g : Game M) (es : List (Entry M)) → IsLegalLine laws (last_position laws g) (map (λ e. e.made) es) → AllByRecursion IsMove (entry_rows laws terms id g es)

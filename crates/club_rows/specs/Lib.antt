@@ -7,4 +7,5 @@ pub mod Records
 pub mod Replay
 pub mod Shown
 pub mod Tables
+pub mod Tally
 pub mod Told

@@ -18,8 +18,8 @@ pub record HasNumbersOf {E : Type 0} (number : ℕ) (row : GameRow E) (stored : 
   pub left2 : stored.left2 ≡ pos row.left_second
   pub offer_side : stored.offer_side ≡ option_map (λ o. pos (side_number o.side)) row.offer
   pub offer_ply : stored.offer_ply ≡ option_map (λ o. pos o.ply) row.offer
-  pub track_a : stored.track_a ≡ pos 0
-  pub track_b : stored.track_b ≡ pos 0
+  pub track_a : stored.track_a ≡ pos row.track.0
+  pub track_b : stored.track_b ≡ pos row.track.1
 
 -- the same game, event, players and offer
 pub record HaveSameIds (one other : GameRecord) : Type 0 where

@@ -3,7 +3,7 @@ use Rattle.std.specs.Prelude.{◌≡◌, ◌≤◌, ◌+◌, ◌-◌, ◌*◌, �
 use Rattle.squares.specs.declared.sides.Side.{Side}
 use Rattle.squares.specs.declared.sides.Side.TheVariants.{First, Second}
 use Rattle.club_rules.specs.GameRules.{GameRules}
-use Rattle.club_rules.specs.Line.{IsPlayedLine, position_after}
+use Rattle.club_rules.specs.Line.{IsPlayedLine, line_track, position_after}
 use Rattle.club_core.specs.Limits.{last_moment}
 use Rattle.club_core.specs.Events.{Terms}
 use Rattle.club_core.specs.Legal.{IsLegalGame}
@@ -12,6 +12,7 @@ use Rattle.club_core.specs.Game.{Entry, Game, Clocks, clocks_of, moves_of, left_
 use Rattle.store_tables.specs.Cells.{move_cells}
 use Rattle.store_tables.specs.declared.rows.MoveRow.{MoveRow}
 use Rattle.club_rows.specs.Tables.{entry_row, move_rows}
+use Rattle.club_rows.specs.Tally.{IsTallyOf, HasStood}
 use Rattle.club_rows.specs.declared.replay.Terms as given
 use Rattle.club_rows.specs.declared.replay.Replayed.{Replayed}
 
@@ -20,10 +21,17 @@ abbrev pub left_in : {R P M E T : Type 0} → Replayed R P M E T → Side → �
 left_in game First = game.left_first
 left_in game Second = game.left_second
 
+-- the track, the tally and what stood are those of the line
+pub record IsCounted {R P M E T : Type 0} (rules : GameRules P M E T) (game : Replayed R P M E T) : Type 0 where
+  pub track : game.track ≡ line_track rules rules.start game.line.items
+  pub tally : IsTallyOf rules game.line.items game.tally
+  pub stood : HasStood rules game.line.items (position_after rules rules.start game.line.items) game.stood
+
 -- The line is played by the rules, its last position stands, and so many plies were played by clocks of these terms.
 pub record IsReplayed {R P M E T : Type 0} (rules : GameRules P M E T) (increment plies : ℕ) (game : Replayed R P M E T) : Type 0 where
   pub line : IsPlayedLine rules rules.start game.line.items
   pub position : game.position ≡ position_after rules rules.start game.line.items
+  pub counted : IsCounted rules game
   pub plies_are : length game.line.items ≡ plies
   pub room_first : game.left_first ≤ 31536000 + increment * plies
   pub room_second : game.left_second ≤ 31536000 + increment * plies

@@ -3,16 +3,17 @@ use Rattle.std.specs.Prelude.{◌≡◌, ◌<◌, ◌≤◌, ◌^◌, ℕ, List,
 use Rattle.club_rules.specs.GameRules.{GameRules}
 use Rattle.club_core.specs.Limits.{is_name, is_budget, is_increment, last_moment}
 use Rattle.club_core.specs.Events.{Terms}
-use Rattle.club_core.specs.Game.{Game}
+use Rattle.club_core.specs.Game.{Game, moves_of}
 use Rattle.club_core.specs.Legal.{IsLegalGame}
 use Rattle.club_core.specs.LegalState.{Each}
-use Rattle.club_core.specs.declared.rows.GameView.{GameView}
 use Rattle.club_rows.specs.Told.{may_stand}
 use Rattle.club_core.specs.View.{IsRowOf, Shows, IsSound, terms_of}
 use Rattle.store_tables.specs.Cells.{game_cells, move_cells}
 use Rattle.store_tables.specs.declared.rows.GameRecord.{GameRecord}
 use Rattle.store_tables.specs.declared.rows.MoveRow.{MoveRow}
 use Rattle.club_rows.specs.Tables.{game_row, move_rows}
+use Rattle.club_rows.specs.Tally.{IsTallyOf}
+use Rattle.club_rows.specs.declared.view.Played.{Played}
 use Rattle.club_rows.specs.declared.view.Shown.{Shown}
 use Rattle.club_rows.specs.declared.view.Shown.TheVariants as shown
 
@@ -35,23 +36,30 @@ pub record AreRowsOf {P M E T : Type 0} (rules : GameRules P M E T) (terms : Ter
   pub row : game_cells stored ≡ game_row rules terms id game
   pub moves : map move_cells stored_moves ≡ move_rows rules terms id game
 
+-- the moves are the game's, and the tally is that of its line
+pub record IsHistoryOf {R P M E T : Type 0} (rules : GameRules P M E T) (game : Game M) (played : Played R P M E T) : Type 0 where
+  pub line : played.line.items ≡ moves_of game
+  pub tally : IsTallyOf rules (moves_of game) played.tally
+
 -- a view is shown, by these terms, and it shows the game
 abbrev pub ShowsGame : {R P M E T : Type 0} → GameRules P M E T → Terms → Game M → Shown R P M E T → Type 0
-ShowsGame rules terms game (shown.Game view) = (terms_of view ≡ terms) × Shows rules game view
+ShowsGame rules terms game (shown.Game played) =
+    (terms_of played.view ≡ terms) × Shows rules game played.view × IsHistoryOf rules game played
 ShowsGame rules terms game shown.WrongMoves = ⊥
 ShowsGame rules terms game shown.WrongGame = ⊥
 
 -- where a view is shown, the rows are those of a legal game that it shows
 abbrev pub IsSoundIfShown : {R P M E T : Type 0} → GameRules P M E T → Terms → GameRecord → List MoveRow → Shown R P M E T → Type 0
-IsSoundIfShown {R} {P} {M} {E} {T} rules terms row moves (shown.Game view) =
-    (id : ℕ) × (game : Game M) × AreRowsOf rules terms id row moves game × (terms_of view ≡ terms) × Shows rules game view × IsSound rules view
+IsSoundIfShown {R} {P} {M} {E} {T} rules terms row moves (shown.Game played) =
+    (id : ℕ) × (game : Game M) × AreRowsOf rules terms id row moves game × (terms_of played.view ≡ terms)
+    × Shows rules game played.view × IsSound rules played.view × IsHistoryOf rules game played
 IsSoundIfShown rules terms row moves shown.WrongMoves = Unit {0}
 IsSoundIfShown rules terms row moves shown.WrongGame = Unit {0}
 
--- a view is shown where its row may stand and is the one that is stored under that id
-abbrev pub StandsAs : {R P M E T : Type 0} → GameRules P M E T → GameRecord → ℕ → GameView R P M E T → Shown R P M E T → Type 0
-StandsAs {R} {P} {M} {E} {T} rules stored id view (shown.Game v) =
-    (v ≡ view) × (may_stand rules.has_draw_offers view.row ≡ true) × ((terms : Terms) (game : Game M) → IsRowOf rules terms game view.row → game_cells stored ≡ game_row rules terms id game)
-StandsAs rules stored id view shown.WrongMoves = ⊥
-StandsAs {R} {P} {M} {E} {T} rules stored id view shown.WrongGame =
-    (terms : Terms) (game : Game M) → IsRowOf rules terms game view.row → may_stand rules.has_draw_offers view.row ≡ true → game_cells stored ≡ game_row rules terms id game → ⊥
+-- a game is shown where its row may stand and is the one that is stored under that id
+abbrev pub StandsAs : {R P M E T : Type 0} → GameRules P M E T → GameRecord → ℕ → Played R P M E T → Shown R P M E T → Type 0
+StandsAs {R} {P} {M} {E} {T} rules stored id played (shown.Game p) =
+    (p ≡ played) × (may_stand rules.has_draw_offers played.view.row ≡ true) × ((terms : Terms) (game : Game M) → IsRowOf rules terms game played.view.row → game_cells stored ≡ game_row rules terms id game)
+StandsAs rules stored id played shown.WrongMoves = ⊥
+StandsAs {R} {P} {M} {E} {T} rules stored id played shown.WrongGame =
+    (terms : Terms) (game : Game M) → IsRowOf rules terms game played.view.row → may_stand rules.has_draw_offers played.view.row ≡ true → game_cells stored ≡ game_row rules terms id game → ⊥

@@ -1,5 +1,5 @@
 -- The tables of a club: the rows that stand for a state, each column by what follows from the games.
-use Rattle.std.specs.Prelude.{ℕ, suc, pos, ◌+◌, ◌==◌, List, [], ◌∷◌, ◌++◌, length, codes, if◌then◌else◌}
+use Rattle.std.specs.Prelude.{ℕ, suc, pos, ◌+◌, ◌==◌, List, [], ◌∷◌, ◌++◌, length, if◌then◌else◌}
 use Rattle.sqlite_value.specs.declared.value.Value.{Value}
 use Rattle.sqlite_value.specs.declared.value.Value.TheVariants.{Int, Text}
 use Rattle.sqlite.specs.Values.{or_null}
@@ -13,13 +13,12 @@ use Rattle.club_rules.specs.GameRules.{GameRules}
 use Rattle.club_core.specs.OutsideEnd.{outside_text}
 use Rattle.club_core.specs.ClubRules.{ClubRules}
 use Rattle.club_rules.specs.EndName.{end_text}
-use Rattle.club_core.specs.declared.rows.OutsideEnd.{OutsideEnd}
-use Rattle.club_core.specs.declared.rows.OutsideEnd.TheVariants.{Resigned, Agreed, Time, Recorded}
 use Rattle.club_core.specs.declared.rows.GameEnd.{GameEnd}
 use Rattle.club_core.specs.declared.rows.GameEnd.TheVariants.{Rule, Outside}
 use Rattle.club_core.specs.Members.{Member}
 use Rattle.club_core.specs.Events.{Terms, Event}
-use Rattle.club_core.specs.Game.{Entry, Game, clocks_of, left_of, last_position, turn_of, end_of, result_of}
+use Rattle.club_rules.specs.Line.{line_numbers}
+use Rattle.club_core.specs.Game.{Entry, Game, clocks_of, moves_of, left_of, last_position, turn_of, end_of, result_of}
 use Rattle.club_core.specs.State.{AnyGame, draughts, shogi, State, place, terms_at}
 use Rattle.store_tables.specs.Contents.{Content}
 
@@ -68,8 +67,8 @@ module _ {P M E T : Type 0} (rules : GameRules P M E T) (terms : Terms) (id : �
       ∷ or_null (λ e. Text (end_name_text rules e)) (end_of rules game)
       ∷ or_null (λ score. Text (score_text score)) (result_of rules game)
       ∷ Text (rules.write_position (last_position rules game))
-      ∷ number 0
-      ∷ number 0
+      ∷ number (line_numbers rules (moves_of game)).0
+      ∷ number (line_numbers rules (moves_of game)).1
       ∷ []
 
   -- the row of an entry that is played in the game: the move as it is written where it is played, and the mover's seconds and the position after it

@@ -120,8 +120,8 @@ fn wrong_by_rules<R: Rules>(
         wrong ≡ None) }
 {
     match view_of::<R>(alloc, game, terms, moves)? {
-        Shown::Game(view) => {
-            if !is_within(&view, last) {
+        Shown::Game(played) => {
+            if !is_within(&played.view, last) {
                 return Ok(Some(Table::Meta));
             }
             Ok(None)

@@ -13,6 +13,7 @@ mod people;
 pub mod records;
 pub mod replay;
 pub mod same;
+pub mod tally;
 #[cfg(test)]
 mod tests;
 pub mod view;
@@ -24,4 +25,5 @@ pub use listing::legal_texts;
 pub use people::terms_of;
 pub use records::{move_row, record_of};
 pub use replay::Terms;
-pub use view::{Shown, view_of};
+pub use tally::{Stood, Tally};
+pub use view::{Played, Shown, view_of};

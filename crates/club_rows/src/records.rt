@@ -104,8 +104,8 @@ fn with_texts<E: Copy + Drop>(id: u32, row: &GameRow<E>, texts: Texts) -> GameRe
         end: texts.end,
         result: texts.result,
         position: texts.position,
-        track_a: 0,
-        track_b: 0,
+        track_a: i64::from(row.track.0),
+        track_b: i64::from(row.track.1),
     }
 }
 

@@ -1,14 +1,16 @@
 //! A game as its rows show it: replayed from its start, each row compared with what the rules and the clocks give.
 
-ghost use Rattle.std.specs.Prelude.{◌≡◌, ◌≢◌, ◌≤◌, ◌<◌, ◌+◌, ◌++◌, ◌∷◌, [], ◌*◌, ◌^◌, ℕ, IfOk, IfSome, IsTrue, None, Ok, length, is_some};
+ghost use Rattle.std.specs.Prelude.{◌≡◌, ◌≢◌, ◌≤◌, ◌<◌, ◌+◌, ◌++◌, ◌∷◌, [], ◌*◌, ◌^◌, ℕ, IfOk, IfSome, IsTrue, None, Some, Ok, cond, length, is_some, string_bytes};
 ghost use Rattle.squares.specs.Sides.{other};
-ghost use Rattle.club_rules.specs.Line.{IsPlayedLine};
+ghost use Rattle.club_rules.specs.Line.{IsPlayedLine, line_track, position_after};
 ghost use Rattle.club_core.specs.Limits.{is_budget, is_increment};
 ghost use Rattle.club_core.specs.Game.{Game, Entry};
 ghost use Rattle.club_rows.specs.Tables.{with_entry};
-ghost use Rattle.club_rows.specs.Replay.{IsReplayed, TakesTime, IsNext, Replays, Follows, WasReplayed, IsPlayedAs, left_in, clocks_replayed, terms_with, terms_given};
+ghost use Rattle.club_rows.specs.Tally.{PositionText, same_text, seen_at, stood_then, stood_seldom};
+ghost use Rattle.club_rows.specs.Replay.{IsCounted, IsReplayed, TakesTime, IsNext, Replays, Follows, WasReplayed, IsPlayedAs, left_in, clocks_replayed, terms_with, terms_given};
 
 use crate::numbers::{moment, stored};
+use crate::tally::{Stood, Tally};
 use clocks::{Clock, Moment};
 use club_core::values::{MOST_PLIES, is_budget, is_increment};
 use club_rules::{Memory, Rules};
@@ -31,6 +33,11 @@ pub struct Replayed<R: Rules> {
     pub left_first: u64,
     pub left_second: u64,
     pub since: Moment,
+    /// What the moves left behind.
+    pub track: R::Track,
+    pub tally: Tally,
+    /// How often the last position stood.
+    pub stood: Stood,
 }
 
 // A move that may be played next, and what stands after it.
@@ -38,6 +45,8 @@ pub struct Replayed<R: Rules> {
 pub struct Next<R: Rules> {
     pub made: R::Move,
     pub position: R::Position,
+    /// The text of that position.
+    pub text: String,
     pub turn: Side,
     pub moment: Moment,
     pub left: u64,
@@ -86,19 +95,26 @@ fn clock<R: Rules>(game: &Replayed<R>, side: Side, increment: u64) -> Clock
 }
 
 // A game at its start.
-fn start<R: Rules>(alloc: Global, budget: u64, start: Moment) -> Replayed<R>
+fn start<R: Rules>(alloc: Global, budget: u64, start: Moment) -> Result<Replayed<R>, Memory>
     requires { budget ≤ 31536000 }
-    ensures safe { (increment : ℕ) → IsReplayed R.rules increment 0 result }
-    ensures clocks { clocks_replayed result ≡ record { left_first = budget; left_second = budget; since = start } }
-    ensures line { result.line.items ≡ [] }
+    ensures safe { IfOk result (λ game. (increment : ℕ) → IsReplayed R.rules increment 0 game) }
+    ensures clocks { IfOk result (λ game. clocks_replayed game ≡ record { left_first = budget; left_second = budget; since = start }) }
+    ensures line { IfOk result (λ game. game.line.items ≡ []) }
 {
-    Replayed {
-        position: R::start(),
+    let position = R::start();
+    let text = R::write_position(alloc, &position)?;
+    let mut tally = Tally::new(alloc);
+    let stood = tally.add(text, 0)?;
+    Ok(Replayed {
+        track: R::track_start(&position),
+        position,
         line: Vec::new(alloc),
         left_first: budget,
         left_second: budget,
         since: start,
-    }
+        tally,
+        stood,
+    })
 }
 
 // The mover's clock after the row's move, if the row's moment and seconds are those of a move in time.
@@ -131,13 +147,22 @@ fn clock_after<R: Rules>(
     Some((moment, after.left))
 }
 
-// Whether the rules have ended the game.
-fn is_ended<R: Rules>(alloc: Global, game: &Replayed<R>) -> Result<bool, Memory>
-    requires { IsPlayedLine R.rules R.rules.start game.now.line.items }
-    ensures { IfOk result (λ ended. ended ≡ is_some (R.rules.judge R.rules.start game.now.line.items)) }
+// The end that the rules give to what was replayed.
+pub(crate) fn end_of<R: Rules>(game: &Replayed<R>) -> Option<R::End>
+    requires line { IsPlayedLine R.rules R.rules.start game.now.line.items }
+    requires position { game.now.position ≡ position_after R.rules R.rules.start game.now.line.items }
+    requires counted { IsCounted R.rules game.now }
+    ensures { result ≡ R.rules.judge R.rules.start game.now.line.items }
 {
-    let end = R::judge(alloc, &R::start(), &game.line)?;
-    Ok(end.is_some())
+    let plies = game.line.len();
+    let end = R::track_end(
+        game.track,
+        &game.position,
+        plies,
+        game.stood.times,
+        game.stood.first_ply,
+    );
+    end
 }
 
 // The move that a row shows, if it may be played next.
@@ -152,12 +177,15 @@ fn next_of<R: Rules>(
     requires room { game.now.left_first + game.now.left_second < 2 ^ 62 }
     requires plies { length game.now.line.items < 600 }
     requires line { IsPlayedLine R.rules R.rules.start game.now.line.items }
+    requires position { game.now.position ≡ position_after R.rules R.rules.start game.now.line.items }
+    requires counted { IsCounted R.rules game.now }
     ensures some { IfOk result (λ found. IfSome found (λ next. IsNext R.rules increment id game.now row.now next.made next.moment next.left)) }
     ensures after { IfOk result (λ found. IfSome found (λ next. next.position ≡ R.rules.play game.now.position next.made)) }
+    ensures text { IfOk result (λ found. IfSome found (λ next. string_bytes next.text ≡ R.rules.write_position (R.rules.play game.now.position next.made))) }
     ensures turn { IfOk result (λ found. IfSome found (λ next. next.turn ≡ R.rules.turn game.now.position)) }
     ensures none { IfOk result (λ found. found ≡ None → (made : R.Move) (moment left : ℕ) → ¬ IsNext R.rules increment id game.now row.now made moment left) }
 {
-    if is_ended(alloc, game)? {
+    if end_of(game).is_some() {
         return Ok(None);
     }
     if row.game != i64::from(id) {
@@ -183,6 +211,7 @@ fn next_of<R: Rules>(
     Ok(Some(Next {
         made,
         position,
+        text: written,
         turn,
         moment,
         left,
@@ -191,16 +220,26 @@ fn next_of<R: Rules>(
 
 // The game with that move more.
 fn advanced<R: Rules>(game: Replayed<R>, next: Next<R>) -> Result<Replayed<R>, Memory>
+    requires plies { length game.line.items < 600 }
+    requires track { game.track ≡ line_track R.rules R.rules.start game.line.items }
     ensures line { IfOk result (λ new. new.line.items ≡ game.line.items ++ next.made ∷ []) }
     ensures position { IfOk result (λ new. new.position ≡ next.position) }
     ensures mover { IfOk result (λ new. left_in new next.turn ≡ next.left) }
     ensures other { IfOk result (λ new. left_in new (other next.turn) ≡ left_in game (other next.turn)) }
     ensures since { IfOk result (λ new. new.since ≡ next.moment) }
+    ensures track { IfOk result (λ new. new.track ≡ R.rules.track_next game.track game.position next.made next.position) }
+    ensures stood { IfOk result (λ new. stood_seldom (seen_at game.tally next.text) →
+        new.stood ≡ stood_then (seen_at game.tally next.text) (length game.line.items + 1)) }
+    ensures tally { IfOk result (λ new. (other : PositionText) →
+        seen_at new.tally other ≡ cond (same_text next.text other) (Some new.stood) (seen_at game.tally other)) }
 {
     let (left_first, left_second) = match next.turn {
         Side::First => (next.left, game.left_second),
         Side::Second => (game.left_first, next.left),
     };
+    let track = R::track_next(game.track, &game.position, &next.made, &next.position);
+    let mut tally = game.tally;
+    let stood = tally.add(next.text, game.line.len() + 1)?;
     let mut line = game.line;
     line.push(next.made)?;
     Ok(Replayed {
@@ -209,6 +248,9 @@ fn advanced<R: Rules>(game: Replayed<R>, next: Next<R>) -> Result<Replayed<R>, M
         left_first,
         left_second,
         since: next.moment,
+        track,
+        tally,
+        stood,
     })
 }
 
@@ -262,7 +304,7 @@ pub fn replay<R: Rules>(
     if rows.len() > MOST_PLIES as usize {
         return Ok(None);
     }
-    let mut game = start(alloc, terms.budget, from);
+    let mut game = start(alloc, terms.budget, from)?;
     for row in rows {
         game = match with_row::<R>(alloc, game, terms.increment, id, row)? {
             Some(game) => game,

@@ -74,7 +74,7 @@ fn shown(
     ensures { IfOk result (λ view. IsSound draughts view) }
 {
     match view_of::<Draughts>(alloc, row, terms(), moves)? {
-        Shown::Game(view) => Ok(ask(view, moves, ply)),
+        Shown::Game(played) => Ok(ask(played.view, played.line.as_slice(), moves, ply)),
         _ => Err(Fail::new("no legal game")),
     }
 }

@@ -4,7 +4,7 @@ ghost use Rattle.std.specs.Prelude.{◌≡◌, ◌≢◌, ◌≤◌, ◌<◌, �
 ghost use Rattle.std.specs.Option.{option_map};
 ghost use Rattle.squares.specs.declared.sides.Score.{Score};
 ghost use Rattle.squares.specs.Sides.{score_text};
-ghost use Rattle.club_rules.specs.Line.{IsPlayedLine};
+ghost use Rattle.club_rules.specs.Line.{IsPlayedLine, position_after};
 ghost use Rattle.club_core.specs.declared.rows.Offer.{Offer};
 ghost use Rattle.club_core.specs.declared.rows.OutsideEnd.{OutsideEnd};
 ghost use Rattle.club_core.specs.declared.rows.OutsideEnd.TheVariants.{Recorded};
@@ -12,7 +12,7 @@ ghost use Rattle.club_core.specs.Game.{Game, Entry, end_with, score_with};
 ghost use Rattle.club_core.specs.View.{IsSound, Shows, rule_in, terms_of};
 ghost use Rattle.club_core.specs.OutsideEnd.{outside_text};
 ghost use Rattle.club_rows.specs.Tables.{side_number};
-ghost use Rattle.club_rows.specs.Replay.{IsReplayed, Replays, WasReplayed, game_from, terms_given};
+ghost use Rattle.club_rows.specs.Replay.{IsCounted, IsReplayed, Replays, WasReplayed, game_from, terms_given};
 ghost use Rattle.club_rows.specs.Shown.{AreRowsOf, ShowsGame, IsSoundIfShown, StandsAs};
 ghost use Rattle.club_rows.specs.declared.view.Told.{Told};
 ghost use Rattle.club_rows.specs.Told.{HasNumbers, IsTold, AreIds, game_told, may_have_key, may_have_offer, may_have_end, may_stand};
@@ -20,8 +20,9 @@ ghost use Rattle.club_rows.specs.Told.{HasNumbers, IsTold, AreIds, game_told, ma
 use crate::ends::{outside_of, score_of, side_of};
 use crate::numbers::{id, moment};
 use crate::records::{copied, record_of};
-use crate::replay::{Replayed, Terms, replay};
+use crate::replay::{Replayed, Terms, end_of, replay};
 use crate::same::is_same;
+use crate::tally::Tally;
 use clocks::Moment;
 use club_core::{GameEnd, GameRow, GameView, Offer, OutsideEnd, is_name};
 use club_rules::{Memory, Rules};
@@ -100,11 +101,19 @@ fn score_of_end<R: Rules>(end: &Option<GameEnd<R::End>>, turn: Side) -> Option<S
     }
 }
 
+/// A game that its rows show, with its moves and how often its positions stood.
+#[derive(Drop)]
+pub struct Played<R: Rules> {
+    pub view: GameView<R>,
+    pub line: Vec<R::Move>,
+    pub tally: Tally,
+}
+
 /// What the rows of a game show.
 #[derive(Drop)]
 pub enum Shown<R: Rules> {
     /// A legal game.
-    Game(GameView<R>),
+    Game(Played<R>),
     /// Moves that no legal game has.
     WrongMoves,
     /// Moves of a legal game, and a row that it has not.
@@ -180,12 +189,13 @@ struct Told<E: Copy + Drop> {
 
 // What a row tells of a game whose moves were replayed.
 fn told_in<R: Rules>(
-    alloc: Global,
     row: &GameRecord,
     numbers: Numbers,
     game: &Replayed<R>,
 ) -> Result<Told<R::End>, Memory>
-    requires { IsPlayedLine R.rules R.rules.start game.now.line.items }
+    requires line { IsPlayedLine R.rules R.rules.start game.now.line.items }
+    requires position { game.now.position ≡ position_after R.rules R.rules.start game.now.line.items }
+    requires counted { IsCounted R.rules game.now }
     ensures key { IfOk result (λ t. option_map (λ s. string_bytes s) t.key ≡ option_map (λ s. string_bytes s) row.now.key) }
     ensures numbers { IfOk result (λ t. t.numbers ≡ numbers) }
     ensures ruled { IfOk result (λ t. t.ruled ≡ R.rules.judge R.rules.start game.now.line.items) }
@@ -196,7 +206,7 @@ fn told_in<R: Rules>(
     ensures outside { IfOk result (λ t. t.ruled ≡ None → (outside : Option OutsideEnd) → option_map (λ s. string_bytes s) row.now.end ≡ option_map outside_text outside →
         ((s : Score) → outside ≡ Some (Recorded s) → option_map (λ s. string_bytes s) row.now.result ≡ Some (score_text s)) → t.outside ≡ outside) }
 {
-    let ruled = R::judge(alloc, &R::start(), &game.line)?;
+    let ruled = end_of(game);
     let outside = outside_left(row, ruled.is_some());
     let offer = offer_in(row);
     let key = copied(&row.key)?;
@@ -215,16 +225,18 @@ fn with_told<R: Rules>(
     told: Told<R::End>,
     terms: Terms,
     game: Replayed<R>,
-) -> Result<GameView<R>, Memory>
+) -> Result<Played<R>, Memory>
     requires increment { terms.increment ≤ 2592000 }
     requires plies { length game.line.items ≤ 600 }
     requires game { IsReplayed R.rules terms.increment (length game.line.items) game }
-    ensures sound { IfOk result (λ view. told.ruled ≡ R.rules.judge R.rules.start game.line.items → IsSound R.rules view) }
-    ensures first { IfOk result (λ view. view.row.left_first < 2 ^ 63) }
-    ensures second { IfOk result (λ view. view.row.left_second < 2 ^ 63) }
-    ensures terms { IfOk result (λ view. terms_of view ≡ terms_given terms) }
-    ensures shows { IfOk result (λ view. (entries : List (Entry R.Move)) → told.ruled ≡ R.rules.judge R.rules.start game.line.items →
-        Replays R.rules (terms_given terms) (game_from told.numbers.start entries) game → Shows R.rules (game_told told entries) view) }
+    ensures sound { IfOk result (λ played. told.ruled ≡ R.rules.judge R.rules.start game.line.items → IsSound R.rules played.view) }
+    ensures first { IfOk result (λ played. played.view.row.left_first < 2 ^ 63) }
+    ensures second { IfOk result (λ played. played.view.row.left_second < 2 ^ 63) }
+    ensures terms { IfOk result (λ played. terms_of played.view ≡ terms_given terms) }
+    ensures line { IfOk result (λ played. played.line.items ≡ game.line.items) }
+    ensures tally { IfOk result (λ played. played.tally ≡ game.tally) }
+    ensures shows { IfOk result (λ played. (entries : List (Entry R.Move)) → told.ruled ≡ R.rules.judge R.rules.start game.line.items →
+        Replays R.rules (terms_given terms) (game_from told.numbers.start entries) game → Shows R.rules (game_told told entries) played.view) }
 {
     let position = R::write_position(alloc, &game.position)?;
     let end = end_with(told.ruled, told.outside);
@@ -239,18 +251,24 @@ fn with_told<R: Rules>(
         plies: game.line.len() as u32,
         left_first: game.left_first,
         left_second: game.left_second,
+        track: R::track_numbers(&game.track),
         offer: told.offer,
         end,
         result,
         position,
     };
-    Ok(GameView {
+    let view = GameView {
         row,
         budget: terms.budget,
         increment: terms.increment,
         position: game.position,
-        line: game.line,
+        track: game.track,
         asked: None,
+    };
+    Ok(Played {
+        view,
+        line: game.line,
+        tally: game.tally,
     })
 }
 
@@ -261,20 +279,22 @@ fn viewed<R: Rules>(
     numbers: &Numbers,
     terms: Terms,
     game: Replayed<R>,
-) -> Result<GameView<R>, Memory>
+) -> Result<Played<R>, Memory>
     requires increment { terms.increment ≤ 2592000 }
     requires plies { length game.line.items ≤ 600 }
     requires game { IsReplayed R.rules terms.increment (length game.line.items) game }
-    ensures sound { IfOk result (λ view. IsSound R.rules view) }
-    ensures first { IfOk result (λ view. view.row.left_first < 2 ^ 63) }
-    ensures second { IfOk result (λ view. view.row.left_second < 2 ^ 63) }
-    ensures terms { IfOk result (λ view. terms_of view ≡ terms_given terms) }
-    ensures shows { IfOk result (λ view. (told : Told R.End) × IsTold R.rules row.now numbers.now game.line.items told × ((entries : List (Entry R.Move)) →
-        Replays R.rules (terms_given terms) (game_from numbers.now.start entries) game → Shows R.rules (game_told told entries) view)) }
+    ensures sound { IfOk result (λ played. IsSound R.rules played.view) }
+    ensures first { IfOk result (λ played. played.view.row.left_first < 2 ^ 63) }
+    ensures second { IfOk result (λ played. played.view.row.left_second < 2 ^ 63) }
+    ensures terms { IfOk result (λ played. terms_of played.view ≡ terms_given terms) }
+    ensures line { IfOk result (λ played. played.line.items ≡ game.line.items) }
+    ensures tally { IfOk result (λ played. played.tally ≡ game.tally) }
+    ensures shows { IfOk result (λ played. (told : Told R.End) × IsTold R.rules row.now numbers.now game.line.items told × ((entries : List (Entry R.Move)) →
+        Replays R.rules (terms_given terms) (game_from numbers.now.start entries) game → Shows R.rules (game_told told entries) played.view)) }
 {
-    let told = told_in(alloc, row, *numbers, &game)?;
-    let view = with_told(alloc, told, terms, game)?;
-    Ok(view)
+    let told = told_in(row, *numbers, &game)?;
+    let played = with_told(alloc, told, terms, game)?;
+    Ok(played)
 }
 
 // Whether the key of a game may stand.
@@ -336,26 +356,26 @@ fn may_stand<R: Rules>(row: &GameRow<R::End>) -> bool
         && may_have_end(row)
 }
 
-// The view, where its row may stand and is the one that is stored.
+// The game, where its row may stand and is the one that is stored.
 fn stands<R: Rules>(
     alloc: Global,
     row: &GameRecord,
     game: u32,
-    view: GameView<R>,
+    played: Played<R>,
 ) -> Result<Shown<R>, Memory>
-    requires plies { view.row.plies ≤ 600 }
-    requires first { view.row.left_first < 2 ^ 63 }
-    requires second { view.row.left_second < 2 ^ 63 }
-    ensures { IfOk result (StandsAs R.rules row.now game view) }
+    requires plies { played.view.row.plies ≤ 600 }
+    requires first { played.view.row.left_first < 2 ^ 63 }
+    requires second { played.view.row.left_second < 2 ^ 63 }
+    ensures { IfOk result (StandsAs R.rules row.now game played) }
 {
-    if !may_stand::<R>(&view.row) {
+    if !may_stand::<R>(&played.view.row) {
         return Ok(Shown::WrongGame);
     }
-    let made = record_of::<R>(alloc, game, &view.row)?;
+    let made = record_of::<R>(alloc, game, &played.view.row)?;
     if !is_same(&made, row) {
         return Ok(Shown::WrongGame);
     }
-    Ok(Shown::Game(view))
+    Ok(Shown::Game(played))
 }
 
 /// The view of the game whose row and moves these are, with no ply asked of, if they are those of a legal game that is
@@ -378,7 +398,7 @@ pub fn view_of<R: Rules>(
         Some(game) => game,
         None => return Ok(Shown::WrongMoves),
     };
-    let view = viewed(alloc, row, &numbers, terms, game)?;
-    let shown = stands(alloc, row, numbers.game, view)?;
+    let played = viewed(alloc, row, &numbers, terms, game)?;
+    let shown = stands(alloc, row, numbers.game, played)?;
     Ok(shown)
 }

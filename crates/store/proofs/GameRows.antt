@@ -29,10 +29,11 @@ use Rattle.club_rows.specs.Replay.{terms_given}
 use Rattle.club_core.specs.Limits.{last_moment}
 use Rattle.club_core.specs.State as club
 use Rattle.club_core.specs.State.{AnyGame, place, terms_at, key_of, is_key, has_key, keyed_at, keyed_game, game_under, pairing_of, on_game}
-use Rattle.club_core.specs.View.{Shows, terms_of}
-use Rattle.club_core.specs.declared.rows.GameView.{GameView}
+use Rattle.club_core.specs.View.{IsSound, Shows, terms_of}
+use Rattle.club_rules.specs.Line.{IsLegalLine}
+use Rattle.club_rows.specs.declared.view.Played.{Played}
 use Rattle.club_core.proofs.Lists.{bytes_eq-same, same-bytes_eq, find_id-found, find_id-none}
-use Rattle.club_rows.specs.Shown.{AreRowsOf, ShowsGame, IsSoundIfShown}
+use Rattle.club_rows.specs.Shown.{AreRowsOf, IsHistoryOf, ShowsGame, IsSoundIfShown}
 use Rattle.club_rows.specs.declared.view.Shown.{Shown}
 use Rattle.club_rows.specs.declared.view.Shown.TheVariants as shown
 use Rattle.club_rows.proofs.KindLemmas.{Kind}
@@ -203,15 +204,21 @@ places_of laws terms id game n z at =
     entry_rows_at laws terms id (at_start game) game.entries n z at ∙ ap number same
 
 module _ {R P M E T : Type 0} (laws : GameRules P M E T) (terms : Terms) (row : GameRecord) (moves : List MoveRow) where
+  -- what is shown is sound, and its moves are legal
+  pub view_sound : (s : Shown R P M E T) (played : Played R P M E T) → s ≡ shown.Game played → IsSoundIfShown laws terms row moves s → IsSound laws played.view × IsLegalLine laws laws.start played.line.items
+  view_sound s played is sound =
+      let (id, game, rows, terms_is, shows, is_sound, history) = subst (IsSoundIfShown laws terms row moves) is sound in
+      (is_sound, subst (IsLegalLine laws laws.start) (sym history.line) rows.legal.line.legal)
+
   -- where a view is shown, rows of moves that are those of the game are in their order
-  pub view_shows : (s : Shown R P M E T) (view : GameView R P M E T) → s ≡ shown.Game view → IsSoundIfShown laws terms row moves s → ((id : ℕ) (game : Game M) → AreRowsOf laws terms id row moves game → ShowsGame laws terms game s)
-      → (id : ℕ) (game : Game M) → IsRecordOf laws terms id row game → HaveSame (map move_cells moves) (move_rows laws terms id game) → (map move_cells moves ≡ move_rows laws terms id game) × (terms_of view ≡ terms) × Shows laws game view
-  view_shows s view is sound complete id game of same =
-      let (other_id, other, rows, terms_is, shows, is_sound) = subst (IsSoundIfShown laws terms row moves) is sound in
+  pub view_shows : (s : Shown R P M E T) (played : Played R P M E T) → s ≡ shown.Game played → IsSoundIfShown laws terms row moves s → ((id : ℕ) (game : Game M) → AreRowsOf laws terms id row moves game → ShowsGame laws terms game s)
+      → (id : ℕ) (game : Game M) → IsRecordOf laws terms id row game → HaveSame (map move_cells moves) (move_rows laws terms id game) → (map move_cells moves ≡ move_rows laws terms id game) × (terms_of played.view ≡ terms) × Shows laws game played.view × IsHistoryOf laws game played
+  view_shows s played is sound complete id game of same =
+      let (other_id, other, rows, terms_is, shows, is_sound, history) = subst (IsSoundIfShown laws terms row moves) is sound in
       let line = one_line 1 (map move_cells moves) (move_rows laws terms id game) (subst (AreAtPlaces 1) (sym rows.moves) (places_of laws terms other_id other)) (places_of laws terms id game) same in
       let all : AreRowsOf laws terms id row moves game = record { budget = of.budget; increment = of.increment; legal = of.legal; fits = of.fits; row = of.row; moves = line } in
       let shown_so = subst (ShowsGame laws terms game) is (complete id game all) in
-      (line, shown_so.0, shown_so.1)
+      (line, shown_so.0, shown_so.1, shown_so.2)
 
 -- ---- ids in a row
 

@@ -3,6 +3,7 @@ use Rattle.std.proofs.Common.{◌≡◌, ◌⊎◌, inl, inr, Bool, false, ℕ, 
 use Rattle.std.specs.Prelude.{if◌then◌else◌, slice_get, slice_set, IsTrue, nat_le}
 use Rattle.std.proofs.lemmas.Bool.Decides.{nat_tests}
 use Rattle.std.proofs.lemmas.List.{length-map}
+use Rattle.std.proofs.lemmas.Option.{slice_get_within}
 use Rattle.squares.specs.declared.sides.Side.{Side}
 use Rattle.squares.specs.declared.sides.Side.TheVariants.{First, Second}
 use Rattle.squares.specs.Sides.{other}
@@ -10,6 +11,8 @@ use Rattle.club_rules.specs.declared.refusals.MoveRefusal.{MoveRefusal}
 use Rattle.club_rules.specs.declared.names.GameKind.{GameKind}
 use Rattle.club_rules.specs.declared.names.GameKind.TheVariants.{Draughts, Shogi}
 use Rattle.club_rules.specs.GameRules.{GameRules}
+use Rattle.club_rules.specs.Line.{position_after, IsLegalLine, times_stood, FirstStands}
+use Rattle.club_rules.proofs.Proved.{IsLegalLine-append}
 use Rattle.club_core.specs.declared.answers.Answer.{Answer}
 use Rattle.club_core.specs.declared.answers.Answer.TheVariants as answer_is
 use Rattle.club_core.specs.declared.answers.Moved.{Moved}
@@ -28,16 +31,16 @@ use Rattle.club_core.specs.Limits.{is_budget, is_increment, most_plies}
 use Rattle.club_core.specs.Outcome.{Reply, MoveReply, moved, draw_offered, game_ended, Outcome, accepted, repeated, refused, map_outcome, unless, unless_repeat}
 use Rattle.club_core.specs.Answer.{outcome_of, answered, reply_of, move_reply_of}
 use Rattle.club_core.specs.Events.{Event, Terms}
-use Rattle.club_core.specs.Game.{Game, Entry, Clocks, spend, spend_all, clocks_of, left_of, turn_of, last_position}
+use Rattle.club_core.specs.Game.{Game, Entry, Clocks, moves_of, spend, spend_all, clocks_of, left_of, turn_of, last_position}
 use Rattle.club_core.specs.Legal.{IsLegalGame}
 use Rattle.club_core.specs.LegalState.{Each, IsLegalEvent, IsLegalIn, IsGameOf}
 use Rattle.club_core.specs.Step.{GameCommand, move, offer_draw, accept_draw, resign, claim_time, played, offered, ended, plays, ends, by_side, side_step, caller_side, may_give, asked_ply, no_game_refusal, repeat_of, repeat_of_offer, repeat_of_accept, repeat_of_resign, repeat_of_claim, move_refusal, offer_refusal, accept_refusal, resign_refusal, claim_refusal, move_at, checked, game_step, reply_of_move}
 use Rattle.club_core.specs.Seats.{Pairing}
 use Rattle.club_core.specs.State.{seated, seated_as, state_after, place, kind_at, terms_at, with_game, step_game, on_game}
-use Rattle.club_core.specs.View.{IsDecision, IsRowOf}
-use Rattle.club_core.proofs.Legals.{AreRules}
+use Rattle.club_core.specs.View.{HasMade, IsConcluded, IsMade, IsRowOf, Stood, StoodAfter}
+use Rattle.club_core.proofs.Legals.{AreRules, checked-legal}
 use Rattle.club_core.proofs.LegalSteps.{in-place}
-use Rattle.club_core.proofs.Played.{reply-played}
+use Rattle.club_core.proofs.Played.{reply-played, moves_of-played}
 use Rattle.club_rows.specs.Made.{made_row}
 use Rattle.club_rows.specs.Replay.{game_from}
 use Rattle.club_rows.specs.Tables.{game_row, move_rows, entry_row, entry_rows, with_entry, at_start, number, row_of_game, rows_of_moves}
@@ -147,20 +150,102 @@ module _ {P M E T : Type 0} (laws : GameRules P M E T) (terms : Terms) (g : Game
   pub step_done : (who : Caller) (command : GameCommand) → IsDone (game_step laws terms g moment who command)
   step_done who command = if_done (may_give who command) _ _ (by_done (caller_side g.first g.second who (asked_ply command)) command) tt
 
+  -- a game that a step leaves has a line of legal moves
+  abbrev pub HasLegalLine : Outcome (Game M) → Type 0
+  HasLegalLine (accepted new reply) = IsLegalLine laws laws.start (moves_of new)
+  HasLegalLine (repeated reply) = Unit {0}
+  HasLegalLine (refused refusal) = Unit {0}
+
+  module _ (line : IsLegalLine laws laws.start (moves_of g)) where
+    plays_legal : (r : Result M MoveRefusal) → ((m : M) → r ≡ Ok m → laws.check (last_position laws g) m ≡ Ok tt) → HasLegalLine (plays laws terms g moment r)
+    plays_legal (Ok m) ok = subst (IsLegalLine laws laws.start) (sym (moves_of-played g m moment)) (IsLegalLine-append laws laws.start (moves_of g) m line (ok m refl))
+    plays_legal (Err why) ok = tt
+
+    unless_legal : (again : Option Reply) (refusal : Option Refusal) (o : Outcome (Game M)) → HasLegalLine o → HasLegalLine (unless_repeat again (unless refusal o))
+    unless_legal (Some reply) refusal o is = tt
+    unless_legal None (Some why) o is = tt
+    unless_legal None None o is = is
+
+    if_legal : (b : Bool) (o other : Outcome (Game M)) → HasLegalLine o → HasLegalLine other → HasLegalLine (if b then o else other)
+    if_legal true o other is also = is
+    if_legal false o other is also = also
+
+    side_legal : (side : Side) (command : GameCommand) → HasLegalLine (side_step laws terms g moment side command)
+    side_legal side (move ply text) =
+        let p = last_position laws g in
+        let read = checked laws p (laws.read_move p text) in
+        unless_legal (repeat_of laws terms g ply (move_at g ply) side text) (move_refusal laws terms g moment side ply text) (plays laws terms g moment read) (plays_legal read (λ m is. checked-legal laws terms g moment p (laws.read_move p text) m is))
+    side_legal side (offer_draw ply) =
+        let offer : Offer = record { side = side; ply = ply } in
+        if_legal laws.has_draw_offers _ _ (unless_legal (repeat_of_offer g.offer side ply) (offer_refusal laws g side ply) (accepted (offered g offer) (draw_offered ply)) line) tt
+    side_legal side (accept_draw ply) =
+        if_legal laws.has_draw_offers _ _ (unless_legal (repeat_of_accept laws g side ply) (accept_refusal laws g side ply) (ends laws g Agreed) line) tt
+    side_legal side resign = unless_legal (repeat_of_resign laws g side) (resign_refusal laws g side) (ends laws g Resigned) line
+    side_legal side claim_time = unless_legal (repeat_of_claim laws g side) (claim_refusal laws terms g moment side) (ends laws g Time) line
+
+    by_legal : (side : Option Side) (command : GameCommand) → HasLegalLine (by_side laws terms g moment side command)
+    by_legal None command = tt
+    by_legal (Some side) command = side_legal side command
+
+    pub step_legal : (who : Caller) (command : GameCommand) → HasLegalLine (game_step laws terms g moment who command)
+    step_legal who command = if_legal (may_give who command) _ _ (by_legal (caller_side g.first g.second who (asked_ply command)) command) tt
+
+  -- a legal game has few plies
+  pub moves_few : IsLegalGame laws terms g → length (moves_of g) ≤ 600
+  moves_few legal =
+      let count : length (moves_of g) ≡ length g.entries = simp length-map in
+      let plies = legal.plies in
+      omega (arith, count, plies)
+
+  -- how often the position stands that a decision's move leads to
+  abbrev pub TellsNext : ℕ → ℕ → P → Type 0
+  TellsNext times first position =
+      (m : M) → IsLegalLine laws laws.start (moves_of g ++ m ∷ []) → position ≡ position_after laws laws.start (moves_of g ++ m ∷ [])
+      → (times ≡ times_stood laws laws.start (moves_of g ++ m ∷ [])) × FirstStands laws laws.start (moves_of g ++ m ∷ []) first
+
+  module _ {R : Type 0} (made : Made R P M E T) (times first : ℕ) (tells : TellsNext times first made.position) where
+    made_some : (new : Game M) (o : Option M) → IsMade laws new o (Some made) → (m : M) × (o ≡ Some m) × (made.position ≡ last_position laws new)
+    made_some new None is = absurd is
+    made_some new (Some m) is = (m, refl, is.1)
+
+    stood_either : (new : Game M) (reply : Reply) → IsMoved new reply ⊎ IsChanged new reply → IsLegalLine laws laws.start (moves_of new) → IsMade laws new (slice_get (moves_of new) (length g.entries)) (Some made)
+        → (times ≡ times_stood laws laws.start (moves_of new)) × FirstStands laws laws.start (moves_of new) first
+    stood_either new reply (inl (m, new_is, reply_is)) line is =
+        let all : moves_of new ≡ moves_of g ++ m ∷ [] = ap moves_of new_is ∙ moves_of-played g m moment in
+        let there = made_some new _ is in
+        subst (λ l. (times ≡ times_stood laws laws.start l) × FirstStands laws laws.start l first) (sym all)
+        (tells m (subst (IsLegalLine laws laws.start) all line) (there.2 ∙ ap (position_after laws laws.start) all))
+    stood_either new reply (inr changed) line is =
+        let there = made_some new _ is in
+        let inside = slice_get_within (moves_of new) (length g.entries) there.0 there.1 in
+        let count : length (moves_of new) ≡ length new.entries = simp length-map in
+        let same : length new.entries ≡ length g.entries = ap length changed.entries in
+        absurd (omega (arith, inside, count, same))
+
+    stood_after_step : (o : Outcome (Game M)) → IsDone o → HasLegalLine o → (row : GameRow E) (answer : Answer) → HasMade laws g o (decision.Accepted row (Some made) answer) → StoodAfter laws o times first
+    stood_after_step (accepted new reply) done line row answer is = stood_either new reply done line is
+    stood_after_step (repeated reply) done line row answer is = tt
+    stood_after_step (refused refusal) done line row answer is = tt
+
+    pub stood_by_step : (o : Outcome (Game M)) → IsDone o → HasLegalLine o → (d : Decision R P M E T) (row : GameRow E) (found : Option (Made R P M E T)) (answer : Answer) → d ≡ decision.Accepted row found answer → found ≡ Some made → HasMade laws g o d → Stood laws o d times first
+    stood_by_step o done line d row found answer d_is found_is is =
+        let all : d ≡ decision.Accepted row (Some made) answer = d_is ∙ ap (λ x. decision.Accepted row x answer) found_is in
+        subst (λ x. Stood laws o x times first) (sym all) (stood_after_step o done line row answer (subst (HasMade laws g o) all is))
+
   -- what was accepted, with its answer
-  pub decided_change : {R : Type 0} (o : Outcome (Game M)) (row : GameRow E) (made : Option (Made R P M E T)) (answer : Answer) → IsDone o → IsDecision laws terms g o (decision.Accepted row made answer)
+  pub decided_change : {R : Type 0} (o : Outcome (Game M)) (row : GameRow E) (made : Option (Made R P M E T)) (answer : Answer) → IsDone o → IsConcluded laws terms g o (decision.Accepted row made answer)
       → (new : Game M) × (o ≡ accepted new (reply_of answer)) × IsRowOf laws terms new row × (IsMoved new (reply_of answer) ⊎ IsChanged new (reply_of answer))
   decided_change (accepted new reply) row made answer is shown =
       (new, ap (accepted new) (sym shown.2), shown.0, subst (λ r. IsMoved new r ⊎ IsChanged new r) (sym shown.2) is)
   decided_change (repeated reply) row made answer is shown = absurd shown
   decided_change (refused refusal) row made answer is shown = absurd shown
 
-  pub repeated_answers : (R : Type 0) (o : Outcome (Game M)) (answer : Answer) → IsDecision {R = R} laws terms g o (decision.Repeated answer) → ◌≡◌ {A = Outcome (Unit {0})} (repeated (reply_of answer)) (answered o)
+  pub repeated_answers : (R : Type 0) (o : Outcome (Game M)) (answer : Answer) → IsConcluded {R = R} laws terms g o (decision.Repeated answer) → ◌≡◌ {A = Outcome (Unit {0})} (repeated (reply_of answer)) (answered o)
   repeated_answers R (accepted new reply) answer shown = absurd shown
   repeated_answers R (repeated reply) answer shown = ap (λ r. repeated r) shown
   repeated_answers R (refused refusal) answer shown = absurd shown
 
-  pub refused_answers : (R : Type 0) (o : Outcome (Game M)) (why : Refusal) → IsDecision {R = R} laws terms g o (decision.Refused why) → ◌≡◌ {A = Outcome (Unit {0})} (refused why) (answered o)
+  pub refused_answers : (R : Type 0) (o : Outcome (Game M)) (why : Refusal) → IsConcluded {R = R} laws terms g o (decision.Refused why) → ◌≡◌ {A = Outcome (Unit {0})} (refused why) (answered o)
   refused_answers R (accepted new reply) why shown = absurd shown
   refused_answers R (repeated reply) why shown = absurd shown
   refused_answers R (refused refusal) why shown = ap (λ r. refused r) shown
@@ -182,23 +267,23 @@ since_within increment side (e ∷ es) c last within each =
 -- ---- what is decided in a game
 
 module _ {P M E T : Type 0} (laws : GameRules P M E T) (terms : Terms) (id : ℕ) (g : Game M) (moment : ℕ) where
-  repeated_puts : (R : Type 0) (o : Outcome (Game M)) (answer : Answer) → IsDecision {R = R} laws terms g o (decision.Repeated answer) → PutsGame laws terms id moment g o None
+  repeated_puts : (R : Type 0) (o : Outcome (Game M)) (answer : Answer) → IsConcluded {R = R} laws terms g o (decision.Repeated answer) → PutsGame laws terms id moment g o None
   repeated_puts R (accepted new reply) answer shown = absurd shown
   repeated_puts R (repeated reply) answer shown = tt
   repeated_puts R (refused refusal) answer shown = absurd shown
 
-  refused_puts : (R : Type 0) (o : Outcome (Game M)) (why : Refusal) → IsDecision {R = R} laws terms g o (decision.Refused why) → PutsGame laws terms id moment g o None
+  refused_puts : (R : Type 0) (o : Outcome (Game M)) (why : Refusal) → IsConcluded {R = R} laws terms g o (decision.Refused why) → PutsGame laws terms id moment g o None
   refused_puts R (accepted new reply) why shown = absurd shown
   refused_puts R (repeated reply) why shown = absurd shown
   refused_puts R (refused refusal) why shown = tt
 
-  repeated_decided : (R : Type 0) (o : Outcome (Game M)) (answer : Answer) (d : Decided) → IsDecision {R = R} laws terms g o (decision.Repeated answer) → d.outcome ≡ given_is.Repeated answer → d.changes ≡ None → IsDecidedIn laws terms id moment g o d
+  repeated_decided : (R : Type 0) (o : Outcome (Game M)) (answer : Answer) (d : Decided) → IsConcluded {R = R} laws terms g o (decision.Repeated answer) → d.outcome ≡ given_is.Repeated answer → d.changes ≡ None → IsDecidedIn laws terms id moment g o d
   repeated_decided R o answer d shown is none = record {
     answer = ap outcome_of is ∙ repeated_answers laws terms g moment R o answer shown;
     puts = subst (PutsGame laws terms id moment g o) (sym none) (repeated_puts R o answer shown);
   }
 
-  refused_decided : (R : Type 0) (o : Outcome (Game M)) (why : Refusal) (d : Decided) → IsDecision {R = R} laws terms g o (decision.Refused why) → d.outcome ≡ given_is.Refused why → d.changes ≡ None → IsDecidedIn laws terms id moment g o d
+  refused_decided : (R : Type 0) (o : Outcome (Game M)) (why : Refusal) (d : Decided) → IsConcluded {R = R} laws terms g o (decision.Refused why) → d.outcome ≡ given_is.Refused why → d.changes ≡ None → IsDecidedIn laws terms id moment g o d
   refused_decided R o why d shown is none = record {
     answer = ap outcome_of is ∙ refused_answers laws terms g moment R o why shown;
     puts = subst (PutsGame laws terms id moment g o) (sym none) (refused_puts R o why shown);
@@ -288,7 +373,7 @@ module _ {P M E T : Type 0} (laws : GameRules P M E T) (are_rules : AreRules law
       (subst (λ x. IsRowOf laws terms x row) new_is is_row) (subst (λ a. ArePut row a c) moved_is are)))
   puts_either row answer c new (inr is) is_row are = inr (change_puts row answer c new is is_row are)
 
-  change_decided : {R : Type 0} (row : GameRow E) (made : Option (Made R P M E T)) (answer : Answer) (c : Changes) → IsDecision laws terms g step_in (decision.Accepted row made answer) → ArePut row answer c
+  change_decided : {R : Type 0} (row : GameRow E) (made : Option (Made R P M E T)) (answer : Answer) (c : Changes) → IsConcluded laws terms g step_in (decision.Accepted row made answer) → ArePut row answer c
       → IsDecidedIn laws terms id moment g step_in (record { outcome = given_is.Accepted answer; changes = Some c })
   change_decided row made answer c shown are =
       let (new, step_is, is_row, how) = decided_change laws terms g moment step_in row made answer (step_done laws terms g moment who command) shown in
@@ -296,9 +381,9 @@ module _ {P M E T : Type 0} (laws : GameRules P M E T) (are_rules : AreRules law
       (record { answer = refl; puts = puts_either row answer c new how is_row are })
 
   -- by the decision as it was given
-  module _ (R : Type 0) (shown : Decision R P M E T) (is : IsDecision laws terms g step_in shown) where
+  module _ (R : Type 0) (shown : Decision R P M E T) (is : IsConcluded laws terms g step_in shown) where
     abbrev decided_of : Decision R P M E T → Type 0
-    decided_of d = IsDecision laws terms g step_in d
+    decided_of d = IsConcluded laws terms g step_in d
 
     pub given_repeated : (answer : Answer) (d : Decided) → shown ≡ decision.Repeated answer → d.outcome ≡ given_is.Repeated answer → d.changes ≡ None → IsDecidedIn laws terms id moment g step_in d
     given_repeated answer d was = repeated_decided laws terms id g moment R step_in answer d (subst decided_of was is)

@@ -1,18 +1,20 @@
 //! What is done in one game, by its rules and its rows.
 
-ghost use Rattle.std.specs.Prelude.{◌≡◌, ◌≤◌, ◌<◌, ◌^◌, ℕ, List, [], ◌∷◌, map, Some, IfOk, IsTrue, string_bytes};
+ghost use Rattle.std.specs.Prelude.{◌≡◌, ◌≤◌, ◌<◌, ◌^◌, ℕ, List, [], ◌∷◌, length, map, Some, IfOk, IsTrue, string_bytes};
 ghost use Rattle.club_core.specs.Answer.{pairing_of, game_command_of};
 ghost use Rattle.club_core.specs.Events as core;
-ghost use Rattle.club_core.specs.Game.{Game, clocks_of};
+ghost use Rattle.club_core.specs.Game.{Game, clocks_of, moves_of};
 ghost use Rattle.club_core.specs.Legal.{IsLegalGame};
 ghost use Rattle.club_core.specs.Limits.{is_budget, is_increment};
 ghost use Rattle.club_core.specs.State.{seated};
 ghost use Rattle.club_core.specs.Step as machine;
 ghost use Rattle.club_core.specs.Step.{asked_ply, game_step};
-ghost use Rattle.club_core.specs.View.{IsSound, IsRowOf, IsDecision, Shows, ShowsPly, terms_of};
+ghost use Rattle.club_core.specs.View as shows;
+ghost use Rattle.club_core.specs.View.{HasMade, IsConcluded, IsSound, IsRowOf, Shows, ShowsPly, terms_of};
 ghost use Rattle.club_rows.specs.Listed.{AreLegalTexts};
 ghost use Rattle.club_rows.specs.Replay.{terms_given};
 ghost use Rattle.club_rows.specs.Tables.{game_row, move_rows};
+ghost use Rattle.club_rows.specs.Tally.{IsTallyOf};
 ghost use Rattle.store_tables.specs.Cells.{move_cells};
 ghost use Rattle.store.specs.Steps.{HaveSame, PutsOnly, IsDecidedIn, IsRecordOf, answered_rows, left_answered};
 ghost use Rattle.store.specs.Whole.{IsWhole};
@@ -21,10 +23,12 @@ use crate::command::{Decided, at, unchanged};
 use crate::fault::CallFault;
 use clocks::Moment;
 use club_core::{
-    Answer, Caller, Decision, GameCommand, GameRow, GameView, KeyedGame, Outcome, decide,
-    seated_row,
+    Answer, Caller, Decision, GameCommand, GameRow, GameView, KeyedGame, Outcome, conclude, decide,
+    seated_row, settle,
 };
-use club_rows::{Shown, Terms, ask, legal_texts, move_row, record_of, view_of};
+use club_rows::{
+    Played, Shown, Stood, Tally, Terms, ask, legal_texts, move_row, record_of, view_of,
+};
 use club_rules::{GameKind, Rules};
 use std::alloc::Global;
 use store_tables::{Changes, GameRecord, MoveRow};
@@ -108,7 +112,7 @@ fn done<R: Rules>(
     ensures acts { IfOk result IsWhole }
     ensures step { IfOk result (λ d. (terms : core.Terms) (old : Game R.Move) (who : Caller) (command : machine.GameCommand) →
         IsTrue (is_budget terms.budget) → IsTrue (is_increment terms.increment) → IsLegalGame R.rules terms old →
-        IsDecision R.rules terms old (game_step R.rules terms old moment who command) shown →
+        IsConcluded R.rules terms old (game_step R.rules terms old moment who command) shown →
         IsDecidedIn R.rules terms game moment old (game_step R.rules terms old moment who command) d) }
 {
     let (row, answer) = match shown {
@@ -127,25 +131,67 @@ fn done<R: Rules>(
     })
 }
 
-// The view of a game, asked of a ply.
-fn asked_view<R: Rules>(
+// A game with its view, asked of a ply.
+fn asked_game<R: Rules>(
     alloc: Global,
     row: &GameRecord,
     terms: Terms,
     moves: &[MoveRow],
     ply: u64,
-) -> Result<GameView<R>, CallFault>
-    ensures sound { IfOk result (λ view. IsSound R.rules view) }
-    ensures terms { IfOk result (λ view. terms_of view ≡ terms_given terms) }
+) -> Result<Played<R>, CallFault>
+    ensures sound { IfOk result (λ played. IsSound R.rules played.view) }
+    ensures terms { IfOk result (λ played. terms_of played.view ≡ terms_given terms) }
     // The order and the number of the rows of the moves are found here, so that these may be any that are the game's.
-    ensures shows { IfOk result (λ view. (id : ℕ) (game : Game R.Move) →
+    ensures shows { IfOk result (λ played. (id : ℕ) (game : Game R.Move) →
         IsRecordOf R.rules (terms_given terms) id row.now game →
         HaveSame (map move_cells moves.now) (move_rows R.rules (terms_given terms) id game) →
-        Shows R.rules game view × ShowsPly R.rules game ply view) }
+        Shows R.rules game played.view × ShowsPly R.rules game ply played.view × IsTallyOf R.rules (moves_of game) played.tally) }
 {
     match view_of::<R>(alloc, row, terms, moves)? {
-        Shown::Game(view) => Ok(ask(view, moves, ply)),
+        Shown::Game(played) => {
+            let view = ask(played.view, played.line.as_slice(), moves, ply);
+            Ok(Played {
+                view,
+                line: played.line,
+                tally: played.tally,
+            })
+        }
         _ => Err(CallFault::Store),
+    }
+}
+
+// How often the position stands that a decision's move leads to from a game of so many plies. Nobody looks at the numbers
+// of another decision.
+fn stood_after<R: Rules>(
+    alloc: Global,
+    decision: &Decision<R>,
+    tally: &Tally,
+    plies: u32,
+) -> Result<Stood, CallFault>
+    ensures { IfOk result (λ stood. (terms : core.Terms) (old : Game R.Move) (moment : ℕ) (who : Caller) (command : machine.GameCommand) →
+        IsLegalGame R.rules terms old → IsTallyOf R.rules (moves_of old) tally.now → plies ≡ length old.entries →
+        HasMade R.rules old (game_step R.rules terms old moment who command) decision.now →
+        shows.Stood R.rules (game_step R.rules terms old moment who command) decision.now stood.times stood.first_ply) }
+{
+    match decision {
+        Decision::Accepted {
+            row: _,
+            made,
+            answer: _,
+        } => match made {
+            Some(made) => {
+                let text = R::write_position(alloc, &made.position)?;
+                Ok(tally.stood_after::<R>(&text, plies as usize + 1))
+            }
+            None => Ok(Stood {
+                times: 0,
+                first_ply: 0,
+            }),
+        },
+        _ => Ok(Stood {
+            times: 0,
+            first_ply: 0,
+        }),
     }
 }
 
@@ -154,6 +200,7 @@ fn on_view<R: Rules>(
     alloc: Global,
     game: u32,
     view: &GameView<R>,
+    tally: &Tally,
     caller: Caller,
     command: &GameCommand,
     moment: Moment,
@@ -162,13 +209,16 @@ fn on_view<R: Rules>(
     ensures acts { IfOk result IsWhole }
     ensures step { IfOk result (λ d. (old : Game R.Move) → IsTrue (is_budget view.now.budget) →
         IsTrue (is_increment view.now.increment) → IsLegalGame R.rules (terms_of view.now) old → Shows R.rules old view.now →
-        ShowsPly R.rules old (asked_ply (game_command_of command.now)) view.now → (clocks_of old (terms_of view.now)).since ≤ moment →
+        ShowsPly R.rules old (asked_ply (game_command_of command.now)) view.now → IsTallyOf R.rules (moves_of old) tally.now →
+        (clocks_of old (terms_of view.now)).since ≤ moment →
         IsDecidedIn R.rules (terms_of view.now) game moment old
         (game_step R.rules (terms_of view.now) old moment caller (game_command_of command.now)) d) }
 {
     let moment = moment.later(view.row.since);
     let decision = decide(alloc, view, caller, command, moment)?;
-    done(alloc, game, decision, moment)
+    let stood = stood_after(alloc, &decision, tally, view.row.plies)?;
+    let settled = settle(&decision, stood.times, stood.first_ply);
+    done(alloc, game, conclude(decision, settled), moment)
 }
 
 // What a command does in a stored game.
@@ -189,8 +239,16 @@ pub(crate) fn act<R: Rules>(
 {
     let moves = stored.moves.as_slice();
     let ply = command.asked_ply();
-    let view = asked_view::<R>(alloc, &stored.row, stored.terms, moves, ply)?;
-    on_view(alloc, stored.id, &view, caller, command, moment)
+    let played = asked_game::<R>(alloc, &stored.row, stored.terms, moves, ply)?;
+    on_view(
+        alloc,
+        stored.id,
+        &played.view,
+        &played.tally,
+        caller,
+        command,
+        moment,
+    )
 }
 
 // The legal moves of a stored game, as they are written.
@@ -201,7 +259,7 @@ pub(crate) fn legal<R: Rules>(alloc: Global, stored: &StoredGame) -> Result<Vec<
         AreLegalTexts R.rules game (map (λ t. string_bytes t) texts.items)) }
 {
     let moves = stored.moves.as_slice();
-    let view = asked_view::<R>(alloc, &stored.row, stored.terms, moves, 0)?;
-    let texts = legal_texts(alloc, &view)?;
+    let played = asked_game::<R>(alloc, &stored.row, stored.terms, moves, 0)?;
+    let texts = legal_texts(alloc, &played.view)?;
     Ok(texts)
 }

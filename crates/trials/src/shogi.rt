@@ -148,3 +148,23 @@ fn a_fourfold_repetition_ends_a_game(rt: HostRuntime) -> Result<(), Fail> {
     assert_eq!(rt; result.as_str(), "1-1");
     Ok(())
 }
+
+// First's second move checks the king: the bishop promotes at 3c, and nothing stands at 4b.
+#[test]
+fn checks_in_a_row_are_the_track_of_a_game(rt: HostRuntime) -> Result<(), Fail> {
+    let club = played(&rt, GameKind::Shogi, "7g7f 3c3d 8h3c+")?;
+    let club = serve_at_once(
+        &rt,
+        club,
+        &[(1000, By::Officer, Given::Move(1, 3, "8h3c+"), "repeated")],
+    )?;
+    let mut conn = club.into_connection();
+    let row = conn.query_row("SELECT plies, track_a, track_b FROM games", &[])?;
+    let plies: i64 = row.get(0)?;
+    let checks: i64 = row.get(1)?;
+    let other_checks: i64 = row.get(2)?;
+    assert_eq!(rt; plies, 3);
+    assert_eq!(rt; checks, 1);
+    assert_eq!(rt; other_checks, 0);
+    Ok(())
+}

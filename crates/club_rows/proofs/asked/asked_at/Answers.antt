@@ -1,30 +1,25 @@
-use Rattle.std.proofs.Common.{◌≡◌, ◌∙◌, ◌-◌, Ok, subst, sym, ap, take, refl, arith}
+use Rattle.std.proofs.Common.{◌≡◌, ◌∙◌, ◌-◌, Ok, subst, sym, ap, refl, arith}
 use Rattle.std.specs.Prelude.{slice_get, Some}
 use Rattle.std.proofs.lemmas.Option.{slice_get-get_or, same_Some}
-use Rattle.club_rules.specs.Line.{IsLegalLine, position_after}
 use Rattle.club_rules.proofs.Proved.{check-at}
 use Rattle.club_rows.proofs.LineLemmas.{IsLegalLine-take}
 use Rattle.club_rows.proofs.asked.asked_at.Goals as goal
 
 pub position_after-requires : goal.position_after-requires
-position_after-requires g c =
-    let rules = g.R.Rules.rules in
-    subst (λ ms. IsLegalLine rules rules.start (take (c.args.ply - 1) ms)) (sym c.as_slice-line.ensures.value)
-    (IsLegalLine-take rules (c.args.ply - 1) rules.start c.args.view.now.line.items c.requires.line.legal)
+position_after-requires g c = IsLegalLine-take g.R.Rules.rules (c.args.ply - 1) g.R.Rules.rules.start c.args.line.now c.requires
 
 pub returns-in-Some-seconds_in-clause-legal : goal.returns-in-Some-seconds_in-clause-legal
 returns-in-Some-seconds_in-clause-legal g c =
     let rules = g.R.Rules.rules in
-    let line = c.as_slice-line.result.now in
+    let line = c.args.line.now in
     let k = c.args.ply - 1 in
     let at = c.in-Some.ensures.lookup in
     let here : slice_get line k ≡ Some c.in-Some.made.now = slice_get-get_or line k c.in-Some.made.now at.3.0 ∙ ap Some (sym (at.3.1 c.in-Some.made.now)) in
-    let legal : IsLegalLine rules rules.start line = subst (IsLegalLine rules rules.start) (sym c.as_slice-line.ensures.value) c.requires.line.legal in
-    subst (λ p. rules.check p c.in-Some.made.now ≡ Ok tt) (sym c.position_after.ensures) (check-at rules rules.start line k c.in-Some.made.now legal here)
+    subst (λ p. rules.check p c.in-Some.made.now ≡ Ok tt) (sym c.position_after.ensures) (check-at rules rules.start line k c.in-Some.made.now c.requires here)
 
 pub returns-in-Some-seconds_in-clause-some : goal.returns-in-Some-seconds_in-clause-some
 returns-in-Some-seconds_in-clause-some g c =
-    let line = c.as_slice-line.result.now in
+    let line = c.args.line.now in
     let k = c.args.ply - 1 in
     let at = c.in-Some.ensures.lookup in
     let made : slice_get line k ≡ Some c.in-Some.made.now = slice_get-get_or line k c.in-Some.made.now at.3.0 ∙ ap Some (sym (at.3.1 c.in-Some.made.now)) in
@@ -33,8 +28,8 @@ returns-in-Some-seconds_in-clause-some g c =
     record {
       at = refl;
       counted = omega arith;
-      made = ap (λ l. slice_get l k) (sym c.as_slice-line.ensures.value) ∙ made;
-      before = c.position_after.ensures ∙ ap (λ l. position_after g.R.Rules.rules g.R.Rules.rules.start (take k l)) c.as_slice-line.ensures.value;
+      made = made;
+      before = c.position_after.ensures;
       row = c.in-Some-get.row.now;
       row_is = row;
       left = c.in-Some-seconds_in.ensures.some;

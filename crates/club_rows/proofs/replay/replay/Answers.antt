@@ -25,12 +25,12 @@ pub loop-row-init : goal.loop-row-init
 loop-row-init g c =
     let laws = g.R.Rules.rules in
     let are : AreRules laws = record { first_starts = g.met.R.Rules.first_starts; turn_passes = g.met.R.Rules.turn_passes; same_is = g.met.R.Rules.same_is; ends_at_limit = g.met.R.Rules.ends_at_limit } in
-    let safe = c.start-game.ensures.safe c.args.terms.increment in (
+    let safe = c.in_ok-game.ensures.safe c.args.terms.increment in (
       safe,
-      was-start laws (terms_given c.args.terms) c.args.id are c.args.from c.args.rows.now c.start-game.result (record {
-        line = c.start-game.ensures.line;
-        position = safe.position ∙ ap (position_after laws laws.start) c.start-game.ensures.line;
-        clocks = c.start-game.ensures.clocks;
+      was-start laws (terms_given c.args.terms) c.args.id are c.args.from c.args.rows.now c.in_ok-game.game (record {
+        line = c.in_ok-game.ensures.line;
+        position = safe.position ∙ ap (position_after laws laws.start) c.in_ok-game.ensures.line;
+        clocks = c.in_ok-game.ensures.clocks;
       }),
     )
 
@@ -41,7 +41,7 @@ returns-in-None-clause-none g c = λ none budget increment game is.
     let was = c.loop-row.invariant.1 in
     let at : slice_get c.args.rows.now c.loop-row.row-index ≡ Some c.row-item.result = slice_get_read c.args.rows.now (length c.args.rows.now) c.loop-row.row-index c.row-item.result refl c.loop-row-test.true c.row-item.is in
     was-none laws (terms_given c.args.terms) c.args.id are c.args.from c.args.rows.now c.loop-row.row-index c.loop-row.game c.row-item.result was at
-    (λ e follows. c.in_ok-game.ensures.none c.in-None.is c.args.terms.budget (game_from c.args.from was.entries) was.replays e follows) game is
+    (λ e follows. c.in_ok-game-2.ensures.none c.in-None.is c.args.terms.budget (game_from c.args.from was.entries) was.replays e follows) game is
 
 pub loop-row-preserved : goal.loop-row-preserved
 loop-row-preserved g c =
@@ -53,8 +53,8 @@ loop-row-preserved g c =
     let new = c.in-Some.game in
     let terms = terms_given c.args.terms in
     let at : slice_get c.args.rows.now k ≡ Some c.row-item.result = slice_get_read c.args.rows.now (length c.args.rows.now) k c.row-item.result refl c.loop-row-test.true c.row-item.is in
-    let kept = subst (λ o. IfSome o (λ new. IsReplayed laws c.args.terms.increment (length c.loop-row.game.line.items + 1) new)) c.in-Some.is c.in_ok-game.ensures.safe in
-    let some = subst (λ o. IfSome o (λ new. (budget : ℕ) (game : Game g.row.R-Move.Denot) → Replays laws (terms_with budget c.args.terms.increment) game c.loop-row.game → (e : Entry g.row.R-Move.Denot) × Follows laws (terms_with budget c.args.terms.increment) c.args.id game c.row-item.result e × Replays laws (terms_with budget c.args.terms.increment) (with_entry game e) new)) c.in-Some.is c.in_ok-game.ensures.some in
+    let kept = subst (λ o. IfSome o (λ new. IsReplayed laws c.args.terms.increment (length c.loop-row.game.line.items + 1) new)) c.in-Some.is c.in_ok-game-2.ensures.safe in
+    let some = subst (λ o. IfSome o (λ new. (budget : ℕ) (game : Game g.row.R-Move.Denot) → Replays laws (terms_with budget c.args.terms.increment) game c.loop-row.game → (e : Entry g.row.R-Move.Denot) × Follows laws (terms_with budget c.args.terms.increment) c.args.id game c.row-item.result e × Replays laws (terms_with budget c.args.terms.increment) (with_entry game e) new)) c.in-Some.is c.in_ok-game-2.ensures.some in
     let next = some c.args.terms.budget (game_from c.args.from was.entries) was.replays in
     let room : k < 600 = omega (arith, c.loop-row-test.true, c.if-rows.false) in (
       subst (λ (n : ℕ). IsReplayed laws c.args.terms.increment (n + 1) new) old.plies_are kept,

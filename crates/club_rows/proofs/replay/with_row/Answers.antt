@@ -1,5 +1,5 @@
 use Rattle.std.proofs.Common.{◌≡◌, ◌≤◌, ◌+◌, length, subst, sym, arith, ◌∙◌}
-use Rattle.std.specs.Prelude.{IfSome}
+use Rattle.std.specs.Prelude.{IfSome, string_bytes}
 use Rattle.club_rules.specs.Line.{IsLegalLine}
 use Rattle.club_core.proofs.Legals.{AreRules}
 use Rattle.club_rows.specs.Replay.{IsNext, terms_with, left_in}
@@ -18,8 +18,9 @@ returns-in_ok-new-in-Some-clause-safe g c =
     let most : c.in-Some.next.left ≤ left_in old (laws.turn old.position) + c.args.increment = omega (arith, next.time.left) in
     let room : left_in c.in_ok-new-in-Some.new c.in-Some.next.turn ≤ left_in old c.in-Some.next.turn + c.args.increment =
     subst (λ n. n ≤ left_in old c.in-Some.next.turn + c.args.increment) (sym made.mover) (subst (λ s. c.in-Some.next.left ≤ left_in old s + c.args.increment) (sym turn) most) in
-    replayed-more laws c.args.increment (length old.line.items) old c.in_ok-new-in-Some.new c.in-Some.next.turn c.in-Some.next.made c.in-Some.next.position
-    c.requires.game next.running next.legal position made.line made.position room made.other
+    let text : string_bytes c.in-Some.next.text ≡ laws.write_position (laws.play old.position c.in-Some.next.made) = subst (λ o. IfSome o (λ n. string_bytes n.text ≡ laws.write_position (laws.play old.position n.made))) c.in-Some.is c.in_ok-next.ensures.text in
+    replayed-more laws g.met.R.Rules.same_position_is g.met.R.Rules.texts_tell_positions c.args.increment (length old.line.items) old c.in_ok-new-in-Some.new c.in-Some.next.turn c.in-Some.next.made c.in-Some.next.position c.in-Some.next.text
+    c.requires.game c.requires.room next.running next.legal position made.line made.position room made.other (record { text_is = text; track = made.track; stood = made.stood; adds = made.tally })
 
 pub returns-in_ok-new-in-Some-clause-some : goal.returns-in_ok-new-in-Some-clause-some
 returns-in_ok-new-in-Some-clause-some g c = λ budget game replays.

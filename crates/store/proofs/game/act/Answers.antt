@@ -21,9 +21,9 @@ returns-clause-step g c =
     let terms = terms_given c.args.stored.now.terms in
     let command = game_command_of c.args.command.now in
     let moves_given = subst (λ l. HaveSame (map move_cells l) (move_rows laws terms id old)) (sym c.as_slice-moves.ensures.value) moves in
-    let (shows, asked) = c.in_ok-view.ensures.shows id old of moves_given in
-    let is = c.in_ok-view.ensures.terms in
-    let asked_for = subst (λ n. ShowsPly laws old n c.in_ok-view.view) c.asked_ply-ply.ensures asked in
+    let (shows, asked, tally) = c.in_ok-played.ensures.shows id old of moves_given in
+    let is = c.in_ok-played.ensures.terms in
+    let asked_for = subst (λ n. ShowsPly laws old n c.in_ok-played.played.view) c.asked_ply-ply.ensures asked in
     subst (λ t. IsDecidedIn laws t id c.args.moment old (game_step laws t old c.args.moment c.args.caller command) d) is
     (step old (subst (λ t. IsTrue (is_budget t.budget)) (sym is) of.budget) (subst (λ t. IsTrue (is_increment t.increment)) (sym is) of.increment)
-    (subst (λ t. IsLegalGame laws t old) (sym is) of.legal) shows asked_for (subst (λ t. (clocks_of old t).since ≤ c.args.moment) (sym is) since))) c.on_view.ensures.step
+    (subst (λ t. IsLegalGame laws t old) (sym is) of.legal) shows asked_for tally (subst (λ t. (clocks_of old t).since ≤ c.args.moment) (sym is) since))) c.on_view.ensures.step

@@ -11,4 +11,4 @@ returns g c game of moves =
     let id = c.args.stored.now.id in
     let terms = terms_given c.args.stored.now.terms in
     let moves_given = subst (λ l. HaveSame (map move_cells l) (move_rows laws terms id game)) (sym c.as_slice-moves.ensures.value) moves in
-    c.in_ok-texts.ensures game (c.in_ok-view.ensures.shows id game of moves_given).0
+    c.in_ok-texts.ensures game (c.in_ok-played.ensures.shows id game of moves_given).0
