@@ -1,6 +1,7 @@
 -- A game that is written move by move.
 use Rattle.std.specs.Prelude.{◌≡◌, ◌+◌, ◌^◌, ◌<◌, ℕ, Option, List, [], ◌∷◌, ◌++◌, length}
 use Rattle.std.specs.Io.KnownBytes.{Appends}
+use Rattle.record_writer.specs.Pieces.{AppendsSome}
 use Rattle.squares.specs.declared.draughts.moves.DMove.{DMove}
 use Rattle.squares.specs.DraughtsOpening.{opening}
 use Rattle.draughts_moves.specs.Legal.{Legal}
@@ -10,27 +11,59 @@ use Rattle.pdn_games.specs.declared.game_writer.GameWriter.{GameWriter}
 use Rattle.pdn_games.specs.Writing.{head_text, plies_text, game_text}
 
 -- the tags of a head, and the empty line after them
-abbrev pub tags_text : PdnHead → List ℕ
+unfoldable pub tags_text : PdnHead → List ℕ
 tags_text head = head_text head.event.now head.date head.white.now head.black.now head.score
 
--- To the bytes from before the head and these moves were added.
-pub record HasWritten {W : Type 0} (contents : W → Option (List ℕ)) (head : PdnHead) (before : Option (List ℕ)) (ms : List DMove) (w : GameWriter W) : Type 0 where
-  pub written : Appends before (contents w.writer) (tags_text head ++ plies_text opening 0 ms)
-  pub position : w.position ≡ last_position opening ms
-  pub plies : w.plies ≡ length ms
-  pub score : w.score ≡ head.score
+-- the text of a game up to the last of these moves, with no end
+abbrev pub text_up_to : PdnHead → List DMove → List ℕ
+text_up_to head ms = tags_text head ++ plies_text opening 0 ms
+
+-- the whole text of a game
+unfoldable pub whole_text : PdnHead → List DMove → List ℕ
+whole_text head ms = game_text head.event.now head.date head.white.now head.black.now head.score ms
+
+-- To the bytes from before the head and these moves were added, which a writer has now; and the game stands after them.
+pub record HasWritten (head : PdnHead) (ms : List DMove) (before now : Option (List ℕ)) (game : GameWriter) : Type 0 where
+  pub written : Appends before now (text_up_to head ms)
+  pub position : game.position ≡ last_position opening ms
+  pub plies : game.plies ≡ length ms
+  pub score : game.score ≡ head.score
 
 -- the move is legal after those that are written, whose number still grows
-abbrev pub MayFollow : {W : Type 0} → GameWriter W → DMove → Type 0
-MayFollow w m = Legal w.position m × (w.plies + 1 < 2 ^ 64)
+abbrev pub MayFollow : GameWriter → DMove → Type 0
+MayFollow game m = Legal game.position m × (game.plies + 1 < 2 ^ 64)
 
 -- whatever was written, one move more is
-abbrev pub AddsMove : {W : Type 0} → (W → Option (List ℕ)) → DMove → GameWriter W → GameWriter W → Type 0
-AddsMove contents m old new =
-    (head : PdnHead) (before : Option (List ℕ)) (ms : List DMove) → HasWritten contents head before ms old → HasWritten contents head before (ms ++ m ∷ []) new
+abbrev pub AddsMove : DMove → GameWriter → GameWriter → Option (List ℕ) → Option (List ℕ) → Type 0
+AddsMove m old new held now =
+    (head : PdnHead) (before : Option (List ℕ)) (ms : List DMove) → HasWritten head ms before held old → HasWritten head (ms ++ m ∷ []) before now new
+
+-- whatever was written, now it is a beginning of the text up to one move more
+abbrev pub BeginsMove : DMove → GameWriter → Option (List ℕ) → Option (List ℕ) → Type 0
+BeginsMove m game held now =
+    (head : PdnHead) (before : Option (List ℕ)) (ms : List DMove) → HasWritten head ms before held game → AppendsSome before now (text_up_to head (ms ++ m ∷ []))
+
+-- whatever was written, the game stands where it stood
+abbrev pub StandsStill : GameWriter → GameWriter → Type 0
+StandsStill old new =
+    (head : PdnHead) (before held : Option (List ℕ)) (ms : List DMove) → HasWritten head ms before held old → HasWritten head ms before held new
 
 -- whatever was written, with the end it is the one text of the game
-abbrev pub IsFinished : {W : Type 0} → (W → Option (List ℕ)) → GameWriter W → Option (List ℕ) → Type 0
-IsFinished contents w after =
-    (head : PdnHead) (before : Option (List ℕ)) (ms : List DMove) → HasWritten contents head before ms w →
-    Appends before after (game_text head.event.now head.date head.white.now head.black.now head.score ms)
+abbrev pub Finishes : GameWriter → Option (List ℕ) → Option (List ℕ) → Type 0
+Finishes game held now =
+    (head : PdnHead) (before : Option (List ℕ)) (ms : List DMove) → HasWritten head ms before held game → Appends before now (whole_text head ms)
+
+-- whatever was written, now it is a beginning of the one text of the game
+abbrev pub BeginsEnd : GameWriter → Option (List ℕ) → Option (List ℕ) → Type 0
+BeginsEnd game held now =
+    (head : PdnHead) (before : Option (List ℕ)) (ms : List DMove) → HasWritten head ms before held game → AppendsSome before now (whole_text head ms)
+
+-- a beginning of the tags begins the whole text of each game with them
+abbrev pub TagsBeginGames : Type 0
+TagsBeginGames =
+    (head : PdnHead) (ms : List DMove) (before now : Option (List ℕ)) → AppendsSome before now (tags_text head) → AppendsSome before now (whole_text head ms)
+
+-- a beginning of the text up to some moves begins the whole text of each game that goes on from them
+abbrev pub MovesBeginGames : Type 0
+MovesBeginGames =
+    (head : PdnHead) (ms more : List DMove) (before now : Option (List ℕ)) → AppendsSome before now (text_up_to head ms) → AppendsSome before now (whole_text head (ms ++ more))

@@ -1,40 +1,21 @@
 //! Games written move by move.
 
-ghost use Rattle.std.specs.Prelude.{[], IfOk, OnOk};
+ghost use Rattle.std.specs.Prelude.{◌≡◌, [], IfOk, OnOk, OnErr};
+ghost use Rattle.record_writer.specs.Pieces.{AppendsSome};
 
 use crate::head::PdnHead;
 use crate::writing::{push_end, push_head, push_ply};
-use draughts_moves::{Memory, play};
+use draughts_moves::play;
+use record_writer::{WriteFault, write_piece};
 use squares::{DMove, DPos, Score};
 use std::alloc::Global;
-use std::io::{Error, Write};
+use std::io::Write;
 
-/// Why a game was not written to its end.
-#[derive(Debug, Drop)]
-pub enum WriteFault {
-    /// Memory was refused.
-    Memory,
-    /// The writer failed.
-    Writer(Error),
-}
-
-impl From<Memory> for WriteFault {
-    fn from(_refused: Memory) -> WriteFault {
-        WriteFault::Memory
-    }
-}
-
-impl From<Error> for WriteFault {
-    fn from(error: Error) -> WriteFault {
-        WriteFault::Writer(error)
-    }
-}
-
-/// A game on its way to a writer, in Portable Draughts Notation: the tags and so many of the moves are written. It holds the
-/// text of one move at a time.
+/// A game on its way to a writer, in Portable Draughts Notation: the tags and so many of the moves are written. It
+/// holds the text of one move at a time. The writer is lent to each call, so that its owner has it also where a call
+/// fails; what was written then is a beginning of the game's text.
 #[derive(Drop)]
-pub struct GameWriter<W: Write + Drop> {
-    writer: W,
+pub struct GameWriter {
     alloc: Global,
     position: DPos,
     plies: usize,
@@ -42,19 +23,24 @@ pub struct GameWriter<W: Write + Drop> {
     line: String,
 }
 
-impl<W: Write + Drop> GameWriter<W> {
-    ghost use Rattle.pdn_games.specs.Writer.{HasWritten, MayFollow, AddsMove, IsFinished};
+impl GameWriter {
+    ghost use Rattle.pdn_games.specs.Writer.{tags_text, HasWritten, MayFollow, AddsMove, BeginsMove, StandsStill};
+    ghost use Rattle.pdn_games.specs.Writer.{Finishes, BeginsEnd};
 
     /// Writes what stands before the moves.
-    pub fn start(alloc: Global, head: &PdnHead, writer: W) -> Result<GameWriter<W>, WriteFault>
-        ensures { IfOk result (HasWritten W.contents head.now (W.contents writer) []) }
+    pub fn start<W: Write>(
+        alloc: Global,
+        head: &PdnHead,
+        writer: &mut W,
+    ) -> Result<GameWriter, WriteFault>
+        ensures written { IfOk result (HasWritten head.now [] (W.contents writer.old) (W.contents writer.new)) }
+        ensures begun { AppendsSome (W.contents writer.old) (W.contents writer.new) (tags_text head.now) }
+        ensures refused { result ≡ Err WriteFault.Memory → writer.new ≡ writer.old }
     {
-        let mut writer = writer;
         let mut line = String::new(alloc);
         push_head(alloc, &mut line, head)?;
-        writer.write_all(line.as_bytes())?;
+        write_piece(writer, line.as_bytes())?;
         Ok(GameWriter {
-            writer,
             alloc,
             position: DPos::opening(),
             plies: 0,
@@ -63,10 +49,15 @@ impl<W: Write + Drop> GameWriter<W> {
         })
     }
 
-    /// Writes the next move, which is legal after those before it.
-    pub fn push(&mut self, played: &DMove) -> Result<(), WriteFault>
+    /// Writes the next move, which is legal after those before it. Where it fails, the game stands where it stood: on
+    /// a writer that is put back to what it held, the move can be written again.
+    pub fn push<W: Write>(&mut self, writer: &mut W, played: &DMove) -> Result<(), WriteFault>
         requires { MayFollow self.old played.now }
-        ensures { OnOk result (AddsMove W.contents played.now self.old self.new) }
+        ensures written { OnOk result
+            (AddsMove played.now self.old self.new (W.contents writer.old) (W.contents writer.new)) }
+        ensures begun { BeginsMove played.now self.old (W.contents writer.old) (W.contents writer.new) }
+        ensures still { OnErr result (StandsStill self.old self.new) }
+        ensures refused { result ≡ Err WriteFault.Memory → writer.new ≡ writer.old }
     {
         self.line.clear();
         push_ply(
@@ -76,18 +67,19 @@ impl<W: Write + Drop> GameWriter<W> {
             self.plies,
             played,
         )?;
-        self.writer.write_all(self.line.as_bytes())?;
+        write_piece(writer, self.line.as_bytes())?;
         self.position = play(&self.position, played);
         self.plies += 1;
         Ok(())
     }
 
-    /// Writes the end, and gives the writer back: what was written is the one text of the game.
-    pub fn finish(self) -> Result<W, WriteFault>
-        ensures { IfOk result (λ writer. IsFinished W.contents self (W.contents writer)) }
+    /// Writes the end: what was written is the one text of the game.
+    pub fn finish<W: Write>(self, writer: &mut W) -> Result<(), WriteFault>
+        ensures written { OnOk result (Finishes self (W.contents writer.old) (W.contents writer.new)) }
+        ensures begun { BeginsEnd self (W.contents writer.old) (W.contents writer.new) }
+        ensures refused { result ≡ Err WriteFault.Memory → writer.new ≡ writer.old }
     {
         let GameWriter {
-            mut writer,
             alloc: _,
             position: _,
             plies,
@@ -96,7 +88,7 @@ impl<W: Write + Drop> GameWriter<W> {
         } = self;
         line.clear();
         push_end(&mut line, plies, score)?;
-        writer.write_all(line.as_bytes())?;
-        Ok(writer)
+        write_piece(writer, line.as_bytes())?;
+        Ok(())
     }
 }

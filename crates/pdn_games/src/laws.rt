@@ -4,6 +4,7 @@ ghost use Rattle.pdn_games.specs.Longest.{MovesAreLongest};
 ghost use Rattle.pdn_games.specs.ReadingLaws.{TextsAreOfOne, TextsOfGamesAreRead};
 ghost use Rattle.pdn_games.specs.SkipGrammar.{SkipsAreSuch};
 ghost use Rattle.pdn_games.specs.TagGrammar.{TagsAreSuch};
+ghost use Rattle.pdn_games.specs.Writer.{TagsBeginGames, MovesBeginGames};
 
 use pdn::laws::reads_one_move;
 
@@ -33,4 +34,11 @@ pub fn skips_are_such()
 /// What is read as a tag is what the grammar says, part by part.
 pub fn tags_are_such()
     ensures { TagsAreSuch }
+{}
+
+/// What a writer has of a game that is written move by move is a beginning of the whole text of that game, wherever the
+/// writing stopped.
+pub fn written_moves_begin_games()
+    ensures tags { TagsBeginGames }
+    ensures moves { MovesBeginGames }
 {}

@@ -23,9 +23,10 @@ pub use draughts_moves::Memory;
 pub use faults::PdnFault;
 pub use game::PdnGame;
 pub use game_text::write_game;
-pub use game_writer::{GameWriter, WriteFault};
+pub use game_writer::GameWriter;
 pub use head::PdnHead;
 pub use reading::read_game;
+pub use record_writer::WriteFault;
 
 #[cfg(test)]
 mod tests;

@@ -1,10 +1,17 @@
 //! Games that are written.
-use crate::{GameWriter, PdnHead, write_game};
+ghost use Rattle.std.specs.Prelude.{OnOk, length};
+ghost use Rattle.std.specs.Io.KnownBytes.{Appends};
+ghost use Rattle.squares.specs.DraughtsOpening.{opening};
+ghost use Rattle.draughts_draws.specs.Faults.{IsPlayed};
+ghost use Rattle.record_writer.specs.Pieces.{AppendsSome};
+ghost use Rattle.pdn_games.specs.Writer.{whole_text};
+
+use crate::{GameWriter, PdnHead, WriteFault, write_game};
 use clocks::{Moment, civil};
 use draughts_draws::judge;
 use squares::{DMove, DPos, DSet, Dsq, Score};
 use std::alloc::Global;
-use std::collections::VecDeque;
+use std::io::Write;
 use std::test::Fail;
 
 // A quiet move.
@@ -66,25 +73,65 @@ fn a_game_without_moves_has_no_line_of_them(rt: HostRuntime) -> Result<(), Fail>
     Ok(())
 }
 
-static ONE_MOVE: &str =
-    "[Event \"autumn\"]\n[Date \"1970.01.01\"]\n[White \"anna\"]\n[Black \"bert\"]\n[Result \"2-0\"]\n[GameType \"20\"]\n\n1. 32-28\n2-0\n";
+// Writes a game by the rules move by move.
+fn write_moves<W: Write>(
+    alloc: Global,
+    head: &PdnHead,
+    moves: &[DMove],
+    writer: &mut W,
+) -> Result<(), WriteFault>
+    requires { IsPlayed opening moves.now (length moves.now) }
+    ensures whole { OnOk result
+        (Appends (W.contents writer.old) (W.contents writer.new) (whole_text head.now moves.now)) }
+    ensures begun { AppendsSome (W.contents writer.old) (W.contents writer.new) (whole_text head.now moves.now) }
+{
+    let mut game = GameWriter::start(alloc, head, writer)?;
+    for i in 0..moves.len() {
+        game.push(writer, &moves[i])?;
+    }
+    game.finish(writer)?;
+    Ok(())
+}
+
+static THREE_MOVES: &str =
+    "[Event \"autumn\"]\n[Date \"1970.01.01\"]\n[White \"anna\"]\n[Black \"bert\"]\n[Result \"2-0\"]\n[GameType \"20\"]\n\n1. 32-28 20-25\n2. 37-32\n2-0\n";
 
 #[test]
 fn a_game_is_written_move_by_move(rt: HostRuntime) -> Result<(), Fail> {
     let alloc = rt.alloc();
-    let played = quiet(32, 28)?;
-    match judge(alloc, &DPos::opening(), &[played]) {
-        Ok(None) => {}
-        _ => return Err(Fail::new("a game that goes on")),
-    }
+    let moves = [quiet(32, 28)?, quiet(20, 25)?, quiet(37, 32)?];
     let head = autumn(Some(Score::FirstWins))?;
-    let mut game = match GameWriter::start(alloc, &head, VecDeque::new(alloc)) {
-        Ok(game) => game,
-        Err(_) => return Err(Fail::new("room")),
-    };
-    game.push(&played).ok().ok_or("room")?;
-    let bytes = game.finish().ok().ok_or("room")?;
-    let bytes: Vec<u8> = bytes.iter().copied().collect(alloc)?;
-    assert_eq!(rt; bytes.as_slice(), ONE_MOVE.as_bytes());
+    match judge(alloc, &DPos::opening(), &moves) {
+        Ok(_) => {}
+        Err(_) => return Err(Fail::new("a game by the rules")),
+    }
+    let mut bytes = vec![in alloc; b'>']?;
+    write_moves(alloc, &head, &moves, &mut bytes)
+        .ok()
+        .ok_or("room")?;
+    assert_eq!(rt; bytes.as_slice().first(), Some(&b'>'));
+    assert_eq!(rt; &bytes[1..], THREE_MOVES.as_bytes());
+    Ok(())
+}
+
+#[test]
+fn a_full_writer_holds_a_beginning(rt: HostRuntime) -> Result<(), Fail> {
+    let alloc = rt.alloc();
+    let moves = [quiet(32, 28)?, quiet(20, 25)?, quiet(37, 32)?];
+    let head = autumn(Some(Score::FirstWins))?;
+    match judge(alloc, &DPos::opening(), &moves) {
+        Ok(_) => {}
+        Err(_) => return Err(Fail::new("a game by the rules")),
+    }
+    let text = THREE_MOVES.as_bytes();
+    for size in 0..text.len() {
+        let mut bytes = vec![in alloc; 0u8; size]?;
+        let mut room: &mut [u8] = bytes.as_mut_slice();
+        match write_moves(alloc, &head, &moves, &mut room) {
+            Err(WriteFault::Writer(_)) => {}
+            _ => return Err(Fail::new("a full writer")),
+        }
+        assert_eq!(rt; bytes.as_slice(), &text[..size], "at {size}");
+    }
     Ok(())
 }

@@ -1,6 +1,7 @@
 use Rattle.std.proofs.Common.{◌≡◌, ℕ, List, [], ◌∷◌, ◌++◌, codes, append_assoc, ap, ◌∙◌}
 use Rattle.std.specs.Prelude.{string_bytes}
 use Rattle.pdn_games.specs.Writing.{tag_line, date_text, result_text}
+use Rattle.pdn_games.specs.Writer.{tags_text}
 use Rattle.pdn_games.proofs.writing.push_head.Goals as goal
 
 joined : (t a b c d s e n : List ℕ) → ((((((t ++ a) ++ b) ++ c) ++ d) ++ s) ++ e) ++ n ≡ t ++ (a ++ (b ++ (c ++ (d ++ (s ++ (e ++ n))))))
@@ -12,6 +13,7 @@ chain t t1 t2 t3 t4 t5 t6 t7 a b c d s e n e1 e2 e3 e4 e5 e6 e7 =
     e7 ∙ ap (λ l. l ++ n) (e6 ∙ ap (λ l. l ++ e) (e5 ∙ ap (λ l. l ++ s) (e4 ∙ ap (λ l. l ++ d) (e3 ∙ ap (λ l. l ++ c) (e2 ∙ ap (λ l. l ++ b) e1))))) ∙ joined t a b c d s e n
 
 pub returns : goal.returns
+unfolding tags_text
 returns c =
     let head = c.args.head.now in
     chain (string_bytes c.args.text.now) _ _ _ _ _ _ _
