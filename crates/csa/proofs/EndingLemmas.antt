@@ -1,5 +1,5 @@
 -- The faults of an end.
-use Rattle.std.proofs.Common.{◌≡◌, ◌⊎◌, inl, inr, Bool, true, false, cond, Option, Some, None, List, Result, Ok, Err, refl, sym, subst}
+use Rattle.std.proofs.Common.{◌≡◌, ◌⊎◌, inl, inr, Bool, true, false, cond, Option, Some, None, List, Result, Ok, Err, sym, subst}
 use Rattle.squares.specs.declared.sides.Side.{Side}
 use Rattle.squares.specs.declared.sides.Score.{Score}
 use Rattle.squares.specs.declared.shogi.moves.SMove.{SMove}
@@ -10,7 +10,7 @@ use Rattle.csa.specs.declared.end_words.EndWord.{EndWord}
 use Rattle.csa.specs.declared.faults.CsaFault.{CsaFault}
 use Rattle.csa.specs.declared.faults.CsaFault.TheVariants as fault
 use Rattle.csa.specs.declared.lines.Placed.{Placed}
-use Rattle.csa.specs.Endings.{claimed, fits_rules, agrees, claim_settled, ending}
+use Rattle.csa.specs.Endings.{claimed, claim_settled, ending}
 use Rattle.csa.specs.Records.{Plays, score_in, end_in, RecordFails}
 
 abbrev IsOfEnds : CsaFault → Type 0

@@ -1,5 +1,5 @@
 -- A text is read in one way.
-use Rattle.std.proofs.Common.{◌≡◌, ◌≢◌, ℕ, ◌+◌, ◌<◌, inl, inr, List, [], ◌∷◌, ◌++◌, length, take, Bool, true, false, Option, Some, None, Result, Ok, Err, refl, sym, ap, subst, ◌∙◌, arith}
+use Rattle.std.proofs.Common.{◌≡◌, inl, inr, List, [], ◌∷◌, ◌++◌, length, take, Bool, true, false, Some, None, refl, sym, ap, subst, ◌∙◌, arith}
 use Rattle.std.specs.Prelude.{slice_get}
 use Rattle.std.specs.FinMap as map
 use Rattle.std.proofs.lemmas.List.{length-append}
@@ -16,19 +16,15 @@ use Rattle.squares.specs.ShogiSets.{ShogiPosition}
 use Rattle.squares.specs.ShogiOpening.{opening}
 use Rattle.shogi_moves.specs.Rules.{Legal, dropped_role, play}
 use Rattle.shogi_moves.specs.Laws.{CheckIs}
-use Rattle.shogi_repetition.specs.declared.ends.SEnd.{SEnd}
 use Rattle.shogi_repetition.specs.Line.{last_position}
 use Rattle.shogi_repetition.specs.Ends.{EndsSo}
 use Rattle.shogi_repetition.specs.Faults.{GoesOn, IsPlayed}
 use Rattle.shogi_repetition.specs.Laws.{NoLineHasTwoEnds}
 use Rattle.csa.specs.declared.faults.CsaFault.{CsaFault}
 use Rattle.csa.specs.declared.faults.CsaFault.TheVariants as fault
-use Rattle.csa.specs.declared.game.CsaGame.{CsaGame}
-use Rattle.csa.specs.declared.lines.Placed.{Placed}
 use Rattle.csa.specs.declared.statements.WrittenMove.{WrittenMove}
 use Rattle.csa.specs.Moves.{CodedAs, Means, MeanAll}
-use Rattle.csa.specs.Replays.{written_moves, AreMoves, RefusesNext, RefusesMove}
-use Rattle.csa.specs.Records.{begins_even, score_in, IsRecordOf, EndFails, RecordFails}
+use Rattle.csa.specs.Replays.{AreMoves, RefusesNext, RefusesMove}
 use Rattle.csa.proofs.ReplayLemmas.{legal-unbroken}
 
 promotes-one : (q : SPiece) (b d : Bool) (code : Role) → CodedAs q b code → CodedAs q d code → b ≡ d

@@ -11,13 +11,11 @@ use Rattle.csa.specs.declared.faults.CsaFault.{CsaFault}
 use Rattle.csa.specs.declared.faults.CsaFault.TheVariants as fault
 use Rattle.csa.specs.declared.game.CsaGame.{CsaGame}
 use Rattle.csa.specs.declared.lines.Placed.{Placed}
-use Rattle.csa.specs.declared.order.Place.TheVariants as place
-use Rattle.csa.specs.declared.statements.Statement.{Statement}
 use Rattle.csa.specs.declared.statements.Statement.TheVariants as statement
 use Rattle.csa.specs.Lines.{text_statements}
 use Rattle.csa.specs.Replays.{written_moves}
 use Rattle.csa.specs.Records.{Plays, score_in, IsRecordOf, EndFails, RecordFails}
-use Rattle.csa.specs.Reading.{records_of, AreRecordsOf, AreOrdered, FailsAfter, SomeRecordFails, IsTextOf, IsRefused}
+use Rattle.csa.specs.Reading.{records_of, AreRecordsOf, SomeRecordFails, IsTextOf, IsRefused}
 use Rattle.csa.specs.ReadingLaws.{SameGame, SameGames}
 use Rattle.csa.proofs.OneReadingLemmas.{mean-one, moves-unrefused}
 

@@ -1,5 +1,5 @@
 -- The moves of a record, statement by statement, and the records of a text, one after another.
-use Rattle.std.proofs.Common.{◌≡◌, ℕ, suc, zero, ◌+◌, ◌<◌, ◌≤◌, ◌⊎◌, inl, inr, List, [], ◌∷◌, ◌++◌, length, take, drop, get_or, Bool, true, false, cond, refl, sym, ap, subst, ◌∙◌, append_assoc, add-one, arith}
+use Rattle.std.proofs.Common.{◌≡◌, ℕ, suc, zero, ◌+◌, ◌<◌, inl, inr, List, [], ◌∷◌, ◌++◌, length, take, drop, get_or, true, false, cond, refl, sym, ap, ◌∙◌, arith}
 use Rattle.std.proofs.lemmas.List.{take-append-drop, append_assoc as assoc}
 use Rattle.std.proofs.Math.Seq.{drop-cons}
 use Rattle.squares.specs.declared.shogi.moves.SMove.{SMove}
@@ -7,7 +7,6 @@ use Rattle.csa.specs.declared.faults.CsaFault.{CsaFault}
 use Rattle.csa.specs.declared.game.CsaGame.{CsaGame}
 use Rattle.csa.specs.declared.lines.Placed.{Placed}
 use Rattle.csa.specs.declared.statements.WrittenMove.{WrittenMove}
-use Rattle.csa.specs.declared.statements.Statement.{Statement}
 use Rattle.csa.specs.Replays.{written_in, written_moves, AreMoves, RefusesMoves}
 use Rattle.csa.specs.Replaying.{RefusesIn}
 use Rattle.csa.specs.Records.{IsRecordOf, RecordFails}

@@ -12,6 +12,5 @@ pub mod Replays
 pub mod Statements
 pub mod Writer
 pub mod Writing
-pub mod WrittenHead
 pub mod WrittenGame
 pub mod ReadingLaws

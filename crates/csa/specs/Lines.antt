@@ -4,7 +4,6 @@ use Rattle.std.proofs.Common.{suc, get_or}
 use Rattle.std.specs.List.{slice_split}
 use Rattle.std.specs.Str.Lines.{lines, strip_carriage_return}
 use Rattle.csa.specs.declared.lines.Placed.{Placed}
-use Rattle.csa.specs.declared.statements.Statement.{Statement}
 use Rattle.csa.specs.declared.statements.Statement.TheVariants as statement
 use Rattle.csa.specs.Statements.{statement_of}
 

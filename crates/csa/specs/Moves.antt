@@ -1,5 +1,5 @@
 -- The moves that written moves mean, in their positions.
-use Rattle.std.specs.Prelude.{◌≡◌, ◌≢◌, ℕ, Bool, true, Option, Some, None, List, [], ◌∷◌}
+use Rattle.std.specs.Prelude.{◌≡◌, ◌≢◌, ℕ, Bool, true, Some, None, List, [], ◌∷◌}
 use Rattle.std.specs.FinMap as map
 use Rattle.squares.specs.declared.shogi.piece.Role.{Role}
 use Rattle.squares.specs.declared.shogi.piece.SPiece.{SPiece}

@@ -1,5 +1,5 @@
 -- The order in which the statements of a record stand: version, opening, side, moves, end.
-use Rattle.std.specs.Prelude.{ℕ, ◌+◌, ◌==◌, ◌&&◌, nat_lt, Bool, Option, Some, None, List, [], ◌∷◌, if◌then◌else◌}
+use Rattle.std.specs.Prelude.{ℕ, ◌+◌, ◌==◌, ◌&&◌, nat_lt, Option, Some, None, List, [], ◌∷◌, if◌then◌else◌}
 use Rattle.std.specs.Option.{option_map_or}
 use Rattle.csa.specs.declared.lines.Placed.{Placed}
 use Rattle.csa.specs.declared.order.Place.{Place}

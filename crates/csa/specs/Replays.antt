@@ -1,5 +1,5 @@
 -- The moves of a record, from the opening of the game.
-use Rattle.std.specs.Prelude.{◌≡◌, ◌⊎◌, ℕ, ◌+◌, List, [], ◌∷◌, ◌++◌, Option, Some, None, length}
+use Rattle.std.specs.Prelude.{◌≡◌, ◌⊎◌, ◌+◌, List, [], ◌∷◌, ◌++◌, Some, None, length}
 use Rattle.squares.specs.declared.shogi.moves.SMove.{SMove}
 use Rattle.squares.specs.ShogiSets.{ShogiPosition}
 use Rattle.squares.specs.ShogiOpening.{opening}

@@ -1,10 +1,9 @@
 -- The statements of a record, by their forms.
-use Rattle.std.specs.Prelude.{ℕ, ◌-◌, ◌==◌, ◌&&◌, ◌||◌, nat_le, not, Bool, true, false, Option, Some, None, List, [], ◌∷◌, length, if◌then◌else◌}
+use Rattle.std.specs.Prelude.{ℕ, ◌-◌, ◌==◌, ◌&&◌, ◌||◌, true, false, Option, Some, None, List, [], ◌∷◌, length, if◌then◌else◌}
 use Rattle.std.specs.List.{list_all}
 use Rattle.squares.specs.declared.sides.Side.{Side}
 use Rattle.squares.specs.declared.sides.Side.TheVariants.{First, Second}
 use Rattle.squares.specs.declared.shogi.piece.Role.{Role}
-use Rattle.csa.specs.declared.statements.WrittenMove.{WrittenMove}
 use Rattle.csa.specs.declared.statements.Statement.{Statement}
 use Rattle.csa.specs.declared.statements.Statement.TheVariants as statement
 use Rattle.csa.specs.Codes.{is_digit, is_place, role_of, square_of}

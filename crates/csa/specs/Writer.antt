@@ -1,6 +1,7 @@
 -- A game that is written move by move.
 use Rattle.std.specs.Prelude.{◌≡◌, ℕ, Option, List, [], ◌∷◌, ◌++◌, map}
 use Rattle.std.specs.Io.KnownBytes.{Appends}
+use Rattle.record_writer.specs.Pieces.{AppendsSome}
 use Rattle.clocks.specs.declared.dates.CivilTime.{CivilTime}
 use Rattle.clocks.specs.Civil.{IsCivil}
 use Rattle.squares.specs.declared.shogi.moves.SMove.{SMove}
@@ -12,26 +13,75 @@ use Rattle.csa.specs.declared.game_writer.GameWriter.{GameWriter}
 use Rattle.csa.specs.Writing.{head_text, entries_text}
 use Rattle.csa.specs.WrittenGame.{IsGameText}
 
--- To the bytes from before the head and these moves were added.
-pub record HasWritten {W : Type 0} (contents : W → Option (List ℕ)) (head : CsaHead) (before : Option (List ℕ)) (entries : List (SMove × ℕ)) (w : GameWriter W) : Type 0 where
+-- the lines before the moves, with what a clock shows at the start
+unfoldable pub lines_text : CsaHead → CivilTime → List ℕ
+lines_text head at = head_text head.event.now head.black.now head.white.now at
+
+-- the text of a game up to the last of these moves, with no end
+abbrev pub text_up_to : CsaHead → List (SMove × ℕ) → CivilTime → List ℕ
+text_up_to head entries at = lines_text head at ++ entries_text opening entries
+
+-- To the bytes from before a beginning of the text was added, with what a clock in UTC shows at the start.
+pub record HasBegun (start : ℕ) (text : CivilTime → List ℕ) (before now : Option (List ℕ)) : Type 0 where
+  pub at : CivilTime
+  pub shown : IsCivil start at
+  pub begun : AppendsSome before now (text at)
+
+-- To the bytes from before the head and these moves were added, which a writer has now; and the game stands after them.
+pub record HasWritten (head : CsaHead) (entries : List (SMove × ℕ)) (before now : Option (List ℕ)) (game : GameWriter) : Type 0 where
   pub at : CivilTime
   pub shown : IsCivil head.start at
-  pub written : Appends before (contents w.writer) (head_text head.event.now head.black.now head.white.now at ++ entries_text opening entries)
-  pub position : w.position ≡ last_position opening (map (λ e. e.0) entries)
-  pub end : w.end ≡ head.end
+  pub written : Appends before now (text_up_to head entries at)
+  pub position : game.position ≡ last_position opening (map (λ e. e.0) entries)
+  pub end : game.end ≡ head.end
 
 -- the move is legal after those that are written
-abbrev pub MayFollow : {W : Type 0} → GameWriter W → SMove → Type 0
-MayFollow w m = Legal w.position m
+abbrev pub MayFollow : GameWriter → SMove → Type 0
+MayFollow game m = Legal game.position m
 
 -- whatever was written, one move more is
-abbrev pub AddsEntry : {W : Type 0} → (W → Option (List ℕ)) → SMove × ℕ → GameWriter W → GameWriter W → Type 0
-AddsEntry contents entry old new =
-    (head : CsaHead) (before : Option (List ℕ)) (entries : List (SMove × ℕ)) → HasWritten contents head before entries old →
-    HasWritten contents head before (entries ++ entry ∷ []) new
+abbrev pub AddsEntry : SMove × ℕ → GameWriter → GameWriter → Option (List ℕ) → Option (List ℕ) → Type 0
+AddsEntry entry old new held now =
+    (head : CsaHead) (before : Option (List ℕ)) (entries : List (SMove × ℕ)) → HasWritten head entries before held old →
+    HasWritten head (entries ++ entry ∷ []) before now new
+
+-- whatever was written, now it is a beginning of the text up to one move more
+abbrev pub BeginsEntry : SMove × ℕ → GameWriter → Option (List ℕ) → Option (List ℕ) → Type 0
+BeginsEntry entry game held now =
+    (head : CsaHead) (before : Option (List ℕ)) (entries : List (SMove × ℕ)) → HasWritten head entries before held game →
+    HasBegun head.start (text_up_to head (entries ++ entry ∷ [])) before now
+
+-- whatever was written, the game stands where it stood
+abbrev pub StandsStill : GameWriter → GameWriter → Type 0
+StandsStill old new =
+    (head : CsaHead) (before held : Option (List ℕ)) (entries : List (SMove × ℕ)) → HasWritten head entries before held old → HasWritten head entries before held new
+
+-- the one text of the game was added
+abbrev pub AddsGame : CsaHead → List (SMove × ℕ) → Option (List ℕ) → Option (List ℕ) → Type 0
+AddsGame head entries before now =
+    (text : List ℕ) × IsGameText head.event.now head.black.now head.white.now head.start head.end entries text × Appends before now text
+
+-- a beginning of the one text of the game was added
+abbrev pub BeginsGame : CsaHead → List (SMove × ℕ) → Option (List ℕ) → Option (List ℕ) → Type 0
+BeginsGame head entries before now =
+    (text : List ℕ) × IsGameText head.event.now head.black.now head.white.now head.start head.end entries text × AppendsSome before now text
 
 -- whatever was written, with the end it is the one text of the game
-abbrev pub IsFinished : {W : Type 0} → (W → Option (List ℕ)) → GameWriter W → Option (List ℕ) → Type 0
-IsFinished contents w after =
-    (head : CsaHead) (before : Option (List ℕ)) (entries : List (SMove × ℕ)) → HasWritten contents head before entries w →
-    (text : List ℕ) × IsGameText head.event.now head.black.now head.white.now head.start head.end entries text × Appends before after text
+abbrev pub Finishes : GameWriter → Option (List ℕ) → Option (List ℕ) → Type 0
+Finishes game held now =
+    (head : CsaHead) (before : Option (List ℕ)) (entries : List (SMove × ℕ)) → HasWritten head entries before held game → AddsGame head entries before now
+
+-- whatever was written, now it is a beginning of the one text of the game
+abbrev pub BeginsEnd : GameWriter → Option (List ℕ) → Option (List ℕ) → Type 0
+BeginsEnd game held now =
+    (head : CsaHead) (before : Option (List ℕ)) (entries : List (SMove × ℕ)) → HasWritten head entries before held game → BeginsGame head entries before now
+
+-- a beginning of the lines before the moves begins each game with them
+abbrev pub LinesBeginGames : Type 0
+LinesBeginGames =
+    (head : CsaHead) (entries : List (SMove × ℕ)) (before now : Option (List ℕ)) → HasBegun head.start (lines_text head) before now → BeginsGame head entries before now
+
+-- a beginning of the text up to some moves begins each game that goes on from them
+abbrev pub MovesBeginGames : Type 0
+MovesBeginGames =
+    (head : CsaHead) (entries more : List (SMove × ℕ)) (before now : Option (List ℕ)) → HasBegun head.start (text_up_to head entries) before now → BeginsGame head (entries ++ more) before now

@@ -8,6 +8,7 @@ ghost use Rattle.csa.specs.WrittenGame.{FitsEnd, IsGameText};
 
 use crate::head::CsaHead;
 use crate::writing::{push_end, push_entry, push_head};
+use clocks::civil;
 use shogi_moves::{Memory, play};
 use squares::{SMove, SPos, Side};
 use std::alloc::Global;
@@ -39,7 +40,7 @@ pub fn write_game(alloc: Global, head: &CsaHead, entries: &[(SMove, u64)]) -> Re
         head.now.start head.now.end entries.now (string_bytes text)) }
 {
     let mut text = String::new(alloc);
-    push_head(&mut text, head)?;
+    push_head(&mut text, head, &civil(head.start))?;
     let turn = push_entries(&mut text, entries)?;
     push_end(&mut text, head.end, turn)?;
     Ok(text)

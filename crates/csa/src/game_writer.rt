@@ -1,89 +1,87 @@
 //! Games written move by move.
 
-ghost use Rattle.std.specs.Prelude.{[], IfOk, OnOk};
+ghost use Rattle.std.specs.Prelude.{◌≡◌, [], IfOk, OnOk, OnErr};
 
 use crate::head::{CsaEnd, CsaHead};
 use crate::writing::{push_end, push_entry, push_head};
-use shogi_moves::{Memory, play};
+use clocks::civil;
+use record_writer::{WriteFault, write_piece};
+use shogi_moves::play;
 use squares::{SMove, SPos};
 use std::alloc::Global;
-use std::io::{Error, Write};
+use std::io::Write;
 
-/// Why a game was not written to its end.
-#[derive(Debug, Drop)]
-pub enum WriteFault {
-    /// Memory was refused.
-    Memory,
-    /// The writer failed.
-    Writer(Error),
-}
-
-impl From<Memory> for WriteFault {
-    fn from(_refused: Memory) -> WriteFault {
-        WriteFault::Memory
-    }
-}
-
-impl From<Error> for WriteFault {
-    fn from(error: Error) -> WriteFault {
-        WriteFault::Writer(error)
-    }
-}
-
-/// A game on its way to a writer, in the standard format of the Computer Shogi Association: what stands before the moves and
-/// so many of the moves are written. It holds the text of one move at a time.
+/// A game on its way to a writer, in the standard format of the Computer Shogi Association: what stands before the moves
+/// and so many of the moves are written. It holds the text of one move at a time. The writer is lent to each call, so
+/// that its owner has it also where a call fails; what was written then is a beginning of the game's text.
 #[derive(Drop)]
-pub struct GameWriter<W: Write + Drop> {
-    writer: W,
+pub struct GameWriter {
     position: SPos,
     end: Option<CsaEnd>,
     line: String,
 }
 
-impl<W: Write + Drop> GameWriter<W> {
-    ghost use Rattle.csa.specs.Writer.{HasWritten, MayFollow, AddsEntry, IsFinished};
+impl GameWriter {
+    ghost use Rattle.csa.specs.Writer.{lines_text, HasBegun, HasWritten, MayFollow, AddsEntry, BeginsEntry, StandsStill};
+    ghost use Rattle.csa.specs.Writer.{Finishes, BeginsEnd};
 
     /// Writes what stands before the moves.
-    pub fn start(alloc: Global, head: &CsaHead, writer: W) -> Result<GameWriter<W>, WriteFault>
-        ensures { IfOk result (HasWritten W.contents head.now (W.contents writer) []) }
+    pub fn start<W: Write>(
+        alloc: Global,
+        head: &CsaHead,
+        writer: &mut W,
+    ) -> Result<GameWriter, WriteFault>
+        ensures written { IfOk result (HasWritten head.now [] (W.contents writer.old) (W.contents writer.new)) }
+        ensures begun { HasBegun head.now.start (lines_text head.now) (W.contents writer.old) (W.contents writer.new) }
+        ensures refused { result ≡ Err WriteFault.Memory → writer.new ≡ writer.old }
     {
-        let mut writer = writer;
+        let start = civil(head.start);
         let mut line = String::new(alloc);
-        push_head(&mut line, head)?;
-        writer.write_all(line.as_bytes())?;
+        push_head(&mut line, head, &start)?;
+        write_piece(writer, line.as_bytes())?;
         Ok(GameWriter {
-            writer,
             position: SPos::opening(),
             end: head.end,
             line,
         })
     }
 
-    /// Writes the next move, which is legal after those before it, and the seconds that it took.
-    pub fn push(&mut self, played: &SMove, seconds: u64) -> Result<(), WriteFault>
+    /// Writes the next move, which is legal after those before it, and the seconds that it took. Where it fails, the
+    /// game stands where it stood: on a writer that is put back to what it held, the move can be written again.
+    pub fn push<W: Write>(
+        &mut self,
+        writer: &mut W,
+        played: &SMove,
+        seconds: u64,
+    ) -> Result<(), WriteFault>
         requires { MayFollow self.old played.now }
-        ensures { OnOk result (AddsEntry W.contents (played.now, seconds) self.old self.new) }
+        ensures written { OnOk result
+            (AddsEntry (played.now, seconds) self.old self.new (W.contents writer.old) (W.contents writer.new)) }
+        ensures begun { BeginsEntry (played.now, seconds) self.old (W.contents writer.old) (W.contents writer.new) }
+        ensures still { OnErr result (StandsStill self.old self.new) }
+        ensures refused { result ≡ Err WriteFault.Memory → writer.new ≡ writer.old }
     {
         self.line.clear();
         push_entry(&mut self.line, &self.position, played, seconds)?;
-        self.writer.write_all(self.line.as_bytes())?;
+        write_piece(writer, self.line.as_bytes())?;
         self.position = play(&self.position, played);
         Ok(())
     }
 
-    /// Writes the end, and gives the writer back: what was written is the one text of the game.
-    pub fn finish(self) -> Result<W, WriteFault>
-        ensures { IfOk result (λ writer. IsFinished W.contents self (W.contents writer)) }
+    /// Writes the end: what was written is the one text of the game.
+    pub fn finish<W: Write>(self, writer: &mut W) -> Result<(), WriteFault>
+        ensures written { OnOk result (Finishes self (W.contents writer.old) (W.contents writer.new)) }
+        ensures begun { BeginsEnd self (W.contents writer.old) (W.contents writer.new) }
+        ensures refused { result ≡ Err WriteFault.Memory → writer.new ≡ writer.old }
     {
         let GameWriter {
-            mut writer,
             position,
             end,
             mut line,
         } = self;
         line.clear();
         push_end(&mut line, end, position.turn())?;
-        writer.write_all(line.as_bytes())?;
-        Ok(writer)
+        write_piece(writer, line.as_bytes())?;
+        Ok(())
     }
 }

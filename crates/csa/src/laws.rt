@@ -1,5 +1,6 @@
 //! What is proved of reading as a whole.
 ghost use Rattle.csa.specs.ReadingLaws.{TextsAreOfOne, TextsOfGamesAreRead};
+ghost use Rattle.csa.specs.Writer.{LinesBeginGames, MovesBeginGames};
 
 use shogi_moves::laws::check_is;
 use shogi_repetition::laws::each_line_has_one_end;
@@ -12,3 +13,10 @@ pub fn texts_are_read_in_one_way()
     check_is();
     each_line_has_one_end();
 }
+
+/// What a writer has of a game that is written move by move is a beginning of the whole text of that game, wherever the
+/// writing stopped.
+pub fn written_moves_begin_games()
+    ensures lines { LinesBeginGames }
+    ensures moves { MovesBeginGames }
+{}

@@ -23,9 +23,10 @@ mod writing;
 pub use faults::CsaFault;
 pub use game::CsaGame;
 pub use game_text::write_game;
-pub use game_writer::{GameWriter, WriteFault};
+pub use game_writer::GameWriter;
 pub use head::{CsaEnd, CsaHead};
 pub use reading::read_games;
+pub use record_writer::WriteFault;
 
 #[cfg(test)]
 mod tests;

@@ -1,10 +1,16 @@
-use crate::{CsaEnd, CsaFault, CsaGame, CsaHead, GameWriter, read_games, write_game};
+ghost use Rattle.std.specs.Prelude.{◌≡◌, OnOk, false, length, map};
+ghost use Rattle.squares.specs.ShogiOpening.{opening};
+ghost use Rattle.squares.specs.declared.shogi.moves.SMove.TheVariants.{Step};
+ghost use Rattle.shogi_repetition.specs.Faults.{IsPlayed};
+ghost use Rattle.csa.specs.Writer.{AddsGame, BeginsGame};
+
+use crate::{CsaEnd, CsaFault, CsaGame, CsaHead, GameWriter, WriteFault, read_games, write_game};
 use clocks::Moment;
 use shogi_moves::Illegal;
 use shogi_repetition::judge;
 use squares::{HandKind, SMove, SPos, Score, Ssq};
 use std::alloc::Global;
-use std::collections::VecDeque;
+use std::io::Write;
 use std::test::Fail;
 
 // The lines of a text, each with a line feed.
@@ -157,38 +163,94 @@ fn openings_are_read_as_rows(rt: HostRuntime) -> Result<(), Fail> {
     Ok(())
 }
 
-// A game of one move, that of the pawn before the bishop, after which White resigned.
+// A game of two moves, those of the pawns before the bishops, after which Black resigned.
 static RESIGNED: &str =
-    "V2.2\nN+anna\nN-bert\n$EVENT:fuji\n$START_TIME:1970/01/01 00:16:40\nPI\n+\n+7776FU\nT5\n%TORYO\n";
+    "V2.2\nN+anna\nN-bert\n$EVENT:fuji\n$START_TIME:1970/01/01 00:16:40\nPI\n+\n+7776FU\nT5\n-3334FU\nT12\n%TORYO\n";
+
+fn fuji(start: Moment) -> CsaHead<'static>
+    ensures { result.end ≡ Some CsaEnd.Resigned }
+{
+    CsaHead {
+        event: "fuji",
+        black: "anna",
+        white: "bert",
+        start,
+        end: Some(CsaEnd::Resigned),
+    }
+}
+
+fn step(from: Ssq, to: Ssq) -> SMove
+    ensures { result ≡ Step from to false }
+{
+    SMove::Step {
+        from,
+        to,
+        promote: false,
+    }
+}
+
+// Writes a game by the rules move by move.
+fn write_entries<W: Write>(
+    alloc: Global,
+    head: &CsaHead,
+    entries: &[(SMove, u64)],
+    writer: &mut W,
+) -> Result<(), WriteFault>
+    requires { IsPlayed opening (map (λ e. e.0) entries.now) (length entries.now) }
+    ensures whole { OnOk result (AddsGame head.now entries.now (W.contents writer.old) (W.contents writer.new)) }
+    ensures begun { BeginsGame head.now entries.now (W.contents writer.old) (W.contents writer.new) }
+{
+    let mut game = GameWriter::start(alloc, head, writer)?;
+    for i in 0..entries.len() {
+        let entry = entries[i];
+        game.push(writer, &entry.0, entry.1)?;
+    }
+    game.finish(writer)?;
+    Ok(())
+}
 
 #[test]
 fn a_game_is_written(rt: HostRuntime) -> Result<(), Fail> {
     let alloc = rt.alloc();
-    let head = CsaHead {
-        event: "fuji",
-        black: "anna",
-        white: "bert",
-        start: Moment::new(1000).ok_or("a moment")?,
-        end: Some(CsaEnd::Resigned),
-    };
-    let played = SMove::Step {
-        from: square(7, 7)?,
-        to: square(7, 6)?,
-        promote: false,
-    };
-    match judge(alloc, &SPos::opening(), &[played]) {
+    let black = step(square(7, 7)?, square(7, 6)?);
+    let white = step(square(3, 3)?, square(3, 4)?);
+    match judge(alloc, &SPos::opening(), &[black, white]) {
         Ok(None) => {}
         _ => return Err(Fail::new("a game that goes on")),
     }
-    let text = write_game(alloc, &head, &[(played, 5)])?;
+    let head = fuji(Moment::new(1000).ok_or("a moment")?);
+    let entries = [(black, 5), (white, 12)];
+    let text = write_game(alloc, &head, &entries)?;
     assert_eq!(rt; text.as_str(), RESIGNED);
-    let mut game = match GameWriter::start(alloc, &head, VecDeque::new(alloc)) {
-        Ok(game) => game,
-        Err(_) => return Err(Fail::new("room")),
-    };
-    game.push(&played, 5).ok().ok_or("room")?;
-    let bytes = game.finish().ok().ok_or("room")?;
-    let bytes: Vec<u8> = bytes.iter().copied().collect(alloc)?;
-    assert_eq!(rt; bytes.as_slice(), RESIGNED.as_bytes());
+    let mut bytes = vec![in alloc; b'>']?;
+    write_entries(alloc, &head, &entries, &mut bytes)
+        .ok()
+        .ok_or("room")?;
+    assert_eq!(rt; bytes.as_slice().first(), Some(&b'>'));
+    assert_eq!(rt; &bytes[1..], RESIGNED.as_bytes());
+    Ok(())
+}
+
+#[test]
+fn a_full_writer_holds_a_beginning(rt: HostRuntime) -> Result<(), Fail> {
+    let alloc = rt.alloc();
+    let black = step(square(7, 7)?, square(7, 6)?);
+    let white = step(square(3, 3)?, square(3, 4)?);
+    match judge(alloc, &SPos::opening(), &[black, white]) {
+        Ok(None) => {}
+        _ => return Err(Fail::new("a game that goes on")),
+    }
+    let head = fuji(Moment::new(1000).ok_or("a moment")?);
+    let entries = [(black, 5), (white, 12)];
+    let text = RESIGNED.as_bytes();
+    for size in 0..text.len() {
+        let mut bytes = vec![in alloc; 0u8; size]?;
+        let mut room: &mut [u8] = bytes.as_mut_slice();
+        match write_entries(alloc, &head, &entries, &mut room) {
+            Err(WriteFault::Writer(_)) => {}
+            _ => return Err(Fail::new("a full writer")),
+        }
+        assert_eq!(rt; bytes.as_slice(), &text[..size], "at {size}");
+    }
     Ok(())
 }

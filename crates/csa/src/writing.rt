@@ -2,12 +2,12 @@
 ghost use Rattle.std.specs.Prelude.{◌≡◌, ◌<◌, ◌++◌, ◌∷◌, [], OnOk, string_bytes};
 ghost use Rattle.shogi_moves.specs.Rules.{arrived, dropped_role};
 ghost use Rattle.csa.specs.Writing.{line_of, two_digits, then_two, date_text, side_sign, square_text, source_text, target_text, move_text, entry_text, recorded_word, rule_word, word_of, end_text};
-ghost use Rattle.csa.specs.WrittenHead.{AddsHead};
+ghost use Rattle.csa.specs.Writer.{lines_text};
 
 use crate::codes::code_of;
 use crate::end_words::EndWord;
 use crate::head::{CsaEnd, CsaHead};
-use clocks::{CivilTime, civil};
+use clocks::CivilTime;
 use shogi_moves::Memory;
 use shogi_repetition::SEnd;
 use squares::{HandKind, Role, SMove, SPiece, SPos, Score, Side, Ssq};
@@ -195,17 +195,16 @@ fn push_date(text: &mut String, at: &CivilTime) -> Result<(), Memory>
     Ok(())
 }
 
-/// Adds the lines before the moves.
-pub fn push_head(text: &mut String, head: &CsaHead) -> Result<(), Memory>
-    ensures { OnOk result (AddsHead head.now.event.now head.now.black.now head.now.white.now head.now.start
-        (string_bytes text.old) (string_bytes text.new)) }
+/// Adds the lines before the moves, with what a clock shows at the start.
+pub fn push_head(text: &mut String, head: &CsaHead, start: &CivilTime) -> Result<(), Memory>
+    ensures { OnOk result (string_bytes text.new ≡ string_bytes text.old ++ lines_text head.now start.now) }
 {
     push_line(text, "V2.2", "")?;
     push_line(text, "N+", head.black)?;
     push_line(text, "N-", head.white)?;
     push_line(text, "$EVENT:", head.event)?;
     text.push_str("$START_TIME:")?;
-    push_date(text, &civil(head.start))?;
+    push_date(text, start)?;
     push_line(text, "", "")?;
     push_line(text, "PI", "")?;
     push_line(text, "+", "")?;

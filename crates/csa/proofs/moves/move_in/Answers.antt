@@ -1,4 +1,4 @@
-use Rattle.std.proofs.Common.{◌≡◌, ℕ, Bool, Option, Some, None, sym, ◌∙◌, subst}
+use Rattle.std.proofs.Common.{◌≡◌, ℕ, Bool, Some, None, sym, ◌∙◌, subst}
 use Rattle.squares.specs.declared.shogi.moves.SMove.{SMove}
 use Rattle.squares.specs.declared.shogi.moves.SMove.TheVariants.{Step, Drop}
 use Rattle.squares.specs.ShogiSets.{ShogiPosition}

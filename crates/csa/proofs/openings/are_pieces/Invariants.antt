@@ -1,4 +1,4 @@
-use Rattle.std.proofs.Common.{◌≡◌, ℕ, length}
+use Rattle.std.proofs.Common.{◌≡◌, length}
 use Rattle.csa.specs.Openings.{are_pieces}
 use Rattle.csa.proofs.openings.are_pieces.Given as goal
 

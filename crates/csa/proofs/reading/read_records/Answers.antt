@@ -1,7 +1,6 @@
-use Rattle.std.proofs.Common.{◌≡◌, ℕ, ◌+◌, ◌<◌, ◌++◌, ◌∷◌, [], List, length, take, map, get_or, sym, ap, subst, ◌∙◌, arith, rules}
+use Rattle.std.proofs.Common.{◌≡◌, ℕ, ◌+◌, ◌++◌, ◌∷◌, [], List, length, take, map, get_or, sym, ap, subst, ◌∙◌, arith, rules}
 use Rattle.std.proofs.lemmas.List.{take_more, length-map, get_or-map}
 use Rattle.csa.specs.declared.lines.Placed.{Placed}
-use Rattle.csa.specs.declared.game.CsaGame.{CsaGame}
 use Rattle.csa.specs.Reading.{AreRecordsOf, FailsOrMemory}
 use Rattle.csa.proofs.RecordLemmas.{fails-record, records-more}
 use Rattle.csa.proofs.reading.read_records.Goals as goal

@@ -1,6 +1,7 @@
-use Rattle.std.proofs.Common.{◌≡◌, ℕ, List, [], ◌∷◌, ◌++◌, codes, append_assoc, sym, ap, ◌∙◌}
+use Rattle.std.proofs.Common.{◌≡◌, ℕ, List, [], ◌∷◌, ◌++◌, codes, append_assoc, ap, ◌∙◌}
 use Rattle.std.specs.Prelude.{string_bytes}
 use Rattle.csa.specs.Writing.{line_of, date_text}
+use Rattle.csa.specs.Writer.{lines_text}
 use Rattle.csa.proofs.writing.push_head.Goals as goal
 
 joined : (t a b c d s e n p x : List ℕ) → ((((((((t ++ a) ++ b) ++ c) ++ d) ++ s) ++ e) ++ n) ++ p) ++ x ≡ t ++ (a ++ (b ++ (c ++ (d ++ ((s ++ (e ++ n)) ++ (p ++ x))))))
@@ -14,11 +15,10 @@ chain t t1 t2 t3 t4 t5 t6 t7 t8 t9 a b c d s e n p x e1 e2 e3 e4 e5 e6 e7 e8 e9 
     e9 ∙ ap (λ l. l ++ x) (e8 ∙ ap (λ l. l ++ p) (e7 ∙ ap (λ l. l ++ n) (e6 ∙ ap (λ l. l ++ e) (e5 ∙ ap (λ l. l ++ s) (e4 ∙ ap (λ l. l ++ d) (e3 ∙ ap (λ l. l ++ c) (e2 ∙ ap (λ l. l ++ b) e1))))))) ∙ joined t a b c d s e n p x
 
 pub returns : goal.returns
-returns c = record {
-  at = c.civil.result;
-  shown = c.civil.ensures;
-  added = chain (string_bytes c.args.text.now) _ _ _ _ _ _ _ _ _
-      (line_of (codes "V2.2") []) (line_of (codes "N+") c.args.head.now.black.now) (line_of (codes "N-") c.args.head.now.white.now) (line_of (codes "$EVENT:") c.args.head.now.event.now)
-      (codes "$START_TIME:") (date_text c.civil.result) (10 ∷ []) (line_of (codes "PI") []) (line_of (codes "+") [])
-      c.in_ok-push_line.ensures c.in_ok-push_line-2.ensures c.in_ok-push_line-3.ensures c.in_ok-push_line-4.ensures c.in_ok-push_str.ensures.bytes c.in_ok-push_date.ensures c.in_ok-push_line-5.ensures c.in_ok-push_line-6.ensures c.in_ok-push_line-7.ensures;
-}
+unfolding lines_text
+returns c =
+    let head = c.args.head.now in
+    chain (string_bytes c.args.text.now) _ _ _ _ _ _ _ _ _
+    (line_of (codes "V2.2") []) (line_of (codes "N+") head.black.now) (line_of (codes "N-") head.white.now) (line_of (codes "$EVENT:") head.event.now)
+    (codes "$START_TIME:") (date_text c.args.start.now) (10 ∷ []) (line_of (codes "PI") []) (line_of (codes "+") [])
+    c.in_ok-push_line.ensures c.in_ok-push_line-2.ensures c.in_ok-push_line-3.ensures c.in_ok-push_line-4.ensures c.in_ok-push_str.ensures.bytes c.in_ok-push_date.ensures c.in_ok-push_line-5.ensures c.in_ok-push_line-6.ensures c.in_ok-push_line-7.ensures

@@ -1,17 +1,27 @@
-use Rattle.std.proofs.Common.{◌≡◌, List, ℕ, [], ◌++◌, map, refl, ap, ap₂, ◌∙◌}
-use Rattle.squares.specs.ShogiOpening.{opening}
-use Rattle.shogi_repetition.specs.Line.{last_position}
-use Rattle.csa.specs.Writing.{head_text, entries_text, end_text}
-use Rattle.csa.proofs.WriterLemmas.{ended_by}
+use Rattle.std.proofs.Common.{◌≡◌, subst}
+use Rattle.std.specs.Io.KnownBytes.{Appends}
+use Rattle.record_writer.specs.Pieces.{AppendsSome}
+use Rattle.record_writer.specs.PieceLaws.{begun-nothing}
+use Rattle.csa.proofs.WriterLemmas.{last_of, end-line, adds-end, begins-end}
 use Rattle.csa.proofs.game_writer.GameWriter.finish.Goals as goal
 
-pub returns : goal.returns
-returns g c head before es h =
-    let front : List ℕ = head_text head.event.now head.black.now head.white.now h.at in
-    let last : List ℕ = end_text head.end (last_position opening (map (λ e. e.0) es)).turn in
-    let turn = c.turn.ensures ∙ ap (λ p. p.turn) h.position in
-    let line : c.as_bytes.result.now ≡ last = c.as_bytes.ensures.value ∙ c.in_ok-push_end.ensures ∙ ap (λ l. l ++ end_text c.args.self.end c.turn.result) c.clear.ensures.bytes ∙ ap₂ end_text h.end turn in (
-      front ++ entries_text opening es ++ last,
-      record { at = h.at; shown = h.shown; written = refl },
-      ended_by before _ _ front (entries_text opening es) last _ line h.written c.in_ok-write_all.ensures.bytes,
-    )
+pub returns-in_err-push_end-clause-begun : goal.returns-in_err-push_end-clause-begun
+returns-in_err-push_end-clause-begun g c = begins-end c.args.self _ _ (begun-nothing _ _)
+
+pub returns-in_err-write_piece-clause-begun : goal.returns-in_err-write_piece-clause-begun
+returns-in_err-write_piece-clause-begun g c =
+    let game = c.args.self in
+    let line : c.as_bytes.result.now ≡ last_of game = end-line game c.turn.result _ _ _ c.clear.ensures.bytes c.in_ok-push_end.ensures c.turn.ensures c.as_bytes.ensures.value in
+    begins-end game _ _ (subst (AppendsSome _ _) line c.write_piece.ensures.begun)
+
+pub returns-clause-written : goal.returns-clause-written
+returns-clause-written g c =
+    let game = c.args.self in
+    let line : c.as_bytes.result.now ≡ last_of game = end-line game c.turn.result _ _ _ c.clear.ensures.bytes c.in_ok-push_end.ensures c.turn.ensures c.as_bytes.ensures.value in
+    adds-end game _ _ (subst (Appends _ _) line c.in_ok-write_piece.ensures.whole)
+
+pub returns-clause-begun : goal.returns-clause-begun
+returns-clause-begun g c =
+    let game = c.args.self in
+    let line : c.as_bytes.result.now ≡ last_of game = end-line game c.turn.result _ _ _ c.clear.ensures.bytes c.in_ok-push_end.ensures c.turn.ensures c.as_bytes.ensures.value in
+    begins-end game _ _ (subst (AppendsSome _ _) line c.write_piece.ensures.begun)

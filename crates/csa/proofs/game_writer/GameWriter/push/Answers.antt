@@ -1,27 +1,31 @@
-use Rattle.std.proofs.Common.{rules, ◌≡◌, List, ℕ, [], ◌∷◌, ◌++◌, map, append_assoc, sym, ap, subst, ◌∙◌}
-use Rattle.std.specs.Prelude.{string_bytes}
+use Rattle.std.proofs.Common.{◌≡◌, ℕ, ◌++◌, refl, ap, subst, ◌∙◌}
 use Rattle.std.specs.Io.KnownBytes.{Appends}
+use Rattle.record_writer.specs.Pieces.{AppendsSome}
+use Rattle.record_writer.specs.PieceLaws.{begun-nothing}
 use Rattle.squares.specs.declared.shogi.moves.SMove.{SMove}
-use Rattle.squares.specs.ShogiOpening.{opening}
-use Rattle.shogi_moves.specs.Rules.{play}
-use Rattle.csa.specs.Writing.{head_text, entry_text, entries_text}
-use Rattle.csa.proofs.WriterLemmas.{appends_then, entries_then, position_then}
+use Rattle.csa.proofs.WriterLemmas.{entry_of, adds-entry, begins-entry}
 use Rattle.csa.proofs.game_writer.GameWriter.push.Goals as goal
 
-pub returns : goal.returns
-returns g c head before es h =
+pub returns-in_err-push_entry-clause-begun : goal.returns-in_err-push_entry-clause-begun
+returns-in_err-push_entry-clause-begun g c = begins-entry (c.args.played.now, c.args.seconds) c.args.self.now _ _ (begun-nothing _ _)
+
+pub returns-in_err-write_piece-clause-begun : goal.returns-in_err-write_piece-clause-begun
+returns-in_err-write_piece-clause-begun g c =
     let e : SMove × ℕ = (c.args.played.now, c.args.seconds) in
-    let old = c.args.self.now in
-    let front : List ℕ = head_text head.event.now head.black.now head.white.now h.at in
-    let line : c.as_bytes.result.now ≡ entry_text old.position e.0 e.1 = c.as_bytes.ensures.value ∙ c.in_ok-push_entry.ensures ∙ ap (λ l. l ++ entry_text old.position e.0 e.1) c.clear.ensures.bytes in
-    let step = subst (Appends (g.W.Write.contents old.writer) (g.W.Write.contents c.write_all.new.self)) line c.in_ok-write_all.ensures.bytes in
-    let both = appends_then before _ _ (front ++ entries_text opening es) _ h.written step in
-    let whole : (front ++ entries_text opening es) ++ entry_text old.position e.0 e.1 ≡ front ++ entries_text opening (es ++ e ∷ []) =
-    append_assoc front (entries_text opening es) _ ∙ ap (λ l. front ++ l) (ap (λ p. entries_text opening es ++ entry_text p e.0 e.1) h.position ∙ sym (entries_then opening es e)) in
-    record {
-      at = h.at;
-      shown = h.shown;
-      written = subst (Appends before (g.W.Write.contents c.write_all.new.self)) whole both;
-      position = c.play-self.ensures ∙ ap (λ p. play p e.0) h.position ∙ sym (position_then opening es e);
-      end = h.end;
-    }
+    let game = c.args.self.now in
+    let line : c.as_bytes.result.now ≡ entry_of game e = c.as_bytes.ensures.value ∙ c.in_ok-push_entry.ensures ∙ ap (λ l. l ++ entry_of game e) c.clear.ensures.bytes in
+    begins-entry e game _ _ (subst (AppendsSome _ _) line c.write_piece.ensures.begun)
+
+pub returns-clause-written : goal.returns-clause-written
+returns-clause-written g c =
+    let e : SMove × ℕ = (c.args.played.now, c.args.seconds) in
+    let game = c.args.self.now in
+    let line : c.as_bytes.result.now ≡ entry_of game e = c.as_bytes.ensures.value ∙ c.in_ok-push_entry.ensures ∙ ap (λ l. l ++ entry_of game e) c.clear.ensures.bytes in
+    adds-entry e game _ _ _ c.play-self.ensures refl (subst (Appends _ _) line c.in_ok-write_piece.ensures.whole)
+
+pub returns-clause-begun : goal.returns-clause-begun
+returns-clause-begun g c =
+    let e : SMove × ℕ = (c.args.played.now, c.args.seconds) in
+    let game = c.args.self.now in
+    let line : c.as_bytes.result.now ≡ entry_of game e = c.as_bytes.ensures.value ∙ c.in_ok-push_entry.ensures ∙ ap (λ l. l ++ entry_of game e) c.clear.ensures.bytes in
+    begins-entry e game _ _ (subst (AppendsSome _ _) line c.write_piece.ensures.begun)
