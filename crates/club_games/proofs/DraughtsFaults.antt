@@ -6,8 +6,9 @@ use Rattle.draughts_moves.specs.declared.checking.Illegal.{Illegal}
 use Rattle.draughts_moves.specs.Check.{check_of}
 use Rattle.draughts_draws.specs.declared.faults.Fault.TheVariants as line_fault
 use Rattle.draughts_draws.specs.Faults.{HasFault}
-use Rattle.pdn.specs.declared.faults.PdnFault.{PdnFault}
-use Rattle.pdn.specs.declared.faults.PdnFault.TheVariants as fault
+use Rattle.pdn.specs.declared.faults.FenFault.TheVariants as fen_fault
+use Rattle.pdn.specs.declared.faults.MoveFault.{MoveFault}
+use Rattle.pdn.specs.declared.faults.MoveFault.TheVariants as fault
 use Rattle.pdn.specs.MoveValue.{move_reading}
 use Rattle.pdn.specs.ReadFen.{IsFen, HasFenFault}
 use Rattle.pdn.specs.ReadMove.{HasReadFault}
@@ -28,12 +29,12 @@ no-illegal start ms ply cause played h =
     refused-passes refusal_of cause (sym (ap (refused_by refusal_of) at) ∙ legal)
 
 -- a text that is refused is refused so by the function that reads
-pub refused-reading : (p : Position) (text : List ℕ) (f : PdnFault) → HasReadFault p text f → f ≢ fault.Memory → Err (text_refusal f) ≡ move_read (move_reading p text)
+pub refused-reading : (p : Position) (text : List ℕ) (f : MoveFault) → HasReadFault p text f → f ≢ fault.Memory → Err (text_refusal f) ≡ move_read (move_reading p text)
 refused-reading p text f h differs = sym (ap move_read ((reading-err p text f).1 (h, differs)))
 
-not-memory : (offset : ℕ) → fault.BadText offset ≢ fault.Memory
+not-memory : (offset : ℕ) → fen_fault.BadText offset ≢ fen_fault.Memory
 not-memory offset e = cc
 
 -- a text that is refused stands for no position
-pub no-position : (text : List ℕ) (offset : ℕ) (p : Position) → HasFenFault text (fault.BadText offset) → IsFen text p → ⊥
-no-position text offset p h is = not-memory offset (fen-well text p (fault.BadText offset) is h)
+pub no-position : (text : List ℕ) (offset : ℕ) (p : Position) → HasFenFault text (fen_fault.BadText offset) → IsFen text p → ⊥
+no-position text offset p h is = not-memory offset (fen-well text p (fen_fault.BadText offset) is h)

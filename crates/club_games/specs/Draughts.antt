@@ -14,8 +14,8 @@ use Rattle.draughts_draws.specs.declared.ends.DEnd.TheVariants as draughts_end
 use Rattle.draughts_draws.specs.declared.tails.Tail.{Tail}
 use Rattle.draughts_draws.specs.Ends.{end_of, outcome_of}
 use Rattle.draughts_draws.specs.Tails.{first_tail, next_tail, end_by}
-use Rattle.pdn.specs.declared.faults.PdnFault.{PdnFault}
-use Rattle.pdn.specs.declared.faults.PdnFault.TheVariants as fault
+use Rattle.pdn.specs.declared.faults.MoveFault.{MoveFault}
+use Rattle.pdn.specs.declared.faults.MoveFault.TheVariants as fault
 use Rattle.pdn.specs.Choice.{same_move}
 use Rattle.pdn.specs.FenText.{fen_text}
 use Rattle.pdn.specs.MoveValue.{Reading, move_reading, move_text}
@@ -33,10 +33,10 @@ refusal_of illegal.MustCapture = MustCapture
 refusal_of illegal.NotLongest = NotLongest
 
 -- why a text is refused; the reading of a text is a function, and has no fault of memory
-abbrev pub text_refusal : PdnFault → MoveRefusal
+abbrev pub text_refusal : MoveFault → MoveRefusal
 text_refusal (fault.BadText offset) = BadText game.Draughts offset
-text_refusal (fault.Ambiguous ply) = Ambiguous
-text_refusal (fault.Illegal ply cause) = refusal_of cause
+text_refusal fault.Ambiguous = Ambiguous
+text_refusal (fault.Illegal cause) = refusal_of cause
 text_refusal fault.Memory = NoSuchMove game.Draughts
 
 abbrev pub move_read : Reading → Result DMove MoveRefusal

@@ -6,7 +6,7 @@ ghost use Rattle.club_games.specs.Draughts.{draughts, refusal_of};
 use club_rules::{EndName, GameKind, MoveRefusal, Rules};
 use draughts_draws::{DEnd, Fault, Tail};
 use draughts_moves::Illegal;
-use pdn::PdnFault;
+use pdn::{FenFault, MoveFault};
 use squares::{DMove, DPos, Memory, Score, Side};
 use std::alloc::Global;
 
@@ -77,12 +77,12 @@ impl Rules for Draughts {
     ) -> Result<Result<DMove, MoveRefusal>, Memory> {
         match pdn::read_move(alloc, position, text) {
             Ok(read) => Ok(Ok(read)),
-            Err(PdnFault::Memory) => Err(Memory),
-            Err(PdnFault::BadText(offset)) => {
+            Err(MoveFault::Memory) => Err(Memory),
+            Err(MoveFault::BadText(offset)) => {
                 Ok(Err(MoveRefusal::BadText(GameKind::Draughts, offset)))
             }
-            Err(PdnFault::Ambiguous(_)) => Ok(Err(MoveRefusal::Ambiguous)),
-            Err(PdnFault::Illegal { ply: _, cause }) => Ok(Err(refusal_of(cause))),
+            Err(MoveFault::Ambiguous) => Ok(Err(MoveRefusal::Ambiguous)),
+            Err(MoveFault::Illegal(cause)) => Ok(Err(refusal_of(cause))),
         }
     }
 
@@ -103,10 +103,8 @@ impl Rules for Draughts {
     fn read_position(alloc: Global, text: &str) -> Result<Option<DPos>, Memory> {
         match pdn::read_fen(alloc, text) {
             Ok(position) => Ok(Some(position)),
-            Err(PdnFault::Memory) => Err(Memory),
-            Err(PdnFault::BadText(_)) => Ok(None),
-            Err(PdnFault::Ambiguous(_)) => unreachable!(),
-            Err(PdnFault::Illegal { ply: _, cause: _ }) => unreachable!(),
+            Err(FenFault::Memory) => Err(Memory),
+            Err(FenFault::BadText(_)) => Ok(None),
         }
     }
 

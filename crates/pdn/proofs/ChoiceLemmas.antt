@@ -6,7 +6,7 @@ use Rattle.squares.specs.declared.draughts.moves.DMove.{DMove}
 use Rattle.squares.specs.DraughtsSets.{same_squares}
 use Rattle.squares.specs.DraughtsSameSquares.{same_squares-same, same_squares-itself}
 use Rattle.squares.specs.In.{In, In-left, In-right, In-take_more}
-use Rattle.pdn.specs.declared.faults.PdnFault.{PdnFault}
+use Rattle.pdn.specs.declared.faults.MoveFault.{MoveFault}
 use Rattle.pdn.specs.Choice.{same_move, IsChoice, IsChoiceFault, Joins, Parts}
 
 and_true : (a b : Bool) → (a && b) ≡ true → (a ≡ true) × (b ≡ true)
@@ -77,7 +77,7 @@ module _ (F : DMove → Type 0) (moves : List DMove) (i : ℕ) (n : DMove) (with
   )
 
   -- one that fits beside another
-  pub choice-parts : (choice : Option DMove) (fault : PdnFault) → IsChoice F (take i moves) choice → F n → Parts choice n fault → IsChoiceFault F moves fault
+  pub choice-parts : (choice : Option DMove) (fault : MoveFault) → IsChoice F (take i moves) choice → F n → Parts choice n fault → IsChoiceFault F moves fault
   choice-parts None fault none fits never = absurd never
   choice-parts (Some other) fault chosen fits parts =
-      subst (IsChoiceFault F moves) (sym parts.0) (refl, (other, n, In-take other moves i chosen.0, chosen.1, In-take n moves (i + 1) here, fits, parts.1))
+      subst (IsChoiceFault F moves) (sym parts.0) (other, n, In-take other moves i chosen.0, chosen.1, In-take n moves (i + 1) here, fits, parts.1)

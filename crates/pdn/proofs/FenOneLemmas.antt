@@ -4,8 +4,8 @@ use Rattle.squares.specs.declared.sides.Side.{Side}
 use Rattle.squares.specs.DraughtsBoard.{Position}
 use Rattle.squares.specs.Sides.{other}
 use Rattle.pdn.specs.declared.items.Item.{Item}
-use Rattle.pdn.specs.declared.faults.PdnFault.{PdnFault}
-use Rattle.pdn.specs.declared.faults.PdnFault.TheVariants as fault
+use Rattle.pdn.specs.declared.faults.FenFault.{FenFault}
+use Rattle.pdn.specs.declared.faults.FenFault.TheVariants as fault
 use Rattle.pdn.specs.FenItems.{ItemFront, ItemReading, Items, ItemsReading, past_byte, read_item, ReadsItems, bad_item, last_item, more_items, ends_list, ReadsList, no_item, some_items}
 use Rattle.pdn.specs.FenForm.{Header, HeaderReading, RestReading, FenReading, read_header, read_between, ReadsRest, bad_second, bad_end, ended, ReadsLists, bad_first, bad_between, both, ReadsForm, bad_header, lists}
 use Rattle.pdn.specs.ReadFen.{position_of, IsFen, HasFenFault}
@@ -141,7 +141,7 @@ module _ (text : List ℕ) where
       let same : k.0 ≡ h.0 = cc in
       k.3 ∙ ap position_of same ∙ sym h.3
 
-  pub fen-well : (p : Position) (e : PdnFault) → IsFen text p → HasFenFault text e → e ≡ fault.Memory
+  pub fen-well : (p : Position) (e : FenFault) → IsFen text p → HasFenFault text e → e ≡ fault.Memory
   fen-well p fault.Memory h k = refl
   fen-well p (fault.BadText o) h (inl k) = let e = form-one (Ok h.0) (Err o) h.1 k in cc
   fen-well p (fault.BadText o) h (inr k) =
@@ -150,5 +150,3 @@ module _ (text : List ℕ) where
       let none = h.2 in
       let some = k.2 in
       cc
-  fen-well p (fault.Ambiguous ply) h k = absurd k
-  fen-well p (fault.Illegal ply cause) h k = absurd k

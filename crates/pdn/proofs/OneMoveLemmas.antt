@@ -8,8 +8,8 @@ use Rattle.draughts_moves.specs.Legal.{Legal}
 use Rattle.draughts_moves.specs.Listing.{step_to}
 use Rattle.draughts_moves.specs.Check.{Answer, check_of}
 use Rattle.draughts_moves.proofs.CheckLemmas.{check_of-is}
-use Rattle.pdn.specs.declared.faults.PdnFault.{PdnFault}
-use Rattle.pdn.specs.declared.faults.PdnFault.TheVariants as fault
+use Rattle.pdn.specs.declared.faults.MoveFault.{MoveFault}
+use Rattle.pdn.specs.declared.faults.MoveFault.TheVariants as fault
 use Rattle.pdn.specs.Forms.{Form, quiet, capture, read_form}
 use Rattle.pdn.specs.ReadMove.{StandsFor, IsAmbiguous, IsRefused, IsRead, HasReadFault}
 
@@ -37,8 +37,8 @@ not_refused p (capture from middle to) m NoSuchMove h e = e.0 m h.0 h.1
 not_refused p (capture from middle to) m MustCapture h e = e
 not_refused p (capture from middle to) m NotLongest h e = e.0 m h.0 h.1
 
-pub reads-well : (p : Position) (text : List ℕ) (m : DMove) (e : PdnFault) → IsRead p text m → HasReadFault p text e → e ≡ fault.Memory
+pub reads-well : (p : Position) (text : List ℕ) (m : DMove) (e : MoveFault) → IsRead p text m → HasReadFault p text e → e ≡ fault.Memory
 reads-well p text m fault.Memory h k = refl
 reads-well p text m (fault.BadText offset) h k = let e = h.1 in cc
-reads-well p text m (fault.Ambiguous ply) h k = absurd (not_ambiguous p h.0 m h.2 (subst (IsAmbiguous p) (one_form text h.0 k.0 h.1 k.1) k.2.1))
-reads-well p text m (fault.Illegal ply cause) h k = absurd (not_refused p h.0 m cause h.2 (subst (λ f. IsRefused p f cause) (one_form text h.0 k.0 h.1 k.1) k.2.1))
+reads-well p text m fault.Ambiguous h k = absurd (not_ambiguous p h.0 m h.2 (subst (IsAmbiguous p) (one_form text h.0 k.0 h.1 k.1) k.2))
+reads-well p text m (fault.Illegal cause) h k = absurd (not_refused p h.0 m cause h.2 (subst (λ f. IsRefused p f cause) (one_form text h.0 k.0 h.1 k.1) k.2))

@@ -11,8 +11,8 @@ use Rattle.draughts_moves.specs.Capture.{IsMost}
 use Rattle.draughts_moves.specs.Legal.{IsCapture, Legal}
 use Rattle.draughts_moves.specs.Search.{most}
 use Rattle.draughts_moves.proofs.MostLemmas.{Capture-len, IsMost-most}
-use Rattle.pdn.specs.declared.faults.PdnFault.{PdnFault}
-use Rattle.pdn.specs.declared.faults.PdnFault.TheVariants as fault
+use Rattle.pdn.specs.declared.faults.MoveFault.{MoveFault}
+use Rattle.pdn.specs.declared.faults.MoveFault.TheVariants as fault
 use Rattle.pdn.specs.Forms.{Form, capture, read_form}
 use Rattle.pdn.specs.Choice.{IsChoice, IsChoiceFault}
 use Rattle.pdn.specs.ReadMove.{Fits, SomeFits, NoneFits, ShortFits, StandsFor, IsFormFault, IsRead, HasReadFault}
@@ -70,23 +70,23 @@ module _ (p : Position) (from : ℕ) (middle : List ℕ) (to : ℕ) where
     pub none-chosen : IsChoice (Fits p from middle to) moves None → NoneFits p from middle to
     none-chosen none = λ n h fits. none n (listed n h) fits
 
-    pub choice-fault : (e : PdnFault) → IsChoiceFault (Fits p from middle to) moves e → IsFormFault p (capture from middle to) e
+    pub choice-fault : (e : MoveFault) → IsChoiceFault (Fits p from middle to) moves e → IsFormFault p (capture from middle to) e
     choice-fault fault.Memory h = tt
     choice-fault (fault.BadText offset) h = absurd h
-    choice-fault (fault.Ambiguous ply) h = (h.0, (h.1.0, h.1.1, legal h.1.0 h.1.2, h.1.3, legal h.1.1 h.1.4, h.1.5, h.1.6))
-    choice-fault (fault.Illegal ply cause) h = absurd h
+    choice-fault fault.Ambiguous h = (h.0, h.1, legal h.0 h.2, h.3, legal h.1 h.4, h.5, h.6)
+    choice-fault (fault.Illegal cause) h = absurd h
 
 module _ (p : Position) (text : List ℕ) (form : Form) (is : read_form text ≡ Ok form) where
-  pub read-form : (r : Result DMove PdnFault) → IfOk r (λ m. StandsFor p form m) → IfOk r (λ m. IsRead p text m)
+  pub read-form : (r : Result DMove MoveFault) → IfOk r (λ m. StandsFor p form m) → IfOk r (λ m. IsRead p text m)
   read-form (Ok m) h = (form, is, h)
   read-form (Err e) h = h
 
-  with_form : (e : PdnFault) → IsFormFault p form e → HasReadFault p text e
+  with_form : (e : MoveFault) → IsFormFault p form e → HasReadFault p text e
   with_form fault.Memory h = tt
   with_form (fault.BadText offset) h = absurd h
-  with_form (fault.Ambiguous ply) h = (form, is, h)
-  with_form (fault.Illegal ply cause) h = (form, is, h)
+  with_form fault.Ambiguous h = (form, is, h)
+  with_form (fault.Illegal cause) h = (form, is, h)
 
-  pub read-fault : (r : Result DMove PdnFault) → IfErr r (λ e. IsFormFault p form e) → IfErr r (λ e. HasReadFault p text e)
+  pub read-fault : (r : Result DMove MoveFault) → IfErr r (λ e. IsFormFault p form e) → IfErr r (λ e. HasReadFault p text e)
   read-fault (Ok m) h = h
   read-fault (Err e) h = with_form e h

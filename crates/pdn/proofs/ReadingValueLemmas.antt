@@ -21,8 +21,8 @@ use Rattle.draughts_moves.proofs.CheckLemmas.{check_of-is}
 use Rattle.draughts_moves.proofs.MostLemmas.{own_at-own}
 use Rattle.draughts_moves.proofs.RouteLemmas.{routes_of-complete, greatest-bounds, greatest-fits}
 use Rattle.draughts_moves.proofs.Prey.{In-range}
-use Rattle.pdn.specs.declared.faults.PdnFault.{PdnFault}
-use Rattle.pdn.specs.declared.faults.PdnFault.TheVariants as fault
+use Rattle.pdn.specs.declared.faults.MoveFault.{MoveFault}
+use Rattle.pdn.specs.declared.faults.MoveFault.TheVariants as fault
 use Rattle.pdn.specs.Forms.{Form, FormReading, quiet, capture, read_form}
 use Rattle.pdn.specs.Passing.{passes}
 use Rattle.pdn.specs.Subsequence.{is_subsequence}
@@ -111,7 +111,7 @@ module _ (F : DMove → Type 0) (f : DMove → Bool) (sound : (m : DMove) → f 
   -- what a choice is
   abbrev pub IsChosen : List DMove → Choosing → Type 0
   IsChosen ms (Ok choice) = IsChoice F ms choice
-  IsChosen ms (Err e) = (e ≡ fault.Ambiguous 1) × IsTie F ms
+  IsChosen ms (Err e) = (e ≡ fault.Ambiguous) × IsTie F ms
 
   skipped : (x : DMove) (ms : List DMove) (r : Choosing) → (F x → ⊥) → IsChosen ms r → IsChosen (x ∷ ms) r
   skipped x ms (Ok None) refuted none = λ n h fits. elim h [ inl is ↦ refuted (subst F (sym is) fits) | inr k ↦ none n k fits ]
@@ -123,8 +123,8 @@ module _ (F : DMove → Type 0) (f : DMove → Bool) (sound : (m : DMove) → f 
   pub choose-is : (ms : List DMove) → IsChosen ms (choose f ms)
   choose-is [] = λ n h fits. h
   choose-is (x ∷ ms) =
-      elim (f x) as (λ b. f x ≡ b → IsChosen (x ∷ ms) (cond b (cond (list_all (λ n. not (f n) || same_move x n) ms) (Ok (Some x)) (Err (fault.Ambiguous 1))) (choose f ms))) [
-        | true ↦ λ here. elim (list_all (λ n. not (f n) || same_move x n) ms) as (λ b. list_all (λ n. not (f n) || same_move x n) ms ≡ b → IsChosen (x ∷ ms) (cond b (Ok (Some x)) (Err (fault.Ambiguous 1)))) [
+      elim (f x) as (λ b. f x ≡ b → IsChosen (x ∷ ms) (cond b (cond (list_all (λ n. not (f n) || same_move x n) ms) (Ok (Some x)) (Err fault.Ambiguous)) (choose f ms))) [
+        | true ↦ λ here. elim (list_all (λ n. not (f n) || same_move x n) ms) as (λ b. list_all (λ n. not (f n) || same_move x n) ms ≡ b → IsChosen (x ∷ ms) (cond b (Ok (Some x)) (Err fault.Ambiguous))) [
           | true ↦ λ all. (inl refl, sound x here, λ n h fits. elim h [ inl is ↦ sym is | inr k ↦ all_agree x ms all n k fits ])
           | false ↦ λ e. let w = one_differs x ms e in (refl, (x, w.0, inl refl, sound x here, inr w.1, w.2, w.3))
         ] refl
@@ -181,15 +181,15 @@ capture-read p from middle to r e =
   where
     by_cases : (r : Choosing) → IsChosen (Fits p from middle to) (does_fit p from middle to) (does_fit-fits p from middle to) (fits-does_fit p from middle to) (legal_moves p) r → IsReadBy p (capture from middle to) (chosen (some_fit p from middle to) r)
     by_cases (Ok None) none =
-        ((refl, cause-is p from middle to (some_fit p from middle to) refl (reading.none-chosen p from middle to (legal_moves p) (legal_moves p) refl (members p from middle to) none)), λ e. cc)
+        (cause-is p from middle to (some_fit p from middle to) refl (reading.none-chosen p from middle to (legal_moves p) (legal_moves p) refl (members p from middle to) none), λ e. cc)
     by_cases (Ok (Some m)) choice = reading.chosen p from middle to (legal_moves p) (legal_moves p) refl (members p from middle to) m choice
     by_cases (Err e) tie =
-        (subst (IsFormFault p (capture from middle to)) (sym tie.0) (reading.choice-fault p from middle to (legal_moves p) (legal_moves p) refl (members p from middle to) (fault.Ambiguous 1) (refl, tie.1)), λ memory. let is = tie.0 in cc)
+        (subst (IsFormFault p (capture from middle to)) (sym tie.0) (reading.choice-fault p from middle to (legal_moves p) (legal_moves p) refl (members p from middle to) fault.Ambiguous tie.1), λ memory. let is = tie.0 in cc)
 
 quiet-read : (p : Position) (from to : ℕ) (a : Answer) → check_of p (step_to from to) ≡ a → IsReadBy p (quiet from to) (checked (step_to from to) a)
 unfolding IsReadBy
 quiet-read p from to (Ok u) e = (refl, (check_of-is p (step_to from to)).legal.0 (subst IsOk (sym e) refl))
-quiet-read p from to (Err cause) e = ((refl, e), λ memory. cc)
+quiet-read p from to (Err cause) e = (e, λ memory. cc)
 
 form-read : (p : Position) (form : Form) → IsReadBy p form (form_reading p form)
 form-read p (quiet from to) = quiet-read p from to (check_of p (step_to from to)) refl
@@ -205,8 +205,8 @@ unfolding IsReadBy IsReadingOf
 of_form p text form e (Ok m) h = (form, e, h)
 of_form p text form e (Err fault.Memory) h = absurd (h.1 refl)
 of_form p text form e (Err (fault.BadText offset)) h = absurd h.0
-of_form p text form e (Err (fault.Ambiguous ply)) h = ((form, e, h.0), h.1)
-of_form p text form e (Err (fault.Illegal ply cause)) h = ((form, e, h.0), h.1)
+of_form p text form e (Err fault.Ambiguous) h = ((form, e, h.0), h.1)
+of_form p text form e (Err (fault.Illegal cause)) h = ((form, e, h.0), h.1)
 
 of_text : (p : Position) (text : List ℕ) (r : FormReading) → read_form text ≡ r → IsReadingOf p text (with_form p r)
 unfolding IsReadingOf
@@ -237,23 +237,21 @@ one_cause p (capture from middle to) NotLongest MustCapture h k = absurd k
 one_cause p (capture from middle to) NotLongest NotLongest h k = refl
 
 -- a text has one fault beside that of memory
-one_fault : (p : Position) (text : List ℕ) (d e : PdnFault) → HasReadFault p text d → HasReadFault p text e → d ≢ fault.Memory → e ≢ fault.Memory → d ≡ e
+one_fault : (p : Position) (text : List ℕ) (d e : MoveFault) → HasReadFault p text d → HasReadFault p text e → d ≢ fault.Memory → e ≢ fault.Memory → d ≡ e
 one_fault p text fault.Memory e h k nd ne = absurd (nd refl)
 one_fault p text (fault.BadText offset) fault.Memory h k nd ne = absurd (ne refl)
 one_fault p text (fault.BadText offset) (fault.BadText other) h k nd ne = let same : offset ≡ other = cc in ap fault.BadText same
-one_fault p text (fault.BadText offset) (fault.Ambiguous ply) h k nd ne = let g = k.1 in cc
-one_fault p text (fault.BadText offset) (fault.Illegal ply cause) h k nd ne = let g = k.1 in cc
-one_fault p text (fault.Ambiguous ply) fault.Memory h k nd ne = absurd (ne refl)
-one_fault p text (fault.Ambiguous ply) (fault.BadText offset) h k nd ne = let g = h.1 in cc
-one_fault p text (fault.Ambiguous ply) (fault.Ambiguous other) h k nd ne = ap fault.Ambiguous (h.2.0 ∙ sym k.2.0)
-one_fault p text (fault.Ambiguous ply) (fault.Illegal other cause) h k nd ne = absurd (no_tie p h.0 cause h.2.1 (subst (λ f. IsRefused p f cause) (one_form text h.0 k.0 h.1 k.1) k.2.1))
-one_fault p text (fault.Illegal ply cause) fault.Memory h k nd ne = absurd (ne refl)
-one_fault p text (fault.Illegal ply cause) (fault.BadText offset) h k nd ne = let g = h.1 in cc
-one_fault p text (fault.Illegal ply cause) (fault.Ambiguous other) h k nd ne = absurd (no_tie p k.0 cause k.2.1 (subst (λ f. IsRefused p f cause) (one_form text k.0 h.0 k.1 h.1) h.2.1))
-one_fault p text (fault.Illegal ply cause) (fault.Illegal other reason) h k nd ne =
-    let ply_is = h.2.0 ∙ sym k.2.0 in
-    let cause_is = one_cause p h.0 cause reason h.2.1 (subst (λ f. IsRefused p f reason) (one_form text h.0 k.0 h.1 k.1) k.2.1) in
-    λ i. fault.Illegal (ply_is i) (cause_is i)
+one_fault p text (fault.BadText offset) fault.Ambiguous h k nd ne = let g = k.1 in cc
+one_fault p text (fault.BadText offset) (fault.Illegal cause) h k nd ne = let g = k.1 in cc
+one_fault p text fault.Ambiguous fault.Memory h k nd ne = absurd (ne refl)
+one_fault p text fault.Ambiguous (fault.BadText offset) h k nd ne = let g = h.1 in cc
+one_fault p text fault.Ambiguous fault.Ambiguous h k nd ne = refl
+one_fault p text fault.Ambiguous (fault.Illegal cause) h k nd ne = absurd (no_tie p h.0 cause h.2 (subst (λ f. IsRefused p f cause) (one_form text h.0 k.0 h.1 k.1) k.2))
+one_fault p text (fault.Illegal cause) fault.Memory h k nd ne = absurd (ne refl)
+one_fault p text (fault.Illegal cause) (fault.BadText offset) h k nd ne = let g = h.1 in cc
+one_fault p text (fault.Illegal cause) fault.Ambiguous h k nd ne = absurd (no_tie p k.0 cause k.2 (subst (λ f. IsRefused p f cause) (one_form text k.0 h.0 k.1 h.1) h.2))
+one_fault p text (fault.Illegal cause) (fault.Illegal reason) h k nd ne =
+    ap fault.Illegal (one_cause p h.0 cause reason h.2 (subst (λ f. IsRefused p f reason) (one_form text h.0 k.0 h.1 k.1) k.2))
 
 module _ (p : Position) (text : List ℕ) where
   from_ok : (r : Reading) (m : DMove) → IsReadingOf p text r → r ≡ Ok m → IsRead p text m
@@ -266,12 +264,12 @@ module _ (p : Position) (text : List ℕ) where
   to_ok (Ok n) m h k = ap Ok (reads-one p text m n k h)
   to_ok (Err f) m h k = absurd (h.1 (reads-well p text m f k h.0))
 
-  from_err : (r : Reading) (e : PdnFault) → IsReadingOf p text r → r ≡ Err e → HasReadFault p text e × (e ≢ fault.Memory)
+  from_err : (r : Reading) (e : MoveFault) → IsReadingOf p text r → r ≡ Err e → HasReadFault p text e × (e ≢ fault.Memory)
   unfolding IsReadingOf
   from_err (Ok n) e h is = cc
   from_err (Err f) e h is = let same : f ≡ e = cc in subst (λ x. HasReadFault p text x × (x ≢ fault.Memory)) same h
 
-  to_err : (r : Reading) (e : PdnFault) → IsReadingOf p text r → HasReadFault p text e × (e ≢ fault.Memory) → r ≡ Err e
+  to_err : (r : Reading) (e : MoveFault) → IsReadingOf p text r → HasReadFault p text e × (e ≢ fault.Memory) → r ≡ Err e
   unfolding IsReadingOf
   to_err (Ok n) e h k = absurd (k.1 (reads-well p text n e h k.0))
   to_err (Err f) e h k = ap Err (one_fault p text f e h.0 k.0 h.1 k.1)
@@ -279,5 +277,5 @@ module _ (p : Position) (text : List ℕ) where
   pub reading-ok : (m : DMove) → (move_reading p text ≡ Ok m) ↔ IsRead p text m
   reading-ok m = (from_ok (move_reading p text) m (reading-is p text), to_ok (move_reading p text) m (reading-is p text))
 
-  pub reading-err : (e : PdnFault) → (move_reading p text ≡ Err e) ↔ (HasReadFault p text e × (e ≢ fault.Memory))
+  pub reading-err : (e : MoveFault) → (move_reading p text ≡ Err e) ↔ (HasReadFault p text e × (e ≢ fault.Memory))
   reading-err e = (from_err (move_reading p text) e (reading-is p text), to_err (move_reading p text) e (reading-is p text))

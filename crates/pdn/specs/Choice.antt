@@ -3,8 +3,8 @@ use Rattle.std.specs.Prelude.{◌≡◌, ◌≢◌, ◌==◌, ◌&&◌, Bool, Op
 use Rattle.squares.specs.declared.draughts.moves.DMove.{DMove}
 use Rattle.squares.specs.DraughtsSets.{same_squares}
 use Rattle.squares.specs.In.{In}
-use Rattle.pdn.specs.declared.faults.PdnFault.{PdnFault}
-use Rattle.pdn.specs.declared.faults.PdnFault.TheVariants as fault
+use Rattle.pdn.specs.declared.faults.MoveFault.{MoveFault}
+use Rattle.pdn.specs.declared.faults.MoveFault.TheVariants as fault
 
 abbrev pub same_move : DMove → DMove → Bool
 same_move a b = (a.from == b.from) && ((a.to == b.to) && same_squares a.taken b.taken)
@@ -19,17 +19,17 @@ abbrev pub IsTie : (DMove → Type 0) → List DMove → Type 0
 IsTie F moves = (m : DMove) × (n : DMove) × In m moves × F m × In n moves × F n × (m ≢ n)
 
 -- why there is no choice
-abbrev pub IsChoiceFault : (DMove → Type 0) → List DMove → PdnFault → Type 0
+abbrev pub IsChoiceFault : (DMove → Type 0) → List DMove → MoveFault → Type 0
 IsChoiceFault F moves fault.Memory = Unit {0}
 IsChoiceFault F moves (fault.BadText offset) = ⊥
-IsChoiceFault F moves (fault.Ambiguous ply) = (ply ≡ 1) × IsTie F moves
-IsChoiceFault F moves (fault.Illegal ply cause) = ⊥
+IsChoiceFault F moves fault.Ambiguous = IsTie F moves
+IsChoiceFault F moves (fault.Illegal cause) = ⊥
 
 -- a move that fits beside the choice so far: it is the same or the first, or there are two
 abbrev pub Joins : Option DMove → DMove → DMove → Type 0
 Joins None n m = m ≡ n
 Joins (Some other) n m = (m ≡ n) × (m ≡ other)
 
-abbrev pub Parts : Option DMove → DMove → PdnFault → Type 0
+abbrev pub Parts : Option DMove → DMove → MoveFault → Type 0
 Parts None n e = ⊥
-Parts (Some other) n e = (e ≡ fault.Ambiguous 1) × (other ≢ n)
+Parts (Some other) n e = (e ≡ fault.Ambiguous) × (other ≢ n)

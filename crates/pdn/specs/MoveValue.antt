@@ -13,8 +13,8 @@ use Rattle.draughts_moves.specs.Search.{own_at, most}
 use Rattle.draughts_moves.specs.Listing.{moves, captures_at, step_to}
 use Rattle.draughts_moves.specs.Routes.{route_cmp, landings_of}
 use Rattle.draughts_moves.specs.Check.{Answer, check_of}
-use Rattle.pdn.specs.declared.faults.PdnFault.{PdnFault}
-use Rattle.pdn.specs.declared.faults.PdnFault.TheVariants as fault
+use Rattle.pdn.specs.declared.faults.MoveFault.{MoveFault}
+use Rattle.pdn.specs.declared.faults.MoveFault.TheVariants as fault
 use Rattle.pdn.specs.Forms.{Form, FormReading, quiet, capture, read_form}
 use Rattle.pdn.specs.Passing.{passes}
 use Rattle.pdn.specs.Choice.{same_move}
@@ -44,23 +44,23 @@ unfoldable pub does_fit : Position → ℕ → List ℕ → ℕ → DMove → Bo
 does_fit p from middle to m = (m.from == from) && ((m.to == to) && list_any (passes middle) (routes_in p m))
 
 abbrev pub Choosing : Type 0
-Choosing = Result (Option DMove) PdnFault
+Choosing = Result (Option DMove) MoveFault
 
 -- the one of the moves that fits, if there is one
 abbrev pub choose : (DMove → Bool) → List DMove → Choosing
 choose fits [] = Ok None
 choose fits (m ∷ moves) =
-    if fits m then if list_all (λ n. not (fits n) || same_move m n) moves then Ok (Some m) else Err (fault.Ambiguous 1) else choose fits moves
+    if fits m then if list_all (λ n. not (fits n) || same_move m n) moves then Ok (Some m) else Err fault.Ambiguous else choose fits moves
 
 -- whether any capture fits
 unfoldable pub some_fit : Position → ℕ → List ℕ → ℕ → Bool
 some_fit p from middle to = list_any (λ n. list_any (does_fit p from middle to) (captures_at p n from)) (range_with_len 0 51)
 
-abbrev pub illegal : Illegal → PdnFault
-illegal cause = fault.Illegal 1 cause
+abbrev pub illegal : Illegal → MoveFault
+illegal cause = fault.Illegal cause
 
 abbrev pub Reading : Type 0
-Reading = Result DMove PdnFault
+Reading = Result DMove MoveFault
 
 abbrev pub chosen : Bool → Choosing → Reading
 chosen some (Err e) = Err e

@@ -4,8 +4,8 @@ use Rattle.std.specs.List.{list_any, range_with_len}
 use Rattle.std.specs.FinMap as map
 use Rattle.squares.specs.DraughtsBoard.{Board, Position}
 use Rattle.pdn.specs.declared.items.Item.{Item}
-use Rattle.pdn.specs.declared.faults.PdnFault.{PdnFault}
-use Rattle.pdn.specs.declared.faults.PdnFault.TheVariants as fault
+use Rattle.pdn.specs.declared.faults.FenFault.{FenFault}
+use Rattle.pdn.specs.declared.faults.FenFault.TheVariants as fault
 use Rattle.pdn.specs.FenForm.{FenForm, ReadsForm}
 
 -- whether two items give one square
@@ -36,15 +36,11 @@ abbrev pub IsFen : List ℕ → Position → Type 0
 IsFen text p = (form : FenForm) × ReadsForm text (Ok form) × (repeated form.items ≡ None) × (p ≡ position_of form)
 
 -- What is wrong with a text: it has not the form, or it has, and an item gives a square again.
-abbrev pub HasFenFault : List ℕ → PdnFault → Type 0
+abbrev pub HasFenFault : List ℕ → FenFault → Type 0
 HasFenFault text fault.Memory = Unit {0}
 HasFenFault text (fault.BadText offset) = ReadsForm text (Err offset) ⊎ ((form : FenForm) × ReadsForm text (Ok form) × (repeated form.items ≡ Some offset))
-HasFenFault text (fault.Ambiguous ply) = ⊥
-HasFenFault text (fault.Illegal ply cause) = ⊥
 
 -- a fault of the form alone, by what offsets it may have
-abbrev pub IsBadAt : (ℕ → Type 0) → PdnFault → Type 0
+abbrev pub IsBadAt : (ℕ → Type 0) → FenFault → Type 0
 IsBadAt at fault.Memory = Unit {0}
 IsBadAt at (fault.BadText offset) = at offset
-IsBadAt at (fault.Ambiguous ply) = ⊥
-IsBadAt at (fault.Illegal ply cause) = ⊥

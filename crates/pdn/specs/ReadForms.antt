@@ -1,7 +1,7 @@
 -- What the reader of forms answers.
 use Rattle.std.specs.Prelude.{◌≡◌, Err}
-use Rattle.pdn.specs.declared.faults.PdnFault.{PdnFault}
-use Rattle.pdn.specs.declared.faults.PdnFault.TheVariants as fault
+use Rattle.pdn.specs.declared.faults.MoveFault.{MoveFault}
+use Rattle.pdn.specs.declared.faults.MoveFault.TheVariants as fault
 use Rattle.pdn.specs.declared.forms.Form as answer
 use Rattle.pdn.specs.declared.forms.Form.TheVariants as named
 use Rattle.pdn.specs.Forms.{Form, FormReading, quiet, capture}
@@ -11,8 +11,8 @@ form_of (named.Quiet from to) = quiet from to
 form_of (named.Capture from middle to) = capture from middle.items to
 
 -- a fault of a text that has none of the forms
-abbrev pub IsBadForm : FormReading → PdnFault → Type 0
+abbrev pub IsBadForm : FormReading → MoveFault → Type 0
 IsBadForm reading fault.Memory = Unit {0}
 IsBadForm reading (fault.BadText offset) = reading ≡ Err offset
-IsBadForm reading (fault.Ambiguous ply) = ⊥
-IsBadForm reading (fault.Illegal ply cause) = ⊥
+IsBadForm reading fault.Ambiguous = ⊥
+IsBadForm reading (fault.Illegal cause) = ⊥

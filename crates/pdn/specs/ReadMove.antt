@@ -8,8 +8,8 @@ use Rattle.draughts_moves.specs.Capture.{Capture}
 use Rattle.draughts_moves.specs.Legal.{IsShortCapture, Legal}
 use Rattle.draughts_moves.specs.Listing.{step_to}
 use Rattle.draughts_moves.specs.Check.{check_of}
-use Rattle.pdn.specs.declared.faults.PdnFault.{PdnFault}
-use Rattle.pdn.specs.declared.faults.PdnFault.TheVariants as fault
+use Rattle.pdn.specs.declared.faults.MoveFault.{MoveFault}
+use Rattle.pdn.specs.declared.faults.MoveFault.TheVariants as fault
 use Rattle.pdn.specs.Forms.{Form, quiet, capture, read_form}
 use Rattle.pdn.specs.Subsequence.{IsSubsequence}
 
@@ -51,20 +51,20 @@ IsRefused p (capture from middle to) NoSuchMove = NoneFits p from middle to × (
 IsRefused p (capture from middle to) MustCapture = ⊥
 IsRefused p (capture from middle to) NotLongest = NoneFits p from middle to × ShortFits p from middle to
 
--- what is wrong with a text of a form, which is that of ply 1
-abbrev pub IsFormFault : Position → Form → PdnFault → Type 0
+-- what is wrong with a text of a form
+abbrev pub IsFormFault : Position → Form → MoveFault → Type 0
 IsFormFault p form fault.Memory = Unit {0}
 IsFormFault p form (fault.BadText offset) = ⊥
-IsFormFault p form (fault.Ambiguous ply) = (ply ≡ 1) × IsAmbiguous p form
-IsFormFault p form (fault.Illegal ply cause) = (ply ≡ 1) × IsRefused p form cause
+IsFormFault p form fault.Ambiguous = IsAmbiguous p form
+IsFormFault p form (fault.Illegal cause) = IsRefused p form cause
 
 -- a text that is read as a move
 abbrev pub IsRead : Position → List ℕ → DMove → Type 0
 IsRead p text m = (form : Form) × (read_form text ≡ Ok form) × StandsFor p form m
 
 -- What is wrong with a text. One without a form has its longest beginning that begins a move's text.
-abbrev pub HasReadFault : Position → List ℕ → PdnFault → Type 0
+abbrev pub HasReadFault : Position → List ℕ → MoveFault → Type 0
 HasReadFault p text fault.Memory = Unit {0}
 HasReadFault p text (fault.BadText offset) = read_form text ≡ Err offset
-HasReadFault p text (fault.Ambiguous ply) = (form : Form) × (read_form text ≡ Ok form) × IsFormFault p form (fault.Ambiguous ply)
-HasReadFault p text (fault.Illegal ply cause) = (form : Form) × (read_form text ≡ Ok form) × IsFormFault p form (fault.Illegal ply cause)
+HasReadFault p text fault.Ambiguous = (form : Form) × (read_form text ≡ Ok form) × IsAmbiguous p form
+HasReadFault p text (fault.Illegal cause) = (form : Form) × (read_form text ≡ Ok form) × IsRefused p form cause

@@ -5,50 +5,82 @@ use std::alloc::AllocFailed;
 use std::error::Error;
 use std::fmt;
 
-/// Why a text is refused. Plies count from 1.
+/// Why the text of a move is refused.
 #[derive(Clone, Copy, Debug, PartialEq, Eq)]
-pub enum PdnFault {
+pub enum MoveFault {
     /// Memory was refused.
     Memory,
     /// The text has none of the forms. Its longest beginning that begins such a text has this many bytes.
     BadText(usize),
-    /// Two or more legal captures fit the text of this ply.
-    Ambiguous(usize),
-    /// The text of this ply names no legal move, and why.
-    Illegal { ply: usize, cause: Illegal },
+    /// Two or more legal captures fit the text.
+    Ambiguous,
+    /// The text names no legal move, and why.
+    Illegal(Illegal),
 }
 
-impl fmt::Display for PdnFault {
+impl fmt::Display for MoveFault {
     fn fmt<W: fmt::Write>(&self, f: &mut fmt::Formatter<W>) -> fmt::Result {
         match self {
-            PdnFault::Memory => f.write_str("out of memory"),
-            PdnFault::BadText(offset) => write!(f, "no such text after {offset} bytes"),
-            PdnFault::Ambiguous(ply) => write!(f, "ply {ply}: more than one capture fits"),
-            PdnFault::Illegal { ply, cause } => write!(f, "ply {ply}: {cause}"),
+            MoveFault::Memory => f.write_str("out of memory"),
+            MoveFault::BadText(offset) => write!(f, "no such text after {offset} bytes"),
+            MoveFault::Ambiguous => f.write_str("more than one capture fits"),
+            MoveFault::Illegal(cause) => write!(f, "{cause}"),
         }
     }
 }
 
-impl Error for PdnFault {}
+impl Error for MoveFault {}
 
-impl From<Memory> for PdnFault {
+impl From<Memory> for MoveFault {
     ghost use Rattle.std.specs.Prelude.{◌≡◌};
-    ghost use Rattle.pdn.specs.declared.faults.PdnFault.TheVariants as fault;
+    ghost use Rattle.pdn.specs.declared.faults.MoveFault.TheVariants as fault;
 
     ghost from_gives = { λ _ e. e ≡ fault.Memory };
 
-    fn from(_refused: Memory) -> PdnFault {
-        PdnFault::Memory
+    fn from(_refused: Memory) -> MoveFault {
+        MoveFault::Memory
     }
 }
 
-impl<T: Drop> From<AllocFailed<T>> for PdnFault {
+impl<T: Drop> From<AllocFailed<T>> for MoveFault {
     ghost use Rattle.std.specs.Prelude.{◌≡◌};
-    ghost use Rattle.pdn.specs.declared.faults.PdnFault.TheVariants as fault;
+    ghost use Rattle.pdn.specs.declared.faults.MoveFault.TheVariants as fault;
 
     ghost from_gives = { λ _ e. e ≡ fault.Memory };
 
-    fn from(_refused: AllocFailed<T>) -> PdnFault {
-        PdnFault::Memory
+    fn from(_refused: AllocFailed<T>) -> MoveFault {
+        MoveFault::Memory
+    }
+}
+
+/// Why the text of a position is refused.
+#[derive(Clone, Copy, Debug, PartialEq, Eq)]
+pub enum FenFault {
+    /// Memory was refused.
+    Memory,
+    /// The text has not the form, and its longest beginning that begins such a text has this many bytes. Or it has the
+    /// form, and what begins at this byte gives a square again.
+    BadText(usize),
+}
+
+impl fmt::Display for FenFault {
+    fn fmt<W: fmt::Write>(&self, f: &mut fmt::Formatter<W>) -> fmt::Result {
+        match self {
+            FenFault::Memory => f.write_str("out of memory"),
+            FenFault::BadText(offset) => write!(f, "no such text after {offset} bytes"),
+        }
+    }
+}
+
+impl Error for FenFault {}
+
+impl<T: Drop> From<AllocFailed<T>> for FenFault {
+    ghost use Rattle.std.specs.Prelude.{◌≡◌};
+    ghost use Rattle.pdn.specs.declared.faults.FenFault.TheVariants as fault;
+
+    ghost from_gives = { λ _ e. e ≡ fault.Memory };
+
+    fn from(_refused: AllocFailed<T>) -> FenFault {
+        FenFault::Memory
     }
 }

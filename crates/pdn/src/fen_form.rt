@@ -5,7 +5,7 @@ ghost use Rattle.pdn.specs.FenForm.{read_side, read_header, read_between, left_o
 ghost use Rattle.pdn.specs.ReadFen.{IsBadAt};
 ghost use Rattle.pdn.specs.FenValues.{form_value};
 
-use crate::faults::PdnFault;
+use crate::faults::FenFault;
 use crate::items::{Item, past_byte, read_item};
 use squares::Side;
 use std::alloc::Global;
@@ -91,7 +91,7 @@ fn read_items<'a>(
     side: Side,
     text: &'a [u8],
     items: &mut Vec<Item>,
-) -> Result<&'a [u8], PdnFault>
+) -> Result<&'a [u8], FenFault>
     requires { length text.now ≤ total }
     ensures rest { IfOk result
         (λ rest. ReadsItems total side items.old.items text.now
@@ -105,7 +105,7 @@ fn read_items<'a>(
     loop {
         let front = match read_item(total, side, left) {
             Ok(front) => front,
-            Err(offset) => return Err(PdnFault::BadText(offset)),
+            Err(offset) => return Err(FenFault::BadText(offset)),
         };
         items.push(front.item)?;
         match past_byte(b',', front.rest) {
@@ -121,7 +121,7 @@ fn read_list<'a>(
     side: Side,
     text: &'a [u8],
     items: &mut Vec<Item>,
-) -> Result<&'a [u8], PdnFault>
+) -> Result<&'a [u8], FenFault>
     requires { length text.now ≤ total }
     ensures rest { IfOk result
         (λ rest. ReadsList total side items.old.items text.now
@@ -190,7 +190,7 @@ fn read_rest(
     second: Side,
     text: &[u8],
     before: Vec<Item>,
-) -> Result<FenForm, PdnFault>
+) -> Result<FenForm, FenFault>
     requires { length text.now ≤ total }
     ensures form { IfOk result
         (λ form. ReadsRest total turn second before.items text.now (Ok (form_value form))) }
@@ -204,7 +204,7 @@ fn read_rest(
         Err(fault) => return Err(fault),
     };
     match past_end(total, rest) {
-        Some(offset) => Err(PdnFault::BadText(offset)),
+        Some(offset) => Err(FenFault::BadText(offset)),
         None => Ok(FenForm { turn, items }),
     }
 }
@@ -216,7 +216,7 @@ fn read_lists(
     turn: Side,
     first: Side,
     text: &[u8],
-) -> Result<FenForm, PdnFault>
+) -> Result<FenForm, FenFault>
     requires { length text.now ≤ total }
     ensures form { IfOk result
         (λ form. ReadsLists total (record { turn = turn; first = first; rest = text.now })
@@ -232,7 +232,7 @@ fn read_lists(
     };
     let rest = match read_between(total, first, after) {
         Ok(rest) => rest,
-        Err(offset) => return Err(PdnFault::BadText(offset)),
+        Err(offset) => return Err(FenFault::BadText(offset)),
     };
     match read_rest(total, turn, first.other(), rest, items) {
         Ok(form) => Ok(form),
@@ -241,14 +241,14 @@ fn read_lists(
 }
 
 /// The form of a position's text, or the fault that it has none.
-pub fn read_fen_form(alloc: Global, text: &[u8]) -> Result<FenForm, PdnFault>
+pub fn read_fen_form(alloc: Global, text: &[u8]) -> Result<FenForm, FenFault>
     ensures form { IfOk result (λ form. ReadsForm text.now (Ok (form_value form))) }
     ensures fault { IfErr result
         (λ fault. IsBadAt (λ offset. ReadsForm text.now (Err offset)) fault) }
 {
     let header = match read_header(text) {
         Ok(header) => header,
-        Err(offset) => return Err(PdnFault::BadText(offset)),
+        Err(offset) => return Err(FenFault::BadText(offset)),
     };
     match read_lists(alloc, text.len(), header.turn, header.first, header.rest) {
         Ok(form) => Ok(form),

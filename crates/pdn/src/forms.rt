@@ -4,7 +4,7 @@ ghost use Rattle.pdn.specs.SquareText.{read_square};
 ghost use Rattle.pdn.specs.Forms.{past_hyphen, past_cross, read_landings, quiet_of, capture_of, read_form};
 ghost use Rattle.pdn.specs.ReadForms.{form_of, IsBadForm};
 
-use crate::faults::PdnFault;
+use crate::faults::MoveFault;
 use crate::squares_text::read_square;
 use squares::Dsq;
 use std::alloc::Global;
@@ -26,7 +26,7 @@ pub enum Form {
 }
 
 // The second square of a quiet move, of a text of `total` bytes.
-fn read_quiet(from: Dsq, total: usize, text: &[u8]) -> Result<Form, PdnFault>
+fn read_quiet(from: Dsq, total: usize, text: &[u8]) -> Result<Form, MoveFault>
     requires { length text.now ≤ total }
     ensures form { IfOk result
         (λ form. quiet_of from (total - length text.now) total (read_square text.now)
@@ -36,10 +36,10 @@ fn read_quiet(from: Dsq, total: usize, text: &[u8]) -> Result<Form, PdnFault>
 {
     let front = match read_square(text) {
         Ok(front) => front,
-        Err(bytes) => return Err(PdnFault::BadText(total - text.len() + bytes)),
+        Err(bytes) => return Err(MoveFault::BadText(total - text.len() + bytes)),
     };
     if front.rest.len() > 0 {
-        return Err(PdnFault::BadText(total - front.rest.len()));
+        return Err(MoveFault::BadText(total - front.rest.len()));
     }
     Ok(Form::Quiet {
         from,
@@ -71,7 +71,7 @@ fn past_cross(text: &[u8]) -> Option<&[u8]>
 }
 
 // The landing squares of a capture, of a text of `total` bytes.
-fn read_capture(alloc: Global, from: Dsq, total: usize, text: &[u8]) -> Result<Form, PdnFault>
+fn read_capture(alloc: Global, from: Dsq, total: usize, text: &[u8]) -> Result<Form, MoveFault>
     requires { length text.now ≤ total }
     ensures form { IfOk result
         (λ form. capture_of from (total - length text.now) (read_landings text.now)
@@ -84,7 +84,7 @@ fn read_capture(alloc: Global, from: Dsq, total: usize, text: &[u8]) -> Result<F
     loop {
         let front = match read_square(rest) {
             Ok(front) => front,
-            Err(bytes) => return Err(PdnFault::BadText(total - rest.len() + bytes)),
+            Err(bytes) => return Err(MoveFault::BadText(total - rest.len() + bytes)),
         };
         if front.rest.len() == 0 {
             return Ok(Form::Capture {
@@ -98,20 +98,20 @@ fn read_capture(alloc: Global, from: Dsq, total: usize, text: &[u8]) -> Result<F
                 middle.push(front.square)?;
                 rest = more;
             }
-            None => return Err(PdnFault::BadText(total - front.rest.len())),
+            None => return Err(MoveFault::BadText(total - front.rest.len())),
         }
     }
 }
 
 /// The form of a text, or the fault that it has none.
-pub fn read_form(alloc: Global, text: &[u8]) -> Result<Form, PdnFault>
+pub fn read_form(alloc: Global, text: &[u8]) -> Result<Form, MoveFault>
     ensures form { IfOk result (λ form. read_form text.now ≡ Ok (form_of form)) }
     ensures fault { IfErr result (λ fault. IsBadForm (read_form text.now) fault) }
 {
     let total = text.len();
     let front = match read_square(text) {
         Ok(front) => front,
-        Err(bytes) => return Err(PdnFault::BadText(bytes)),
+        Err(bytes) => return Err(MoveFault::BadText(bytes)),
     };
     match past_hyphen(front.rest) {
         Some(rest) => return read_quiet(front.square, total, rest),
@@ -119,6 +119,6 @@ pub fn read_form(alloc: Global, text: &[u8]) -> Result<Form, PdnFault>
     }
     match past_cross(front.rest) {
         Some(rest) => read_capture(alloc, front.square, total, rest),
-        None => Err(PdnFault::BadText(total - front.rest.len())),
+        None => Err(MoveFault::BadText(total - front.rest.len())),
     }
 }

@@ -3,7 +3,6 @@ ghost use Rattle.std.specs.Prelude.{◌≡◌, ◌+◌, ◌-◌, ◌<◌, ◌≤
 ghost use Rattle.pdn.specs.SquareText.{read_square};
 ghost use Rattle.pdn.specs.FenItems.{past_byte, read_end_second, can_begin, read_end_number, read_end, man, king, king_of, range_of, men_of, read_item};
 
-use crate::faults::PdnFault;
 use crate::squares_text::{Front, read_square};
 use squares::{DPiece, Dsq, Side};
 

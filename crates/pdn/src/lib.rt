@@ -15,7 +15,7 @@ pub mod reading_fen;
 mod squares_text;
 
 pub use draughts_moves::Memory;
-pub use faults::PdnFault;
+pub use faults::{FenFault, MoveFault};
 pub use fen::write_fen;
 pub use moves::write_move;
 pub use reading::read_move;

@@ -5,7 +5,7 @@ ghost use Rattle.pdn.specs.Forms.{quiet, capture};
 ghost use Rattle.pdn.specs.Choice.{IsChoice, IsChoiceFault, Joins, Parts, same_move};
 ghost use Rattle.pdn.specs.ReadMove.{Fits, NoneFits, StandsFor, IsRefused, IsFormFault, IsRead, HasReadFault};
 
-use crate::faults::PdnFault;
+use crate::faults::MoveFault;
 use crate::forms::{Form, read_form};
 use crate::passing::some_passes;
 use crate::reaching::some_fits;
@@ -14,7 +14,7 @@ use squares::{DMove, DPos, DSet, Dsq};
 use std::alloc::Global;
 
 // The move of a quiet text.
-fn read_quiet(position: &DPos, from: Dsq, to: Dsq) -> Result<DMove, PdnFault>
+fn read_quiet(position: &DPos, from: Dsq, to: Dsq) -> Result<DMove, MoveFault>
     ensures read { IfOk result (λ m. StandsFor position.now (quiet from to) m) }
     ensures fault { IfErr result (λ fault. IsFormFault position.now (quiet from to) fault) }
 {
@@ -25,7 +25,7 @@ fn read_quiet(position: &DPos, from: Dsq, to: Dsq) -> Result<DMove, PdnFault>
     };
     match check(position, &named) {
         Ok(()) => Ok(named),
-        Err(cause) => Err(PdnFault::Illegal { ply: 1, cause }),
+        Err(cause) => Err(MoveFault::Illegal(cause)),
     }
 }
 
@@ -57,7 +57,7 @@ fn is_same(a: &DMove, b: &DMove) -> bool
 }
 
 // The choice, once one more move fits.
-fn joined(choice: Option<DMove>, played: &DMove) -> Result<DMove, PdnFault>
+fn joined(choice: Option<DMove>, played: &DMove) -> Result<DMove, MoveFault>
     ensures ok { IfOk result (λ m. Joins choice played.now m) }
     ensures err { IfErr result (λ fault. Parts choice played.now fault) }
 {
@@ -67,7 +67,7 @@ fn joined(choice: Option<DMove>, played: &DMove) -> Result<DMove, PdnFault>
             if is_same(&other, played) {
                 return Ok(other);
             }
-            Err(PdnFault::Ambiguous(1))
+            Err(MoveFault::Ambiguous)
         }
     }
 }
@@ -80,7 +80,7 @@ fn choose(
     middle: &[Dsq],
     to: Dsq,
     moves: &[DMove],
-) -> Result<Option<DMove>, PdnFault>
+) -> Result<Option<DMove>, MoveFault>
     ensures choice { IfOk result
         (λ choice. IsChoice (Fits position.now from middle.now to) moves.now choice) }
     ensures fault { IfErr result
@@ -116,7 +116,7 @@ fn read_capture(
     from: Dsq,
     middle: &[Dsq],
     to: Dsq,
-) -> Result<DMove, PdnFault>
+) -> Result<DMove, MoveFault>
     ensures read { IfOk result (λ m. StandsFor position.now (capture from middle.now to) m) }
     ensures fault { IfErr result
         (λ fault. IsFormFault position.now (capture from middle.now to) fault) }
@@ -128,17 +128,14 @@ fn read_capture(
     };
     match choice {
         Some(m) => Ok(m),
-        None => Err(PdnFault::Illegal {
-            ply: 1,
-            cause: cause_of(position, from, middle, to),
-        }),
+        None => Err(MoveFault::Illegal(cause_of(position, from, middle, to))),
     }
 }
 
 /// The legal move that a text stands for in a position: `32-28` for one that takes nothing, and
 /// for a capture `28x19`, with any further squares on which the piece lands between. One `0` may
-/// stand before a square, and `:` for an `x`. The text is that of ply 1.
-pub fn read_move(alloc: Global, position: &DPos, text: &str) -> Result<DMove, PdnFault>
+/// stand before a square, and `:` for an `x`.
+pub fn read_move(alloc: Global, position: &DPos, text: &str) -> Result<DMove, MoveFault>
     ensures read { IfOk result (λ m. IsRead position.now text.now m) }
     ensures fault { IfErr result (λ fault. HasReadFault position.now text.now fault) }
 {

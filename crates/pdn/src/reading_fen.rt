@@ -3,7 +3,7 @@ ghost use Rattle.std.specs.Prelude.{◌≡◌, IfOk, IfErr, fold};
 ghost use Rattle.std.specs.List.{list_any};
 ghost use Rattle.pdn.specs.ReadFen.{shares, repeated, put_on, put_item, IsFen, HasFenFault};
 
-use crate::faults::PdnFault;
+use crate::faults::FenFault;
 use crate::fen_form::read_fen_form;
 use crate::items::Item;
 use squares::{DPos, Dsq};
@@ -63,7 +63,7 @@ fn put_items(position: &mut DPos, items: &[Item])
 
 /// The position of a text: the side to move, and a list of White's pieces and one of Black's, in
 /// either order, as `W:W28,K46:B7,8` or `B:B1-20:W31-50.`
-pub fn read_fen(alloc: Global, text: &str) -> Result<DPos, PdnFault>
+pub fn read_fen(alloc: Global, text: &str) -> Result<DPos, FenFault>
     ensures read { IfOk result (λ position. IsFen text.now position) }
     ensures fault { IfErr result (λ fault. HasFenFault text.now fault) }
 {
@@ -72,7 +72,7 @@ pub fn read_fen(alloc: Global, text: &str) -> Result<DPos, PdnFault>
         Err(fault) => return Err(fault),
     };
     match repeated(form.items.as_slice()) {
-        Some(at) => return Err(PdnFault::BadText(at)),
+        Some(at) => return Err(FenFault::BadText(at)),
         None => {}
     }
     let mut position = DPos::new(form.turn);

@@ -1,4 +1,4 @@
-use crate::{Memory, PdnFault, read_fen, read_move, write_fen, write_move};
+use crate::{FenFault, Memory, MoveFault, read_fen, read_move, write_fen, write_move};
 use draughts_moves::{Illegal, legal};
 use squares::{DMove, DPiece, DPos, DSet, Dsq, Side};
 use std::alloc::Global;
@@ -113,7 +113,7 @@ fn a_bad_position_says_where(rt: HostRuntime) -> Result<(), Fail> {
     ];
     for (text, offset) in texts {
         let read = read_fen(rt.alloc(), text);
-        assert!(rt; read == Err(PdnFault::BadText(offset)), "{text}");
+        assert!(rt; read == Err(FenFault::BadText(offset)), "{text}");
     }
     Ok(())
 }
@@ -134,7 +134,7 @@ fn captures_with_one_from_and_to_name_their_landings(rt: HostRuntime) -> Result<
     let second = by_numbers(46, 12, &[17, 31, 41]).ok_or("no squares")?;
     assert_eq!(rt;
         read_move(rt.alloc(), &position, "46x12"),
-        Err(PdnFault::Ambiguous(1))
+        Err(MoveFault::Ambiguous)
     );
     let left = read_move(rt.alloc(), &position, "46x37x26x12");
     let right = read_move(rt.alloc(), &position, "46x32x21x12");
@@ -160,7 +160,7 @@ fn refused_texts_have_their_causes(rt: HostRuntime) -> Result<(), Fail> {
     let played = by_numbers(28, 10, &[14, 23]).ok_or("no squares")?;
     assert_eq!(rt; read_move(rt.alloc(), &position, "28x10"), Ok(played));
     assert_eq!(rt; read_move(rt.alloc(), &position, "28x19x10"), Ok(played));
-    let illegal = |cause| Err(PdnFault::Illegal { ply: 1, cause });
+    let illegal = |cause| Err(MoveFault::Illegal(cause));
     assert_eq!(rt;
         read_move(rt.alloc(), &position, "28x17"),
         illegal(Illegal::NotLongest)
@@ -207,7 +207,7 @@ fn a_bad_text_says_where(rt: HostRuntime) -> Result<(), Fail> {
     for (text, offset) in texts {
         assert_eq!(rt;
             read_move(rt.alloc(), &DPos::opening(), text),
-            Err(PdnFault::BadText(offset)),
+            Err(MoveFault::BadText(offset)),
             "{text}"
         );
     }
@@ -216,19 +216,20 @@ fn a_bad_text_says_where(rt: HostRuntime) -> Result<(), Fail> {
 
 #[test]
 fn faults_are_told(rt: HostRuntime) -> Result<(), Fail> {
-    let illegal = PdnFault::Illegal {
-        ply: 1,
-        cause: Illegal::NotLongest,
-    };
     assert_eq!(rt;
         format!(in rt.alloc();
-            "{illegal}, {}, {}, {}",
-            PdnFault::Ambiguous(2),
-            PdnFault::BadText(3),
-            PdnFault::Memory
+            "{}, {}, {}, {}",
+            MoveFault::Illegal(Illegal::NotLongest),
+            MoveFault::Ambiguous,
+            MoveFault::BadText(3),
+            MoveFault::Memory
         )?
         .as_str(),
-        "ply 1: as many pieces as can be must be taken, ply 2: more than one capture fits, no such text after 3 bytes, out of memory"
+        "as many pieces as can be must be taken, more than one capture fits, no such text after 3 bytes, out of memory"
+    );
+    assert_eq!(rt;
+        format!(in rt.alloc(); "{}, {}", FenFault::BadText(5), FenFault::Memory)?.as_str(),
+        "no such text after 5 bytes, out of memory"
     );
     Ok(())
 }

@@ -11,8 +11,8 @@ use Rattle.draughts_draws.specs.Line.{last_position}
 use Rattle.draughts_draws.specs.Ends.{end_of}
 use Rattle.draughts_draws.specs.Faults.{GoesOn, IsPlayed}
 use Rattle.pdn.specs.Laws.{ReadsOneMove}
-use Rattle.pdn.specs.declared.faults.PdnFault as lone
-use Rattle.pdn.specs.declared.faults.PdnFault.TheVariants as lone_fault
+use Rattle.pdn.specs.declared.faults.MoveFault.{MoveFault}
+use Rattle.pdn.specs.declared.faults.MoveFault.TheVariants as move_fault
 use Rattle.pdn.specs.ReadMove.{IsRead, HasReadFault}
 use Rattle.pdn_games.specs.declared.faults.PdnFault.{PdnFault}
 use Rattle.pdn_games.specs.declared.faults.PdnFault.TheVariants as fault
@@ -46,14 +46,14 @@ parted p (t ∷ before) after text (m ∷ ms) a =
     let rest = parted (play p m) before after text ms a.1 in
     record { front = m ∷ rest.front; made = rest.made; back = rest.back; parts = ap (λ l. m ∷ l) rest.parts; mean = (a.0, rest.mean); means = rest.means }
 
-no-fault : ReadsOneMove → (p : Position) (text : List ℕ) (m : DMove) (f : lone.PdnFault) → IsRead p text m → HasReadFault p text f → f ≡ lone_fault.Memory
+no-fault : ReadsOneMove → (p : Position) (text : List ℕ) (m : DMove) (f : MoveFault) → IsRead p text m → HasReadFault p text f → f ≡ move_fault.Memory
 no-fault one p text m f is h = (one p text m is).1 f h
 
 -- a text that means a move of a game that goes on is not refused
 goes-on-unrefused : ReadsOneMove → (front : List DMove) (m : DMove) (text : List ℕ) (f : PdnFault) → IsRead (last_position opening front) text m → end_of opening front ≡ None → RefusesNext front text f → ⊥
 goes-on-unrefused one front m text (fault.AfterEnd ply) means on h = let never : false ≡ true = sym (ap is_some on) ∙ h.1 in cc
-goes-on-unrefused one front m text (fault.Ambiguous ply) means on h = let never : lone_fault.Ambiguous 1 ≡ lone_fault.Memory = no-fault one _ text m _ means h.2 in cc
-goes-on-unrefused one front m text (fault.Illegal ply cause) means on h = let never : lone_fault.Illegal 1 cause ≡ lone_fault.Memory = no-fault one _ text m _ means h.2 in cc
+goes-on-unrefused one front m text (fault.Ambiguous ply) means on h = let never : move_fault.Ambiguous ≡ move_fault.Memory = no-fault one _ text m _ means h.2 in cc
+goes-on-unrefused one front m text (fault.Illegal ply cause) means on h = let never : move_fault.Illegal cause ≡ move_fault.Memory = no-fault one _ text m _ means h.2 in cc
 goes-on-unrefused one front m text fault.Memory means on h = h
 goes-on-unrefused one front m text (fault.BadText offset) means on h = h
 goes-on-unrefused one front m text fault.OtherType means on h = h

@@ -7,7 +7,7 @@ use Rattle.draughts_moves.specs.Legal.{play}
 use Rattle.draughts_draws.specs.Line.{last_position}
 use Rattle.draughts_draws.specs.Ends.{end_of}
 use Rattle.draughts_draws.specs.Faults.{IsPlayed}
-use Rattle.pdn.specs.declared.faults.PdnFault.TheVariants as move_fault
+use Rattle.pdn.specs.declared.faults.MoveFault.TheVariants as move_fault
 use Rattle.pdn.specs.ReadMove.{IsRead, HasReadFault}
 use Rattle.pdn_games.specs.declared.faults.PdnFault.{PdnFault}
 use Rattle.pdn_games.specs.declared.faults.PdnFault.TheVariants as fault
@@ -25,11 +25,11 @@ pub record AreMoves (texts : List (List ℕ)) (ms : List DMove) : Type 0 where
   pub played : IsPlayed opening ms (length ms)
 
 -- After texts that mean these moves, the next is refused: the game has ended, whatever the text is, or the text fits two captures or
--- names no legal move. The text of one move alone has ply 1.
+-- names no legal move.
 abbrev pub RefusesNext : List DMove → List ℕ → PdnFault → Type 0
 RefusesNext ms text (fault.AfterEnd ply) = (ply ≡ length ms + 1) × IsSome (end_of opening ms)
-RefusesNext ms text (fault.Ambiguous ply) = (ply ≡ length ms + 1) × (end_of opening ms ≡ None) × HasReadFault (last_position opening ms) text (move_fault.Ambiguous 1)
-RefusesNext ms text (fault.Illegal ply cause) = (ply ≡ length ms + 1) × (end_of opening ms ≡ None) × HasReadFault (last_position opening ms) text (move_fault.Illegal 1 cause)
+RefusesNext ms text (fault.Ambiguous ply) = (ply ≡ length ms + 1) × (end_of opening ms ≡ None) × HasReadFault (last_position opening ms) text move_fault.Ambiguous
+RefusesNext ms text (fault.Illegal ply cause) = (ply ≡ length ms + 1) × (end_of opening ms ≡ None) × HasReadFault (last_position opening ms) text (move_fault.Illegal cause)
 RefusesNext ms text _ = ⊥
 
 -- one of the texts is refused, and those before it mean moves of a game

@@ -9,8 +9,8 @@ use Rattle.draughts_draws.specs.declared.faults.Fault.TheVariants as line_fault
 use Rattle.pdn.specs.Forms.{Form}
 use Rattle.pdn.specs.Grammar.{HasForm}
 use Rattle.pdn.specs.ReadMove.{IsRead}
-use Rattle.pdn.specs.declared.faults.PdnFault as lone
-use Rattle.pdn.specs.declared.faults.PdnFault.TheVariants as lone_fault
+use Rattle.pdn.specs.declared.faults.MoveFault.{MoveFault}
+use Rattle.pdn.specs.declared.faults.MoveFault.TheVariants as move_fault
 use Rattle.pdn_games.specs.declared.faults.PdnFault.{PdnFault}
 use Rattle.pdn_games.specs.declared.faults.PdnFault.TheVariants as fault
 use Rattle.pdn_games.specs.declared.replay.Replay.{Replay}
@@ -56,12 +56,12 @@ RefusesText ms text f = (f ≡ fault.Memory) ⊎ RefusesNext ms text f
 abbrev pub RefusesIn : List DMove → Token → PdnFault → Type 0
 RefusesIn ms t f = (f ≡ fault.Memory) ⊎ ((text : List ℕ) × (texts_in t [] ≡ text ∷ []) × RefusesNext ms text f)
 
--- the fault of a text alone, at its ply
-abbrev pub at_ply : ℕ → lone.PdnFault → PdnFault
-at_ply ply lone_fault.Memory = fault.Memory
-at_ply ply (lone_fault.BadText offset) = fault.BadText offset
-at_ply ply (lone_fault.Ambiguous one) = fault.Ambiguous ply
-at_ply ply (lone_fault.Illegal one cause) = fault.Illegal ply cause
+-- the fault of the text of a move, at its ply
+abbrev pub at_ply : ℕ → MoveFault → PdnFault
+at_ply ply move_fault.Memory = fault.Memory
+at_ply ply (move_fault.BadText offset) = fault.BadText offset
+at_ply ply move_fault.Ambiguous = fault.Ambiguous ply
+at_ply ply (move_fault.Illegal cause) = fault.Illegal ply cause
 
 abbrev pub fault_of : Fault → PdnFault
 fault_of line_fault.Memory = fault.Memory

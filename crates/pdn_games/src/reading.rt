@@ -18,7 +18,7 @@ use crate::replay::{Replay, replay_of};
 use crate::tokens::{Placed, tokens_of};
 use draughts_moves::Memory;
 use pdn::laws::{fen_forms_are_texts, reads_one_position};
-use pdn::{PdnFault as FenFault, read_fen};
+use pdn::{FenFault, read_fen};
 use squares::{DPos, Score};
 use std::alloc::Global;
 
@@ -58,8 +58,6 @@ fn is_opening_text(alloc: Global, text: &[u8]) -> Result<bool, Memory>
         Ok(position) => Ok(is_opening(&position)),
         Err(FenFault::Memory) => Err(Memory),
         Err(FenFault::BadText(_)) => Ok(false),
-        Err(FenFault::Ambiguous(_)) => Ok(false),
-        Err(FenFault::Illegal { ply: _, cause: _ }) => Ok(false),
     }
 }
 

@@ -15,7 +15,7 @@ use draughts_draws::{Counts, Fault};
 use draughts_moves::laws::check_is;
 use draughts_moves::play;
 use pdn::laws::forms_are_texts;
-use pdn::{PdnFault as MoveFault, read_move};
+use pdn::{MoveFault, read_move};
 use squares::{DMove, DPos};
 use std::alloc::Global;
 
@@ -44,15 +44,15 @@ fn beginning(alloc: Global) -> Result<Replay, PdnFault>
     }
 }
 
-// The fault of a text alone, at its ply.
+// The fault of the text of a move, at its ply.
 fn at_ply(ply: usize, fault: MoveFault) -> PdnFault
     ensures { result ≡ at_ply ply fault }
 {
     match fault {
         MoveFault::Memory => PdnFault::Memory,
         MoveFault::BadText(offset) => PdnFault::BadText(offset),
-        MoveFault::Ambiguous(_) => PdnFault::Ambiguous(ply),
-        MoveFault::Illegal { ply: _, cause } => PdnFault::Illegal { ply, cause },
+        MoveFault::Ambiguous => PdnFault::Ambiguous(ply),
+        MoveFault::Illegal(cause) => PdnFault::Illegal { ply, cause },
     }
 }
 

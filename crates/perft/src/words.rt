@@ -1,7 +1,7 @@
 //! The program's words: a game, a depth, and a position if it is not the opening.
 
 use crate::shogi::OPENING;
-use pdn::{PdnFault, read_fen};
+use pdn::{FenFault, read_fen};
 use squares::{DPos, SPos};
 use std::alloc::Global;
 
@@ -42,7 +42,7 @@ fn depth_of(word: &str) -> Option<u32> {
 fn draughts_position(alloc: Global, word: &str) -> Result<DPos, BadWords> {
     match read_fen(alloc, word) {
         Ok(position) => Ok(position),
-        Err(PdnFault::Memory) => Err(BadWords::Memory),
+        Err(FenFault::Memory) => Err(BadWords::Memory),
         Err(_) => Err(BadWords::Usage),
     }
 }

@@ -1,5 +1,5 @@
 use Rattle.std.proofs.Common.{refl, sym, ◌∙◌, subst}
-use Rattle.pdn.specs.declared.faults.PdnFault.TheVariants as fault
+use Rattle.pdn.specs.declared.faults.MoveFault.TheVariants as fault
 use Rattle.pdn.specs.Choice.{Joins, Parts}
 use Rattle.pdn.proofs.ChoiceLemmas.{same_move-same, same_move-itself}
 use Rattle.pdn.proofs.reading.joined.Goals as goal
@@ -11,5 +11,5 @@ returns-then-is_same-clause-ok c =
 
 pub returns-else-is_same-clause-err : goal.returns-else-is_same-clause-err
 returns-else-is_same-clause-err c =
-    subst (λ o. Parts o c.args.played.now (fault.Ambiguous 1)) (sym c.in-Some.is)
+    subst (λ o. Parts o c.args.played.now fault.Ambiguous) (sym c.in-Some.is)
     (refl, λ same. let found = sym c.is_same.ensures ∙ c.if-is_same.false in let itself = same_move-itself c.in-Some.other c.args.played.now same in cc)

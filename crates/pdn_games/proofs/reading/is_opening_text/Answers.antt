@@ -1,8 +1,8 @@
 use Rattle.std.proofs.Common.{◌≡◌, ℕ, List, true, false, sym, subst, ◌∙◌}
 use Rattle.squares.specs.DraughtsOpening.{opening}
 use Rattle.squares.specs.DraughtsBoard.{Position}
-use Rattle.pdn.specs.declared.faults.PdnFault.{PdnFault}
-use Rattle.pdn.specs.declared.faults.PdnFault.TheVariants as fault
+use Rattle.pdn.specs.declared.faults.FenFault.{FenFault}
+use Rattle.pdn.specs.declared.faults.FenFault.TheVariants as fault
 use Rattle.pdn.specs.ReadFen.{IsFen, HasFenFault}
 use Rattle.pdn.specs.Laws.{ReadsOnePosition}
 use Rattle.pdn_games.proofs.FenTextLemmas.{fen-utf8}
@@ -12,7 +12,7 @@ never-true : {A : Type 0} → false ≡ true → A
 never-true e = absurd (cc)
 
 -- a text with such a fault is none of a position's
-no-fen : ReadsOnePosition → (text read : List ℕ) (f : PdnFault) → read ≡ text → HasFenFault read f → IsFen text opening → f ≡ fault.Memory
+no-fen : ReadsOnePosition → (text read : List ℕ) (f : FenFault) → read ≡ text → HasFenFault read f → IsFen text opening → f ≡ fault.Memory
 no-fen laws text read f same h fen = (laws opening text fen).1 f (subst (λ t. HasFenFault t f) same h)
 
 pub returns-in-Err : goal.returns-in-Err

@@ -1,5 +1,5 @@
 use Rattle.std.proofs.Common.{ap, sym, subst, ◌∙◌, Err}
-use Rattle.pdn.specs.declared.faults.PdnFault.TheVariants as fault
+use Rattle.pdn.specs.declared.faults.MoveFault.TheVariants as fault
 use Rattle.pdn.specs.ReadMove.{HasReadFault}
 use Rattle.pdn.proofs.Proved.{reading-ok}
 use Rattle.club_games.specs.Draughts.{move_read}
@@ -19,11 +19,11 @@ pub returns-in-Err-Ambiguous : goal.returns-in-Err-Ambiguous
 returns-in-Err-Ambiguous c =
     let arm = c.in-Err-Ambiguous in
     let p = c.args.position.now in
-    refused-reading p c.args.text.now (fault.Ambiguous arm.field-0-0) (subst (λ f. HasReadFault p c.args.text.now f) arm.field-0-is arm.ensures.fault) (λ e. cc)
+    refused-reading p c.args.text.now fault.Ambiguous (subst (λ f. HasReadFault p c.args.text.now f) arm.field-0-is arm.ensures.fault) (λ e. cc)
 
 pub returns-in-Err-Illegal : goal.returns-in-Err-Illegal
 returns-in-Err-Illegal c =
     let arm = c.in-Err-Illegal in
     let p = c.args.position.now in
     ap Err c.refusal_of.ensures
-    ∙ refused-reading p c.args.text.now (fault.Illegal arm.field-0-0 arm.cause) (subst (λ f. HasReadFault p c.args.text.now f) arm.field-0-is arm.ensures.fault) (λ e. cc)
+    ∙ refused-reading p c.args.text.now (fault.Illegal arm.cause) (subst (λ f. HasReadFault p c.args.text.now f) arm.field-0-is arm.ensures.fault) (λ e. cc)
