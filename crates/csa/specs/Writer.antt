@@ -48,40 +48,48 @@ AddsEntry entry old new held now =
 -- whatever was written, now it is a beginning of the text up to one move more
 abbrev pub BeginsEntry : SMove × ℕ → GameWriter → Option (List ℕ) → Option (List ℕ) → Type 0
 BeginsEntry entry game held now =
-    (head : CsaHead) (before : Option (List ℕ)) (entries : List (SMove × ℕ)) → HasWritten head entries before held game →
+    (head : CsaHead) (before : Option (List ℕ)) (entries : List (SMove × ℕ)) →
+    HasWritten head entries before held game →
     HasBegun head.start (text_up_to head (entries ++ entry ∷ [])) before now
 
 -- whatever was written, the game stands where it stood
 abbrev pub StandsStill : GameWriter → GameWriter → Type 0
 StandsStill old new =
-    (head : CsaHead) (before held : Option (List ℕ)) (entries : List (SMove × ℕ)) → HasWritten head entries before held old → HasWritten head entries before held new
+    (head : CsaHead) (before held : Option (List ℕ)) (entries : List (SMove × ℕ)) → HasWritten head entries before held old →
+    HasWritten head entries before held new
 
 -- the one text of the game was added
 abbrev pub AddsGame : CsaHead → List (SMove × ℕ) → Option (List ℕ) → Option (List ℕ) → Type 0
 AddsGame head entries before now =
-    (text : List ℕ) × IsGameText head.event.now head.black.now head.white.now head.start head.end entries text × Appends before now text
+    (text : List ℕ) × IsGameText head.event.now head.black.now head.white.now head.start head.end entries text ×
+    Appends before now text
 
 -- a beginning of the one text of the game was added
 abbrev pub BeginsGame : CsaHead → List (SMove × ℕ) → Option (List ℕ) → Option (List ℕ) → Type 0
 BeginsGame head entries before now =
-    (text : List ℕ) × IsGameText head.event.now head.black.now head.white.now head.start head.end entries text × AppendsSome before now text
+    (text : List ℕ) × IsGameText head.event.now head.black.now head.white.now head.start head.end entries text ×
+    AppendsSome before now text
 
 -- whatever was written, with the end it is the one text of the game
 abbrev pub Finishes : GameWriter → Option (List ℕ) → Option (List ℕ) → Type 0
 Finishes game held now =
-    (head : CsaHead) (before : Option (List ℕ)) (entries : List (SMove × ℕ)) → HasWritten head entries before held game → AddsGame head entries before now
+    (head : CsaHead) (before : Option (List ℕ)) (entries : List (SMove × ℕ)) → HasWritten head entries before held game →
+    AddsGame head entries before now
 
 -- whatever was written, now it is a beginning of the one text of the game
 abbrev pub BeginsEnd : GameWriter → Option (List ℕ) → Option (List ℕ) → Type 0
 BeginsEnd game held now =
-    (head : CsaHead) (before : Option (List ℕ)) (entries : List (SMove × ℕ)) → HasWritten head entries before held game → BeginsGame head entries before now
+    (head : CsaHead) (before : Option (List ℕ)) (entries : List (SMove × ℕ)) → HasWritten head entries before held game →
+    BeginsGame head entries before now
 
 -- a beginning of the lines before the moves begins each game with them
 abbrev pub LinesBeginGames : Type 0
 LinesBeginGames =
-    (head : CsaHead) (entries : List (SMove × ℕ)) (before now : Option (List ℕ)) → HasBegun head.start (lines_text head) before now → BeginsGame head entries before now
+    (head : CsaHead) (entries : List (SMove × ℕ)) (before now : Option (List ℕ)) → HasBegun head.start (lines_text head) before now →
+    BeginsGame head entries before now
 
 -- a beginning of the text up to some moves begins each game that goes on from them
 abbrev pub MovesBeginGames : Type 0
 MovesBeginGames =
-    (head : CsaHead) (entries more : List (SMove × ℕ)) (before now : Option (List ℕ)) → HasBegun head.start (text_up_to head entries) before now → BeginsGame head (entries ++ more) before now
+    (head : CsaHead) (entries more : List (SMove × ℕ)) (before now : Option (List ℕ)) → HasBegun head.start (text_up_to head entries) before now →
+    BeginsGame head (entries ++ more) before now

@@ -36,34 +36,41 @@ MayFollow game m = Legal game.position m × (game.plies + 1 < 2 ^ 64)
 -- whatever was written, one move more is
 abbrev pub AddsMove : DMove → GameWriter → GameWriter → Option (List ℕ) → Option (List ℕ) → Type 0
 AddsMove m old new held now =
-    (head : PdnHead) (before : Option (List ℕ)) (ms : List DMove) → HasWritten head ms before held old → HasWritten head (ms ++ m ∷ []) before now new
+    (head : PdnHead) (before : Option (List ℕ)) (ms : List DMove) → HasWritten head ms before held old →
+    HasWritten head (ms ++ m ∷ []) before now new
 
 -- whatever was written, now it is a beginning of the text up to one move more
 abbrev pub BeginsMove : DMove → GameWriter → Option (List ℕ) → Option (List ℕ) → Type 0
 BeginsMove m game held now =
-    (head : PdnHead) (before : Option (List ℕ)) (ms : List DMove) → HasWritten head ms before held game → AppendsSome before now (text_up_to head (ms ++ m ∷ []))
+    (head : PdnHead) (before : Option (List ℕ)) (ms : List DMove) → HasWritten head ms before held game →
+    AppendsSome before now (text_up_to head (ms ++ m ∷ []))
 
 -- whatever was written, the game stands where it stood
 abbrev pub StandsStill : GameWriter → GameWriter → Type 0
 StandsStill old new =
-    (head : PdnHead) (before held : Option (List ℕ)) (ms : List DMove) → HasWritten head ms before held old → HasWritten head ms before held new
+    (head : PdnHead) (before held : Option (List ℕ)) (ms : List DMove) → HasWritten head ms before held old →
+    HasWritten head ms before held new
 
 -- whatever was written, with the end it is the one text of the game
 abbrev pub Finishes : GameWriter → Option (List ℕ) → Option (List ℕ) → Type 0
 Finishes game held now =
-    (head : PdnHead) (before : Option (List ℕ)) (ms : List DMove) → HasWritten head ms before held game → Appends before now (whole_text head ms)
+    (head : PdnHead) (before : Option (List ℕ)) (ms : List DMove) → HasWritten head ms before held game →
+    Appends before now (whole_text head ms)
 
 -- whatever was written, now it is a beginning of the one text of the game
 abbrev pub BeginsEnd : GameWriter → Option (List ℕ) → Option (List ℕ) → Type 0
 BeginsEnd game held now =
-    (head : PdnHead) (before : Option (List ℕ)) (ms : List DMove) → HasWritten head ms before held game → AppendsSome before now (whole_text head ms)
+    (head : PdnHead) (before : Option (List ℕ)) (ms : List DMove) → HasWritten head ms before held game →
+    AppendsSome before now (whole_text head ms)
 
 -- a beginning of the tags begins the whole text of each game with them
 abbrev pub TagsBeginGames : Type 0
 TagsBeginGames =
-    (head : PdnHead) (ms : List DMove) (before now : Option (List ℕ)) → AppendsSome before now (tags_text head) → AppendsSome before now (whole_text head ms)
+    (head : PdnHead) (ms : List DMove) (before now : Option (List ℕ)) → AppendsSome before now (tags_text head) →
+    AppendsSome before now (whole_text head ms)
 
 -- a beginning of the text up to some moves begins the whole text of each game that goes on from them
 abbrev pub MovesBeginGames : Type 0
 MovesBeginGames =
-    (head : PdnHead) (ms more : List DMove) (before now : Option (List ℕ)) → AppendsSome before now (text_up_to head ms) → AppendsSome before now (whole_text head (ms ++ more))
+    (head : PdnHead) (ms more : List DMove) (before now : Option (List ℕ)) → AppendsSome before now (text_up_to head ms) →
+    AppendsSome before now (whole_text head (ms ++ more))

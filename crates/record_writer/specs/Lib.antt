@@ -1,2 +1,3 @@
-pub mod Pieces
+pub mod FaultText
 pub mod PieceLaws
+pub mod Pieces

@@ -10,11 +10,13 @@ pub begun-nothing : (known : Option (List ℕ)) (text : List ℕ) → AppendsSom
 begun-nothing known text = record { done = []; left = text; parts = refl; appended = Appends-nil known }
 
 -- the whole text is a beginning of it
-pub begun-whole : (before after : Option (List ℕ)) (text : List ℕ) → Appends before after text → AppendsSome before after text
+pub begun-whole : (before after : Option (List ℕ)) (text : List ℕ) → Appends before after text →
+    AppendsSome before after text
 begun-whole before after text h = record { done = text; left = []; parts = append-nil text; appended = h }
 
 -- a text, and then a beginning of the next
-pub begun-next : (before mid after : Option (List ℕ)) (text next : List ℕ) → Appends before mid text → AppendsSome mid after next → AppendsSome before after (text ++ next)
+pub begun-next : (before mid after : Option (List ℕ)) (text next : List ℕ) → Appends before mid text → AppendsSome mid after next →
+    AppendsSome before after (text ++ next)
 begun-next before mid after text next h some = record {
   done = text ++ some.done;
   left = some.left;
@@ -23,7 +25,8 @@ begun-next before mid after text next h some = record {
 }
 
 -- a beginning of a text is one of each text that goes on from it
-pub begun-longer : (before after : Option (List ℕ)) (text more : List ℕ) → AppendsSome before after text → AppendsSome before after (text ++ more)
+pub begun-longer : (before after : Option (List ℕ)) (text more : List ℕ) → AppendsSome before after text →
+    AppendsSome before after (text ++ more)
 begun-longer before after text more some = record {
   done = some.done;
   left = some.left ++ more;

@@ -14,6 +14,10 @@ pub enum WriteFault {
 }
 
 impl fmt::Display for WriteFault {
+    ghost use Rattle.record_writer.specs.FaultText.{fault_text};
+
+    ghost output = { fault_text };
+
     fn fmt<W: fmt::Write>(&self, f: &mut fmt::Formatter<W>) -> fmt::Result {
         match self {
             WriteFault::Memory => f.write_str("out of memory"),

@@ -1,0 +1,9 @@
+-- What a fault is printed as.
+use Rattle.std.specs.Prelude.{ℕ, Option, Some, None, List, codes}
+use Rattle.record_writer.specs.declared.fault.WriteFault.{WriteFault}
+use Rattle.record_writer.specs.declared.fault.WriteFault.TheVariants as fault
+
+-- of a writer's own error nothing is known
+abbrev pub fault_text : WriteFault → Option (List ℕ)
+fault_text fault.Memory = Some (codes "out of memory")
+fault_text (fault.Writer error) = None
