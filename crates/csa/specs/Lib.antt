@@ -1,6 +1,8 @@
+pub mod Causes
 pub mod Codes
 pub mod EndWords
 pub mod Endings
+pub mod FaultText
 pub mod Lines
 pub mod Moves
 pub mod Openings

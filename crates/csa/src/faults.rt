@@ -1,7 +1,12 @@
 //! Why a text is refused.
 
+ghost use Rattle.std.specs.Prelude.{◌≡◌};
+ghost use Rattle.csa.specs.Causes.{cause_number};
+
 use shogi_moves::{Illegal, Memory};
 use std::alloc::{AllocError, AllocFailed};
+use std::error::Error;
+use std::fmt;
 
 /// Why a text is refused. Lines and plies count from 1.
 #[derive(Clone, Copy, Debug, PartialEq, Eq)]
@@ -23,6 +28,46 @@ pub enum CsaFault {
     /// The record ends otherwise than the rules say.
     ResultDiffers,
 }
+
+// The number of a cause.
+fn cause_number(cause: Illegal) -> u8
+    ensures { result ≡ cause_number cause }
+{
+    match cause {
+        Illegal::NoSuchMove => 13,
+        Illegal::NotInHand => 14,
+        Illegal::MustPromote => 15,
+        Illegal::DeadDrop => 16,
+        Illegal::TwoPawns => 17,
+        Illegal::KingAttacked => 18,
+        Illegal::DropMate => 19,
+    }
+}
+
+impl fmt::Display for CsaFault {
+    ghost use Rattle.std.specs.Prelude.{Some};
+    ghost use Rattle.csa.specs.FaultText.{fault_text};
+
+    ghost output = { λ fault. Some (fault_text fault) };
+
+    fn fmt<W: fmt::Write>(&self, f: &mut fmt::Formatter<W>) -> fmt::Result {
+        match self {
+            CsaFault::Memory => f.write_str("out of memory"),
+            CsaFault::BadText { line } => write!(f, "40 BadText {line}"),
+            CsaFault::Version => f.write_str("41 Version"),
+            CsaFault::OtherOpening => f.write_str("42 OtherOpening"),
+            CsaFault::Illegal { ply, cause } => {
+                let number = cause_number(*cause);
+                write!(f, "43 Illegal {ply} {number}")
+            }
+            CsaFault::Unfinished => f.write_str("44 Unfinished"),
+            CsaFault::AfterEnd { ply } => write!(f, "45 AfterEnd {ply}"),
+            CsaFault::ResultDiffers => f.write_str("46 ResultDiffers"),
+        }
+    }
+}
+
+impl Error for CsaFault {}
 
 impl From<AllocError> for CsaFault {
     ghost use Rattle.std.specs.Prelude.{◌≡◌};

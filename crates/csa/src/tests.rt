@@ -112,6 +112,70 @@ fn texts_are_refused(rt: HostRuntime) -> Result<(), Fail> {
 }
 
 #[test]
+fn faults_are_told(rt: HostRuntime) -> Result<(), Fail> {
+    let illegal = CsaFault::Illegal {
+        ply: 3,
+        cause: Illegal::TwoPawns,
+    };
+    assert_eq!(rt;
+        format!(in rt.alloc();
+            "{illegal}, {}, {}, {}",
+            CsaFault::BadText { line: 4 },
+            CsaFault::Version,
+            CsaFault::OtherOpening
+        )?
+        .as_str(),
+        "43 Illegal 3 17, 40 BadText 4, 41 Version, 42 OtherOpening"
+    );
+    assert_eq!(rt;
+        format!(in rt.alloc();
+            "{}, {}, {}",
+            CsaFault::Unfinished,
+            CsaFault::AfterEnd { ply: 601 },
+            CsaFault::ResultDiffers
+        )?
+        .as_str(),
+        "44 Unfinished, 45 AfterEnd 601, 46 ResultDiffers"
+    );
+    Ok(())
+}
+
+// The line of a move of the first ply that is refused for a cause.
+fn illegal_line(alloc: Global, cause: Illegal) -> Result<String, Fail> {
+    Ok(format!(in alloc; "{}", CsaFault::Illegal { ply: 1, cause })?)
+}
+
+#[test]
+fn causes_have_their_numbers(rt: HostRuntime) -> Result<(), Fail> {
+    let alloc = rt.alloc();
+    assert_eq!(rt;
+        illegal_line(alloc, Illegal::NoSuchMove)?.as_str(),
+        "43 Illegal 1 13"
+    );
+    assert_eq!(rt;
+        illegal_line(alloc, Illegal::NotInHand)?.as_str(),
+        "43 Illegal 1 14"
+    );
+    assert_eq!(rt;
+        illegal_line(alloc, Illegal::MustPromote)?.as_str(),
+        "43 Illegal 1 15"
+    );
+    assert_eq!(rt;
+        illegal_line(alloc, Illegal::DeadDrop)?.as_str(),
+        "43 Illegal 1 16"
+    );
+    assert_eq!(rt;
+        illegal_line(alloc, Illegal::KingAttacked)?.as_str(),
+        "43 Illegal 1 18"
+    );
+    assert_eq!(rt;
+        illegal_line(alloc, Illegal::DropMate)?.as_str(),
+        "43 Illegal 1 19"
+    );
+    Ok(())
+}
+
+#[test]
 fn openings_are_read_as_rows(rt: HostRuntime) -> Result<(), Fail> {
     let read = games(
         rt.alloc(),
