@@ -6,3 +6,7 @@ pub mod OneReadingLemmas
 pub mod EntryLemmas
 pub mod OneTextLemmas
 pub mod WriterLemmas
+pub mod BackLineLemmas
+pub mod BackMoveLemmas
+pub mod BackGameLemmas
+pub mod BackLemmas

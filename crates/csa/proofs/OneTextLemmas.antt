@@ -20,7 +20,7 @@ use Rattle.csa.specs.ReadingLaws.{SameGame, SameGames}
 use Rattle.csa.proofs.OneReadingLemmas.{mean-one, moves-unrefused}
 
 -- what a record comes to is one: its moves, and what its end says
-same-score : NoLineHasTwoEnds → (placed : List Placed) (ms ns : List SMove) (d e : Option SEnd) → Plays placed ms d → Plays placed ns e → (ms ≡ ns) × (score_in placed ms d ≡ score_in placed ns e)
+pub same-score : NoLineHasTwoEnds → (placed : List Placed) (ms ns : List SMove) (d e : Option SEnd) → Plays placed ms d → Plays placed ns e → (ms ≡ ns) × (score_in placed ms d ≡ score_in placed ns e)
 same-score one placed ms ns d e a b =
     let moves : ms ≡ ns = mean-one opening (written_moves placed) ms ns a.moves.mean b.moves.mean in
     let ends : d ≡ e = one opening ns d e (subst (λ l. EndsSo opening l d) moves a.ends) b.ends in

@@ -16,3 +16,4 @@ pub mod Writer
 pub mod Writing
 pub mod WrittenGame
 pub mod ReadingLaws
+pub mod BackLaws

@@ -1,4 +1,5 @@
 //! What is proved of reading as a whole.
+ghost use Rattle.csa.specs.BackLaws.{WrittenIsRead, RunningIsRefused};
 ghost use Rattle.csa.specs.ReadingLaws.{TextsAreOfOne, TextsOfGamesAreRead};
 ghost use Rattle.csa.specs.Writer.{LinesBeginGames, MovesBeginGames};
 
@@ -9,6 +10,16 @@ use shogi_repetition::laws::each_line_has_one_end;
 pub fn texts_are_read_in_one_way()
     ensures one { TextsAreOfOne }
     ensures read { TextsOfGamesAreRead }
+{
+    check_is();
+    each_line_has_one_end();
+}
+
+/// With names of one line each, what is written of a game that ended is the text of one game, with its moves and the score
+/// of its end, and so it is read as that. What is written of a game that goes on is refused as unfinished.
+pub fn written_games_are_read()
+    ensures ended { WrittenIsRead }
+    ensures running { RunningIsRefused }
 {
     check_is();
     each_line_has_one_end();

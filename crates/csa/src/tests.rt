@@ -231,6 +231,34 @@ fn openings_are_read_as_rows(rt: HostRuntime) -> Result<(), Fail> {
 static RESIGNED: &str =
     "V2.2\nN+anna\nN-bert\n$EVENT:fuji\n$START_TIME:1970/01/01 00:16:40\nPI\n+\n+7776FU\nT5\n-3334FU\nT12\n%TORYO\n";
 
+#[test]
+fn a_written_text_is_read_back(rt: HostRuntime) -> Result<(), Fail> {
+    let alloc = rt.alloc();
+    let read = read_games(alloc, RESIGNED.as_bytes()).ok().ok_or("games")?;
+    assert_eq!(rt; read.len(), 1);
+    let game = read.as_slice().first().ok_or("a game")?;
+    assert_eq!(rt; game.score, Score::SecondWins);
+    let black = step(square(7, 7)?, square(7, 6)?);
+    let white = step(square(3, 3)?, square(3, 4)?);
+    assert_eq!(rt; game.moves.as_slice(), [black, white].as_slice());
+    let names = [
+        "V2.2",
+        "N+a,%TORYO",
+        "N-'b/",
+        "$EVENT:PI,-",
+        "PI",
+        "+",
+        "+7776FU",
+        "T5",
+    ];
+    assert_eq!(rt; fault(alloc, &names)?, Some(CsaFault::Unfinished));
+    assert_eq!(rt;
+        fault(alloc, &["V2.2", "PI", "+", "+7776FU", "T5", "%CHUDAN"])?,
+        Some(CsaFault::Unfinished)
+    );
+    Ok(())
+}
+
 fn fuji(start: Moment) -> CsaHead<'static>
     ensures { result.end ≡ Some CsaEnd.Resigned }
 {
