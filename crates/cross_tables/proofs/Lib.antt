@@ -1,0 +1,5 @@
+pub mod Alike
+pub mod Orders
+pub mod Adding
+pub mod Showing
+pub mod OwnRows

@@ -1,0 +1,24 @@
+-- What a member took from each other one.
+use Rattle.std.specs.Prelude.{◌==◌, ◌&&◌, ℕ, List, Option, Some, None, codes, if◌then◌else◌}
+use Rattle.std.specs.List.{find}
+use Rattle.std.specs.Fmt.{decimal}
+use Rattle.cross_tables.specs.declared.sums.Scored.{Scored}
+use Rattle.cross_tables.specs.declared.cells.Cell.{Cell}
+use Rattle.cross_tables.specs.declared.cells.Cell.TheVariants.{Oneself, Unplayed, Points}
+
+-- by the row of two members, where they have one
+abbrev pub points_cell : Option Scored → Cell
+points_cell None = Unplayed
+points_cell (Some row) = Points row.sums.points
+
+-- the row of what a member scored against another one, among the rows of an event
+abbrev pub row_of : List Scored → ℕ → ℕ → Option Scored
+row_of rows member other = find (λ row. row.member == member && row.opponent == other) rows
+
+abbrev pub cell_of : List Scored → ℕ → ℕ → Cell
+cell_of rows member other = if member == other then Oneself else points_cell (row_of rows member other)
+
+abbrev pub cell_text : Cell → List ℕ
+cell_text Oneself = codes "-"
+cell_text Unplayed = codes "."
+cell_text (Points points) = decimal points

@@ -1,0 +1,14 @@
+-- The order of the places.
+use Rattle.std.specs.Prelude.{◌==◌, ◌&&◌, ◌||◌, nat_lt, Bool, List}
+use Rattle.std.specs.List.Sorted.{IsSortedBy}
+use Rattle.cross_tables.specs.declared.standings.Standing.{Standing}
+
+-- more points, then more wins, then the lesser id
+abbrev pub precedes : Standing → Standing → Bool
+precedes a b =
+    nat_lt b.sums.points a.sums.points
+    || (a.sums.points == b.sums.points
+    && (nat_lt b.sums.wins a.sums.wins || (a.sums.wins == b.sums.wins && nat_lt a.member b.member)))
+
+abbrev pub AreRanked : List Standing → Type 0
+AreRanked standings = IsSortedBy precedes standings

@@ -1,0 +1,71 @@
+-- What the members of an event scored in all.
+use Rattle.std.specs.Prelude.{◌≡◌, ◌+◌, ◌<◌, ◌≤◌, ◌^◌, ◌==◌, ℕ, List, sum_by, count_by, if◌then◌else◌}
+use Rattle.cross_tables.specs.declared.sums.Sums.{Sums}
+use Rattle.cross_tables.specs.declared.sums.Scored.{Scored}
+use Rattle.cross_tables.specs.declared.standings.Standing.{Standing}
+
+abbrev pub plus_sums : Sums → Sums → Sums
+plus_sums a b =
+    record {
+      points = a.points + b.points;
+      wins = a.wins + b.wins;
+      draws = a.draws + b.draws;
+      losses = a.losses + b.losses;
+    }
+
+-- each of the sums is kept in 32 bits
+pub record Fit (sums : Sums) : Type 0 where
+  pub points : sums.points < 2 ^ 32
+  pub wins : sums.wins < 2 ^ 32
+  pub draws : sums.draws < 2 ^ 32
+  pub losses : sums.losses < 2 ^ 32
+
+abbrev pub games : Sums → ℕ
+games sums = sums.wins + sums.draws + sums.losses
+
+-- ---- a member's rows
+
+-- one of the four sums, over all rows of a member
+abbrev pub total : (Sums → ℕ) → ℕ → List Scored → ℕ
+total part member rows = sum_by (λ row. if row.member == member then part row.sums else 0) rows
+
+-- what a member scored in all
+abbrev pub totals : ℕ → List Scored → Sums
+totals member rows =
+    record {
+      points = total (λ s. s.points) member rows;
+      wins = total (λ s. s.wins) member rows;
+      draws = total (λ s. s.draws) member rows;
+      losses = total (λ s. s.losses) member rows;
+    }
+
+-- how many rows a member has
+abbrev pub rows_of : ℕ → List Scored → ℕ
+rows_of member rows = count_by (λ row. row.member == member) rows
+
+-- ---- standings
+
+-- how often a member stands
+abbrev pub times : ℕ → List Standing → ℕ
+times member standings = count_by (λ s. s.member == member) standings
+
+abbrev pub IsEachOnce : List Standing → Type 0
+IsEachOnce standings = (member : ℕ) → times member standings ≤ 1
+
+-- one of the four sums that stand for a member
+abbrev pub shown : (Sums → ℕ) → ℕ → List Standing → ℕ
+shown part member standings = sum_by (λ s. if s.member == member then part s.sums else 0) standings
+
+-- those who have a row stand, each once, with what they scored in all
+pub record AreTotals (standings : List Standing) (rows : List Scored) : Type 0 where
+  pub once : IsEachOnce standings
+  pub listed : (member : ℕ) → 0 < rows_of member rows → 0 < times member standings
+  pub scored : (member : ℕ) → 0 < times member standings → 0 < rows_of member rows
+  pub points : (member : ℕ) → shown (λ s. s.points) member standings ≡ total (λ s. s.points) member rows
+  pub wins : (member : ℕ) → shown (λ s. s.wins) member standings ≡ total (λ s. s.wins) member rows
+  pub draws : (member : ℕ) → shown (λ s. s.draws) member standings ≡ total (λ s. s.draws) member rows
+  pub losses : (member : ℕ) → shown (λ s. s.losses) member standings ≡ total (λ s. s.losses) member rows
+
+-- a standing with more
+abbrev pub raised : Standing → Sums → Standing
+raised standing more = record { member = standing.member; sums = plus_sums standing.sums more }

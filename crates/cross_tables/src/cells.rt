@@ -1,0 +1,100 @@
+//! What a member took from each other one.
+
+ghost use Rattle.std.specs.Prelude.{◌≡◌, ◌==◌, List, IfOk, map};
+ghost use Rattle.std.specs.List.{filter};
+ghost use Rattle.std.specs.Option.{option_map};
+ghost use Rattle.cross_tables.specs.declared.sums.Scored.{Scored};
+ghost use Rattle.cross_tables.specs.Cells.{cell_of, points_cell, row_of};
+
+use crate::standings::{Standing, Standings};
+use crate::sums::Scored;
+use squares::Memory;
+use std::alloc::Global;
+use std::fmt;
+
+/// A cell of a member's line, below a member of the table.
+#[derive(Clone, Copy, Debug, PartialEq, Eq)]
+pub enum Cell {
+    /// The member whose line it is.
+    Oneself,
+    /// No game of the two has ended.
+    Unplayed,
+    /// The points that were taken from that member.
+    Points(u32),
+}
+
+impl fmt::Display for Cell {
+    ghost use Rattle.std.specs.Prelude.{Some};
+    ghost use Rattle.cross_tables.specs.Cells.{cell_text};
+
+    ghost output = { λ cell. Some (cell_text cell) };
+
+    fn fmt<W: fmt::Write>(&self, f: &mut fmt::Formatter<W>) -> fmt::Result {
+        match self {
+            Cell::Oneself => f.write_str("-"),
+            Cell::Unplayed => f.write_str("."),
+            Cell::Points(points) => write!(f, "{points}"),
+        }
+    }
+}
+
+// The points of a row, where there is one.
+fn points_cell(row: Option<&Scored>) -> Cell
+    ensures { result ≡ points_cell (option_map (λ r. r.now) row.entry) }
+{
+    match row {
+        Some(row) => Cell::Points(row.sums.points),
+        None => Cell::Unplayed,
+    }
+}
+
+// The row of what a member scored against another one.
+fn row_of<'a>(member: u32, other: u32, rows: &'a [Scored]) -> Option<&'a Scored>
+    ensures { option_map (λ r. r.now) result ≡ row_of rows.now member other }
+{
+    rows.iter()
+        .find(|row| row.member == member && row.opponent == other)
+}
+
+/// What a member took from another one, by the rows of the event.
+pub fn cell_of(member: u32, other: u32, rows: &[Scored]) -> Cell
+    ensures { result ≡ cell_of rows.now member other }
+{
+    if member == other {
+        return Cell::Oneself;
+    }
+    points_cell(row_of(member, other, rows))
+}
+
+// What a member took from each of these.
+fn cells_against(
+    alloc: Global,
+    member: u32,
+    others: &[Standing],
+    rows: &[Scored],
+) -> Result<Vec<Cell>, Memory>
+    ensures { IfOk result (λ cells. cells.items ≡ map (λ s. cell_of rows.now member s.member) others.now) }
+{
+    Ok(
+        others
+            .iter()
+            .map(|s| cell_of(member, s.member, rows))
+            .collect(alloc)?,
+    )
+}
+
+/// What a member took from each member of the table, in the order of the places, by the rows of the event.
+pub fn cells_of(
+    alloc: Global,
+    member: u32,
+    standings: &Standings,
+    rows: &[Scored],
+) -> Result<Vec<Cell>, Memory>
+    ensures cells { IfOk result (λ cells. cells.items ≡ map (λ s. cell_of rows.now member s.member) standings.now) }
+    // The member's own rows are enough.
+    ensures own { IfOk result (λ cells. (all : List Scored) → rows.now ≡ filter (λ row. row.member == member) all →
+        cells.items ≡ map (λ s. cell_of all member s.member) standings.now) }
+{
+    let cells = cells_against(alloc, member, standings.as_slice(), rows)?;
+    Ok(cells)
+}

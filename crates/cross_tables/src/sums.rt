@@ -1,0 +1,47 @@
+//! Points, wins, draws and losses.
+
+ghost use Rattle.std.specs.Prelude.{◌≡◌, IfSome, None};
+ghost use Rattle.cross_tables.specs.Totals.{Fit, plus_sums, games};
+
+/// Points, wins, draws and losses of ended games.
+#[derive(Clone, Copy, Debug, PartialEq, Eq)]
+pub struct Sums {
+    pub points: u32,
+    pub wins: u32,
+    pub draws: u32,
+    pub losses: u32,
+}
+
+/// What a member scored against an opponent in an event.
+#[derive(Clone, Copy, Debug, PartialEq, Eq)]
+pub struct Scored {
+    pub member: u32,
+    pub opponent: u32,
+    pub sums: Sums,
+}
+
+impl Sums {
+    /// The sums together, unless one does not fit.
+    pub fn plus(self, more: Sums) -> Option<Sums>
+        ensures some { IfSome result (λ sums. sums ≡ plus_sums self more) }
+        ensures none { result ≡ None → ¬ Fit (plus_sums self more) }
+    {
+        let points = self.points.checked_add(more.points)?;
+        let wins = self.wins.checked_add(more.wins)?;
+        let draws = self.draws.checked_add(more.draws)?;
+        let losses = self.losses.checked_add(more.losses)?;
+        Some(Sums {
+            points,
+            wins,
+            draws,
+            losses,
+        })
+    }
+
+    /// The number of the games.
+    pub fn games(self) -> u64
+        ensures { result ≡ games self }
+    {
+        u64::from(self.wins) + u64::from(self.draws) + u64::from(self.losses)
+    }
+}
