@@ -1,0 +1,155 @@
+-- The bodies of replies, and what the body of a request asks for.
+use Rattle.std.specs.Prelude.{ℕ, Bool, List, [], ◌∷◌, ◌++◌, length, Option, Some, None, option_map, option_and_then, codes, if◌then◌else◌}
+use Rattle.std.specs.Str.{is_utf8}
+use Rattle.serde_json.specs.Data.{Data, null, number, unsigned, string, array, object, Items, no_items, item, Members, no_members, member, put}
+use Rattle.serde_json.specs.Read.{read}
+use Rattle.serde_json.specs.Find.{get, as_str, as_bool}
+use Rattle.squares.specs.Sides.{score_text}
+use Rattle.club_rules.specs.EndName.{end_text}
+use Rattle.club_core.specs.OutsideEnd.{outside_text}
+use Rattle.club_core.specs.Outcome.{MoveReply, Reply, member_added, event_added, game_seated, moved, draw_offered, game_ended}
+use Rattle.http_desk.specs.Shown.{GameShown, end_name, ChallengeCommand, make, answer, ChallengeState, stands_open, withdrawn, refused, accepted}
+
+-- ---- replies: the keys of an object stand in byte order
+
+abbrev pub texts : List (List ℕ) → Items
+texts [] = no_items
+texts (text ∷ more) = item (string text) (texts more)
+
+abbrev pub text_or_null : Option (List ℕ) → Data
+text_or_null None = null
+text_or_null (Some text) = string text
+
+abbrev pub number_data : ℕ → Data
+number_data n = number (unsigned n)
+
+abbrev pub moves_data : List (List ℕ) → Data
+moves_data rows = object (member (codes "moves") (array (texts rows)) no_members)
+
+abbrev pub lefts : ℕ → ℕ → Data
+lefts first second = array (item (number_data first) (item (number_data second) no_items))
+
+-- the members of a game in byte order, up to its moves
+abbrev pub game_front : (id : ℕ) → (end event first left moves : Data) → Members
+game_front id end event first left moves =
+    member (codes "end") end
+    (member (codes "event") event
+    (member (codes "first") first
+    (member (codes "game") (number_data id)
+    (member (codes "left") left
+    (member (codes "moves") moves no_members)))))
+
+-- with those behind them, as an object
+abbrev pub game_object : Members → (offer ply position result second : Data) → Data
+game_object front offer ply position result second =
+    object (put (codes "second") second (put (codes "result") result (put (codes "position") position (put (codes "ply") ply (put (codes "offer") offer front)))))
+
+unfoldable pub game_data : ℕ → GameShown → Data
+game_data id game = object
+    (member (codes "end") (text_or_null (option_map end_name game.end))
+    (member (codes "event") (string game.event)
+    (member (codes "first") (string game.first)
+    (member (codes "game") (number_data id)
+    (member (codes "left") (lefts game.left_first game.left_second)
+    (member (codes "moves") (array (texts game.moves))
+    (member (codes "offer") (text_or_null game.offer)
+    (member (codes "ply") (number_data (length game.moves))
+    (member (codes "position") (string game.position)
+    (member (codes "result") (text_or_null (option_map score_text game.result))
+    (member (codes "second") (string game.second) no_members)))))))))))
+
+abbrev pub moved_data : ℕ → MoveReply → Data
+moved_data id m = object
+    (member (codes "end") (text_or_null (option_map end_text m.end))
+    (member (codes "game") (number_data id)
+    (member (codes "left") (number_data m.left)
+    (member (codes "move") (string m.text)
+    (member (codes "ply") (number_data m.ply)
+    (member (codes "position") (string m.position) no_members))))))
+
+abbrev pub offered_data : ℕ → ℕ → Data
+offered_data id ply = object
+    (member (codes "draw") (string (codes "offered"))
+    (member (codes "game") (number_data id)
+    (member (codes "ply") (number_data ply) no_members)))
+
+abbrev pub ended_data : ℕ → List ℕ → List ℕ → Data
+ended_data id end result = object
+    (member (codes "end") (string end)
+    (member (codes "game") (number_data id)
+    (member (codes "result") (string result) no_members)))
+
+-- something that was added, by its id
+abbrev pub added_data : List ℕ → ℕ → Data
+added_data kind id = object (member kind (number_data id) no_members)
+
+-- what a command on the game of that number is answered
+abbrev pub reply_data : ℕ → Reply → Data
+reply_data id (moved m) = moved_data id m
+reply_data id (draw_offered ply) = offered_data id ply
+reply_data id (game_ended end result) = ended_data id (outside_text end) (score_text result)
+reply_data id (member_added member_id) = added_data (codes "member") member_id
+reply_data id (event_added event_id) = added_data (codes "event") event_id
+reply_data id (game_seated game_id) = added_data (codes "game") game_id
+
+abbrev pub stands_data : ℕ → List ℕ → Data
+stands_data n state = object (member (codes "challenge") (number_data n) (member (codes "state") (string state) no_members))
+
+abbrev pub started_data : ℕ → ℕ → Data
+started_data n id = object
+    (member (codes "challenge") (number_data n)
+    (member (codes "game") (number_data id)
+    (member (codes "state") (string (codes "accepted")) no_members)))
+
+-- how the challenge of that number stands
+abbrev pub state_data : ℕ → ChallengeState → Data
+state_data n stands_open = stands_data n (codes "open")
+state_data n withdrawn = stands_data n (codes "withdrawn")
+state_data n refused = stands_data n (codes "refused")
+state_data n (accepted id) = started_data n id
+
+-- each line with its line feed
+abbrev pub lined : List (List ℕ) → List ℕ
+lined [] = []
+lined (line ∷ lines) = line ++ codes "\n" ++ lined lines
+
+-- ---- requests
+
+-- JSON as `serde_json` reads it
+abbrev pub json_of : List ℕ → Option Data
+json_of body = if is_utf8 body then read body else None
+
+-- the text, and the truth value, under a key
+abbrev pub text_in : List ℕ → Data → Option (List ℕ)
+text_in key data_read = option_and_then as_str (get key data_read)
+
+abbrev pub bool_in : List ℕ → Data → Option Bool
+bool_in key data_read = option_and_then as_bool (get key data_read)
+
+-- the text of a move
+unfoldable pub move_text : List ℕ → Option (List ℕ)
+move_text body = option_and_then (text_in (codes "move")) (json_of body)
+
+abbrev pub challenge_with : ℕ → Option (List ℕ) → Option (List ℕ) → Option Bool → Option ChallengeCommand
+challenge_with n None other first = None
+challenge_with n (Some event) None first = None
+challenge_with n (Some event) (Some other) None = None
+challenge_with n (Some event) (Some other) (Some first) = Some (make n event other first)
+
+abbrev pub challenge_in : ℕ → Data → Option ChallengeCommand
+challenge_in n d = challenge_with n (text_in (codes "event") d) (text_in (codes "other") d) (bool_in (codes "first") d)
+
+-- a challenge of that number
+unfoldable pub challenge_of : ℕ → List ℕ → Option ChallengeCommand
+challenge_of n body = option_and_then (challenge_in n) (json_of body)
+
+abbrev pub answer_with : List ℕ → ℕ → Option Bool → Option ChallengeCommand
+answer_with challenger n None = None
+answer_with challenger n (Some accept) = Some (answer challenger n accept)
+
+abbrev pub answer_in : List ℕ → ℕ → Data → Option ChallengeCommand
+answer_in challenger n d = answer_with challenger n (bool_in (codes "accept") d)
+
+-- an answer to that member's challenge of that number
+unfoldable pub answer_of : List ℕ → ℕ → List ℕ → Option ChallengeCommand
+answer_of challenger n body = option_and_then (answer_in challenger n) (json_of body)

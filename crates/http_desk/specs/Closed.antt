@@ -1,0 +1,16 @@
+-- A club that cannot be taken over: it knows no key and shows nothing.
+use Rattle.std.specs.Prelude.{Err, false}
+use Rattle.club_core.specs.declared.refusals.Refusal.TheVariants.{UnknownKey}
+use Rattle.club_core.specs.Outcome.{refused}
+use Rattle.http_desk.specs.declared.refusals.ChallengeRefusal.TheVariants.{UnknownChallenge}
+use Rattle.http_desk.specs.Served.{Club}
+
+abbrev pub closed : Club (Unit {0})
+closed = record {
+  has_key = λ s key. false;
+  IsGame = λ s game found. ⊥;
+  AreLegal = λ s game rows. ⊥;
+  AreLines = λ s event lines. ⊥;
+  step = λ s request. (s, refused UnknownKey);
+  challenge = λ s key command moment. (s, Err UnknownChallenge);
+}

@@ -1,0 +1,203 @@
+-- What the desk answers: by the club's state and by what the bytes amount to.
+use Rattle.std.specs.Prelude.{◌≡◌, ◌⊎◌, ℕ, Bool, ◌&&◌, List, [], Option, Some, None, Result, Ok, Err, codes, if◌then◌else◌}
+use Rattle.std.specs.Str.{bytes_eq, is_utf8}
+use Rattle.serde_json.specs.Written.{compact_text}
+use Rattle.club_core.specs.declared.refusals.Refusal.TheVariants.{UnknownKey, UnknownEvent, UnknownGame}
+use Rattle.club_core.specs.Outcome.{Outcome, accepted, repeated, refused as declined}
+use Rattle.club_core.specs.State.{key_holder, on_game as game_command}
+use Rattle.club_core.specs.Step as play
+use Rattle.http_head.specs.Request.{Request, Seen, unfinished, refused, whole, Sees, asks_head}
+use Rattle.http_desk.specs.declared.refusals.Method.{Method}
+use Rattle.http_desk.specs.declared.refusals.Method.TheVariants.{Get, Post}
+use Rattle.http_desk.specs.declared.refusals.ChallengeRefusal.{ChallengeRefusal}
+use Rattle.http_desk.specs.declared.refusals.Refusal.{Refusal}
+use Rattle.http_desk.specs.declared.refusals.Refusal.TheVariants.{Head, NoRoute, WrongMethod, BadBody, Club as OfClub, Challenge}
+use Rattle.http_desk.specs.declared.faults.ClubFault.{ClubFault}
+use Rattle.http_desk.specs.Faults.{club_fault_number, club_fault_name}
+use Rattle.http_desk.specs.Routes.{Turn, make_move, offer_draw, accept_draw, resign, claim_time, Asked, game_view, legal_moves, cross_table, on_game, challenge, withdraw, answer, asked_of, method_of}
+use Rattle.http_desk.specs.Reply.{refusal_reply, json_text_reply, plain_reply, fault_reply}
+use Rattle.http_desk.specs.Shown as shown
+use Rattle.http_desk.specs.Shown.{GameShown, ChallengeCommand, ChallengeState}
+use Rattle.http_desk.specs.Bodies.{game_data, moves_data, reply_data, state_data, lined, move_text, challenge_of, answer_of}
+use Rattle.http_desk.specs.Served.{Club, Serves}
+
+-- what a reply shows: JSON is its text
+pub data Answer : Type 0 where
+  refusal : Refusal → Answer
+  shows : List ℕ → Answer
+  plain : List ℕ → Answer
+
+abbrev pub answer_reply : Answer → Bool → List ℕ
+answer_reply (refusal r) without_body = refusal_reply r without_body
+answer_reply (shows text) without_body = json_text_reply text without_body
+answer_reply (plain text) without_body = plain_reply text without_body
+
+-- what is to be answered: this, or a page that the club shows
+pub data Due : Type 0 where
+  this : Answer → Due
+  game_page : (game : ℕ) → Due
+  legal_page : (game : ℕ) → Due
+  table_page : (event : List ℕ) → Due
+
+-- ---- pages
+
+abbrev pub game_answer : ℕ → Option GameShown → Answer
+game_answer id None = refusal (OfClub UnknownGame)
+game_answer id (Some game) = shows (compact_text (game_data id game))
+
+abbrev pub legal_answer : Option (List (List ℕ)) → Answer
+legal_answer None = refusal (OfClub UnknownGame)
+legal_answer (Some rows) = shows (compact_text (moves_data rows))
+
+abbrev pub table_answer : Option (List (List ℕ)) → Answer
+table_answer None = refusal (OfClub UnknownEvent)
+table_answer (Some lines) = plain (lined lines)
+
+-- the answer is the one that is due in a state
+abbrev pub IsDue : {S : Type 0} → Club S → S → Due → Answer → Type 0
+IsDue club s (this expected) given = given ≡ expected
+IsDue club s (game_page id) given = (found : Option GameShown) × club.IsGame s id found × (given ≡ game_answer id found)
+IsDue club s (legal_page id) given = (rows : Option (List (List ℕ))) × club.AreLegal s id rows × (given ≡ legal_answer rows)
+IsDue club s (table_page event) given = (lines : Option (List (List ℕ))) × club.AreLines s event lines × (given ≡ table_answer lines)
+
+-- ---- commands
+
+-- the command on a game that a path and a body give
+abbrev pub move_given : ℕ → Option (List ℕ) → Option play.GameCommand
+move_given ply None = None
+move_given ply (Some text) = Some (play.move ply text)
+
+abbrev pub command_given : Turn → List ℕ → Option play.GameCommand
+command_given (make_move ply) body = move_given ply (move_text body)
+command_given (offer_draw ply) body = Some (play.offer_draw ply)
+command_given (accept_draw ply) body = Some (play.accept_draw ply)
+command_given resign body = Some play.resign
+command_given claim_time body = Some play.claim_time
+
+-- accepted and repeated commands have the same answer
+abbrev pub outcome_answer : ℕ → Outcome (Unit {0}) → Answer
+outcome_answer id (accepted after reply) = shows (compact_text (reply_data id reply))
+outcome_answer id (repeated reply) = shows (compact_text (reply_data id reply))
+outcome_answer id (declined r) = refusal (OfClub r)
+
+abbrev pub told_outcome : {S : Type 0} → ℕ → S × Outcome (Unit {0}) → S × Due
+told_outcome id told = (told.0, this (outcome_answer id told.1))
+
+abbrev pub serve_command : {S : Type 0} → Club S → S → ℕ → List ℕ → ℕ → Option play.GameCommand → S × Due
+serve_command club s moment key id None = (s, this (refusal BadBody))
+serve_command club s moment key id (Some command) =
+    told_outcome id (club.step s (record { who = key_holder key; command = game_command id command; moment = moment }))
+
+abbrev pub challenge_answer : ℕ → Result ChallengeState ChallengeRefusal → Answer
+challenge_answer n (Ok state) = shows (compact_text (state_data n state))
+challenge_answer n (Err r) = refusal (Challenge r)
+
+abbrev pub told_challenge : {S : Type 0} → ℕ → S × Result ChallengeState ChallengeRefusal → S × Due
+told_challenge n told = (told.0, this (challenge_answer n told.1))
+
+abbrev pub serve_challenge : {S : Type 0} → Club S → S → ℕ → List ℕ → ℕ → Option ChallengeCommand → S × Due
+serve_challenge club s moment key n None = (s, this (refusal BadBody))
+serve_challenge club s moment key n (Some command) = told_challenge n (club.challenge s key command moment)
+
+-- ---- the answer
+
+abbrev pub is_method : List ℕ → Method → Bool
+is_method bytes Get = bytes_eq bytes (codes "GET")
+is_method bytes Post = bytes_eq bytes (codes "POST")
+
+-- a page, for a member
+abbrev pub serve_page : {S : Type 0} → Club S → S → ℕ → List ℕ → List ℕ → Asked → S × Due
+serve_page club s moment key body (game_view id) = (s, game_page id)
+serve_page club s moment key body (legal_moves id) = (s, legal_page id)
+serve_page club s moment key body (cross_table event) = (s, table_page event)
+serve_page club s moment key body (on_game id turn) = serve_command club s moment key id (command_given turn body)
+serve_page club s moment key body (challenge n) = serve_challenge club s moment key n (challenge_of n body)
+serve_page club s moment key body (withdraw n) = serve_challenge club s moment key n (Some (shown.withdraw n))
+serve_page club s moment key body (answer member n) = serve_challenge club s moment key n (answer_of member n body)
+
+abbrev pub serve_known : {S : Type 0} → Club S → S → ℕ → Option (List ℕ) → List ℕ → Asked → S × Due
+serve_known club s moment None body asked = (s, this (refusal (OfClub UnknownKey)))
+serve_known club s moment (Some key) body asked =
+    if is_utf8 key && club.has_key s key then serve_page club s moment key body asked else (s, this (refusal (OfClub UnknownKey)))
+
+abbrev pub serve_asked : {S : Type 0} → Club S → S → ℕ → Request → Option Asked → S × Due
+serve_asked club s moment request None = (s, this (refusal NoRoute))
+serve_asked club s moment request (Some asked) =
+    if is_method request.method (method_of asked)
+    then serve_known club s moment request.key request.body asked
+    else (s, this (refusal (WrongMethod (method_of asked))))
+
+-- the state behind a whole request, and the answer that is due to it
+unfoldable pub serve : {S : Type 0} → Club S → S → ℕ → Request → S × Due
+serve club s moment request = serve_asked club s moment request (asked_of request.target)
+
+-- what a call leaves to which this is due
+abbrev pub ServesDue : {S A F : Type 0} → Club S → (S → Type 0) → (S → S → Type 0) → (A → Answer) → S → S × Due → Result A F → Type 0
+ServesDue club stands leaves view s due result = Serves stands leaves s due.0 (λ a. IsDue club s due.1 (view a)) result
+
+-- ---- replies
+
+-- the reply tells a fault of the club, and one of two states is left
+abbrev pub TellsFault : {S : Type 0} → (S → S → Type 0) → S → S → Bool → List ℕ → Type 0
+TellsFault leaves s next without_body reply =
+    (fault : ClubFault) × (reply ≡ fault_reply (club_fault_number fault) (club_fault_name fault) without_body) × leaves s next
+
+-- the reply shows the answer that is due, and the state behind it stands
+abbrev pub ShowsDue : {S : Type 0} → Club S → (S → Type 0) → S → S × Due → Bool → List ℕ → Type 0
+ShowsDue club stands s due without_body reply =
+    ((given : Answer) × IsDue club s due.1 given × (reply ≡ answer_reply given without_body)) × stands due.0
+
+-- the reply to what bytes amount to, and where the club stands behind it
+abbrev pub IsReply : {S : Type 0} → Club S → (S → Type 0) → (S → S → Type 0) → S → ℕ → Bool → Seen → List ℕ → Type 0
+IsReply club stands leaves s moment without_body unfinished reply = (reply ≡ []) × stands s
+IsReply club stands leaves s moment without_body (refused r) reply = (reply ≡ refusal_reply (Head r) without_body) × stands s
+IsReply club stands leaves s moment without_body (whole request) reply =
+    ShowsDue club stands s (serve club s moment request) without_body reply
+    ⊎ TellsFault leaves s (serve club s moment request).0 without_body reply
+
+-- the state behind it
+abbrev pub state_behind : {S : Type 0} → Club S → S → ℕ → Seen → S
+state_behind club s moment unfinished = s
+state_behind club s moment (refused r) = s
+state_behind club s moment (whole request) = (serve club s moment request).0
+
+-- a call that replies, or has a fault of its own: then one of the two states is left
+abbrev pub RepliesTo : {S A F : Type 0} → Club S → (S → Type 0) → (S → S → Type 0) → (A → List ℕ) → S → ℕ → Bool → Seen → Result A F → Type 0
+RepliesTo club stands leaves view s moment without_body seen (Ok reply) = IsReply club stands leaves s moment without_body seen (view reply)
+RepliesTo club stands leaves view s moment without_body seen (Err fault) = leaves s (state_behind club s moment seen)
+
+-- ---- a club that is shut
+
+-- the answer that does not come to the club, or the fault that it is shut by
+abbrev pub shut_known : ClubFault → Option (List ℕ) → Result Answer ClubFault
+shut_known fault None = Ok (refusal (OfClub UnknownKey))
+shut_known fault (Some key) = if is_utf8 key then Err fault else Ok (refusal (OfClub UnknownKey))
+
+abbrev pub shut_asked : ClubFault → Request → Option Asked → Result Answer ClubFault
+shut_asked fault request None = Ok (refusal NoRoute)
+shut_asked fault request (Some asked) =
+    if is_method request.method (method_of asked) then shut_known fault request.key else Ok (refusal (WrongMethod (method_of asked)))
+
+unfoldable pub shut_serve : ClubFault → Request → Result Answer ClubFault
+shut_serve fault request = shut_asked fault request (asked_of request.target)
+
+abbrev pub shut_text : Result Answer ClubFault → Bool → List ℕ
+shut_text (Ok given) without_body = answer_reply given without_body
+shut_text (Err fault) without_body = fault_reply (club_fault_number fault) (club_fault_name fault) without_body
+
+-- the reply to what bytes amount to: every request that comes to the club is told the fault
+abbrev pub shut_reply : ClubFault → Bool → Seen → List ℕ
+shut_reply fault without_body unfinished = []
+shut_reply fault without_body (refused r) = refusal_reply (Head r) without_body
+shut_reply fault without_body (whole request) = shut_text (shut_serve fault request) without_body
+
+-- the same of bytes
+abbrev pub IsShutReply : ClubFault → List ℕ → List ℕ → Type 0
+IsShutReply fault bytes reply = (seen : Seen) × Sees bytes seen × (reply ≡ shut_reply fault (asks_head bytes) seen)
+
+-- ---- bytes
+
+-- a call that replies to bytes, or has a fault of its own
+abbrev pub Answers : {S A F : Type 0} → Club S → (S → Type 0) → (S → S → Type 0) → (A → List ℕ) → S → ℕ → List ℕ → Result A F → Type 0
+Answers club stands leaves view s moment bytes result =
+    (seen : Seen) × Sees bytes seen × RepliesTo club stands leaves view s moment (asks_head bytes) seen result

@@ -1,0 +1,97 @@
+-- The bytes of a reply.
+use Rattle.std.specs.Prelude.{ℕ, Bool, List, [], ◌∷◌, ◌++◌, Option, None, codes, decimal, length, take, drop, nat_lt, unwrap_or, if◌then◌else◌}
+use Rattle.http_head.specs.Head.{number_of}
+use Rattle.http.specs.StatusCode.{reason_phrase}
+use Rattle.serde_json.specs.Data.{Data, number, unsigned, string, object, member, no_members}
+use Rattle.serde_json.specs.Written.{compact_text}
+use Rattle.http_desk.specs.declared.refusals.Method.TheVariants.{Get, Post}
+use Rattle.http_desk.specs.declared.refusals.Refusal.{Refusal}
+use Rattle.http_desk.specs.declared.refusals.Refusal.TheVariants.{Head, NoRoute, WrongMethod, BadBody, Club, Challenge}
+use Rattle.http_desk.specs.declared.refusals.ChallengeRefusal.{ChallengeRefusal}
+use Rattle.http_desk.specs.declared.refusals.ChallengeRefusal.TheVariants as challenge
+use Rattle.club_core.specs.declared.refusals.Refusal as of_club
+use Rattle.club_core.specs.declared.refusals.Refusal.TheVariants as club
+use Rattle.http_desk.specs.Refusals.{refusal_number, refusal_name, refusal_status}
+
+abbrev pub line_end : List ℕ
+line_end = 13 ∷ 10 ∷ []
+
+abbrev pub status_line : ℕ → List ℕ → List ℕ
+status_line status phrase = codes "HTTP/1.1 " ++ decimal status ++ codes " " ++ phrase ++ codes "\r\n"
+
+abbrev pub type_line : List ℕ → List ℕ
+type_line kind = codes "Content-Type: " ++ kind ++ codes "\r\n"
+
+abbrev pub length_line : ℕ → List ℕ
+length_line n = codes "Content-Length: " ++ decimal n ++ codes "\r\n"
+
+-- the head of a reply: further lines stand last
+unfoldable pub reply_head : ℕ → List ℕ → List ℕ → ℕ → List ℕ → List ℕ
+reply_head status phrase kind body_length further =
+    status_line status phrase ++ type_line kind ++ length_line body_length ++ codes "Connection: close\r\n" ++ further ++ codes "\r\n"
+
+-- a reply: the length is that of the body, also where that is left out
+abbrev pub reply_text : ℕ → List ℕ → List ℕ → List ℕ → Bool → List ℕ
+reply_text status kind further body without_body =
+    reply_head status (unwrap_or (reason_phrase status) []) kind (length body) further ++ (if without_body then [] else body)
+
+abbrev pub json_kind : List ℕ
+json_kind = codes "application/json"
+
+abbrev pub text_kind : List ℕ
+text_kind = codes "text/plain"
+
+-- what a refusal adds to the head: the method that the path takes, or how a member shows who it is
+abbrev pub key_lines : of_club.Refusal → List ℕ
+key_lines club.UnknownKey = codes "WWW-Authenticate: Member-Key\r\n"
+key_lines club.NotAllowed = []
+key_lines club.UnknownEvent = []
+key_lines club.UnknownGame = []
+key_lines club.NotAPlayer = []
+key_lines club.NotInThisGame = []
+key_lines club.GameOver = []
+key_lines club.WrongPly = []
+key_lines club.Conflict = []
+key_lines club.NotYourTurn = []
+key_lines club.OutOfTime = []
+key_lines club.TimeLeft = []
+key_lines club.NoOffer = []
+key_lines club.NameTaken = []
+key_lines club.BadValue = []
+key_lines club.Full = []
+key_lines (club.Play ply refusal) = []
+
+abbrev pub challenge_lines : ChallengeRefusal → List ℕ
+challenge_lines challenge.UnknownChallenge = []
+challenge_lines (challenge.Club refusal) = key_lines refusal
+
+abbrev pub further_lines : Refusal → List ℕ
+further_lines (Head refusal) = []
+further_lines NoRoute = []
+further_lines (WrongMethod Get) = codes "Allow: GET\r\n"
+further_lines (WrongMethod Post) = codes "Allow: POST\r\n"
+further_lines BadBody = []
+further_lines (Club refusal) = key_lines refusal
+further_lines (Challenge refusal) = challenge_lines refusal
+
+-- a number and a name as JSON
+abbrev pub error_data : ℕ → List ℕ → Data
+error_data n name = object (member (codes "error") (number (unsigned n)) (member (codes "name") (string name) no_members))
+
+abbrev pub refusal_reply : Refusal → Bool → List ℕ
+refusal_reply refusal without_body = reply_text (refusal_status refusal) json_kind (further_lines refusal) (compact_text (error_data (refusal_number refusal) (refusal_name refusal))) without_body
+
+-- a reply at 200 whose body is JSON, and one whose body is plain text
+abbrev pub json_text_reply : List ℕ → Bool → List ℕ
+json_text_reply text without_body = reply_text 200 json_kind [] text without_body
+
+abbrev pub plain_reply : List ℕ → Bool → List ℕ
+plain_reply text without_body = reply_text 200 text_kind [] text without_body
+
+-- a fault of the store
+abbrev pub fault_reply : ℕ → List ℕ → Bool → List ℕ
+fault_reply n name without_body = reply_text 503 json_kind [] (compact_text (error_data n name)) without_body
+
+-- the status that stands behind the version, where there are bytes enough
+abbrev pub status_in : List ℕ → Option ℕ
+status_in reply = if nat_lt (length reply) 12 then None else number_of (take 3 (drop 9 reply))

@@ -1,0 +1,22 @@
+-- What the values of the code's routes stand for.
+use Rattle.http_desk.specs.declared.routes.Turn as given_turn
+use Rattle.http_desk.specs.declared.routes.Turn.TheVariants as turn
+use Rattle.http_desk.specs.declared.routes.Asked as given
+use Rattle.http_desk.specs.declared.routes.Asked.TheVariants as asked
+use Rattle.http_desk.specs.Routes.{Turn, make_move, offer_draw, accept_draw, resign, claim_time, Asked, game_view, legal_moves, cross_table, on_game, challenge, withdraw, answer}
+
+abbrev pub turn_view : given_turn.Turn → Turn
+turn_view (turn.MakeMove ply) = make_move ply
+turn_view (turn.OfferDraw ply) = offer_draw ply
+turn_view (turn.AcceptDraw ply) = accept_draw ply
+turn_view turn.Resign = resign
+turn_view turn.ClaimTime = claim_time
+
+abbrev pub asked_view : given.Asked → Asked
+asked_view (asked.GameView game) = game_view game
+asked_view (asked.LegalMoves game) = legal_moves game
+asked_view (asked.CrossTable event) = cross_table event.now
+asked_view (asked.OnGame game turn) = on_game game (turn_view turn)
+asked_view (asked.Challenge number) = challenge number
+asked_view (asked.Withdraw number) = withdraw number
+asked_view (asked.Answer member number) = answer member.now number

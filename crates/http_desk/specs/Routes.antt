@@ -1,0 +1,142 @@
+-- What a target asks for.
+use Rattle.std.specs.Prelude.{ℕ, Bool, ◌&&◌, ◌==◌, List, [], ◌∷◌, Option, Some, None, Result, Ok, Err, option_map, codes, length, take, drop, nat_lt, if◌then◌else◌}
+use Rattle.std.specs.Str.{bytes_eq, is_utf8}
+use Rattle.matchit.specs.Rows.{RowsOf}
+use Rattle.matchit.specs.Router.{RouteOf, route_from}
+use Rattle.matchit.specs.Order.{placed}
+use Rattle.matchit.specs.Route.{Scan, parse_route}
+use Rattle.matchit.specs.Seek.{first}
+use Rattle.matchit.specs.declared.error.InsertError.{InsertError}
+use Rattle.http_desk.specs.declared.routes.Page.{Page}
+use Rattle.http_desk.specs.declared.routes.Page.TheVariants.{GameView, LegalMoves, CrossTable, MakeMove, OfferDraw, AcceptDraw, Resign, ClaimTime, Challenge, Withdraw, Answer}
+use Rattle.http_desk.specs.declared.refusals.Method.{Method}
+use Rattle.http_desk.specs.declared.refusals.Method.TheVariants.{Get, Post}
+use Rattle.http_head.specs.Head.{number_of}
+
+abbrev pub slash : ℕ
+slash = 47
+
+-- what stands before the first such byte
+abbrev pub before : ℕ → List ℕ → List ℕ
+before b [] = []
+before b (x ∷ bytes) = if x == b then [] else x ∷ before b bytes
+
+-- what stands behind it
+abbrev pub behind : ℕ → List ℕ → List ℕ
+behind b [] = []
+behind b (x ∷ bytes) = if x == b then bytes else behind b bytes
+
+abbrev pub begins : List ℕ → List ℕ → Bool
+begins bytes front = bytes_eq (take (length front) bytes) front
+
+-- the path behind an authority, neither of them empty
+abbrev pub path_behind : ℕ → List ℕ → Option (List ℕ)
+path_behind n bytes = if nat_lt 0 n && nat_lt n (length bytes) then Some (drop n bytes) else None
+
+abbrev pub path_among : List ℕ → Option (List ℕ)
+path_among bytes = if begins bytes (codes "/") then Some bytes else (if begins bytes (codes "http://") then path_behind (length (before slash (drop 7 bytes))) (drop 7 bytes) else None)
+
+-- the path of a target: from `?` on nothing is looked at
+abbrev pub path_of : List ℕ → Option (List ℕ)
+path_of target = path_among (before 63 target)
+
+-- ---- routes
+
+-- the rows with one route more, as `matchit` reads it
+abbrev pub with_route : Result Scan InsertError → Page → RowsOf (RouteOf Page) → RowsOf (RouteOf Page)
+with_route (Ok scan) page rows = placed (scan.pattern, route_from scan page) rows
+with_route (Err e) page rows = rows
+
+unfoldable pub routes : RowsOf (RouteOf Page)
+routes =
+    with_route (parse_route (codes "/answers/{member}/{number}")) Answer
+    (with_route (parse_route (codes "/challenges/{number}/withdraw")) Withdraw
+    (with_route (parse_route (codes "/challenges/{number}")) Challenge
+    (with_route (parse_route (codes "/games/{id}/claim-time")) ClaimTime
+    (with_route (parse_route (codes "/games/{id}/resign")) Resign
+    (with_route (parse_route (codes "/games/{id}/draw/{ply}/accept")) AcceptDraw
+    (with_route (parse_route (codes "/games/{id}/draw/{ply}/offer")) OfferDraw
+    (with_route (parse_route (codes "/games/{id}/moves/{ply}")) MakeMove
+    (with_route (parse_route (codes "/events/{name}/table")) CrossTable
+    (with_route (parse_route (codes "/games/{id}/legal")) LegalMoves
+    (with_route (parse_route (codes "/games/{id}")) GameView []))))))))))
+
+-- the page that `matchit` gives of a path
+abbrev pub page_of : List ℕ → Option Page
+page_of path = option_map (λ route. route.value) (first routes path)
+
+-- the parts of a path between its slashes, from the one behind the first: the second, the third and the fourth
+abbrev pub second_part : List ℕ → List ℕ
+second_part path = before slash (behind slash (behind slash path))
+
+abbrev pub third_part : List ℕ → List ℕ
+third_part path = before slash (behind slash (behind slash (behind slash path)))
+
+abbrev pub fourth_part : List ℕ → List ℕ
+fourth_part path = before slash (behind slash (behind slash (behind slash (behind slash path))))
+
+-- what a path asks of a game that changes it
+pub data Turn : Type 0 where
+  make_move : (ply : ℕ) → Turn
+  offer_draw : (ply : ℕ) → Turn
+  accept_draw : (ply : ℕ) → Turn
+  resign : Turn
+  claim_time : Turn
+
+-- what a path asks for
+pub data Asked : Type 0 where
+  game_view : (game : ℕ) → Asked
+  legal_moves : (game : ℕ) → Asked
+  cross_table : (event : List ℕ) → Asked
+  on_game : (game : ℕ) → Turn → Asked
+  challenge : (number : ℕ) → Asked
+  withdraw : (number : ℕ) → Asked
+  answer : (member : List ℕ) → (number : ℕ) → Asked
+
+abbrev pub turn_asked : Turn → Option ℕ → Option Asked
+turn_asked turn None = None
+turn_asked turn (Some game) = Some (on_game game turn)
+
+abbrev pub ply_asked : (ℕ → Turn) → Option ℕ → Option ℕ → Option Asked
+ply_asked turn None ply = None
+ply_asked turn (Some game) None = None
+ply_asked turn (Some game) (Some ply) = Some (on_game game (turn ply))
+
+abbrev pub answer_asked : Option (List ℕ) → Option ℕ → Option Asked
+answer_asked None number = None
+answer_asked (Some member) None = None
+answer_asked (Some member) (Some number) = Some (answer member number)
+
+abbrev pub text_of : List ℕ → Option (List ℕ)
+text_of bytes = if is_utf8 bytes then Some bytes else None
+
+abbrev pub asked_of_page : Option Page → List ℕ → Option Asked
+asked_of_page None path = None
+asked_of_page (Some GameView) path = option_map game_view (number_of (second_part path))
+asked_of_page (Some LegalMoves) path = option_map legal_moves (number_of (second_part path))
+asked_of_page (Some CrossTable) path = option_map cross_table (text_of (second_part path))
+asked_of_page (Some MakeMove) path = ply_asked make_move (number_of (second_part path)) (number_of (fourth_part path))
+asked_of_page (Some OfferDraw) path = ply_asked offer_draw (number_of (second_part path)) (number_of (fourth_part path))
+asked_of_page (Some AcceptDraw) path = ply_asked accept_draw (number_of (second_part path)) (number_of (fourth_part path))
+asked_of_page (Some Resign) path = turn_asked resign (number_of (second_part path))
+asked_of_page (Some ClaimTime) path = turn_asked claim_time (number_of (second_part path))
+asked_of_page (Some Challenge) path = option_map challenge (number_of (second_part path))
+asked_of_page (Some Withdraw) path = option_map withdraw (number_of (second_part path))
+asked_of_page (Some Answer) path = answer_asked (text_of (second_part path)) (number_of (third_part path))
+
+abbrev pub asked_of_path : Option (List ℕ) → Option Asked
+asked_of_path None = None
+asked_of_path (Some path) = if is_utf8 path then asked_of_page (page_of path) path else None
+
+abbrev pub asked_of : List ℕ → Option Asked
+asked_of target = asked_of_path (path_of target)
+
+-- the one method that serves it
+abbrev pub method_of : Asked → Method
+method_of (game_view game) = Get
+method_of (legal_moves game) = Get
+method_of (cross_table event) = Get
+method_of (on_game game turn) = Post
+method_of (challenge number) = Post
+method_of (withdraw number) = Post
+method_of (answer member number) = Post

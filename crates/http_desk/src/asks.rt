@@ -1,0 +1,139 @@
+//! What the body of a request asks for.
+ghost use Rattle.std.specs.Prelude.{◌≡◌, ◌↔◌, IsTrue, IfOk, option_map, option_and_then, codes, string_bytes};
+ghost use Rattle.serde_json.specs.View.{view};
+ghost use Rattle.serde_json.specs.Errors.{IsMemory};
+ghost use Rattle.http_desk.specs.ShownViews.{challenge_view};
+ghost use Rattle.http_desk.specs.Bodies.{json_of, text_in, bool_in, move_text, challenge_in, challenge_of, answer_in, answer_of};
+
+use crate::served::ChallengeCommand;
+use serde_json::{Category, Error, Value};
+use std::alloc::{AllocError, Global};
+
+// Whether memory was refused to a read.
+fn is_memory(error: &Error) -> bool
+    ensures { IsTrue result ↔ IsMemory error.now }
+{
+    matches!(error.classify(), Category::Memory)
+}
+
+// A body as JSON.
+fn json_of(alloc: Global, body: &[u8]) -> Result<Option<Value>, AllocError>
+    ensures { IfOk result (λ v. option_map view v ≡ json_of body.now) }
+{
+    match Value::from_slice(alloc, body) {
+        Ok(value) => Ok(Some(value)),
+        Err(error) => {
+            if is_memory(&error) {
+                Err(AllocError)
+            } else {
+                Ok(None)
+            }
+        }
+    }
+}
+
+// The text under a key of a value.
+fn text_in<'v>(value: &'v Value, key: &str) -> Option<&'v str>
+    ensures { option_map (λ t. t.now) result ≡ text_in key.now (view value.now) }
+{
+    value.get(key).and_then(Value::as_str)
+}
+
+// The truth value under a key of a value.
+fn bool_in(value: &Value, key: &str) -> Option<bool>
+    ensures { result ≡ bool_in key.now (view value.now) }
+{
+    value.get(key).and_then(Value::as_bool)
+}
+
+/// The text of a move.
+#[tactic(auto, unfolding(crate::specs::Bodies::move_text))]
+pub fn move_text(alloc: Global, body: &[u8]) -> Result<Option<String>, AllocError>
+    ensures { IfOk result (λ t. option_map string_bytes t ≡ move_text body.now) }
+{
+    match json_of(alloc, body)? {
+        None => Ok(None),
+        Some(value) => match text_in(&value, "move") {
+            None => Ok(None),
+            Some(text) => Ok(Some(String::from_str(alloc, text)?)),
+        },
+    }
+}
+
+// The challenge of that number that a value describes.
+fn challenge_in(
+    alloc: Global,
+    number: u32,
+    value: &Value,
+) -> Result<Option<ChallengeCommand>, AllocError>
+    ensures { IfOk result (λ c. option_map challenge_view c ≡ challenge_in number (view value.now)) }
+{
+    let Some(event) = text_in(value, "event") else {
+        return Ok(None);
+    };
+    let Some(other) = text_in(value, "other") else {
+        return Ok(None);
+    };
+    let Some(first) = bool_in(value, "first") else {
+        return Ok(None);
+    };
+    let event = String::from_str(alloc, event)?;
+    let other = String::from_str(alloc, other)?;
+    Ok(Some(ChallengeCommand::Make {
+        number,
+        event,
+        other,
+        first,
+    }))
+}
+
+/// A challenge of that number.
+#[tactic(auto, unfolding(crate::specs::Bodies::challenge_of))]
+pub fn challenge_of(
+    alloc: Global,
+    number: u32,
+    body: &[u8],
+) -> Result<Option<ChallengeCommand>, AllocError>
+    ensures { IfOk result (λ c. option_map challenge_view c ≡ challenge_of number body.now) }
+{
+    match json_of(alloc, body)? {
+        None => Ok(None),
+        Some(value) => challenge_in(alloc, number, &value),
+    }
+}
+
+// Whether a value accepts a challenge.
+fn answer_in(
+    alloc: Global,
+    challenger: &str,
+    number: u32,
+    value: &Value,
+) -> Result<Option<ChallengeCommand>, AllocError>
+    ensures { IfOk result (λ c. option_map challenge_view c ≡ answer_in challenger.now number (view value.now)) }
+{
+    let Some(accept) = bool_in(value, "accept") else {
+        return Ok(None);
+    };
+    let member = String::from_str(alloc, challenger)?;
+    Ok(Some(ChallengeCommand::Answer {
+        member,
+        number,
+        accept,
+    }))
+}
+
+/// An answer to a member's challenge of that number.
+#[tactic(auto, unfolding(crate::specs::Bodies::answer_of))]
+pub fn answer_of(
+    alloc: Global,
+    challenger: &str,
+    number: u32,
+    body: &[u8],
+) -> Result<Option<ChallengeCommand>, AllocError>
+    ensures { IfOk result (λ c. option_map challenge_view c ≡ answer_of challenger.now number body.now) }
+{
+    match json_of(alloc, body)? {
+        None => Ok(None),
+        Some(value) => answer_in(alloc, challenger, number, &value),
+    }
+}

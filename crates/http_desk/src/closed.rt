@@ -1,0 +1,77 @@
+//! A club that cannot be taken over.
+
+use crate::faults::ClubFault;
+use crate::refusals::ChallengeRefusal;
+use crate::served::{ChallengeCommand, ChallengeState, GameShown, ServedClub};
+use clocks::Moment;
+use club_core::{Command, Outcome, Who};
+use std::alloc::Global;
+
+/// A club whose file could not be taken over: it answers every call with the reason.
+#[derive(Clone, Copy, Debug, PartialEq, Eq)]
+pub struct Closed {
+    pub fault: ClubFault,
+}
+
+impl ServedClub for Closed {
+    ghost use Rattle.std.specs.Prelude.{◌≡◌};
+    ghost use Rattle.http_desk.specs.Closed.{closed};
+
+    type State = ();
+
+    ghost club = { closed };
+
+    ghost IsClean = { λ b. Unit {0} };
+
+    ghost Stands = { λ b s. Unit {0} };
+
+    ghost Leaves = { λ b s t. Unit {0} };
+
+    ghost IsShut = { λ b fault. b.fault ≡ fault };
+
+    fn has_key(&mut self, _alloc: Global, _key: &str) -> Result<bool, ClubFault> {
+        Err(self.fault)
+    }
+
+    fn view_game(&mut self, _alloc: Global, _game: u64) -> Result<Option<GameShown>, ClubFault> {
+        Err(self.fault)
+    }
+
+    fn legal_rows(&mut self, _alloc: Global, _game: u64) -> Result<Option<Vec<String>>, ClubFault> {
+        Err(self.fault)
+    }
+
+    fn table_lines(
+        &mut self,
+        _alloc: Global,
+        _event: &str,
+    ) -> Result<Option<Vec<String>>, ClubFault> {
+        Err(self.fault)
+    }
+
+    fn apply(
+        &mut self,
+        _alloc: Global,
+        _who: &Who,
+        _command: &Command,
+        _moment: Moment,
+    ) -> Result<Outcome, ClubFault> {
+        Err(self.fault)
+    }
+
+    fn apply_challenge(
+        &mut self,
+        _alloc: Global,
+        _key: &str,
+        _command: &ChallengeCommand,
+        _moment: Moment,
+    ) -> Result<Result<ChallengeState, ChallengeRefusal>, ClubFault> {
+        Err(self.fault)
+    }
+
+    ghost stays = { λ b s t h. tt };
+
+    ghost settled = { λ b s t h. tt };
+
+    ghost wider = { λ b s t h. tt };
+}

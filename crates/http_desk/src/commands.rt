@@ -1,0 +1,147 @@
+//! Commands of members, as paths and bodies give them.
+ghost use Rattle.std.specs.Prelude.{◌≡◌, IfOk, option_map, string_bytes};
+ghost use Rattle.serde_json.specs.Written.{compact_text};
+ghost use Rattle.club_core.specs.Answer.{command_of, game_command_of, outcome_of, reply_of, who_of};
+ghost use Rattle.club_core.specs.State.{key_holder, on_game};
+ghost use Rattle.http_desk.specs.RouteViews.{turn_view};
+ghost use Rattle.http_desk.specs.ShownViews.{challenge_view, challenged_view};
+ghost use Rattle.http_desk.specs.Bodies.{reply_data};
+ghost use Rattle.http_desk.specs.Desk.{shows, command_given, outcome_answer, challenge_answer, serve_command, serve_challenge, ServesDue};
+ghost use Rattle.http_desk.specs.DeskViews.{answer_view, command_view};
+
+use crate::asks::move_text;
+use crate::bodies::{answer_text, state_text};
+use crate::desk::{Fault, Shown};
+use crate::refusals::{ChallengeRefusal, Refusal};
+use crate::routes::Turn;
+use crate::served::{ChallengeCommand, ChallengeState, ServedClub};
+use clocks::Moment;
+use club_core::{Answer, Command, GameCommand, OnGame, Outcome, Who};
+use std::alloc::{AllocError, Global};
+
+// The command on a game that a path and a body give.
+pub(crate) fn command_given(
+    alloc: Global,
+    turn: Turn,
+    body: &[u8],
+) -> Result<Option<GameCommand>, AllocError>
+    ensures { IfOk result (λ command. command_view command ≡ command_given (turn_view turn) body.now) }
+{
+    match turn {
+        Turn::MakeMove(ply) => match move_text(alloc, body)? {
+            None => Ok(None),
+            Some(text) => Ok(Some(GameCommand::Move {
+                ply: u64::from(ply),
+                text,
+            })),
+        },
+        Turn::OfferDraw(ply) => Ok(Some(GameCommand::OfferDraw {
+            ply: u64::from(ply),
+        })),
+        Turn::AcceptDraw(ply) => Ok(Some(GameCommand::AcceptDraw {
+            ply: u64::from(ply),
+        })),
+        Turn::Resign => Ok(Some(GameCommand::Resign)),
+        Turn::ClaimTime => Ok(Some(GameCommand::ClaimTime)),
+    }
+}
+
+// The answer to a command that stands.
+fn answer_shown(alloc: Global, game: u32, answer: Answer) -> Result<Shown, AllocError>
+    ensures { IfOk result (λ shown. answer_view shown ≡ shows (compact_text (reply_data game (reply_of answer)))) }
+{
+    let text = answer_text(alloc, game, answer)?;
+    Ok(Shown::Shows(text))
+}
+
+// What a command is answered: the same whether it was accepted now or before.
+fn outcome_shown(alloc: Global, game: u32, outcome: Outcome) -> Result<Shown, AllocError>
+    ensures { IfOk result (λ shown. answer_view shown ≡ outcome_answer game (outcome_of outcome)) }
+{
+    match outcome {
+        Outcome::Accepted(answer) => answer_shown(alloc, game, answer),
+        Outcome::Repeated(answer) => answer_shown(alloc, game, answer),
+        Outcome::Refused(refusal) => Ok(Shown::Refused(Refusal::Club(refusal))),
+    }
+}
+
+// One who shows a key.
+fn key_holder(alloc: Global, key: &str) -> Result<Who, AllocError>
+    ensures { IfOk result (λ who. who_of who ≡ key_holder key.now) }
+{
+    let key = String::from_str(alloc, key)?;
+    Ok(Who::Key(key))
+}
+
+// A command on the game of that number.
+fn on_game(game: u32, command: GameCommand) -> Command
+    ensures { command_of result ≡ on_game game (game_command_of command) }
+{
+    Command::OnGame(OnGame {
+        game: u64::from(game),
+        command,
+    })
+}
+
+// A command on a game, if one is given.
+pub(crate) fn serve_command<C: ServedClub>(
+    alloc: Global,
+    club: &mut C,
+    key: &str,
+    game: u32,
+    command: Option<GameCommand>,
+    moment: Moment,
+) -> Result<Shown, Fault>
+    ensures clean { C.IsClean club.new → C.IsClean club.old }
+    ensures serves { C.IsClean club.new → (s : C.State) → C.Stands club.old s →
+        ServesDue C.club (C.Stands club.new) (C.Leaves club.new) answer_view s
+        (serve_command C.club s moment key.now game (command_view command)) result }
+{
+    let Some(command) = command else {
+        return Ok(Shown::Refused(Refusal::BadBody));
+    };
+    let command = on_game(game, command);
+    let who = key_holder(alloc, key)?;
+    let outcome = club.apply(alloc, &who, &command, moment)?;
+    let shown = outcome_shown(alloc, game, outcome)?;
+    Ok(shown)
+}
+
+// What a command about a challenge is answered.
+fn challenge_shown(
+    alloc: Global,
+    number: u32,
+    answer: Result<ChallengeState, ChallengeRefusal>,
+) -> Result<Shown, AllocError>
+    ensures { IfOk result (λ shown. answer_view shown ≡ challenge_answer number (challenged_view answer)) }
+{
+    match answer {
+        Ok(state) => {
+            let text = state_text(alloc, number, state)?;
+            Ok(Shown::Shows(text))
+        }
+        Err(refusal) => Ok(Shown::Refused(Refusal::Challenge(refusal))),
+    }
+}
+
+// A command about a challenge, if one is given.
+pub(crate) fn serve_challenge<C: ServedClub>(
+    alloc: Global,
+    club: &mut C,
+    key: &str,
+    number: u32,
+    command: Option<ChallengeCommand>,
+    moment: Moment,
+) -> Result<Shown, Fault>
+    ensures clean { C.IsClean club.new → C.IsClean club.old }
+    ensures serves { C.IsClean club.new → (s : C.State) → C.Stands club.old s →
+        ServesDue C.club (C.Stands club.new) (C.Leaves club.new) answer_view s
+        (serve_challenge C.club s moment key.now number (option_map challenge_view command)) result }
+{
+    let Some(command) = command else {
+        return Ok(Shown::Refused(Refusal::BadBody));
+    };
+    let answer = club.apply_challenge(alloc, key, &command, moment)?;
+    let shown = challenge_shown(alloc, number, answer)?;
+    Ok(shown)
+}

@@ -1,0 +1,289 @@
+//! The answer to a request.
+ghost use Rattle.std.specs.Prelude.{◌≡◌, IfOk, IfErr, option_map, option_and_then, string_bytes};
+ghost use Rattle.http_head.specs.Request.{whole};
+ghost use Rattle.http_head.specs.RequestViews.{request_view, seen_view};
+ghost use Rattle.http_desk.specs.RouteViews.{asked_view};
+ghost use Rattle.http_desk.specs.Routes.{text_of};
+ghost use Rattle.http_desk.specs.Desk.{is_method, answer_reply, serve_page, serve_known, serve_asked, serve, ServesDue, RepliesTo, Answers, shut_known, shut_asked, shut_serve, shut_text, shut_reply, IsShutReply};
+ghost use Rattle.http_desk.specs.DeskViews.{answer_view, IsShutBy};
+
+use crate::asks::{answer_of, challenge_of};
+use crate::commands::{command_given, serve_challenge, serve_command};
+use crate::faults::{ClubFault, DeskFault};
+use crate::pages::{serve_game, serve_legal, serve_table};
+use crate::refusals::{Method, Refusal};
+use crate::reply::{fault_reply, json_text_reply, plain_reply, refusal_reply};
+use crate::routes::{Asked, asked_of, text_of};
+use crate::served::{ChallengeCommand, ServedClub};
+use clocks::Moment;
+use club_core::Refusal as ClubRefusal;
+use http_head::{Request, Seen, read_request};
+use matchit::InsertError;
+use std::alloc::{AllocError, Global};
+
+/// What a reply shows.
+#[derive(Drop)]
+pub(crate) enum Shown {
+    Refused(Refusal),
+    /// JSON, as text.
+    Shows(String),
+    Plain(String),
+}
+
+/// Why there is no answer.
+#[derive(Clone, Copy)]
+pub(crate) enum Fault {
+    Club(ClubFault),
+    Memory,
+}
+
+impl From<ClubFault> for Fault {
+    ghost use Rattle.std.specs.Prelude.{◌≡◌};
+    ghost use Rattle.http_desk.specs.declared.desk.Fault.TheVariants.{Club};
+
+    ghost from_gives = { λ fault given. given ≡ Club fault };
+
+    fn from(fault: ClubFault) -> Fault {
+        Fault::Club(fault)
+    }
+}
+
+impl From<AllocError> for Fault {
+    ghost use Rattle.std.specs.Prelude.{◌≡◌};
+    ghost use Rattle.http_desk.specs.declared.desk.Fault.TheVariants.{Memory};
+
+    ghost from_gives = { λ _ given. given ≡ Memory };
+
+    fn from(_error: AllocError) -> Fault {
+        Fault::Memory
+    }
+}
+
+impl From<InsertError> for Fault {
+    ghost use Rattle.std.specs.Prelude.{◌≡◌};
+    ghost use Rattle.http_desk.specs.declared.desk.Fault.TheVariants.{Memory};
+
+    ghost from_gives = { λ _ given. given ≡ Memory };
+
+    fn from(_error: InsertError) -> Fault {
+        Fault::Memory
+    }
+}
+
+// A page, for a member.
+fn serve_page<C: ServedClub>(
+    alloc: Global,
+    club: &mut C,
+    key: &str,
+    body: &[u8],
+    asked: Asked<'_>,
+    moment: Moment,
+) -> Result<Shown, Fault>
+    ensures clean { C.IsClean club.new → C.IsClean club.old }
+    ensures serves { C.IsClean club.new → (s : C.State) → C.Stands club.old s →
+        ServesDue C.club (C.Stands club.new) (C.Leaves club.new) answer_view s
+        (serve_page C.club s moment key.now body.now (asked_view asked.entry)) result }
+{
+    match asked {
+        Asked::GameView(game) => serve_game(alloc, club, game),
+        Asked::LegalMoves(game) => serve_legal(alloc, club, game),
+        Asked::CrossTable(event) => serve_table(alloc, club, event),
+        Asked::OnGame(game, turn) => {
+            let command = command_given(alloc, turn, body)?;
+            serve_command(alloc, club, key, game, command, moment)
+        }
+        Asked::Challenge(number) => {
+            let command = challenge_of(alloc, number, body)?;
+            serve_challenge(alloc, club, key, number, command, moment)
+        }
+        Asked::Withdraw(number) => {
+            let command = Some(ChallengeCommand::Withdraw { number });
+            serve_challenge(alloc, club, key, number, command, moment)
+        }
+        Asked::Answer(member, number) => {
+            let command = answer_of(alloc, member, number, body)?;
+            serve_challenge(alloc, club, key, number, command, moment)
+        }
+    }
+}
+
+// Whether the bytes are the method.
+fn is_method(bytes: &[u8], method: Method) -> bool
+    ensures { result ≡ is_method bytes.now method }
+{
+    match method {
+        Method::Get => bytes == b"GET".as_slice(),
+        Method::Post => bytes == b"POST".as_slice(),
+    }
+}
+
+// The bytes of a key as text.
+fn key_text<'k>(key: Option<&'k [u8]>) -> Option<&'k str>
+    ensures { option_map (λ t. t.now) result ≡ option_and_then text_of (option_map (λ k. k.now) key.entry) }
+{
+    match key {
+        None => None,
+        Some(key) => text_of(key),
+    }
+}
+
+// A page, for the bearer of a key.
+fn serve_known<C: ServedClub>(
+    alloc: Global,
+    club: &mut C,
+    key: Option<&[u8]>,
+    body: &[u8],
+    asked: Asked<'_>,
+    moment: Moment,
+) -> Result<Shown, Fault>
+    ensures clean { C.IsClean club.new → C.IsClean club.old }
+    ensures shut { (fault : ClubFault) → C.IsShut club.old fault → C.IsShut club.new fault ×
+        IsShutBy (shut_known fault (option_map (λ k. k.now) key.entry)) result }
+    ensures serves { C.IsClean club.new → (s : C.State) → C.Stands club.old s →
+        ServesDue C.club (C.Stands club.new) (C.Leaves club.new) answer_view s
+        (serve_known C.club s moment (option_map (λ k. k.now) key.entry) body.now (asked_view asked.entry)) result }
+{
+    match key_text(key) {
+        None => Ok(Shown::Refused(Refusal::Club(ClubRefusal::UnknownKey))),
+        Some(key) => {
+            if club.has_key(alloc, key)? {
+                serve_page(alloc, club, key, body, asked, moment)
+            } else {
+                Ok(Shown::Refused(Refusal::Club(ClubRefusal::UnknownKey)))
+            }
+        }
+    }
+}
+
+// What a request asks for, by its method.
+fn serve_asked<C: ServedClub>(
+    alloc: Global,
+    club: &mut C,
+    request: &Request<'_>,
+    asked: Option<Asked<'_>>,
+    moment: Moment,
+) -> Result<Shown, Fault>
+    ensures clean { C.IsClean club.new → C.IsClean club.old }
+    ensures shut { (fault : ClubFault) → C.IsShut club.old fault → C.IsShut club.new fault ×
+        IsShutBy (shut_asked fault (request_view request.now) (option_map asked_view asked.entry)) result }
+    ensures serves { C.IsClean club.new → (s : C.State) → C.Stands club.old s →
+        ServesDue C.club (C.Stands club.new) (C.Leaves club.new) answer_view s
+        (serve_asked C.club s moment (request_view request.now) (option_map asked_view asked.entry)) result }
+{
+    match asked {
+        None => Ok(Shown::Refused(Refusal::NoRoute)),
+        Some(asked) => {
+            let method = asked.method();
+            if is_method(request.method, method) {
+                serve_known(alloc, club, request.key, request.body, asked, moment)
+            } else {
+                Ok(Shown::Refused(Refusal::WrongMethod(method)))
+            }
+        }
+    }
+}
+
+// The answer to a whole request.
+#[tactic(auto, unfolding(crate::specs::Desk::serve, crate::specs::Desk::shut_serve))]
+fn serve<C: ServedClub>(
+    alloc: Global,
+    club: &mut C,
+    request: &Request<'_>,
+    moment: Moment,
+) -> Result<Shown, Fault>
+    ensures clean { C.IsClean club.new → C.IsClean club.old }
+    ensures shut { (fault : ClubFault) → C.IsShut club.old fault → C.IsShut club.new fault ×
+        IsShutBy (shut_serve fault (request_view request.now)) result }
+    ensures serves { C.IsClean club.new → (s : C.State) → C.Stands club.old s →
+        ServesDue C.club (C.Stands club.new) (C.Leaves club.new) answer_view s
+        (serve C.club s moment (request_view request.now)) result }
+{
+    let asked = asked_of(alloc, request.target)?;
+    serve_asked(alloc, club, request, asked, moment)
+}
+
+// The reply that shows an answer.
+fn answer_reply(alloc: Global, answer: Shown, without_body: bool) -> Result<String, AllocError>
+    ensures { IfOk result (λ t. string_bytes t ≡ answer_reply (answer_view answer) without_body) }
+{
+    match answer {
+        Shown::Refused(refusal) => refusal_reply(alloc, refusal, without_body),
+        Shown::Shows(text) => json_text_reply(alloc, text.as_str(), without_body),
+        Shown::Plain(text) => plain_reply(alloc, text.as_str(), without_body),
+    }
+}
+
+// The reply to a whole request.
+fn reply_whole<C: ServedClub>(
+    alloc: Global,
+    club: &mut C,
+    request: &Request<'_>,
+    moment: Moment,
+    without_body: bool,
+) -> Result<String, DeskFault>
+    ensures fault { IfErr result (λ e. e ≡ DeskFault.Memory) }
+    ensures clean { C.IsClean club.new → C.IsClean club.old }
+    ensures shut { (fault : ClubFault) → C.IsShut club.old fault → C.IsShut club.new fault ×
+        IfOk result (λ t. string_bytes t ≡ shut_text (shut_serve fault (request_view request.now)) without_body) }
+    ensures replies { C.IsClean club.new → (s : C.State) → C.Stands club.old s →
+        RepliesTo C.club (C.Stands club.new) (C.Leaves club.new) (λ t. string_bytes t) s moment without_body
+        (whole (request_view request.now)) result }
+{
+    match serve(alloc, club, request, moment) {
+        Ok(answer) => {
+            let reply = answer_reply(alloc, answer, without_body)?;
+            Ok(reply)
+        }
+        Err(Fault::Memory) => Err(DeskFault::Memory),
+        Err(Fault::Club(fault)) => {
+            let reply = fault_reply(alloc, fault.number(), fault.name(), without_body)?;
+            Ok(reply)
+        }
+    }
+}
+
+// The reply to what bytes amount to.
+fn reply<C: ServedClub>(
+    alloc: Global,
+    club: &mut C,
+    seen: Seen<'_>,
+    moment: Moment,
+    without_body: bool,
+) -> Result<String, DeskFault>
+    ensures fault { IfErr result (λ e. e ≡ DeskFault.Memory) }
+    ensures clean { C.IsClean club.new → C.IsClean club.old }
+    ensures shut { (fault : ClubFault) → C.IsShut club.old fault → C.IsShut club.new fault ×
+        IfOk result (λ t. string_bytes t ≡ shut_reply fault without_body (seen_view seen.entry)) }
+    ensures replies { C.IsClean club.new → (s : C.State) → C.Stands club.old s →
+        RepliesTo C.club (C.Stands club.new) (C.Leaves club.new) (λ t. string_bytes t) s moment without_body
+        (seen_view seen.entry) result }
+{
+    match seen {
+        Seen::Unfinished => Ok(String::new(alloc)),
+        Seen::Refused(refusal) => {
+            let reply = refusal_reply(alloc, Refusal::Head(refusal), without_body)?;
+            Ok(reply)
+        }
+        Seen::Whole(request) => reply_whole(alloc, club, &request, moment, without_body),
+    }
+}
+
+/// The reply to the bytes of a connection at a moment: that of the least beginning that is a whole request or refused,
+/// and no bytes where there is none yet. A club that is shut by a fault tells it to every request that comes to it.
+pub fn answer<C: ServedClub>(
+    alloc: Global,
+    club: &mut C,
+    bytes: &[u8],
+    moment: Moment,
+) -> Result<Vec<u8>, DeskFault>
+    ensures fault { IfErr result (λ e. e ≡ DeskFault.Memory) }
+    ensures clean { C.IsClean club.new → C.IsClean club.old }
+    ensures shut { (fault : ClubFault) → C.IsShut club.old fault → C.IsShut club.new fault ×
+        IfOk result (λ v. IsShutReply fault bytes.now v.items) }
+    ensures replies { C.IsClean club.new → (s : C.State) → C.Stands club.old s →
+        Answers C.club (C.Stands club.new) (C.Leaves club.new) (λ v. v.items) s moment bytes.now result }
+{
+    let reading = read_request(bytes);
+    let reply = reply(alloc, club, reading.seen, moment, reading.asks_head)?;
+    Ok(reply.into_bytes())
+}

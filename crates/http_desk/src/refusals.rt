@@ -1,0 +1,135 @@
+//! What a request is refused for.
+ghost use Rattle.std.specs.Prelude.{◌≡◌};
+ghost use Rattle.http_desk.specs.Refusals.{club_status, challenge_number, challenge_name, challenge_status, refusal_number, refusal_name, refusal_status};
+
+use club_core::Refusal as ClubRefusal;
+use http_head::HeadRefusal;
+
+/// A method that a path may take.
+#[derive(Clone, Copy, Debug, PartialEq, Eq)]
+pub enum Method {
+    Get,
+    Post,
+}
+
+/// Why a command about a challenge is refused.
+#[derive(Clone, Copy, Debug, PartialEq, Eq)]
+pub enum ChallengeRefusal {
+    /// The member has no challenge of that number, or none to the caller.
+    UnknownChallenge,
+    /// What any command is refused for.
+    Club(ClubRefusal),
+}
+
+/// Why a request is refused: by its head, by its path or body, or by the club.
+#[derive(Clone, Copy, Debug, PartialEq, Eq)]
+pub enum Refusal {
+    Head(HeadRefusal),
+    NoRoute,
+    /// The path takes this method alone.
+    WrongMethod(Method),
+    BadBody,
+    Club(ClubRefusal),
+    Challenge(ChallengeRefusal),
+}
+
+// The status of what the club refuses.
+fn club_status(refusal: ClubRefusal) -> u16
+    ensures { result ≡ club_status refusal }
+{
+    match refusal {
+        ClubRefusal::UnknownKey => 401,
+        ClubRefusal::NotAllowed => 403,
+        ClubRefusal::NotAPlayer => 403,
+        ClubRefusal::UnknownEvent => 404,
+        ClubRefusal::UnknownGame => 404,
+        ClubRefusal::GameOver => 409,
+        ClubRefusal::WrongPly => 409,
+        ClubRefusal::Conflict => 409,
+        ClubRefusal::NotYourTurn => 409,
+        ClubRefusal::OutOfTime => 409,
+        ClubRefusal::TimeLeft => 409,
+        ClubRefusal::NoOffer => 409,
+        ClubRefusal::NameTaken => 409,
+        ClubRefusal::Full => 409,
+        ClubRefusal::NotInThisGame => 422,
+        ClubRefusal::BadValue => 422,
+        ClubRefusal::Play { ply: _, refusal: _ } => 422,
+    }
+}
+
+impl ChallengeRefusal {
+    // The number of the refusal.
+    fn number(self) -> u16
+        ensures { result ≡ challenge_number self }
+    {
+        match self {
+            ChallengeRefusal::UnknownChallenge => 54,
+            ChallengeRefusal::Club(refusal) => u16::from(refusal.number()),
+        }
+    }
+
+    // The name of the refusal.
+    fn name(self) -> &'static str
+        ensures { result.now ≡ challenge_name self }
+    {
+        match self {
+            ChallengeRefusal::UnknownChallenge => "UnknownChallenge",
+            ChallengeRefusal::Club(refusal) => refusal.name(),
+        }
+    }
+
+    // The status of its reply.
+    fn status(self) -> u16
+        ensures { result ≡ challenge_status self }
+    {
+        match self {
+            ChallengeRefusal::UnknownChallenge => 404,
+            ChallengeRefusal::Club(refusal) => club_status(refusal),
+        }
+    }
+}
+
+impl Refusal {
+    /// The number by which a member knows the refusal.
+    pub fn number(self) -> u16
+        ensures { result ≡ refusal_number self }
+    {
+        match self {
+            Refusal::Head(refusal) => refusal.number(),
+            Refusal::NoRoute => 82,
+            Refusal::WrongMethod(_) => 83,
+            Refusal::BadBody => 81,
+            Refusal::Club(refusal) => u16::from(refusal.number()),
+            Refusal::Challenge(refusal) => refusal.number(),
+        }
+    }
+
+    /// The name of the refusal.
+    pub fn name(self) -> &'static str
+        ensures { result.now ≡ refusal_name self }
+    {
+        match self {
+            Refusal::Head(refusal) => refusal.name(),
+            Refusal::NoRoute => "NoRoute",
+            Refusal::WrongMethod(_) => "WrongMethod",
+            Refusal::BadBody => "BadBody",
+            Refusal::Club(refusal) => refusal.name(),
+            Refusal::Challenge(refusal) => refusal.name(),
+        }
+    }
+
+    /// The status of its reply.
+    pub fn status(self) -> u16
+        ensures { result ≡ refusal_status self }
+    {
+        match self {
+            Refusal::Head(refusal) => refusal.status(),
+            Refusal::NoRoute => 404,
+            Refusal::WrongMethod(_) => 405,
+            Refusal::BadBody => 400,
+            Refusal::Club(refusal) => club_status(refusal),
+            Refusal::Challenge(refusal) => refusal.status(),
+        }
+    }
+}

@@ -1,0 +1,212 @@
+//! The bytes of replies.
+ghost use Rattle.std.specs.Prelude.{◌≡◌, ◌++◌, IfOk, string_bytes, Some, None, unwrap_or, [], false};
+ghost use Rattle.http.specs.StatusCode.{IsStatusCode, reason_phrase};
+ghost use Rattle.serde_json.specs.Written.{compact_text, has_float};
+ghost use Rattle.serde_json.specs.View.{view};
+ghost use Rattle.http_desk.specs.Reply.{json_kind, status_line, type_line, length_line, reply_head, reply_text, key_lines, further_lines, refusal_reply, error_data, fault_reply, json_text_reply, plain_reply};
+
+use crate::refusals::{ChallengeRefusal, Method, Refusal};
+use club_core::Refusal as ClubRefusal;
+use http::StatusCode;
+use serde_json::{Value, json};
+use std::alloc::{AllocError, Global};
+
+// The phrase of a status.
+fn phrase(status: u16) -> &'static str
+    requires { IsStatusCode status }
+    ensures { result.now ≡ unwrap_or (reason_phrase status) [] }
+{
+    match StatusCode::from_u16(status) {
+        Ok(code) => match code.canonical_reason() {
+            Some(phrase) => phrase,
+            None => "",
+        },
+        Err(_) => unreachable!(),
+    }
+}
+
+fn status_line(alloc: Global, status: u16, phrase: &str) -> Result<String, AllocError>
+    ensures { IfOk result (λ s. string_bytes s ≡ status_line status phrase.now) }
+{
+    let mut text = format!(in alloc; "HTTP/1.1 {status} ")?;
+    text.push_str(phrase)?;
+    text.push_str("\r\n")?;
+    Ok(text)
+}
+
+fn type_line(alloc: Global, kind: &str) -> Result<String, AllocError>
+    ensures { IfOk result (λ s. string_bytes s ≡ type_line kind.now) }
+{
+    format!(in alloc; "Content-Type: {kind}\r\n")
+}
+
+fn length_line(alloc: Global, n: usize) -> Result<String, AllocError>
+    ensures { IfOk result (λ s. string_bytes s ≡ length_line n) }
+{
+    format!(in alloc; "Content-Length: {n}\r\n")
+}
+
+// The head of a reply.
+#[tactic(auto, unfolding(crate::specs::Reply::reply_head))]
+fn reply_head(
+    alloc: Global,
+    status: u16,
+    phrase: &str,
+    kind: &str,
+    body_length: usize,
+    further: &str,
+) -> Result<String, AllocError>
+    ensures { IfOk result (λ s. string_bytes s ≡ reply_head status phrase.now kind.now body_length further.now) }
+{
+    let mut text = status_line(alloc, status, phrase)?;
+    let kind_line = type_line(alloc, kind)?;
+    let length_line = length_line(alloc, body_length)?;
+    text.push_str(kind_line.as_str())?;
+    text.push_str(length_line.as_str())?;
+    text.push_str("Connection: close\r\n")?;
+    text.push_str(further)?;
+    text.push_str("\r\n")?;
+    Ok(text)
+}
+
+// A reply, of which the body may be left out.
+fn reply_text(
+    alloc: Global,
+    status: u16,
+    kind: &str,
+    further: &str,
+    body: &str,
+    without_body: bool,
+) -> Result<String, AllocError>
+    requires { IsStatusCode status }
+    ensures { IfOk result (λ s. string_bytes s ≡ reply_text status kind.now further.now body.now without_body) }
+{
+    let mut text = reply_head(alloc, status, phrase(status), kind, body.len(), further)?;
+    if !without_body {
+        text.push_str(body)?;
+    }
+    Ok(text)
+}
+
+// How a member shows who it is, where the club knows no such key.
+fn key_lines(refusal: ClubRefusal) -> &'static str
+    ensures { result.now ≡ key_lines refusal }
+{
+    match refusal {
+        ClubRefusal::UnknownKey => "WWW-Authenticate: Member-Key\r\n",
+        _ => "",
+    }
+}
+
+// What a refusal adds to the head.
+fn further_lines(refusal: Refusal) -> &'static str
+    ensures { result.now ≡ further_lines refusal }
+{
+    match refusal {
+        Refusal::WrongMethod(Method::Get) => "Allow: GET\r\n",
+        Refusal::WrongMethod(Method::Post) => "Allow: POST\r\n",
+        Refusal::Club(refusal) => key_lines(refusal),
+        Refusal::Challenge(ChallengeRefusal::Club(refusal)) => key_lines(refusal),
+        _ => "",
+    }
+}
+
+// A number and a name.
+fn error_value(alloc: Global, number: u64, name: &str) -> Result<Value, AllocError>
+    ensures { IfOk result (λ v. view v ≡ error_data number name.now) }
+{
+    json!(in alloc; {"error": number, "name": name})
+}
+
+/// A value as JSON.
+pub fn text_of(alloc: Global, value: &Value) -> Result<String, AllocError>
+    requires { has_float (view value.now) ≡ false }
+    ensures { IfOk result (λ s. string_bytes s ≡ compact_text (view value.now)) }
+{
+    value.to_string(alloc)
+}
+
+/// A reply whose body is a value as JSON.
+pub fn json_reply(
+    alloc: Global,
+    status: u16,
+    further: &str,
+    value: &Value,
+    without_body: bool,
+) -> Result<String, AllocError>
+    requires status { IsStatusCode status }
+    requires value { has_float (view value.now) ≡ false }
+    ensures { IfOk result (λ s. string_bytes s ≡
+        reply_text status json_kind further.now (compact_text (view value.now)) without_body) }
+{
+    let body = text_of(alloc, value)?;
+    reply_text(
+        alloc,
+        status,
+        "application/json",
+        further,
+        body.as_str(),
+        without_body,
+    )
+}
+
+// A reply whose body is a number and a name.
+fn error_reply(
+    alloc: Global,
+    status: u16,
+    further: &str,
+    number: u16,
+    name: &str,
+    without_body: bool,
+) -> Result<String, AllocError>
+    requires { IsStatusCode status }
+    ensures { IfOk result (λ s. string_bytes s ≡
+        reply_text status json_kind further.now (compact_text (error_data number name.now)) without_body) }
+{
+    let value = error_value(alloc, u64::from(number), name)?;
+    json_reply(alloc, status, further, &value, without_body)
+}
+
+/// The reply of a refusal.
+pub fn refusal_reply(
+    alloc: Global,
+    refusal: Refusal,
+    without_body: bool,
+) -> Result<String, AllocError>
+    ensures { IfOk result (λ s. string_bytes s ≡ refusal_reply refusal without_body) }
+{
+    error_reply(
+        alloc,
+        refusal.status(),
+        further_lines(refusal),
+        refusal.number(),
+        refusal.name(),
+        without_body,
+    )
+}
+
+/// A reply at 200 with a text of JSON.
+pub fn json_text_reply(alloc: Global, text: &str, without_body: bool) -> Result<String, AllocError>
+    ensures { IfOk result (λ s. string_bytes s ≡ json_text_reply text.now without_body) }
+{
+    reply_text(alloc, 200, "application/json", "", text, without_body)
+}
+
+/// A reply at 200 with a text.
+pub fn plain_reply(alloc: Global, text: &str, without_body: bool) -> Result<String, AllocError>
+    ensures { IfOk result (λ s. string_bytes s ≡ plain_reply text.now without_body) }
+{
+    reply_text(alloc, 200, "text/plain", "", text, without_body)
+}
+
+/// The reply of a fault of the store.
+pub fn fault_reply(
+    alloc: Global,
+    number: u16,
+    name: &str,
+    without_body: bool,
+) -> Result<String, AllocError>
+    ensures { IfOk result (λ s. string_bytes s ≡ fault_reply number name.now without_body) }
+{
+    error_reply(alloc, 503, "", number, name, without_body)
+}

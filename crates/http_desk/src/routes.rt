@@ -1,0 +1,316 @@
+//! What a target asks for.
+ghost use Rattle.std.specs.Prelude.{◌≡◌, ◌≤◌, IfOk, OnOk, Ok, length, option_map, take, drop};
+ghost use Rattle.std.specs.Str.{bytes_eq};
+ghost use Rattle.matchit.specs.Route.{parse_route};
+ghost use Rattle.http_head.specs.Head.{number_of};
+ghost use Rattle.http_desk.specs.Routes.{before, behind, begins, path_behind, path_of, with_route, routes, page_of, second_part, third_part, fourth_part, make_move, offer_draw, accept_draw, cross_table, turn_asked, ply_asked, answer_asked, text_of, asked_of_page, asked_of_path, asked_of, method_of};
+ghost use Rattle.http_desk.specs.RouteViews.{turn_view, asked_view};
+
+use crate::refusals::Method;
+use http_head::number_of;
+use matchit::{InsertError, Router};
+use std::alloc::Global;
+
+/// The pages of the desk, each with a path of its own.
+#[derive(Clone, Copy, Debug, PartialEq, Eq)]
+pub enum Page {
+    GameView,
+    LegalMoves,
+    CrossTable,
+    MakeMove,
+    OfferDraw,
+    AcceptDraw,
+    Resign,
+    ClaimTime,
+    Challenge,
+    Withdraw,
+    Answer,
+}
+
+/// What a path asks of a game that changes it. Plies count from 1.
+#[derive(Clone, Copy, Debug, PartialEq, Eq)]
+pub enum Turn {
+    MakeMove(u32),
+    OfferDraw(u32),
+    AcceptDraw(u32),
+    Resign,
+    ClaimTime,
+}
+
+/// What a path asks for.
+#[derive(Clone, Copy)]
+pub enum Asked<'p> {
+    GameView(u32),
+    LegalMoves(u32),
+    CrossTable(&'p str),
+    /// The game of that number.
+    OnGame(u32, Turn),
+    Challenge(u32),
+    Withdraw(u32),
+    /// The member who challenged, and the number of the challenge.
+    Answer(&'p str, u32),
+}
+
+impl<'p> Asked<'p> {
+    /// The one method that serves it.
+    pub fn method(self) -> Method
+        ensures { result ≡ method_of (asked_view self.entry) }
+    {
+        match self {
+            Asked::GameView(_) => Method::Get,
+            Asked::LegalMoves(_) => Method::Get,
+            Asked::CrossTable(_) => Method::Get,
+            Asked::OnGame(_, _) => Method::Post,
+            Asked::Challenge(_) => Method::Post,
+            Asked::Withdraw(_) => Method::Post,
+            Asked::Answer(_, _) => Method::Post,
+        }
+    }
+}
+
+// What stands before the first such byte, and what behind it.
+fn cut(bytes: &[u8], byte: u8) -> (&[u8], &[u8])
+    ensures before { result.0.now ≡ before byte bytes.now }
+    ensures behind { result.1.now ≡ behind byte bytes.now }
+{
+    for (i, other) in bytes.iter().enumerate() {
+        if *other == byte {
+            return (&bytes[..i], &bytes[i + 1..]);
+        }
+    }
+    (bytes, &[])
+}
+
+/// Whether bytes begin with others.
+pub fn begins(bytes: &[u8], front: &[u8]) -> bool
+    ensures { result ≡ begins bytes.now front.now }
+{
+    let length = bytes.len().min(front.len());
+    &bytes[..length] == front
+}
+
+// The path behind an authority.
+fn path_behind(bytes: &[u8]) -> Option<&[u8]>
+    ensures { option_map (λ p. p.now) result ≡ path_behind (length (before 47 bytes.now)) bytes.now }
+{
+    let (authority, _) = cut(bytes, b'/');
+    let n = authority.len();
+    if n == 0 {
+        return None;
+    }
+    if n >= bytes.len() {
+        return None;
+    }
+    Some(&bytes[n..])
+}
+
+/// The path of a target.
+pub fn path_of(target: &[u8]) -> Option<&[u8]>
+    ensures { option_map (λ p. p.now) result ≡ path_of target.now }
+{
+    let (bytes, _) = cut(target, b'?');
+    if begins(bytes, b"/") {
+        return Some(bytes);
+    }
+    if begins(bytes, b"http://") && bytes.len() >= 7 {
+        return path_behind(&bytes[7..]);
+    }
+    None
+}
+
+// The routes of the desk.
+fn routes(alloc: Global) -> Result<Router<Page>, InsertError>
+    ensures { IfOk result (λ router. router ≡ routes) }
+{
+    let mut router = Router::new(alloc);
+    router.insert("/games/{id}", Page::GameView)?;
+    router.insert("/games/{id}/legal", Page::LegalMoves)?;
+    router.insert("/events/{name}/table", Page::CrossTable)?;
+    router.insert("/games/{id}/moves/{ply}", Page::MakeMove)?;
+    router.insert("/games/{id}/draw/{ply}/offer", Page::OfferDraw)?;
+    router.insert("/games/{id}/draw/{ply}/accept", Page::AcceptDraw)?;
+    router.insert("/games/{id}/resign", Page::Resign)?;
+    router.insert("/games/{id}/claim-time", Page::ClaimTime)?;
+    router.insert("/challenges/{number}", Page::Challenge)?;
+    router.insert("/challenges/{number}/withdraw", Page::Withdraw)?;
+    router.insert("/answers/{member}/{number}", Page::Answer)?;
+    Ok(router)
+}
+
+// The page of a path.
+fn page_of(alloc: Global, path: &str) -> Result<Option<Page>, InsertError>
+    ensures { IfOk result (λ page. page ≡ page_of path.now) }
+{
+    let router = routes(alloc)?;
+    match router.at(path) {
+        Ok(found) => Ok(Some(*found.value)),
+        Err(_) => Ok(None),
+    }
+}
+
+// The bytes as text.
+pub fn text_of(bytes: &[u8]) -> Option<&str>
+    ensures { option_map (λ t. t.now) result ≡ text_of bytes.now }
+{
+    match str::from_utf8(bytes) {
+        Ok(text) => Some(text),
+        Err(_) => None,
+    }
+}
+
+fn second_part(path: &[u8]) -> &[u8]
+    ensures { result.now ≡ second_part path.now }
+{
+    let (_, rest) = cut(path, b'/');
+    let (_, rest) = cut(rest, b'/');
+    let (part, _) = cut(rest, b'/');
+    part
+}
+
+fn third_part(path: &[u8]) -> &[u8]
+    ensures { result.now ≡ third_part path.now }
+{
+    let (_, rest) = cut(path, b'/');
+    let (_, rest) = cut(rest, b'/');
+    let (_, rest) = cut(rest, b'/');
+    let (part, _) = cut(rest, b'/');
+    part
+}
+
+fn fourth_part(path: &[u8]) -> &[u8]
+    ensures { result.now ≡ fourth_part path.now }
+{
+    let (_, rest) = cut(path, b'/');
+    let (_, rest) = cut(rest, b'/');
+    let (_, rest) = cut(rest, b'/');
+    let (_, rest) = cut(rest, b'/');
+    let (part, _) = cut(rest, b'/');
+    part
+}
+
+// The number of a path's second part.
+fn second_number(path: &[u8]) -> Option<u32>
+    ensures { result ≡ number_of (second_part path.now) }
+{
+    number_of(second_part(path))
+}
+
+// What is asked of the game of a path.
+fn turn_asked<'p>(turn: Turn, path: &'p [u8]) -> Option<Asked<'p>>
+    ensures { option_map asked_view result ≡ turn_asked (turn_view turn) (number_of (second_part path.now)) }
+{
+    match second_number(path) {
+        None => None,
+        Some(game) => Some(Asked::OnGame(game, turn)),
+    }
+}
+
+// What is asked at the ply of a path.
+fn move_asked<'p>(path: &'p [u8]) -> Option<Asked<'p>>
+    ensures { option_map asked_view result ≡
+        ply_asked make_move (number_of (second_part path.now)) (number_of (fourth_part path.now)) }
+{
+    match second_number(path) {
+        None => None,
+        Some(game) => match number_of(fourth_part(path)) {
+            None => None,
+            Some(ply) => Some(Asked::OnGame(game, Turn::MakeMove(ply))),
+        },
+    }
+}
+
+fn offer_asked<'p>(path: &'p [u8]) -> Option<Asked<'p>>
+    ensures { option_map asked_view result ≡
+        ply_asked offer_draw (number_of (second_part path.now)) (number_of (fourth_part path.now)) }
+{
+    match second_number(path) {
+        None => None,
+        Some(game) => match number_of(fourth_part(path)) {
+            None => None,
+            Some(ply) => Some(Asked::OnGame(game, Turn::OfferDraw(ply))),
+        },
+    }
+}
+
+fn accept_asked<'p>(path: &'p [u8]) -> Option<Asked<'p>>
+    ensures { option_map asked_view result ≡
+        ply_asked accept_draw (number_of (second_part path.now)) (number_of (fourth_part path.now)) }
+{
+    match second_number(path) {
+        None => None,
+        Some(game) => match number_of(fourth_part(path)) {
+            None => None,
+            Some(ply) => Some(Asked::OnGame(game, Turn::AcceptDraw(ply))),
+        },
+    }
+}
+
+// Which challenge a path answers.
+fn answer_asked<'p>(path: &'p [u8]) -> Option<Asked<'p>>
+    ensures { option_map asked_view result ≡
+        answer_asked (text_of (second_part path.now)) (number_of (third_part path.now)) }
+{
+    match text_of(second_part(path)) {
+        None => None,
+        Some(member) => match number_of(third_part(path)) {
+            None => None,
+            Some(number) => Some(Asked::Answer(member, number)),
+        },
+    }
+}
+
+// The event whose table a path names.
+fn table_asked<'p>(path: &'p [u8]) -> Option<Asked<'p>>
+    ensures { option_map asked_view result ≡ option_map cross_table (text_of (second_part path.now)) }
+{
+    match text_of(second_part(path)) {
+        None => None,
+        Some(event) => Some(Asked::CrossTable(event)),
+    }
+}
+
+// What a page of a path asks for.
+fn asked_of_page<'p>(page: Option<Page>, path: &'p [u8]) -> Option<Asked<'p>>
+    ensures { option_map asked_view result ≡ asked_of_page page path.now }
+{
+    match page {
+        None => None,
+        Some(Page::GameView) => match second_number(path) {
+            None => None,
+            Some(game) => Some(Asked::GameView(game)),
+        },
+        Some(Page::LegalMoves) => match second_number(path) {
+            None => None,
+            Some(game) => Some(Asked::LegalMoves(game)),
+        },
+        Some(Page::CrossTable) => table_asked(path),
+        Some(Page::MakeMove) => move_asked(path),
+        Some(Page::OfferDraw) => offer_asked(path),
+        Some(Page::AcceptDraw) => accept_asked(path),
+        Some(Page::Resign) => turn_asked(Turn::Resign, path),
+        Some(Page::ClaimTime) => turn_asked(Turn::ClaimTime, path),
+        Some(Page::Challenge) => match second_number(path) {
+            None => None,
+            Some(number) => Some(Asked::Challenge(number)),
+        },
+        Some(Page::Withdraw) => match second_number(path) {
+            None => None,
+            Some(number) => Some(Asked::Withdraw(number)),
+        },
+        Some(Page::Answer) => answer_asked(path),
+    }
+}
+
+/// What a target asks for.
+pub fn asked_of(alloc: Global, target: &[u8]) -> Result<Option<Asked<'_>>, InsertError>
+    ensures { IfOk result (λ asked. option_map asked_view asked ≡ asked_of target.now) }
+{
+    let Some(path) = path_of(target) else {
+        return Ok(None);
+    };
+    let Some(text) = text_of(path) else {
+        return Ok(None);
+    };
+    let page = page_of(alloc, text)?;
+    Ok(asked_of_page(page, path))
+}

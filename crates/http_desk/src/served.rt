@@ -1,0 +1,167 @@
+//! What the desk asks of a club.
+ghost use Rattle.std.specs.Prelude.{◌≡◌, Err};
+ghost use Rattle.club_core.specs.Answer.{command_of, outcome_of, who_of};
+ghost use Rattle.http_desk.specs.Shown.{end_name};
+ghost use Rattle.http_desk.specs.ShownViews.{challenge_view, challenged_view, found_view, rows_view};
+ghost use Rattle.http_desk.specs.Served.{Club, Serves};
+
+use crate::faults::ClubFault;
+use crate::refusals::ChallengeRefusal;
+use clocks::Moment;
+use club_core::{Command, GameEnd, Outcome, Who};
+use club_rules::EndName;
+use squares::Score;
+use std::alloc::Global;
+
+/// A game as any member may see it: its event and its players by their names, its moves and its position as they are
+/// written, and the seconds that each side has left.
+#[derive(Drop)]
+pub struct GameShown {
+    pub event: String,
+    pub first: String,
+    pub second: String,
+    pub moves: Vec<String>,
+    pub position: String,
+    pub left_first: u64,
+    pub left_second: u64,
+    /// The name of the member whose offer of a draw stands.
+    pub offer: Option<String>,
+    pub end: Option<GameEnd<EndName>>,
+    /// None while the game is running.
+    pub result: Option<Score>,
+}
+
+/// The name of an end, as it is printed and stored, without its side.
+pub fn end_name(end: GameEnd<EndName>) -> &'static str
+    ensures { result.now ≡ end_name end }
+{
+    match end {
+        GameEnd::Rule(end) => end.name(),
+        GameEnd::Outside(end) => end.name(),
+    }
+}
+
+/// A member's command about a challenge. Each member numbers its own, and goes by its name.
+#[derive(Drop)]
+pub enum ChallengeCommand {
+    /// Challenges another member to a game of an event, as First or as Second.
+    Make {
+        number: u32,
+        event: String,
+        other: String,
+        first: bool,
+    },
+    Withdraw {
+        number: u32,
+    },
+    /// Answers the challenge of that number by that member.
+    Answer {
+        member: String,
+        number: u32,
+        accept: bool,
+    },
+}
+
+/// How a challenge stands.
+#[derive(Clone, Copy, Debug, PartialEq, Eq)]
+pub enum ChallengeState {
+    Open,
+    Withdrawn,
+    Refused,
+    /// The game of that number was started.
+    Accepted(u32),
+}
+
+/// A club that stands in a state. A call that fails leaves the state before it or the one after it. A club that is shut
+/// by a fault answers every call with it.
+pub trait ServedClub {
+    ghost use Rattle.http_desk.specs.declared.faults.ClubFault.{ClubFault};
+
+    /// The states of the club.
+    type State;
+
+    ghost club: { Club Self.State };
+
+    ghost IsClean: { Self → Type 0 };
+
+    ghost Stands: { Self → Self.State → Type 0 };
+
+    ghost Leaves: { Self → Self.State → Self.State → Type 0 };
+
+    ghost IsShut: { Self → ClubFault → Type 0 };
+
+    /// Whether a member has the key.
+    fn has_key(&mut self, alloc: Global, key: &str) -> Result<bool, ClubFault>
+        ensures clean { IsClean self.new → IsClean self.old }
+        ensures shut { (fault : ClubFault) → IsShut self.old fault →
+            (result ≡ Err fault) × IsShut self.new fault }
+        ensures serves { IsClean self.new → (s : Self.State) → Stands self.old s →
+            Serves (Stands self.new) (Leaves self.new) s s (λ found. found ≡ club.has_key s key.now) result };
+
+    /// A game as members see it, if there is one of that number.
+    fn view_game(&mut self, alloc: Global, game: u64) -> Result<Option<GameShown>, ClubFault>
+        ensures clean { IsClean self.new → IsClean self.old }
+        ensures shut { (fault : ClubFault) → IsShut self.old fault →
+            (result ≡ Err fault) × IsShut self.new fault }
+        ensures serves { IsClean self.new → (s : Self.State) → Stands self.old s →
+            Serves (Stands self.new) (Leaves self.new) s s (λ found. club.IsGame s game (found_view found)) result };
+
+    /// The legal moves of a game as they are written, in the order in which they are listed.
+    fn legal_rows(&mut self, alloc: Global, game: u64) -> Result<Option<Vec<String>>, ClubFault>
+        ensures clean { IsClean self.new → IsClean self.old }
+        ensures shut { (fault : ClubFault) → IsShut self.old fault →
+            (result ≡ Err fault) × IsShut self.new fault }
+        ensures serves { IsClean self.new → (s : Self.State) → Stands self.old s →
+            Serves (Stands self.new) (Leaves self.new) s s (λ rows. club.AreLegal s game (rows_view rows)) result };
+
+    /// The lines of an event's cross table, if there is an event of that name.
+    fn table_lines(&mut self, alloc: Global, event: &str) -> Result<Option<Vec<String>>, ClubFault>
+        ensures clean { IsClean self.new → IsClean self.old }
+        ensures shut { (fault : ClubFault) → IsShut self.old fault →
+            (result ≡ Err fault) × IsShut self.new fault }
+        ensures serves { IsClean self.new → (s : Self.State) → Stands self.old s →
+            Serves (Stands self.new) (Leaves self.new) s s
+            (λ rows. club.AreLines s event.now (rows_view rows)) result };
+
+    /// Gives the club a command.
+    fn apply(
+        &mut self,
+        alloc: Global,
+        who: &Who,
+        command: &Command,
+        moment: Moment,
+    ) -> Result<Outcome, ClubFault>
+        ensures clean { IsClean self.new → IsClean self.old }
+        ensures shut { (fault : ClubFault) → IsShut self.old fault →
+            (result ≡ Err fault) × IsShut self.new fault }
+        ensures serves { IsClean self.new → (s : Self.State) → Stands self.old s →
+            Serves (Stands self.new) (Leaves self.new) s
+            (club.step s (record { who = who_of who.now; command = command_of command.now; moment = moment })).0
+            (λ outcome. outcome_of outcome ≡
+            (club.step s (record { who = who_of who.now; command = command_of command.now; moment = moment })).1)
+            result };
+
+    /// Gives the club a member's command about a challenge.
+    fn apply_challenge(
+        &mut self,
+        alloc: Global,
+        key: &str,
+        command: &ChallengeCommand,
+        moment: Moment,
+    ) -> Result<Result<ChallengeState, ChallengeRefusal>, ClubFault>
+        ensures clean { IsClean self.new → IsClean self.old }
+        ensures shut { (fault : ClubFault) → IsShut self.old fault →
+            (result ≡ Err fault) × IsShut self.new fault }
+        ensures serves { IsClean self.new → (s : Self.State) → Stands self.old s →
+            Serves (Stands self.new) (Leaves self.new) s
+            (club.challenge s key.now (challenge_view command.now) moment).0
+            (λ answer. challenged_view answer ≡ (club.challenge s key.now (challenge_view command.now) moment).1)
+            result };
+
+    /// What stands is what is left, whichever the other state is.
+    ghost stays: { (b : Self) (s t : Self.State) → Stands b s → Leaves b s t };
+
+    ghost settled: { (b : Self) (s t : Self.State) → Stands b t → Leaves b s t };
+
+    ghost wider: { (b : Self) (s t : Self.State) → Leaves b s s → Leaves b s t };
+}

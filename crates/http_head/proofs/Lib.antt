@@ -1,0 +1,7 @@
+pub mod Numbers
+pub mod HeadLines
+pub mod HeadReading
+pub mod FramingLemmas
+pub mod RequestLemmas
+pub mod IntakeLemmas
+pub mod StreamLemmas

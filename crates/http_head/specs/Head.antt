@@ -1,0 +1,137 @@
+-- What the head of a request says, and which of the refusals it decides.
+use Rattle.std.specs.Prelude.{◌≡◌, ℕ, Bool, true, false, ◌&&◌, List, [], ◌∷◌, Option, Some, None, Result, Ok, Err, codes, length, map, ◌==◌, nat_lt, if◌then◌else◌}
+use Rattle.std.specs.List.{list_all}
+use Rattle.std.specs.Char.{is_ascii_digit, to_ascii_lowercase}
+use Rattle.std.specs.Str.{bytes_eq}
+use Rattle.std.specs.Str.Parse.{digits_value}
+use Rattle.httparse.specs.Grammar.{RequestHead, ReadsRequest}
+use Rattle.httparse.specs.Spans.{name_and_value}
+use Rattle.http_head.specs.declared.refusals.HeadRefusal.{HeadRefusal}
+use Rattle.http_head.specs.declared.refusals.HeadRefusal.TheVariants.{HeadTooLong, BadHead, BadHost, NotImplemented, NoLength, TooLong}
+
+-- ---- fields
+
+-- names are the same whichever case their letters have
+abbrev pub is_name : List ℕ → List ℕ → Bool
+is_name a b = bytes_eq (map to_ascii_lowercase a) (map to_ascii_lowercase b)
+
+-- a field is its name and its value
+abbrev pub Fields : Type 0
+Fields = List (List ℕ × List ℕ)
+
+-- the values of the fields of a name
+abbrev pub values : List ℕ → Fields → List (List ℕ)
+values name [] = []
+values name (field ∷ fields) = if is_name name field.0 then field.1 ∷ values name fields else values name fields
+
+-- how often a field stands
+pub data Stands : Type 0 where
+  absent : Stands
+  once : List ℕ → Stands
+  twice : Stands
+
+abbrev pub stands_among : List (List ℕ) → Stands
+stands_among [] = absent
+stands_among (value ∷ []) = once value
+stands_among (value ∷ other ∷ values) = twice
+
+abbrev pub stands : List ℕ → Fields → Stands
+stands name fields = stands_among (values name fields)
+
+-- ---- numbers
+
+-- 1 to 9 digits
+abbrev pub is_number : List ℕ → Bool
+is_number text = nat_lt 0 (length text) && nat_lt (length text) 10 && list_all is_ascii_digit text
+
+-- a number of 1 to 9 digits
+abbrev pub number_of : List ℕ → Option ℕ
+number_of text = if is_number text then Some (digits_value 10 text) else None
+
+-- ---- the head
+
+-- the fields of a head as `httparse` reads them, without the blanks around a value
+abbrev pub fields_of : RequestHead → Fields
+fields_of h = map name_and_value h.fields
+
+-- what the desk takes from a head
+pub record Outline : Type 0 where
+  pub method : List ℕ
+  pub target : List ℕ
+  pub key : Option (List ℕ)
+  pub length : ℕ
+
+abbrev pub named_number : Option ℕ → Result (Option ℕ) HeadRefusal
+named_number None = Err BadHead
+named_number (Some n) = Ok (Some n)
+
+-- the length that Content-Length names, if there is one: nothing where it names none well
+abbrev pub named_length : Stands → Result (Option ℕ) HeadRefusal
+named_length absent = Ok None
+named_length (once value) = named_number (number_of value)
+named_length twice = Err BadHead
+
+-- Host stands once, or not at all in HTTP/1.0
+abbrev pub has_good_host : ℕ → Stands → Bool
+has_good_host minor absent = minor == 0
+has_good_host minor (once value) = true
+has_good_host minor twice = false
+
+abbrev pub is_absent : Stands → Bool
+is_absent absent = true
+is_absent (once value) = false
+is_absent twice = false
+
+-- the one value of a field that stands once
+abbrev pub only : Stands → Option (List ℕ)
+only absent = None
+only (once value) = Some value
+only twice = None
+
+-- the most bytes that a body has, and the most lines of a head that are not empty
+abbrev pub body_limit : ℕ
+body_limit = 65536
+
+abbrev pub line_limit : ℕ
+line_limit = 65
+
+-- the length of the body: a request without one has none, but a POST must name it
+abbrev pub body_length : List ℕ → Option ℕ → Result ℕ HeadRefusal
+body_length method None = if bytes_eq method (codes "POST") then Err NoLength else Ok 0
+body_length method (Some n) = if nat_lt body_limit n then Err TooLong else Ok n
+
+-- the head's parts, with the length of the body
+abbrev pub outline_with : List ℕ → List ℕ → Fields → Result ℕ HeadRefusal → Result Outline HeadRefusal
+outline_with method target fields (Err refusal) = Err refusal
+outline_with method target fields (Ok n) = Ok (record { method = method; target = target; key = only (stands (codes "Member-Key") fields); length = n })
+
+-- the refusals behind that of Content-Length, in their order
+abbrev pub outline_behind : List ℕ → List ℕ → ℕ → Fields → Result (Option ℕ) HeadRefusal → Result Outline HeadRefusal
+outline_behind method target minor fields (Err refusal) = Err refusal
+outline_behind method target minor fields (Ok named) =
+    if has_good_host minor (stands (codes "Host") fields) then (
+    if is_absent (stands (codes "Transfer-Encoding") fields) then
+    outline_with method target fields (body_length method named)
+    else Err NotImplemented) else Err BadHost
+
+abbrev pub outline_from : List ℕ → List ℕ → ℕ → Fields → Result Outline HeadRefusal
+outline_from method target minor fields = outline_behind method target minor fields (named_length (stands (codes "Content-Length") fields))
+
+-- what a head gives, or the first refusal that it decides
+abbrev pub outline_of : ℕ → Option RequestHead → Result Outline HeadRefusal
+outline_of lines None = if nat_lt line_limit lines then Err HeadTooLong else Err BadHead
+outline_of lines (Some h) = if nat_lt line_limit lines then Err HeadTooLong else outline_from h.method h.target h.minor (fields_of h)
+
+-- the bytes are this head as `httparse` reads it, all of them, or they are none
+abbrev pub IsHead : List ℕ → Option RequestHead → Type 0
+IsHead bytes None = (h : RequestHead) → ReadsRequest bytes h [] → ⊥
+IsHead bytes (Some h) = ReadsRequest bytes h []
+
+-- a head of too many lines is not read
+abbrev pub IsReadIf : Bool → List ℕ → Option RequestHead → Type 0
+IsReadIf true bytes read = read ≡ None
+IsReadIf false bytes read = IsHead bytes read
+
+-- what a head of so many lines is read as
+abbrev pub IsReadAs : ℕ → List ℕ → Option RequestHead → Type 0
+IsReadAs lines bytes read = IsReadIf (nat_lt line_limit lines) bytes read

@@ -1,0 +1,23 @@
+-- How far the bytes of a connection have been looked at.
+use Rattle.std.specs.Prelude.{◌≡◌, ℕ, ◌-◌, ◌≤◌, List, ◌++◌, length, take}
+use Rattle.http_head.specs.declared.framing.Scan.{Scan}
+use Rattle.http_head.specs.declared.intake.Intake.{Intake}
+use Rattle.http_head.specs.declared.intake.Intake.TheVariants.{Head, Body}
+use Rattle.http_head.specs.Framing.{scan_start, end_from}
+use Rattle.http_head.specs.Request.{IsDecided}
+
+-- the scan stands behind bytes in which no head ends
+pub record IsScanOf (scan : Scan) (bytes : List ℕ) : Type 0 where
+  pub within : scan.at ≤ length bytes
+  pub limit : scan.at ≤ 16384
+  pub sane : scan.lines ≤ scan.at
+  pub rest : (more : List ℕ) → end_from scan_start (take scan.at bytes ++ more) ≡ end_from scan more
+
+-- so many bytes behind the head are enough
+pub record IsBodyOf (start count : ℕ) (bytes : List ℕ) : Type 0 where
+  pub within : start ≤ length bytes
+  pub enough : (more : List ℕ) → count ≤ length (bytes ++ more) - start → IsDecided (bytes ++ more)
+
+abbrev pub IsIntake : Intake → List ℕ → Type 0
+IsIntake (Head scan) bytes = IsScanOf scan bytes
+IsIntake (Body start count) bytes = IsBodyOf start count bytes

@@ -1,0 +1,7 @@
+pub mod Framing
+pub mod Head
+pub mod HeadViews
+pub mod Refusals
+pub mod Request
+pub mod RequestViews
+pub mod Intake

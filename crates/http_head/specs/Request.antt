@@ -1,0 +1,62 @@
+-- What the bytes of a connection amount to, so far as they have come.
+use Rattle.std.specs.Prelude.{◌≡◌, ℕ, Bool, ◌||◌, ◌==◌, codes, List, [], ◌∷◌, Option, Some, None, Result, Ok, Err, length, take, drop, nat_lt, if◌then◌else◌}
+use Rattle.std.specs.Str.{bytes_eq}
+use Rattle.httparse.specs.Grammar.{RequestHead}
+use Rattle.http_head.specs.declared.refusals.HeadRefusal.{HeadRefusal}
+use Rattle.http_head.specs.declared.refusals.HeadRefusal.TheVariants.{HeadTooLong}
+use Rattle.http_head.specs.Framing.{head_end, head_limit}
+use Rattle.http_head.specs.Head.{Outline, outline_of, IsReadAs}
+
+-- a whole request
+pub record Request : Type 0 where
+  pub method : List ℕ
+  pub target : List ℕ
+  pub key : Option (List ℕ)
+  pub body : List ℕ
+
+-- neither whole nor refused, refused by its framing, or whole
+pub data Seen : Type 0 where
+  unfinished : Seen
+  refused : HeadRefusal → Seen
+  whole : Request → Seen
+
+-- the body is what stands behind the head, as long as the head says
+abbrev pub body_seen : List ℕ → Result Outline HeadRefusal → Seen
+body_seen behind (Err refusal) = refused refusal
+body_seen behind (Ok o) = if nat_lt (length behind) o.length then unfinished else whole (record { method = o.method; target = o.target; key = o.key; body = take o.length behind })
+
+abbrev pub seen_after : List ℕ → Option (ℕ × ℕ) → Option RequestHead → Seen
+seen_after bytes None read = if nat_lt head_limit (length bytes) then refused HeadTooLong else unfinished
+seen_after bytes (Some end) read = body_seen (drop end.0 bytes) (outline_of end.1 read)
+
+-- what the head is read as, where one ends
+abbrev pub IsHeadRead : List ℕ → Option (ℕ × ℕ) → Option RequestHead → Type 0
+IsHeadRead bytes None read = read ≡ None
+IsHeadRead bytes (Some end) read = IsReadAs end.1 (take end.0 bytes) read
+
+-- the bytes amount to this
+pub record Sees (bytes : List ℕ) (seen : Seen) : Type 0 where
+  pub read : Option RequestHead
+  pub is_read : IsHeadRead bytes (head_end bytes) read
+  pub is_seen : seen ≡ seen_after bytes (head_end bytes) read
+
+-- the bytes behind the CR and LF at the front
+abbrev pub behind_breaks : List ℕ → List ℕ
+behind_breaks [] = []
+behind_breaks (b ∷ bytes) = if b == 13 || b == 10 then behind_breaks bytes else b ∷ bytes
+
+-- after any CR and LF the bytes begin with HEAD and a blank
+abbrev pub begin_with_head : List ℕ → Bool
+begin_with_head bytes = bytes_eq (take 5 (behind_breaks bytes)) (codes "HEAD ")
+
+abbrev pub asks_head_by : List ℕ → Option (ℕ × ℕ) → Bool
+asks_head_by bytes None = begin_with_head (take head_limit bytes)
+asks_head_by bytes (Some end) = begin_with_head (take end.0 bytes)
+
+-- the reply has no body: the head decides it, or where none ends the first bytes
+unfoldable pub asks_head : List ℕ → Bool
+asks_head bytes = asks_head_by bytes (head_end bytes)
+
+-- they amount to something that no further bytes change
+abbrev pub IsDecided : List ℕ → Type 0
+IsDecided bytes = (seen : Seen) × Sees bytes seen × (seen ≡ unfinished → ⊥)

@@ -1,0 +1,219 @@
+//! What the head of a request says.
+ghost use Rattle.std.specs.Prelude.{◌≡◌, ◌≤◌, ◌+◌, ◌<◌, ℕ, List, [], length, map, Some, None, true, All, Option, option_map};
+ghost use Rattle.std.specs.List.{list_all};
+ghost use Rattle.std.specs.Char.{is_ascii_digit};
+ghost use Rattle.std.specs.Str.Parse.{digits_value};
+ghost use Rattle.httparse.specs.Grammar.{RequestHead};
+ghost use Rattle.httparse.specs.Spans.{IsWithin, IsHeaderWithin, span_bytes, header_bytes};
+ghost use Rattle.http_head.specs.Framing.{scan_start, end_from};
+ghost use Rattle.http_head.specs.Head.{is_name, stands, is_number, number_of, named_length, has_good_host, is_absent, only, body_length, outline_from, outline_of, IsReadAs};
+ghost use Rattle.http_head.specs.HeadViews.{stands_view, outline_result};
+
+use crate::refusals::HeadRefusal;
+use httparse::Status;
+use httparse::spans::{EMPTY_HEADER_SPAN, HeaderSpan, RequestSpans, parse_request};
+
+/// How often a field stands in a head.
+#[derive(Clone, Copy)]
+enum Given<'b> {
+    Absent,
+    Once(&'b [u8]),
+    Twice,
+}
+
+/// What the desk takes from a head.
+#[derive(Clone, Copy)]
+pub struct Outline<'b> {
+    pub method: &'b [u8],
+    pub target: &'b [u8],
+    pub key: Option<&'b [u8]>,
+    pub length: usize,
+}
+
+// Whether two names are the same, whichever case their letters have.
+fn is_name(name: &[u8], other: &[u8]) -> bool
+    ensures { result ≡ is_name name.now other.now }
+{
+    name.eq_ignore_ascii_case(other)
+}
+
+// How often a field of this name stands.
+fn field<'b>(head: &'b [u8], spans: &[HeaderSpan], name: &[u8]) -> Given<'b>
+    requires { All (IsHeaderWithin (length head.now)) spans.now }
+    ensures { stands_view result ≡ stands name.now (map (header_bytes head.now) spans.now) }
+{
+    let mut found = Given::Absent;
+    for span in spans {
+        if is_name(name, span.name.of(head)) {
+            match found {
+                Given::Absent => found = Given::Once(span.value.of(head)),
+                Given::Once(_) => return Given::Twice,
+                Given::Twice => return Given::Twice,
+            }
+        }
+    }
+    found
+}
+
+// Whether there are digits alone.
+fn has_digits(text: &[u8]) -> bool
+    ensures { result ≡ list_all is_ascii_digit text.now }
+{
+    text.iter().all(|byte| byte.is_ascii_digit())
+}
+
+// Whether a text is 1 to 9 digits.
+fn is_number(text: &[u8]) -> bool
+    ensures { result ≡ is_number text.now }
+{
+    if text.is_empty() {
+        return false;
+    }
+    if text.len() >= 10 {
+        return false;
+    }
+    has_digits(text)
+}
+
+// The number that the digits write.
+fn value_of(text: &[u8]) -> u32
+    requires { is_number text.now ≡ true }
+    ensures { result ≡ digits_value 10 text.now }
+{
+    let mut n: u32 = 0;
+    for byte in text {
+        n = n * 10 + u32::from(*byte - b'0');
+    }
+    n
+}
+
+/// A number of 1 to 9 digits.
+pub fn number_of(text: &[u8]) -> Option<u32>
+    ensures { result ≡ number_of text.now }
+{
+    if is_number(text) {
+        Some(value_of(text))
+    } else {
+        None
+    }
+}
+
+// The length that Content-Length names.
+fn named_length(field: Given<'_>) -> Result<Option<u32>, HeadRefusal>
+    ensures { result ≡ named_length (stands_view field.entry) }
+{
+    match field {
+        Given::Absent => Ok(None),
+        Given::Once(value) => match number_of(value) {
+            None => Err(HeadRefusal::BadHead),
+            Some(n) => Ok(Some(n)),
+        },
+        Given::Twice => Err(HeadRefusal::BadHead),
+    }
+}
+
+// Whether Host stands as it must.
+fn has_good_host(minor: u8, field: Given<'_>) -> bool
+    ensures { result ≡ has_good_host minor (stands_view field.entry) }
+{
+    match field {
+        Given::Absent => minor == 0,
+        Given::Once(_) => true,
+        Given::Twice => false,
+    }
+}
+
+fn is_absent(field: Given<'_>) -> bool
+    ensures { result ≡ is_absent (stands_view field.entry) }
+{
+    match field {
+        Given::Absent => true,
+        Given::Once(_) => false,
+        Given::Twice => false,
+    }
+}
+
+// The one value of a field.
+fn only<'b>(field: Given<'b>) -> Option<&'b [u8]>
+    ensures { option_map (λ v. v.now) result ≡ only (stands_view field.entry) }
+{
+    match field {
+        Given::Absent => None,
+        Given::Once(value) => Some(value),
+        Given::Twice => None,
+    }
+}
+
+// The length of the body.
+fn body_length(method: &[u8], named: Option<u32>) -> Result<usize, HeadRefusal>
+    ensures { result ≡ body_length method.now named }
+{
+    match named {
+        None => {
+            if method == b"POST".as_slice() {
+                Err(HeadRefusal::NoLength)
+            } else {
+                Ok(0)
+            }
+        }
+        Some(n) => {
+            if n > 65536 {
+                Err(HeadRefusal::TooLong)
+            } else {
+                Ok(n as usize)
+            }
+        }
+    }
+}
+
+// What the parts of a head give.
+fn outline_from<'b>(
+    head: &'b [u8],
+    found: &RequestSpans,
+    spans: &[HeaderSpan],
+) -> Result<Outline<'b>, HeadRefusal>
+    requires method { IsWithin (length head.now) found.now.method }
+    requires target { IsWithin (length head.now) found.now.path }
+    requires fields { All (IsHeaderWithin (length head.now)) spans.now }
+    ensures { outline_result result ≡ outline_from (span_bytes head.now found.now.method) (span_bytes head.now found.now.path)
+        found.now.version (map (header_bytes head.now) spans.now) }
+{
+    let named = named_length(field(head, spans, b"Content-Length"))?;
+    if !has_good_host(found.version, field(head, spans, b"Host")) {
+        return Err(HeadRefusal::BadHost);
+    }
+    if !is_absent(field(head, spans, b"Transfer-Encoding")) {
+        return Err(HeadRefusal::NotImplemented);
+    }
+    let method = found.method.of(head);
+    let length = body_length(method, named)?;
+    Ok(Outline {
+        method,
+        target: found.path.of(head),
+        key: only(field(head, spans, b"Member-Key")),
+        length,
+    })
+}
+
+/// What a head says, or the first refusal that it decides.
+pub(crate) fn read_head(head: &[u8], lines: usize) -> Result<Outline<'_>, HeadRefusal>
+    requires { end_from scan_start head.now ≡ Some (length head.now, lines) }
+    ensures { (read : Option RequestHead) × IsReadAs lines head.now read ×
+        (outline_result result ≡ outline_of lines read) }
+{
+    if lines > 65 {
+        return Err(HeadRefusal::HeadTooLong);
+    }
+    let mut spans = [EMPTY_HEADER_SPAN; 64];
+    match parse_request(head, &mut spans) {
+        Ok(Status::Complete(found)) => {
+            if found.len == head.len() {
+                outline_from(head, &found, &spans[..found.headers])
+            } else {
+                Err(HeadRefusal::BadHead)
+            }
+        }
+        Ok(Status::Partial) => Err(HeadRefusal::BadHead),
+        Err(_) => Err(HeadRefusal::BadHead),
+    }
+}

@@ -1,0 +1,58 @@
+//! The bytes of a request, as a reader gives them.
+ghost use Rattle.std.specs.Prelude.{◌≡◌, ◌⊎◌, IfOk};
+ghost use Rattle.std.specs.Io.KnownBytes.{Consumes, IsAtEnd};
+ghost use Rattle.http_head.specs.Request.{IsDecided};
+
+use crate::intake::Intake;
+use std::alloc::{AllocError, Global};
+use std::io::{Error, ErrorKind, Read};
+
+/// Why no bytes were taken in.
+#[derive(Clone, Copy, Debug, PartialEq, Eq)]
+pub enum TakeFault {
+    /// The allocator refused.
+    Memory,
+    /// The reader failed.
+    Read,
+}
+
+impl From<AllocError> for TakeFault {
+    fn from(_error: AllocError) -> TakeFault {
+        TakeFault::Memory
+    }
+}
+
+/// Whether a call was interrupted and may be tried again.
+pub fn is_interrupted(error: &Error) -> bool {
+    matches!(error.kind(), ErrorKind::Interrupted)
+}
+
+/// Reads in large pieces until the bytes amount to something that no further bytes change, or the input ends. Each byte
+/// is looked at once.
+pub fn take_in<R: Read>(alloc: Global, reader: &mut R) -> Result<Vec<u8>, TakeFault>
+    ensures taken { IfOk result (λ v. Consumes (R.remaining reader.old) (R.remaining reader.new) v.items) }
+    ensures enough { IfOk result (λ v. IsAtEnd (R.remaining reader.new) ⊎ IsDecided v.items) }
+{
+    let mut bytes = Vec::new(alloc);
+    let mut intake = Intake::start();
+    let mut chunk = [0_u8; 4096];
+    for _ in 0..u64::MAX {
+        match reader.read(&mut chunk) {
+            Ok(n) => {
+                if n == 0 {
+                    return Ok(bytes);
+                }
+                bytes.extend_from_slice(&chunk[..n])?;
+                if intake.is_enough(&bytes) {
+                    return Ok(bytes);
+                }
+            }
+            Err(error) => {
+                if !is_interrupted(&error) {
+                    return Err(TakeFault::Read);
+                }
+            }
+        }
+    }
+    Err(TakeFault::Read)
+}
