@@ -89,7 +89,7 @@ reads '1|autumn|0|60|5' 'SELECT * FROM events'
 reads '1|1|32-28|1000|65|B:W28,31,33,34,35,36,37,38,39,40,41,42,43,44,45,46,47,48,49,50:B1,2,3,4,5,6,7,8,9,10,11,12,13,14,15,16,17,18,19,20
 1|2|19-23|1000|65|W:W28,31,33,34,35,36,37,38,39,40,41,42,43,44,45,46,47,48,49,50:B1,2,3,4,5,6,7,8,9,10,11,12,13,14,15,16,17,18,20,23' 'SELECT * FROM moves ORDER BY game, ply'
 reads '1|g1|1|1|2|1000|1000|2|65|65|||||W:W28,31,33,34,35,36,37,38,39,40,41,42,43,44,45,46,47,48,49,50:B1,2,3,4,5,6,7,8,9,10,11,12,13,14,15,16,17,18,20,23|0|0' 'SELECT * FROM games'
-reads '0|0|0' 'SELECT (SELECT count(*) FROM challenges), (SELECT count(*) FROM seen), (SELECT count(*) FROM scores)'
+reads '0|3|0' 'SELECT (SELECT count(*) FROM challenges), (SELECT count(*) FROM seen), (SELECT count(*) FROM scores)'
 
 # A club of both games.
 both() { says "$1" "$2" --now 1000 both.db "${@:3}"; }

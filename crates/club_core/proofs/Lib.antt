@@ -10,4 +10,5 @@ pub mod Legals
 pub mod LegalSteps
 pub mod Later
 pub mod Repeats
+pub mod Room
 pub mod Sound

@@ -15,32 +15,17 @@ use Rattle.club_core.specs.Game.{Game, Clocks, spend, spend_all, clocks_of, move
 use Rattle.club_core.specs.Legal.{IsLegalGame}
 use Rattle.club_core.specs.Step.{move_at}
 use Rattle.club_core.specs.View.{IsAsked, Shows, ShowsPly, IsSound, terms_of}
+use Rattle.club_rules.specs.Laws.{NumbersAreFew}
 use Rattle.club_core.proofs.Played.{asked-legal}
-
-le-true : (a b : ℕ) → nat_le a b ≡ true → a ≤ b
-le-true a b is = grind (arith, nat_tests)
-
-budget-at-most : (b : ℕ) → is_budget b ≡ true → b ≤ 31536000
-budget-at-most b is = grind (arith, nat_tests)
-
--- each move leaves at most the increment more
-spend-left : (increment : ℕ) (side : Side) (m : ℕ) (c : Clocks) → ((spend increment side m c).left_first ≤ c.left_first + increment) × ((spend increment side m c).left_second ≤ c.left_second + increment)
-spend-left increment First m c = (omega arith, omega arith)
-spend-left increment Second m c = (omega arith, omega arith)
-
-left-at-most : (increment : ℕ) (side : Side) (ms : List ℕ) (c : Clocks) → increment ≤ 2592000 → ((spend_all increment side ms c).left_first ≤ c.left_first + 2592000 * length ms) × ((spend_all increment side ms c).left_second ≤ c.left_second + 2592000 * length ms)
-left-at-most increment side [] c most = (omega arith, omega arith)
-left-at-most increment side (m ∷ ms) c most =
-    let rest = left-at-most increment (other side) ms (spend increment side m c) most in
-    let here = spend-left increment side m c in
-    (omega (arith, rest.0, here.0, most), omega (arith, rest.1, here.1, most))
+use Rattle.club_core.proofs.Room.{le-true, budget-at-most, left-at-most}
+use Rattle.club_core.proofs.Tracked.{line-grows}
 
 asked-sound : {R P M E T : Type 0} (laws : GameRules P M E T) (terms : Terms) (game : Game M) → IsLegalGame laws terms game → (ply : ℕ) (o : Option (Asked R P M E T)) → IsAsked laws terms game ply (move_at game ply) o → IfSome o (λ a. laws.check a.before a.made ≡ Ok tt)
 asked-sound laws terms game legal ply None shown = tt
 asked-sound laws terms game legal ply (Some asked) shown = asked-legal laws terms game legal asked ply shown
 
-pub shown-sound : {R P M E T : Type 0} (laws : GameRules P M E T) (game : Game M) (view : GameView R P M E T) (ply : ℕ) → IsTrue (is_budget view.budget) → IsTrue (is_increment view.increment) → IsLegalGame laws (terms_of view) game → Shows laws game view → ShowsPly laws game ply view → IsSound laws view
-shown-sound laws game view ply budget increment legal shows shows_ply =
+pub shown-sound : {R P M E T : Type 0} (laws : GameRules P M E T) (game : Game M) (view : GameView R P M E T) (ply : ℕ) → NumbersAreFew laws → IsTrue (is_budget view.budget) → IsTrue (is_increment view.increment) → IsLegalGame laws (terms_of view) game → Shows laws game view → ShowsPly laws game ply view → IsSound laws view
+shown-sound laws game view ply few budget increment legal shows shows_ply =
     let most : view.increment ≤ 2592000 = le-true view.increment 2592000 increment in
     let starts : view.budget ≤ 31536000 = budget-at-most view.budget budget in
     let count : length (map (λ e. e.moment) game.entries) ≡ length game.entries = simp length-map in
@@ -50,13 +35,7 @@ shown-sound laws game view ply budget increment legal shows shows_ply =
     let plies : length game.entries ≤ most_plies = legal.plies in
     let moves : length (map (λ e. e.made) game.entries) ≡ length game.entries = simp length-map in
     record {
-      reached = record {
-        moves = moves_of game;
-        line = legal.line;
-        leads = shows.position;
-        leaves = shows.track;
-        count = shows.row.plies ∙ sym moves;
-      };
+      track = rw shows.track (line-grows laws few (moves_of game) (omega (arith, moves, plies)));
       asked = asked-sound laws (terms_of view) game legal ply view.asked shows_ply;
       plies = rw shows.row.plies legal.plies;
       room_first = omega (arith, first, left.0, count, plies, most, starts);

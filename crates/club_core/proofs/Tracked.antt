@@ -9,7 +9,7 @@ use Rattle.club_core.specs.Limits.{most_plies}
 use Rattle.club_core.specs.declared.rows.GameEnd.TheVariants.{Rule}
 use Rattle.club_core.specs.Game.{Game, moves_of, last_position, rule_end}
 use Rattle.club_core.specs.Step.{played}
-use Rattle.club_core.specs.View.{IsReached, track_of_game, rule_in}
+use Rattle.club_core.specs.View.{CanGrow, track_of_game, rule_in}
 use Rattle.club_core.proofs.PlayedLines.{IsPlayedLine-append}
 use Rattle.club_core.proofs.Played.{moves_of-played, last-played}
 
@@ -28,11 +28,10 @@ module _ {P M E T : Type 0} (laws : GameRules P M E T) where
       rw (numbers_is, position_is, plies_is, times_is, give (line_track laws laws.start ms)) (tell ms first line stands)
 
   -- the numbers of a track that a line of a game leaves can grow
-  pub reached-few : NumbersAreFew laws → (position : P) (track : T) (plies : ℕ) → IsReached laws position track plies → plies ≤ most_plies → ((laws.track_numbers track).0 < 4294967295) × ((laws.track_numbers track).1 < 4294967295)
-  reached-few few position track plies reached most =
-      let bound = few reached.moves in
-      let count = reached.count in
-      rw reached.leaves (omega (arith, bound.0, count, most), omega (arith, bound.1, count, most))
+  pub line-grows : NumbersAreFew laws → (ms : List M) → length ms ≤ most_plies → CanGrow (laws.track_numbers (line_track laws laws.start ms))
+  line-grows few ms most =
+      let bound = few ms in
+      record { first = omega (arith, bound.0, most); second = omega (arith, bound.1, most) }
 
 pub rule_in-Rule : {E : Type 0} (end : Option E) → rule_in (option_map Rule end) ≡ end
 rule_in-Rule None = refl

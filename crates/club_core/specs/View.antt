@@ -69,17 +69,14 @@ pub record Shows {R P M E T : Type 0} (rules : GameRules P M E T) (game : Game M
 abbrev pub ShowsPly : {R P M E T : Type 0} → GameRules P M E T → Game M → ℕ → GameView R P M E T → Type 0
 ShowsPly rules game ply view = IsAsked rules (terms_of view) game ply (move_at game ply) view.asked
 
--- there is a line that is played by the rules, leads to that position and leaves that track, of so many plies
-pub record IsReached {P M E T : Type 0} (rules : GameRules P M E T) (last : P) (track : T) (plies : ℕ) : Type 0 where
-  pub moves : List M
-  pub line : IsPlayedLine rules rules.start moves
-  pub leads : last ≡ position_after rules rules.start moves
-  pub leaves : track ≡ line_track rules rules.start moves
-  pub count : plies ≡ length moves
+-- both numbers of a track can grow by one, and still have 32 bits
+pub record CanGrow (numbers : ℕ × ℕ) : Type 0 where
+  pub first : numbers.0 < 4294967295
+  pub second : numbers.1 < 4294967295
 
 -- the view's own values fit together, whichever game it shows
 pub record IsSound {R P M E T : Type 0} (rules : GameRules P M E T) (view : GameView R P M E T) : Type 0 where
-  pub reached : IsReached rules view.position view.track view.row.plies
+  pub track : CanGrow (rules.track_numbers view.track)
   pub asked : IfSome view.asked (λ a. rules.check a.before a.made ≡ Ok tt)
   pub plies : view.row.plies ≤ most_plies
   pub room_first : view.row.left_first + view.increment < 2 ^ 64

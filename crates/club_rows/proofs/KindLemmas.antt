@@ -18,7 +18,9 @@ use Rattle.club_core.specs.State.{AnyGame, draughts, shogi, place, kind_at, term
 use Rattle.club_core.specs.Step.{GameCommand, game_step}
 use Rattle.club_core.proofs.Legals.{AreRules}
 use Rattle.club_rows.specs.Club.{both_games, ClubGame, ClubState}
-use Rattle.club_rows.specs.Tables.{kind_number, game_row, move_rows, row_of_game, rows_of_moves}
+use Rattle.club_rows.specs.Seen.{seen_rows}
+use Rattle.club_rows.specs.Scores.{meetings_of, meetings_in}
+use Rattle.club_rows.specs.Tables.{kind_number, game_row, move_rows, row_of_game, rows_of_moves, rows_of_seen}
 
 -- the event of a game
 abbrev pub event_in : ClubGame → ℕ
@@ -37,6 +39,8 @@ pub record Kind {P M E T : Type 0} (rules : GameRules P M E T) (kind : GameKind)
   pub plies : (g : Game M) → plies_in (into g) ≡ length g.entries
   pub row : (events : List Event) (id : ℕ) (g : Game M) → row_of_game both_games events id (into g) ≡ game_row rules (terms_at (place events g.event)) id g
   pub moves : (events : List Event) (id : ℕ) (g : Game M) → rows_of_moves both_games events id (into g) ≡ move_rows rules (terms_at (place events g.event)) id g
+  pub seen : (id : ℕ) (g : Game M) → rows_of_seen both_games id (into g) ≡ seen_rows rules id g
+  pub scores : (g : Game M) → meetings_in both_games (into g) ≡ meetings_of rules g
   pub legal : (s : ClubState) (g : Game M) → IsLegalIn both_games s (into g) → IsGameOf rules kind s g
   pub is_legal : (s : ClubState) (g : Game M) → IsGameOf rules kind s g → IsLegalIn both_games s (into g)
   -- the games of the events of this kind are the games of this kind
@@ -80,6 +84,8 @@ in_draughts = record {
   plies = λ g. refl;
   row = λ events id g. refl;
   moves = λ events id g. refl;
+  seen = λ id g. refl;
+  scores = λ g. refl;
   legal = λ s g is. is;
   is_legal = λ s g is. is;
   back = back-draughts;
@@ -95,6 +101,8 @@ in_shogi = record {
   plies = λ g. refl;
   row = λ events id g. refl;
   moves = λ events id g. refl;
+  seen = λ id g. refl;
+  scores = λ g. refl;
   legal = λ s g is. is;
   is_legal = λ s g is. is;
   back = back-shogi;

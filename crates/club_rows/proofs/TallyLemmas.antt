@@ -47,7 +47,8 @@ few-more None plies few = tt
 few-more (Some s) plies few = omega (arith, few)
 
 module _ {P M E T : Type 0} (rules : GameRules P M E T) where
-  positions-append : (p : P) (ms : List M) (m : M) → positions rules p (ms ++ m ∷ []) ≡ positions rules p ms ++ position_after rules p (ms ++ m ∷ []) ∷ []
+  -- the positions of a line with one move more
+  pub positions-append : (p : P) (ms : List M) (m : M) → positions rules p (ms ++ m ∷ []) ≡ positions rules p ms ++ position_after rules p (ms ++ m ∷ []) ∷ []
   positions-append p [] m = refl
   positions-append p (n ∷ ms) m = ap (λ ps. p ∷ ps) (positions-append (rules.play p n) ms m)
 

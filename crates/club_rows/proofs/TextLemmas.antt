@@ -88,7 +88,8 @@ all-append : (Q : Row → Type 0) (a b : List Row) → AllByRecursion Q a → Al
 all-append Q [] b one two = two
 all-append Q (x ∷ a) b one two = (one.0, all-append Q a b one.1 two)
 
-gathered-all : {A : Type 0} (rows : ℕ → A → List Row) (P : A → Type 0) (Q : Row → Type 0) → ((id : ℕ) (x : A) → P x → AllByRecursion Q (rows id x)) → (n : ℕ) (xs : List A) → Each P xs → AllByRecursion Q (gathered_from rows n xs)
+-- what holds of the rows of each element holds of all
+pub gathered-all : {A : Type 0} (rows : ℕ → A → List Row) (P : A → Type 0) (Q : Row → Type 0) → ((id : ℕ) (x : A) → P x → AllByRecursion Q (rows id x)) → (n : ℕ) (xs : List A) → Each P xs → AllByRecursion Q (gathered_from rows n xs)
 gathered-all rows P Q makes n [] each = tt
 gathered-all rows P Q makes n (x ∷ xs) each = all-append Q (rows n x) _ (makes n x (each 0 x refl)) (gathered-all rows P Q makes (suc n) xs (λ k y at. each (suc k) y at))
 

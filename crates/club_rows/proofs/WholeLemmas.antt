@@ -46,7 +46,7 @@ module _ {P M E T : Type 0} (rules : GameRules P M E T) (terms : Terms) (id : �
   row_at start es e = entry_row rules terms id (game_from start es) e
 
   -- the row at a place is that of the entry there, in the game before it
-  rows-from : (game : Game M) (es : List (Entry M)) (k : ℕ) (row : Row) → slice_get (entry_rows rules terms id game es) k ≡ Some row → (e : Entry M) × (slice_get es k ≡ Some e) × (row ≡ row_at game.start (game.entries ++ take k es) e)
+  pub rows-from : (game : Game M) (es : List (Entry M)) (k : ℕ) (row : Row) → slice_get (entry_rows rules terms id game es) k ≡ Some row → (e : Entry M) × (slice_get es k ≡ Some e) × (row ≡ row_at game.start (game.entries ++ take k es) e)
   rows-from game [] k row at = cc
   rows-from game (e ∷ es) zero row at =
       (e, refl, sym (same_Some _ row at) ∙ ap (λ l. row_at game.start l e) (sym (append-nil game.entries)))
@@ -183,20 +183,29 @@ module _ {P M E T : Type 0} (rules : GameRules P M E T) (terms : Terms) (id : �
       let count : length (map move_cells rows) ≡ length rows = simp length-map in
       sym count ∙ (ap length is.moves ∙ rows-count (record game { entries = [] }) game.entries)
 
+  -- the entries up to one, and with it
+  pub entry-more : (game : Game M) (k : ℕ) (e : Entry M) → slice_get game.entries k ≡ Some e → take k game.entries ++ e ∷ [] ≡ take (suc k) game.entries
+  entry-more game k e at = sym (take-got game.entries k e at) ∙ ap (λ n. take n game.entries) (add-one k)
+
+  -- the seconds that the mover of an entry has after it
+  pub entry-left : (laws : AreRules rules) (game : Game M) → IsLegalGame rules terms game → (k : ℕ) (e : Entry M) → slice_get game.entries k ≡ Some e
+      → left_of (turn_of rules (game_from game.start (take k game.entries))) (clocks_of (game_from game.start (take k game.entries ++ e ∷ [])) terms)
+      ≡ left_of (side_after k) (clocks_of (game_at game (suc k)) terms)
+  entry-left laws game legal k e at =
+      let before = take k game.entries in
+      let inside : k < length game.entries = slice_get_within game.entries k e at in
+      let line : IsLegalLine rules rules.start (map (λ x. x.made) before) = subst (IsLegalLine rules rules.start) (take-map (λ x. x.made) k game.entries) (IsLegalLine-take rules k rules.start (moves_of game) legal.line.legal) in
+      let count : length before ≡ k = length-take-le k game.entries (omega arith) in
+      let turn : turn_of rules (game_from game.start before) ≡ side_after k = turn-of-game rules laws.turn_passes laws.first_starts (game_from game.start before) line ∙ ap side_after count in
+      ap (λ s. left_of s (clocks_of (game_from game.start (before ++ e ∷ [])) terms)) turn ∙ ap (λ es. left_of (side_after k) (clocks_of (game_from game.start es) terms)) (entry-more game k e at)
+
   -- the seconds in the row of a ply are those that the mover has after it
   pub row-left : (laws : AreRules rules) (rows : List MoveRow) (game : Game M) → IsLegalGame rules terms game → map move_cells rows ≡ move_rows rules terms id game → (k : ℕ) (row : MoveRow) → slice_get rows k ≡ Some row → row.left ≡ pos (left_of (side_after k) (clocks_of (game_at game (suc k)) terms))
   row-left laws rows game legal are k row at =
       let cells : slice_get (map move_cells rows) k ≡ Some (move_cells row) = slice_get-map move_cells rows k ∙ ap (option_map move_cells) at in
       let got = rows-from rules terms id (record game { entries = [] }) game.entries k (move_cells row) (sym (ap (λ l. slice_get l k) are) ∙ cells) in
-      let e = got.0 in
-      let before = take k game.entries in
-      let inside : k < length game.entries = slice_get_within game.entries k e got.1 in
-      let line : IsLegalLine rules rules.start (map (λ x. x.made) before) = subst (IsLegalLine rules rules.start) (take-map (λ x. x.made) k game.entries) (IsLegalLine-take rules k rules.start (moves_of game) legal.line.legal) in
-      let count : length before ≡ k = length-take-le k game.entries (omega arith) in
-      let turn : turn_of rules (game_from game.start before) ≡ side_after k = turn-of-game rules laws.turn_passes laws.first_starts (game_from game.start before) line ∙ ap side_after count in
-      let taken : before ++ e ∷ [] ≡ take (suc k) game.entries = sym (take-got game.entries k e got.1) ∙ ap (λ n. take n game.entries) (add-one k) in
       let parts = six-parts _ _ _ _ _ _ _ _ _ _ _ _ got.2 in
-      parts.e_is ∙ (ap (λ s. pos (left_of s (clocks_of (game_from game.start (before ++ e ∷ [])) terms))) turn ∙ ap (λ es. pos (left_of (side_after k) (clocks_of (game_from game.start es) terms))) taken)
+      parts.e_is ∙ ap pos (entry-left laws game legal k got.0 got.1)
 
 -- the rows of a game's moves depend on its start and its entries alone
 pub rows-alike : {P M E T : Type 0} (rules : GameRules P M E T) (terms : Terms) (id : ℕ) (a b : Game M) (es : List (Entry M)) → a.start ≡ b.start → a.entries ≡ b.entries → entry_rows rules terms id a es ≡ entry_rows rules terms id b es

@@ -13,10 +13,12 @@ use Rattle.club_games.specs.Shogi.{shogi}
 use Rattle.club_core.specs.ClubRules.{ClubRules, both}
 use Rattle.club_core.specs.LegalState.{IsLegalState}
 use Rattle.club_core.specs.State.{AnyGame, State}
-use Rattle.store_tables.specs.Cells.{member_cells, event_cells, move_cells, game_cells}
+use Rattle.store_tables.specs.Cells.{member_cells, event_cells, move_cells, game_cells, seen_cells, score_cells}
 use Rattle.store_tables.specs.Contents.{Content}
 use Rattle.store_tables.specs.declared.rows.Rows.{Rows}
-use Rattle.club_rows.specs.Tables.{member_row, event_row, numbered_from, gathered_from, row_of_game, rows_of_moves, tables_of}
+use Rattle.club_rows.specs.EachOnce.{AreEachOnce}
+use Rattle.club_rows.specs.Scores.{scores_in}
+use Rattle.club_rows.specs.Tables.{member_row, event_row, numbered_from, gathered_from, row_of_game, rows_of_moves, rows_of_seen, tables_of}
 
 -- the rules of the club's games
 abbrev pub both_games : ClubRules Position DMove DEnd draughts_track.Tail ShogiPosition SMove SEnd shogi_track.Tail
@@ -37,7 +39,8 @@ IsClub s = IsLegalState both_games s
 abbrev pub tables : ClubState → Content
 tables s = tables_of both_games s
 
--- The rows of all tables are those of the club, in the order of their keys; `meta` has its moment.
+-- The rows of all tables are those of the club, in the order of their keys,
+-- those of positions and of scores in whatever order; `meta` has its moment.
 pub record IsStoredAs (s : ClubState) (rows : Rows) : Type 0 where
   pub last : rows.meta.last ≡ pos s.last
   pub members : map member_cells rows.members.items ≡ numbered_from member_row 1 s.members
@@ -45,5 +48,5 @@ pub record IsStoredAs (s : ClubState) (rows : Rows) : Type 0 where
   pub challenges : rows.challenges.items ≡ []
   pub moves : map move_cells rows.moves.items ≡ gathered_from (rows_of_moves both_games s.events) 1 s.games
   pub games : map game_cells rows.games.items ≡ numbered_from (row_of_game both_games s.events) 1 s.games
-  pub seen : rows.seen.items ≡ []
-  pub scores : rows.scores.items ≡ []
+  pub seen : AreEachOnce (map seen_cells rows.seen.items) (gathered_from (rows_of_seen both_games) 1 s.games)
+  pub scores : AreEachOnce (map score_cells rows.scores.items) (scores_in both_games s.games)

@@ -1,10 +1,13 @@
-pub mod Asked
-pub mod Audit
 pub mod Club
+pub mod EachOnce
 pub mod Listed
 pub mod Made
+pub mod NextScores
 pub mod Records
 pub mod Replay
+pub mod Scores
+pub mod Seen
+pub mod RowView
 pub mod Shown
 pub mod Tables
 pub mod Tally

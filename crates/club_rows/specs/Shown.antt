@@ -27,6 +27,14 @@ pub record FitsTables {M : Type 0} (number : ℕ) (game : Game M) : Type 0 where
   pub start : game.start ≤ last_moment
   pub entries : Each (λ e. e.moment ≤ last_moment) game.entries
 
+-- the row is that of this legal game, whose values fit the tables
+pub record IsRecordOf {P M E T : Type 0} (rules : GameRules P M E T) (terms : Terms) (id : ℕ) (stored : GameRecord) (game : Game M) : Type 0 where
+  pub budget : IsTrue (is_budget terms.budget)
+  pub increment : IsTrue (is_increment terms.increment)
+  pub legal : IsLegalGame rules terms game
+  pub fits : FitsTables id game
+  pub row : game_cells stored ≡ game_row rules terms id game
+
 -- the rows are those of this legal game, which has this id and is played by these terms
 pub record AreRowsOf {P M E T : Type 0} (rules : GameRules P M E T) (terms : Terms) (id : ℕ) (stored : GameRecord) (stored_moves : List MoveRow) (game : Game M) : Type 0 where
   pub budget : IsTrue (is_budget terms.budget)

@@ -21,6 +21,8 @@ use Rattle.club_rules.specs.Line.{line_numbers}
 use Rattle.club_core.specs.Game.{Entry, Game, clocks_of, moves_of, left_of, last_position, turn_of, end_of, result_of}
 use Rattle.club_core.specs.State.{AnyGame, draughts, shogi, State, place, terms_at}
 use Rattle.store_tables.specs.Contents.{Content}
+use Rattle.club_rows.specs.Seen.{seen_rows}
+use Rattle.club_rows.specs.Scores.{scores_in}
 
 abbrev pub number : ℕ → Value
 number n = Int (pos n)
@@ -110,6 +112,10 @@ gathered_from rows id [] = []
 gathered_from rows id (x ∷ xs) = rows id x ++ gathered_from rows (suc id) xs
 
 module _ {DP DM DE DT SP SM SE ST : Type 0} (rules : ClubRules DP DM DE DT SP SM SE ST) where
+  abbrev pub rows_of_seen : ℕ → AnyGame DM SM → List Row
+  rows_of_seen id (draughts g) = seen_rows rules.draughts id g
+  rows_of_seen id (shogi g) = seen_rows rules.shogi id g
+
   module _ (events : List Event) where
     abbrev pub row_of_game : ℕ → AnyGame DM SM → Row
     row_of_game id (draughts g) = game_row rules.draughts (terms_at (place events g.event)) id g
@@ -119,7 +125,7 @@ module _ {DP DM DE DT SP SM SE ST : Type 0} (rules : ClubRules DP DM DE DT SP SM
     rows_of_moves id (draughts g) = move_rows rules.draughts (terms_at (place events g.event)) id g
     rows_of_moves id (shogi g) = move_rows rules.shogi (terms_at (place events g.event)) id g
 
-  -- The rows of each table by its number: 0 meta, 1 members, 4 events, 8 moves, 10 games. Ids count from 1. Challenges, seen and scores have no row yet.
+  -- The rows of each table by its number: 0 meta, 1 members, 4 events, 8 moves, 10 games, 12 seen, 14 scores. Ids count from 1. Challenges have no row yet.
   abbrev pub tables_of : State DM SM → Content
   tables_of s t =
       if t == 0 then (number 1 ∷ number 1 ∷ number s.last ∷ []) ∷ []
@@ -127,4 +133,6 @@ module _ {DP DM DE DT SP SM SE ST : Type 0} (rules : ClubRules DP DM DE DT SP SM
       else (if t == 4 then numbered_from event_row 1 s.events
       else (if t == 8 then gathered_from (rows_of_moves s.events) 1 s.games
       else (if t == 10 then numbered_from (row_of_game s.events) 1 s.games
-      else []))))
+      else (if t == 12 then gathered_from rows_of_seen 1 s.games
+      else (if t == 14 then scores_in rules s.games
+      else []))))))

@@ -17,6 +17,7 @@ pub fn stored(number: u64) -> i64
 /// A number of a table, unless it is below 0.
 pub fn counted(number: i64) -> Option<u64>
     ensures some { IfSome result (λ n. pos n ≡ number) }
+    ensures range { IfSome result (λ n. n < 2 ^ 63) }
     ensures none { result ≡ None → (n : ℕ) → number ≢ pos n }
 {
     match u64::try_from(number) {

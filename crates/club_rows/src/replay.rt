@@ -53,7 +53,7 @@ pub struct Next<R: Rules> {
 }
 
 // The legal move that a row's text names in the position, if it is that move's text.
-fn move_of<R: Rules>(
+pub(crate) fn move_of<R: Rules>(
     alloc: Global,
     position: &R::Position,
     text: &str,

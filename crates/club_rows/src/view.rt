@@ -31,7 +31,7 @@ use std::alloc::Global;
 use store_tables::{GameRecord, MoveRow};
 
 // The offer that a row has: none without a side and a ply.
-fn offer_in(row: &GameRecord) -> Option<Offer>
+pub(crate) fn offer_in(row: &GameRecord) -> Option<Offer>
     ensures { (offer : Option Offer) → row.now.offer_side ≡ option_map (λ o. pos (side_number o.side)) offer →
         row.now.offer_ply ≡ option_map (λ o. pos o.ply) offer → IfSome offer (λ o. o.ply < 2 ^ 32) → result ≡ offer }
 {
@@ -74,7 +74,7 @@ fn outside_in(row: &GameRecord) -> Option<OutsideEnd>
 }
 
 // The end other than by the rules that stands: none where the rules gave one.
-fn outside_left(row: &GameRecord, is_ended: bool) -> Option<OutsideEnd>
+pub(crate) fn outside_left(row: &GameRecord, is_ended: bool) -> Option<OutsideEnd>
     ensures alone { is_some result ≡ true → is_ended ≡ false }
     ensures ruled { is_ended ≡ true → result ≡ None }
     ensures told { is_ended ≡ false → (outside : Option OutsideEnd) → option_map (λ s. string_bytes s) row.now.end ≡ option_map outside_text outside →
@@ -88,7 +88,7 @@ fn outside_left(row: &GameRecord, is_ended: bool) -> Option<OutsideEnd>
 }
 
 // The score of an end, by the side to move.
-fn score_of_end<R: Rules>(end: &Option<GameEnd<R::End>>, turn: Side) -> Option<Score>
+pub(crate) fn score_of_end<R: Rules>(end: &Option<GameEnd<R::End>>, turn: Side) -> Option<Score>
     ensures { result ≡ score_with R.rules end.now turn }
 {
     match end {
@@ -122,15 +122,15 @@ pub enum Shown<R: Rules> {
 
 // The ids and the start of a row.
 #[derive(Clone, Copy)]
-struct Numbers {
-    game: u32,
-    event: u32,
-    first: u32,
-    second: u32,
-    start: Moment,
+pub(crate) struct Numbers {
+    pub game: u32,
+    pub event: u32,
+    pub first: u32,
+    pub second: u32,
+    pub start: Moment,
 }
 
-fn numbers_in(row: &GameRecord) -> Option<Numbers>
+pub(crate) fn numbers_in(row: &GameRecord) -> Option<Numbers>
     ensures some { IfSome result (λ n. HasNumbers row.now n.game n.event n.first n.second n.start) }
     ensures ids { IfSome result (λ n. AreIds n.game n.event n.first n.second n.start) }
     ensures none { result ≡ None → (game event first second start : ℕ) → AreIds game event first second start → ¬ HasNumbers row.now game event first second start }
@@ -165,7 +165,10 @@ fn numbers_in(row: &GameRecord) -> Option<Numbers>
 }
 
 // The end of a game: the rules' if there is one, else the other.
-fn end_with<E: Copy + Drop>(ruled: Option<E>, outside: Option<OutsideEnd>) -> Option<GameEnd<E>>
+pub(crate) fn end_with<E: Copy + Drop>(
+    ruled: Option<E>,
+    outside: Option<OutsideEnd>,
+) -> Option<GameEnd<E>>
     ensures { result ≡ end_with ruled outside }
 {
     match ruled {

@@ -27,44 +27,15 @@ use Rattle.club_rows.specs.Tables.{member_row, event_row, numbered_from, row_of_
 use Rattle.club_rows.proofs.TextLemmas.{members-typed, events-typed, moves-typed, games-typed}
 use Rattle.store.proofs.FoundLemmas.{moved}
 use Rattle.store.proofs.MoveOrderLemmas.{moves_are}
+use Rattle.store.proofs.OnceLemmas.{seen_are, scores_are}
+use Rattle.club_rows.proofs.ScoreLemmas.{scores_typed}
+use Rattle.club_rows.proofs.SeenLemmas.{seen-typed}
 use Rattle.store.specs.Blames.{AreRead, HasTypes, NamesTable, NamesSchema}
 use Rattle.store_sql.specs.Read.{IsReadAs}
 use Rattle.store.specs.Places.{ArePlaces, HasPlaces, NamesRows}
 use Rattle.store_sql.specs.Read.{BeginWithPlaces}
 use Rattle.store.specs.declared.fault.OpenFault.{OpenFault}
 use Rattle.store.specs.declared.fault.OpenFault.TheVariants.{Store, Memory}
-
--- ---- the rows of a club as its content
-
-skip : {A : Type 0} (b : Bool) (x y : A) → (b ≡ true → x ≡ y) → cond b x y ≡ y
-skip true x y same = same refl
-skip false x y same = refl
-
--- the rows of a club are the content that it has
-pub club_content : (s : ClubState) (rows : Rows) → IsStoredAs s rows → rows.meta.id ≡ pos 1 → rows.meta.schema ≡ pos 1 → content_of rows ≡ tables_of both_games s
-club_content s rows stored id schema = λ i t. at t i
-  where
-    made : Content
-    made = tables_of both_games s
-
-    later : ℕ → List Row
-    later t = cond (t == 8) (made 8) (cond (t == 10) (made 10) [])
-
-    counts : (t : ℕ) → cond (t == 12) (map seen_cells rows.seen.items) (cond (t == 14) (map score_cells rows.scores.items) []) ≡ []
-    counts t =
-        (λ i. cond (t == 12) (map seen_cells (stored.seen i)) (cond (t == 14) (map score_cells (stored.scores i)) []))
-        ∙ skip (t == 12) [] (cond (t == 14) [] []) (λ is. sym (skip (t == 14) [] [] (λ _. refl))) ∙ skip (t == 14) [] [] (λ _. refl)
-
-    above : (t : ℕ) → cond (t == 6) (map challenge_cells rows.challenges.items) (cond (t == 8) (map move_cells rows.moves.items) (cond (t == 10) (map game_cells rows.games.items) (cond (t == 12) (map seen_cells rows.seen.items) (cond (t == 14) (map score_cells rows.scores.items) [])))) ≡ later t
-    above t =
-        (λ i. cond (t == 6) (map challenge_cells (stored.challenges i)) (cond (t == 8) (stored.moves i) (cond (t == 10) (stored.games i) (counts t i))))
-        ∙ skip (t == 6) [] (later t) (λ is. ap later (sym (eqb-true t 6 is)))
-
-    first : ◌≡◌ {A = List Row} (meta_cells rows.meta ∷ []) (made 0)
-    first = λ i. (Int (id i) ∷ Int (schema i) ∷ Int (stored.last i) ∷ []) ∷ []
-
-    at : (t : ℕ) → content_of rows t ≡ made t
-    at t = λ i. cond (t == 0) (first i) (cond (t == 1) (stored.members i) (cond (t == 4) (stored.events i) (above t i)))
 
 -- ---- places
 
@@ -127,8 +98,8 @@ club_typed s club Events = events-typed s club
 club_typed s club Challenges = tt
 club_typed s club Moves = moves-typed s club
 club_typed s club Games = games-typed s club
-club_typed s club Seen = tt
-club_typed s club Scores = tt
+club_typed s club Seen = seen-typed s club
+club_typed s club Scores = scores_typed both_games s.games
 club_typed s club Meta = record { schema = pos 1; last = pos s.last; is = refl }
 
 one_schema : (s : ClubState) (n last : ℤ) → Has (tables_of both_games s 0) (Int (pos 1) ∷ Int n ∷ Int last ∷ []) → n ≡ pos 1
@@ -171,6 +142,6 @@ club_read s club rows old new holds read ids =
       challenges = none_read challenge_cells rows.challenges.items (moved (challenges 6) db (map challenge_cells rows.challenges.items) (made 6) read.challenges.keeps t.1.1.1.0.rows);
       moves = moves_are s club (map move_cells rows.moves.items) old new holds read.moves;
       games = ids_read (games 10) (map game_cells rows.games.items) (made 10) old new read.games ids.games t.1.1.1.1.1.0.rows (begin_places (row_of_game both_games s.events) (row_id s.events) s.games);
-      seen = none_read seen_cells rows.seen.items (moved (seen 12) db (map seen_cells rows.seen.items) (made 12) read.seen.keeps t.1.1.1.1.1.1.0.rows);
-      scores = none_read score_cells rows.scores.items (moved (scores 14) db (map score_cells rows.scores.items) (made 14) read.scores.keeps t.1.1.1.1.1.1.1.0.rows);
+      seen = seen_are s club (map seen_cells rows.seen.items) old new holds read.seen;
+      scores = scores_are s club (map score_cells rows.scores.items) old new holds read.scores;
     }

@@ -17,7 +17,7 @@ use Rattle.sqlite_value.proofs.OrderLemmas.{value_cmp_total, value_cmp-Text, val
 use Rattle.sqlite_rules.specs.Lists.{Has}
 use Rattle.club_rules.specs.declared.names.GameKind.{GameKind}
 use Rattle.club_rules.specs.GameRules.{GameRules}
-use Rattle.club_core.specs.Events.{Terms}
+use Rattle.club_core.specs.Events.{Event, Terms}
 use Rattle.club_core.specs.Members.{find_id}
 use Rattle.club_core.specs.Seats.{KeyedGame}
 use Rattle.club_core.specs.Game.{Game, clocks_of}
@@ -47,10 +47,12 @@ use Rattle.store_tables.proofs.Laws.{equal_cmp, equal_from}
 use Rattle.club_rows.specs.Club.{ClubGame, both_games, ClubState, IsClub, tables}
 use Rattle.store.specs.declared.command.Decided.{Decided}
 use Rattle.store.specs.declared.game.StoredGame.{StoredGame}
-use Rattle.store.specs.Steps.{caller_step, game_in, HaveSame, IsRecordOf, IsDecided, IsDecidedIn}
+use Rattle.store.specs.Steps.{caller_step, game_in, TellsMoves, TellsSeen, IsRecordOf, IsDecided, IsDecidedIn}
+use Rattle.club_rows.proofs.SeenLemmas.{seen-found}
 use Rattle.store.specs.Stored.{IsStoredGame}
 use Rattle.store.proofs.PutSame.{numbered_had, numbered_has, gathered_had, gathered_has, ids_same as same_ids, ids_agree, one_line, AreAtPlaces}
 use Rattle.store.proofs.NextRows.{entry_rows_at, move_rows_had, first_of_game, moves_had}
+use Rattle.store.proofs.FoundMoves.{tells_moves}
 use Rattle.store.proofs.PlayedLemmas.{place_at, game_is, no_later, decided_club}
 
 -- ---- keys that are texts
@@ -146,25 +148,6 @@ module _ (s : ClubState) (is_club : IsClub s) where
           let most : id ≤ 5000 = omega (arith, id_is, within, is_club.game_count) in
           absurd (past (omega (arith, ints, most)))
 
-  -- the rows of the moves of a game
-  pub moves_those : (id : ℕ) (old : ClubGame) (found : List Row) → place s.games id ≡ Some old → AreThose (0 ∷ []) (number id ∷ []) (tables s 8) found → HaveSame found (rows_of_moves both_games s.events id old)
-  moves_those id old found at those =
-      let rows = rows_of_moves both_games s.events in
-      let (m, id_is, there) = place_at s.games id old at in
-      record {
-        there = λ z has.
-            let those_z = those.sound z has in
-            let (n, g, stands, in_rows) = gathered_had rows 1 s.games z those_z.0 in
-            let same : 1 + n ≡ id = same_ids z (number id ∷ []) (1 + n) id (moves_had both_games s.events (1 + n) g z in_rows) refl those_z.1 in
-            let n_is : n ≡ m = omega (arith, same, id_is) in
-            let here : slice_get s.games n ≡ Some old = subst (λ k. slice_get s.games k ≡ Some old) (sym n_is) there in
-            let g_is : g ≡ old = cc in
-            subst₂ (λ k x. Has (rows k x) z) same g_is in_rows;
-        back = λ z has.
-            those.complete z (gathered_has rows 1 s.games m old z there (subst (λ k. Has (rows k old) z) id_is has))
-            (ids_agree z (number id ∷ []) id (moves_had both_games s.events id old z has) refl);
-      }
-
   within_place : {A : Type 0} (xs : List A) (id : ℕ) (o : Option A) → place xs id ≡ o → IsSome o → id ≤ length xs
   within_place xs id None at some = absurd (true≢false (sym some))
   within_place xs id (Some x) at some =
@@ -196,30 +179,6 @@ module _ (s : ClubState) (is_club : IsClub s) where
         row = cells ∙ k.row s.events id old;
       }
 
--- ---- the view of a game
-
-places_of : {P M E T : Type 0} (laws : GameRules P M E T) (terms : Terms) (id : ℕ) (game : Game M) → AreAtPlaces 1 (move_rows laws terms id game)
-places_of laws terms id game n z at =
-    let same : 0 + (1 + n) ≡ 1 + n = omega arith in
-    entry_rows_at laws terms id (at_start game) game.entries n z at ∙ ap number same
-
-module _ {R P M E T : Type 0} (laws : GameRules P M E T) (terms : Terms) (row : GameRecord) (moves : List MoveRow) where
-  -- what is shown is sound, and its moves are legal
-  pub view_sound : (s : Shown R P M E T) (played : Played R P M E T) → s ≡ shown.Game played → IsSoundIfShown laws terms row moves s → IsSound laws played.view × IsLegalLine laws laws.start played.line.items
-  view_sound s played is sound =
-      let (id, game, rows, terms_is, shows, is_sound, history) = subst (IsSoundIfShown laws terms row moves) is sound in
-      (is_sound, subst (IsLegalLine laws laws.start) (sym history.line) rows.legal.line.legal)
-
-  -- where a view is shown, rows of moves that are those of the game are in their order
-  pub view_shows : (s : Shown R P M E T) (played : Played R P M E T) → s ≡ shown.Game played → IsSoundIfShown laws terms row moves s → ((id : ℕ) (game : Game M) → AreRowsOf laws terms id row moves game → ShowsGame laws terms game s)
-      → (id : ℕ) (game : Game M) → IsRecordOf laws terms id row game → HaveSame (map move_cells moves) (move_rows laws terms id game) → (map move_cells moves ≡ move_rows laws terms id game) × (terms_of played.view ≡ terms) × Shows laws game played.view × IsHistoryOf laws game played
-  view_shows s played is sound complete id game of same =
-      let (other_id, other, rows, terms_is, shows, is_sound, history) = subst (IsSoundIfShown laws terms row moves) is sound in
-      let line = one_line 1 (map move_cells moves) (move_rows laws terms id game) (subst (AreAtPlaces 1) (sym rows.moves) (places_of laws terms other_id other)) (places_of laws terms id game) same in
-      let all : AreRowsOf laws terms id row moves game = record { budget = of.budget; increment = of.increment; legal = of.legal; fits = of.fits; row = of.row; moves = line } in
-      let shown_so = subst (ShowsGame laws terms game) is (complete id game all) in
-      (line, shown_so.0, shown_so.1, shown_so.2)
-
 -- ---- ids in a row
 
 int_same : (a b : ℤ) → ◌≡◌ {A = Value} (Int a) (Int b) → a ≡ b
@@ -233,6 +192,11 @@ ids_same k id g is =
     let e : k ≡ record { id = id; pairing = pairing_of g } = cc in
     (ap (λ x. x.id) e, ap (λ x. x.pairing.event) e)
 
+-- the event of a game of the club stands
+pub event_stands : (s : ClubState) → IsClub s → (id : ℕ) (game : ClubGame) → place s.games id ≡ Some game → (known : Event) × (place s.events (pairing_of game).event ≡ Some known)
+event_stands s is_club id (club.draughts g) at = let legal = in-place (IsLegalIn both_games s) s.games id (club.draughts g) is_club.games at in (legal.event, legal.in_event)
+event_stands s is_club id (club.shogi g) at = let legal = in-place (IsLegalIn both_games s) s.games id (club.shogi g) is_club.games at in (legal.event, legal.in_event)
+
 -- ---- a stored game
 
 -- the stored rows are those of this game of one kind
@@ -241,7 +205,6 @@ pub record IsStoredOf {P M E T : Type 0} {laws : GameRules P M E T} {kind : Game
   pub here : place s.games id ≡ Some (k.into g)
   pub terms : terms_given stored.terms ≡ terms_at (place s.events g.event)
   pub is_row : IsRecordOf laws (terms_given stored.terms) stored.id stored.row g
-  pub moves : HaveSame (map move_cells stored.moves.items) (move_rows laws (terms_given stored.terms) stored.id g)
 
 pub stored_as : {P M E T : Type 0} {laws : GameRules P M E T} {kind : GameKind} (k : Kind laws kind) (s : ClubState) → IsClub s → (id : ℕ) (game : ClubGame) (stored : StoredGame) → place s.games id ≡ Some game → IsStoredGame s id game stored → stored.kind ≡ kind
     → (g : Game M) × IsStoredOf k s id game stored g
@@ -252,24 +215,29 @@ stored_as {laws = laws} k s is_club id game stored at is kind_is =
     let event : (pairing_of game).event ≡ g.event = ap (λ x. (pairing_of x).event) same ∙ k.event g in
     let terms : terms_given stored.terms ≡ terms_at (place s.events g.event) = is.terms ∙ ap (λ e. terms_at (place s.events e)) event in
     let cells : game_cells stored.row ≡ game_in s id (k.into g) = is.row ∙ ap (game_in s id) same in
-    let moves : HaveSame (map move_cells stored.moves.items) (move_rows laws (terms_at (place s.events g.event)) id g) =
-    subst (HaveSame (map move_cells stored.moves.items)) (ap (rows_of_moves both_games s.events id) same ∙ k.moves s.events id g) is.moves in
     let stands : IsStoredOf k s id game stored g = record {
       same = same;
       here = here;
       terms = terms;
       is_row = subst₂ (λ t i. IsRecordOf laws t i stored.row g) (sym terms) (sym is.id_is) (is_record s is_club k id g stored.row here cells);
-      moves = subst₂ (λ t i. HaveSame (map move_cells stored.moves.items) (move_rows laws t i g)) (sym terms) (sym is.id_is) moves;
     } in
     (g, stands)
 
+-- the table of positions tells what stood in a game of the club
+pub tells-seen : {P M E T : Type 0} {laws : GameRules P M E T} {kind : GameKind} (k : Kind laws kind) (s : ClubState) (id : ℕ) (g : Game M) → place s.games id ≡ Some (k.into g) → TellsSeen laws id g (tables s)
+tells-seen {laws = laws} k s id g here =
+    let (n, id_is, at) = place_at s.games id (k.into g) here in
+    subst (λ i. TellsSeen laws i g (tables s)) (sym id_is) (λ text found those. seen-found both_games laws s n (k.into g) g text found at (k.seen (1 + n) g) those)
+
 -- what was decided by the rules of its kind was decided in the club
 pub stored_decided : {P M E T : Type 0} {laws : GameRules P M E T} {kind : GameKind} (k : Kind laws kind) (s : ClubState) → IsClub s → (id : ℕ) (game : ClubGame) (stored : StoredGame) (moment : ℕ) (who : Caller) (command : GameCommand) (d : Decided) → s.last ≤ moment → place s.games id ≡ Some game → IsStoredGame s id game stored → stored.kind ≡ kind
-    → ((old : Game M) → IsRecordOf laws (terms_given stored.terms) stored.id stored.row old → HaveSame (map move_cells stored.moves.items) (move_rows laws (terms_given stored.terms) stored.id old) → (clocks_of old (terms_given stored.terms)).since ≤ moment
-    → IsDecidedIn laws (terms_given stored.terms) stored.id moment old (game_step laws (terms_given stored.terms) old moment who command) d)
+    → ((old : Game M) → TellsSeen laws stored.id old (tables s) → TellsMoves laws (terms_given stored.terms) stored.id old (tables s) → IsRecordOf laws (terms_given stored.terms) stored.id stored.row old → (clocks_of old (terms_given stored.terms)).since ≤ moment
+    → IsDecidedIn laws (terms_given stored.terms) stored.id moment (tables s 14) old (game_step laws (terms_given stored.terms) old moment who command) d)
     → IsDecided s (caller_step s moment who (on_game id command)) d
 stored_decided {laws = laws} k s is_club id game stored moment who command d later at is kind_is step =
     let (g, of) = stored_as k s is_club id game stored at is kind_is in
     let since = no_later k s is_club id g (terms_given stored.terms) of.here in
-    let decided = step g of.is_row of.moves (omega (arith, since, later)) in
-    decided_club k s id moment who command g d of.here (subst₂ (λ t i. IsDecidedIn laws t i moment g (game_step laws t g moment who command) d) of.terms is.id_is decided)
+    let tells = subst (λ i. TellsSeen laws i g (tables s)) (sym is.id_is) (tells-seen k s id g of.here) in
+    let plays = subst₂ (λ t i. TellsMoves laws t i g (tables s)) (sym of.terms) (sym is.id_is) (tells_moves k s id g of.here) in
+    let decided = step g tells plays of.is_row (omega (arith, since, later)) in
+    decided_club k s id moment who command g d of.here (subst₂ (λ t i. IsDecidedIn laws t i moment (tables s 14) g (game_step laws t g moment who command) d) of.terms is.id_is decided)

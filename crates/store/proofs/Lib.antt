@@ -1,12 +1,15 @@
 pub mod BlameLemmas
 pub mod ClubLemmas
 pub mod FoundLemmas
+pub mod FoundMoves
+pub mod FoundPeople
 pub mod OpeningLemmas
 pub mod MoveOrderLemmas
 pub mod GameRows
 pub mod LegalLemmas
 pub mod LifeLemmas
 pub mod NextRows
+pub mod OnceLemmas
 pub mod OutcomeLemmas
 pub mod PlaceLemmas
 pub mod PlayedLemmas

@@ -27,11 +27,10 @@ use Rattle.sqlite_trees.proofs.ListLemmas.{all_weaker, ascending-append, ascendi
 use Rattle.sqlite_rules.specs.Lists.{Has}
 use Rattle.sqlite_rules.proofs.ListLemmas.{all_has, all_from}
 use Rattle.sqlite_rules.proofs.TableLemmas.{int_is}
-use Rattle.squares.specs.declared.draughts.moves.DMove.{DMove}
 use Rattle.club_rules.specs.GameRules.{GameRules}
 use Rattle.club_core.specs.Events.{Event, Terms}
 use Rattle.club_core.specs.Game.{Entry, Game}
-use Rattle.club_core.specs.State.{AnyGame, draughts, shogi, place, terms_at}
+use Rattle.club_core.specs.State.{draughts, shogi, place, terms_at}
 use Rattle.store_tables.specs.Cells.{IsMove}
 use Rattle.store_tables.specs.Content.{AreApart, cells}
 use Rattle.store_tables.specs.Contents.{Stores}
@@ -199,11 +198,11 @@ then_parts Equal Less e = cc
 then_parts Equal Greater e = cc
 then_parts Equal Equal e = (refl, refl)
 
-and_first : (a : Bool) → (a && true) ≡ true → a ≡ true
+pub and_first : (a : Bool) → (a && true) ≡ true → a ≡ true
 and_first true e = refl
 and_first false e = cc
 
-not_true : (a : Bool) → not a ≡ true → a ≡ false
+pub not_true : (a : Bool) → not a ≡ true → a ≡ false
 not_true true e = cc
 not_true false e = refl
 
@@ -231,6 +230,24 @@ agree_of : (a b : Row) → equal Binary (column a 1) (column b 1) ≡ true → e
 unfolding first_key
 agree_of a b game ply = λ i. game i && (ply i && true)
 
+-- rows that a key of their own tells apart: where each is the only one with its key, those with the same key have one rowid
+module _ (key : List ℕ) (rows : List Row) (apart : AreApart rows) (unique : (r : Row) → Has rows r → clashes plain key rows r ≡ false) where
+  pub one_rowid : (r s : Row) → Has rows r → Has rows s → agree plain key s key r ≡ true → value_cmp (rowid r) (rowid s) ≡ Equal
+  one_rowid r s h k agrees =
+      let never = none_any (λ x. agree plain key x key r && differ (rowid x) (rowid r)) rows s (unique r h) k in
+      let alike : differ (rowid s) (rowid r) ≡ false = and_second _ _ agrees never in
+      let a = int_is (rowid s) (all_has (λ x. IsTrue (is_int (rowid x))) rows s apart.ints k) in
+      let b = int_is (rowid r) (all_has (λ x. IsTrue (is_int (rowid x))) rows r apart.ints h) in
+      let same = differ_ints _ _ (subst₂ (λ x y. differ x y ≡ false) a b alike) in
+      let alike_ids : rowid r ≡ rowid s = b ∙ (ap (λ (n : ℤ). Int n) (sym same) ∙ sym a) in
+      subst (λ v. value_cmp (rowid r) v ≡ Equal) alike_ids (tied_itself value_cmp_total (rowid r))
+
+-- what follows of each two rows of a table follows along any of them
+pub turned : {D Q : Row → Row → Type 0} → (stored : List Row) → ((r s : Row) → Has stored r → Has stored s → D r s → Q r s) → (rows : List Row) → ((r : Row) → Has rows r → Has stored r) → IsAscending D rows → IsAscending Q rows
+turned stored pair [] sub up = tt
+turned {D} {Q} stored pair (x ∷ rows) sub up =
+    (all_from (Q x) rows (λ s h. pair x s (sub x (inl refl)) (sub s (inr h)) (all_has (D x) rows s up.0 h)), turned stored pair rows (λ r h. sub r (inr h)) up.1)
+
 module _ (trees : Trees) (sound : IsSound club_schema trees) (apart : AreApart (trees 8)) (ints : (r : Row) → Has (trees 8) r → IsInt (column r 1) × IsInt (column r 2)) where
   no_clash : (r : Row) → Has (trees 8) r → clashes plain (1 ∷ 2 ∷ []) (trees 8) r ≡ false
   no_clash r h = not_true _ (and_first _ (all_has _ (trees 8) r (sound.obeys.rules Unique).1.1.1.1.0 h))
@@ -242,26 +259,14 @@ module _ (trees : Trees) (sound : IsSound club_schema trees) (apart : AreApart (
       let two = ints s k in
       let game : equal Binary (column s 1) (column r 1) ≡ true = same_of (column s 1) (column r 1) two.0 one.0 both.0 in
       let ply : equal Binary (column s 2) (column r 2) ≡ true = same_of (column s 2) (column r 2) two.1 one.1 both.1 in
-      let agrees : agree plain (1 ∷ 2 ∷ []) s (1 ∷ 2 ∷ []) r ≡ true = agree_of s r game ply in
-      let never = none_any (λ x. agree plain (1 ∷ 2 ∷ []) x (1 ∷ 2 ∷ []) r && differ (rowid x) (rowid r)) (trees 8) s (no_clash r h) k in
-      let alike : differ (rowid s) (rowid r) ≡ false = and_second _ _ agrees never in
-      let a = int_is (rowid s) (all_has (λ x. IsTrue (is_int (rowid x))) (trees 8) s apart.ints k) in
-      let b = int_is (rowid r) (all_has (λ x. IsTrue (is_int (rowid x))) (trees 8) r apart.ints h) in
-      let same = differ_ints _ _ (subst₂ (λ x y. differ x y ≡ false) a b alike) in
-      let alike_ids : rowid r ≡ rowid s = b ∙ (ap (λ (n : ℤ). Int n) (sym same) ∙ sym a) in
-      other (subst (λ v. value_cmp (rowid r) v ≡ Equal) alike_ids (tied_itself value_cmp_total (rowid r)))
-
-  turned : {D Q : Row → Row → Type 0} → ((r s : Row) → Has (trees 8) r → Has (trees 8) s → D r s → Q r s) → (rows : List Row) → ((r : Row) → Has rows r → Has (trees 8) r) → IsAscending D rows → IsAscending Q rows
-  turned pair [] sub up = tt
-  turned {D} {Q} pair (x ∷ rows) sub up =
-      (all_from (Q x) rows (λ s h. pair x s (sub x (inl refl)) (sub s (inr h)) (all_has (D x) rows s up.0 h)), turned pair rows (λ r h. sub r (inr h)) up.1)
+      other (one_rowid (1 ∷ 2 ∷ []) (trees 8) apart no_clash r s h k (agree_of s r game ply))
 
   -- what is shown of the table, each row once and in order, rises
   shown_rise : (rows : List Row) → IsPermutation (map (cells (moves 8)) (trees 8)) rows → IsSorted by rows → IsAscending Before rows
   shown_rise rows once sorted =
       rises rows sorted
       (pairs_turned Apart apart_back (map (cells (moves 8)) (trees 8)) rows once
-      (ascending-map Apart (cells (moves 8)) (trees 8) (turned keys_apart (trees 8) (λ r h. h) apart.apart)))
+      (ascending-map Apart (cells (moves 8)) (trees 8) (turned (trees 8) keys_apart (trees 8) (λ r h. h) apart.apart)))
 
 -- the moves that were read are those of the club, in their order
 pub moves_are : (s : ClubState) → IsClub s → (rows : List Row) (old new : State) → Holds old.now (tables_of both_games s) → IsReadAs (moves 8) 2 rows old new → rows ≡ tables_of both_games s 8

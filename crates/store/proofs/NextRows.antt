@@ -1,5 +1,5 @@
 -- The tables of a club after each command that is accepted.
-use Rattle.std.proofs.Common.{◌≡◌, ℕ, zero, suc, ◌+◌, ◌<◌, ◌≤◌, List, [], ◌∷◌, ◌++◌, length, Option, Some, false, refl, ap, sym, subst, ◌∙◌, arith, inl, inr, length-append}
+use Rattle.std.proofs.Common.{◌≡◌, ℕ, zero, suc, ◌+◌, ◌<◌, ◌≤◌, List, [], ◌∷◌, ◌++◌, length, Option, Some, false, refl, ap, sym, subst, ◌∙◌, arith, inl, inr, ◌⊎◌, None, length-append}
 use Rattle.std.specs.Prelude.{slice_get, slice_set}
 use Rattle.sqlite.specs.Order.{Row, column}
 use Rattle.sqlite_rules.specs.Lists.{Has}
@@ -15,20 +15,27 @@ use Rattle.club_core.specs.LegalState.{Each, IsLegalIn}
 use Rattle.club_core.specs.State.{AnyGame, draughts, shogi, State, place, kind_at, terms_at, seated_as, with_members, with_events, with_new_game}
 use Rattle.club_core.proofs.Lists.{place-append}
 use Rattle.club_rows.proofs.KindLemmas.{plies_in}
-use Rattle.club_rows.specs.Tables.{number, game_row, entry_row, entry_rows, move_rows, at_start, with_entry, member_row, event_row, row_of_game, rows_of_moves, tables_of}
+use Rattle.club_rows.specs.Scores.{meetings_in, scores_in}
+use Rattle.club_rows.specs.Tables.{number, game_row, entry_row, entry_rows, move_rows, at_start, with_entry, gathered_from, member_row, event_row, row_of_game, rows_of_moves, rows_of_seen, tables_of}
+use Rattle.club_rows.proofs.ScoreLemmas.{scores_seated}
+use Rattle.club_rows.proofs.SeenLemmas.{seen-table-added}
+use Rattle.store_tables.specs.Changes.{put_rows}
+use Rattle.store_tables.proofs.AlterLemmas.{altered}
 use Rattle.store_tables.specs.Contents.{Content, put_in, put_each}
-use Rattle.store_tables.specs.Content.{same_key}
-use Rattle.store.specs.Steps.{AreSame}
+use Rattle.store_tables.specs.Content.{same_key, put}
+use Rattle.store.specs.Steps.{AreSame, HaveSame}
 use Rattle.store.proofs.PutSame.{same_itself, same_by, one_replaced, row_added, row_replaced, nothing_added, one_row_more, rows_kept, numbered_alike, gathered_alike, pairs_apart}
 
 abbrev pub meta_row : ℕ → Row
 meta_row last = number 1 ∷ number 1 ∷ number last ∷ []
 
 -- the content with these rows put, and the moment
-abbrev pub puts : ℕ → List Row → List Row → List Row → List Row → Content → Content
-puts moment members events games moves content =
+abbrev pub puts : ℕ → List Row → List Row → List Row → List Row → List Row → List Row → Content → Content
+puts moment members events games moves seen scores content =
     put_in 0 (0 ∷ []) (meta_row moment)
-    (put_each 8 (0 ∷ 1 ∷ []) moves (put_each 10 (0 ∷ []) games (put_each 4 (0 ∷ []) events (put_each 1 (0 ∷ []) members content))))
+    (put_each 14 (0 ∷ 1 ∷ 2 ∷ []) scores
+    (put_each 12 (0 ∷ 1 ∷ []) seen
+    (put_each 8 (0 ∷ 1 ∷ []) moves (put_each 10 (0 ∷ []) games (put_each 4 (0 ∷ []) events (put_each 1 (0 ∷ []) members content))))))
 
 -- ---- the rows of the moves of a game
 
@@ -70,7 +77,7 @@ module _ {DP DM DE DT SP SM SE ST : Type 0} (kinds : ClubRules DP DM DE DT SP SM
   moves_had events id (shogi g) z has = (move_rows_had kinds.shogi (terms_at (place events g.event)) id g z has).0
 
   -- a member more
-  pub member_next : (s : State DM SM) (m : Member) (moment : ℕ) → AreSame (puts moment (member_row (1 + length s.members) m ∷ []) [] [] [] (tables_of kinds s)) (tables_of kinds (with_members s moment (s.members ++ m ∷ [])))
+  pub member_next : (s : State DM SM) (m : Member) (moment : ℕ) → AreSame (puts moment (member_row (1 + length s.members) m ∷ []) [] [] [] [] [] (tables_of kinds s)) (tables_of kinds (with_members s moment (s.members ++ m ∷ [])))
   member_next s m moment = (
     one_replaced (meta_row s.last) (meta_row moment) 1 refl refl,
     (
@@ -89,7 +96,7 @@ module _ {DP DM DE DT SP SM SE ST : Type 0} (kinds : ClubRules DP DM DE DT SP SM
   moves_stay s e (shogi g) of id = ap (λ o. move_rows kinds.shogi (terms_at o) id g) (of.in_event ∙ sym (place-append s.events (e ∷ []) g.event of.event of.in_event))
 
   -- an event more
-  pub event_next : (s : State DM SM) (e : Event) (moment : ℕ) → Each (IsLegalIn kinds s) s.games → AreSame (puts moment [] (event_row (1 + length s.events) e ∷ []) [] [] (tables_of kinds s)) (tables_of kinds (with_events s moment (s.events ++ e ∷ [])))
+  pub event_next : (s : State DM SM) (e : Event) (moment : ℕ) → Each (IsLegalIn kinds s) s.games → AreSame (puts moment [] (event_row (1 + length s.events) e ∷ []) [] [] [] [] (tables_of kinds s)) (tables_of kinds (with_events s moment (s.events ++ e ∷ [])))
   event_next s e moment legal = (
     one_replaced (meta_row s.last) (meta_row moment) 1 refl refl,
     (
@@ -115,8 +122,10 @@ module _ {DP DM DE DT SP SM SE ST : Type 0} (kinds : ClubRules DP DM DE DT SP SM
   no_moves events Draughts key pairing moment id = refl
   no_moves events Shogi key pairing moment id = refl
 
-  pub seat_next : (s : State DM SM) (key : List ℕ) (pairing : Pairing) (moment : ℕ) → AreSame (puts moment [] [] (row_of_game kinds s.events (1 + length s.games) (seated_as (kind_at (place s.events pairing.event)) (Some key) pairing moment) ∷ []) [] (tables_of kinds s)) (tables_of kinds (with_new_game s moment key pairing))
-  seat_next s key pairing moment =
+  pub seat_next : (s : State DM SM) (key : List ℕ) (pairing : Pairing) (moment : ℕ) (row : Row) → rows_of_seen kinds (1 + length s.games) (seated_as (kind_at (place s.events pairing.event)) (Some key) pairing moment) ≡ row ∷ []
+      → meetings_in kinds (seated_as (kind_at (place s.events pairing.event)) (Some key) pairing moment) ≡ []
+      → AreSame (puts moment [] [] (row_of_game kinds s.events (1 + length s.games) (seated_as (kind_at (place s.events pairing.event)) (Some key) pairing moment) ∷ []) [] (row ∷ []) [] (tables_of kinds s)) (tables_of kinds (with_new_game s moment key pairing))
+  seat_next s key pairing moment row row_is running =
       let new : AnyGame DM SM = seated_as (kind_at (place s.events pairing.event)) (Some key) pairing moment in (
         one_replaced (meta_row s.last) (meta_row moment) 1 refl refl,
         (
@@ -129,7 +138,10 @@ module _ {DP DM DE DT SP SM SE ST : Type 0} (kinds : ClubRules DP DM DE DT SP SM
                 nothing_added (rows_of_moves kinds s.events) s.games new (no_moves s.events (kind_at (place s.events pairing.event)) (Some key) pairing moment),
                 (
                   row_added (row_of_game kinds s.events) (first_of_game s.events) s.games new (row_of_game kinds s.events (1 + length s.games) new) refl,
-                  (same_itself _, (same_itself _, tt)),
+                  (
+                    altered (0 ∷ 1 ∷ []) (row ∷ []) _ _ (seen-table-added kinds s key pairing moment row row_is),
+                    (same_by _ _ (sym (scores_seated kinds s.games new running)), tt),
+                  ),
                 ),
               ),
             ),
@@ -137,28 +149,62 @@ module _ {DP DM DE DT SP SM SE ST : Type 0} (kinds : ClubRules DP DM DE DT SP SM
         ),
       )
 
+  -- ---- the scores that a game puts
+
+  -- none, or those of two players
+  abbrev pub AreFew : List Row → Type 0
+  AreFew scores = (scores ≡ []) ⊎ ((a : Row) × (b : Row) × (scores ≡ a ∷ b ∷ []))
+
   -- a game that changes, and no move of it
-  pub change_next : (s : State DM SM) (n : ℕ) (old new : AnyGame DM SM) (moment : ℕ) → slice_get s.games n ≡ Some old → rows_of_moves kinds s.events (1 + n) new ≡ rows_of_moves kinds s.events (1 + n) old
-      → AreSame (puts moment [] [] (row_of_game kinds s.events (1 + n) new ∷ []) [] (tables_of kinds s)) (tables_of kinds (record s { last = moment; games = slice_set s.games n new }))
-  change_next s n old new moment at stays = (
-    one_replaced (meta_row s.last) (meta_row moment) 1 refl refl,
-    (
-      same_itself _,
+  pub change_next : (s : State DM SM) (n : ℕ) (old new : AnyGame DM SM) (moment : ℕ) (scores : List Row) → slice_get s.games n ≡ Some old → rows_of_moves kinds s.events (1 + n) new ≡ rows_of_moves kinds s.events (1 + n) old
+      → rows_of_seen kinds (1 + n) new ≡ rows_of_seen kinds (1 + n) old → AreFew scores → HaveSame (put_rows (0 ∷ 1 ∷ 2 ∷ []) scores (scores_in kinds s.games)) (scores_in kinds (slice_set s.games n new))
+      → AreSame (puts moment [] [] (row_of_game kinds s.events (1 + n) new ∷ []) [] [] scores (tables_of kinds s)) (tables_of kinds (record s { last = moment; games = slice_set s.games n new }))
+  change_next s n old new moment scores at stays seen few same = elim few [
+    | inl none ↦ subst (λ l. AreSame (puts moment [] [] (row_of_game kinds s.events (1 + n) new ∷ []) [] [] l (tables_of kinds s)) (tables_of kinds (record s { last = moment; games = slice_set s.games n new }))) (sym none) (
+      one_replaced (meta_row s.last) (meta_row moment) 1 refl refl,
       (
         same_itself _,
         (
           same_itself _,
           (
-            rows_kept (rows_of_moves kinds s.events) s.games n old new at stays,
+            same_itself _,
             (
-              row_replaced (row_of_game kinds s.events) (first_of_game s.events) s.games n old new (row_of_game kinds s.events (1 + n) new) at refl,
-              (same_itself _, (same_itself _, tt)),
+              rows_kept (rows_of_moves kinds s.events) s.games n old new at stays,
+              (
+                row_replaced (row_of_game kinds s.events) (first_of_game s.events) s.games n old new (row_of_game kinds s.events (1 + n) new) at refl,
+                (
+                  rows_kept (rows_of_seen kinds) s.games n old new at seen,
+                  (subst (λ l. HaveSame (put_rows (0 ∷ 1 ∷ 2 ∷ []) l (scores_in kinds s.games)) (scores_in kinds (slice_set s.games n new))) none same, tt),
+                ),
+              ),
             ),
           ),
         ),
       ),
-    ),
-  )
+    )
+    | inr two ↦ subst (λ l. AreSame (puts moment [] [] (row_of_game kinds s.events (1 + n) new ∷ []) [] [] l (tables_of kinds s)) (tables_of kinds (record s { last = moment; games = slice_set s.games n new }))) (sym two.2) (
+      one_replaced (meta_row s.last) (meta_row moment) 1 refl refl,
+      (
+        same_itself _,
+        (
+          same_itself _,
+          (
+            same_itself _,
+            (
+              rows_kept (rows_of_moves kinds s.events) s.games n old new at stays,
+              (
+                row_replaced (row_of_game kinds s.events) (first_of_game s.events) s.games n old new (row_of_game kinds s.events (1 + n) new) at refl,
+                (
+                  rows_kept (rows_of_seen kinds) s.games n old new at seen,
+                  (subst (λ l. HaveSame (put_rows (0 ∷ 1 ∷ 2 ∷ []) l (scores_in kinds s.games)) (scores_in kinds (slice_set s.games n new))) two.2 same, tt),
+                ),
+              ),
+            ),
+          ),
+        ),
+      ),
+    )
+  ]
 
   -- a move more in a game
   ply_had : (events : List Event) (id : ℕ) (g : AnyGame DM SM) (z : Row) → Has (rows_of_moves kinds events id g) z → (k : ℕ) × (column z 1 ≡ number k) × (k ≤ plies_in g)
@@ -179,23 +225,48 @@ module _ {DP DM DE DT SP SM SE ST : Type 0} (kinds : ClubRules DP DM DE DT SP SM
         let count : plies_in g ≡ plies_in old = ap plies_in g_is in
         absurd (omega (arith, most, later, count, same_ply)))
 
-    pub play_next : (moment : ℕ) → AreSame (puts moment [] [] (row_of_game kinds s.events (1 + n) new ∷ []) (row ∷ []) (tables_of kinds s)) (tables_of kinds (record s { last = moment; games = slice_set s.games n new }))
-    play_next moment = (
-      one_replaced (meta_row s.last) (meta_row moment) 1 refl refl,
-      (
-        same_itself _,
-        (
-          same_itself _,
+    module _ (moment : ℕ) (seen : Row) (seen_is : HaveSame (put (0 ∷ 1 ∷ []) seen (gathered_from (rows_of_seen kinds) 1 s.games)) (gathered_from (rows_of_seen kinds) 1 (slice_set s.games n new))) where
+      abbrev after : List Row → Type 0
+      after scores = AreSame (puts moment [] [] (row_of_game kinds s.events (1 + n) new ∷ []) (row ∷ []) (seen ∷ []) scores (tables_of kinds s)) (tables_of kinds (record s { last = moment; games = slice_set s.games n new }))
+
+      pub play_next : (scores : List Row) → AreFew scores → HaveSame (put_rows (0 ∷ 1 ∷ 2 ∷ []) scores (scores_in kinds s.games)) (scores_in kinds (slice_set s.games n new)) → after scores
+      play_next scores few same = elim few [
+        | inl none ↦ subst after (sym none) (
+          one_replaced (meta_row s.last) (meta_row moment) 1 refl refl,
           (
             same_itself _,
             (
-              one_row_more (rows_of_moves kinds s.events) s.games n old new row at grown fresh,
+              same_itself _,
               (
-                row_replaced (row_of_game kinds s.events) (first_of_game s.events) s.games n old new (row_of_game kinds s.events (1 + n) new) at refl,
-                (same_itself _, (same_itself _, tt)),
+                same_itself _,
+                (
+                  one_row_more (rows_of_moves kinds s.events) s.games n old new row at grown fresh,
+                  (
+                    row_replaced (row_of_game kinds s.events) (first_of_game s.events) s.games n old new (row_of_game kinds s.events (1 + n) new) at refl,
+                    (seen_is, (subst (λ l. HaveSame (put_rows (0 ∷ 1 ∷ 2 ∷ []) l (scores_in kinds s.games)) (scores_in kinds (slice_set s.games n new))) none same, tt)),
+                  ),
+                ),
               ),
             ),
           ),
-        ),
-      ),
-    )
+        )
+        | inr two ↦ subst after (sym two.2) (
+          one_replaced (meta_row s.last) (meta_row moment) 1 refl refl,
+          (
+            same_itself _,
+            (
+              same_itself _,
+              (
+                same_itself _,
+                (
+                  one_row_more (rows_of_moves kinds s.events) s.games n old new row at grown fresh,
+                  (
+                    row_replaced (row_of_game kinds s.events) (first_of_game s.events) s.games n old new (row_of_game kinds s.events (1 + n) new) at refl,
+                    (seen_is, (subst (λ l. HaveSame (put_rows (0 ∷ 1 ∷ 2 ∷ []) l (scores_in kinds s.games)) (scores_in kinds (slice_set s.games n new))) two.2 same, tt)),
+                  ),
+                ),
+              ),
+            ),
+          ),
+        )
+      ]

@@ -1,5 +1,5 @@
 -- What is decided of a command, by what it is answered and the rows that are put.
-use Rattle.std.proofs.Common.{◌≡◌, ℕ, zero, suc, ◌+◌, List, [], ◌∷◌, ◌++◌, length, Option, Some, None, Bool, true, false, ◌&&◌, refl, ap, sym, subst, ◌∙◌, true≢false, arith}
+use Rattle.std.proofs.Common.{◌≡◌, ℕ, zero, suc, ◌+◌, List, [], ◌∷◌, ◌++◌, length, Option, Some, None, Bool, true, false, ◌&&◌, refl, ap, sym, subst, subst₂, ◌∙◌, true≢false, arith}
 use Rattle.std.specs.Prelude.{slice_get, max}
 use Rattle.club_core.specs.declared.answers.Outcome as given
 use Rattle.club_core.specs.declared.answers.Outcome.TheVariants as given_is
@@ -17,7 +17,7 @@ use Rattle.club_core.specs.Members.{find_id, member_step, same_member, member_re
 use Rattle.club_core.specs.Limits.{is_name, is_budget, is_increment}
 use Rattle.club_core.specs.Events.{Event, has_event_name, has_good_values, event_step, same_event, event_refusal, event_tests}
 use Rattle.club_core.specs.Seats.{Pairing, KeyedGame, pair, seat_found, seat_step, same_seats, seat_refusal, has_member_name}
-use Rattle.club_core.specs.State.{state_after, is_accepted, add_member, add_event, seat, with_members, with_events, with_new_game, game_under, caller_of, step_by}
+use Rattle.club_core.specs.State.{state_after, is_accepted, add_member, add_event, seat, seated, seated_as, kind_at, place, with_members, with_events, with_new_game, game_under, caller_of, step_by}
 use Rattle.club_core.proofs.Folds.{unmoved}
 use Rattle.club_core.proofs.LegalSteps.{not-false}
 use Rattle.club_core.proofs.Legals.{none-holds}
@@ -26,7 +26,11 @@ use Rattle.sqlite.specs.Order.{Row}
 use Rattle.store_tables.specs.declared.rows.Changes.{Changes}
 use Rattle.store.specs.declared.command.Decided.{Decided}
 use Rattle.club_rows.specs.Club.{both_games, ClubState, IsClub, tables}
-use Rattle.store.specs.Steps.{request, club_step, caller_step, started, AreSame, PutsOnly, IsDecided, changed_if}
+use Rattle.store.specs.Steps.{request, club_step, caller_step, started, started_seen, started_scores, AreSame, PutsOnly, IsDecided, changed_if}
+use Rattle.club_rules.specs.declared.names.GameKind.{GameKind}
+use Rattle.club_rules.specs.declared.names.GameKind.TheVariants.{Draughts, Shogi}
+use Rattle.club_rows.specs.Tables.{rows_of_seen}
+use Rattle.club_rows.proofs.SeenLemmas.{seen-start}
 use Rattle.store.proofs.PutSame.{same_itself}
 use Rattle.store.proofs.NextRows.{puts, member_next, event_next, seat_next}
 use Rattle.store.proofs.SameLemmas.{puts_changed}
@@ -49,11 +53,11 @@ none_decided s after d o is none answer not_accepted =
     }
 
 -- where a command is accepted, the rows that are put make the tables of the state after it
-pub put_decided : (s : ClubState) (after : Outcome ClubState) (new : ClubState) (o : given.Outcome) (c : Changes) (moment : ℕ) (members events games moves : List Row) → outcome_of o ≡ answered after → state_after s after ≡ new → PutsOnly c moment members events games moves → AreSame (puts moment members events games moves (tables s)) (tables new)
+pub put_decided : (s : ClubState) (after : Outcome ClubState) (new : ClubState) (o : given.Outcome) (c : Changes) (moment : ℕ) (members events games moves seen scores : List Row) → outcome_of o ≡ answered after → state_after s after ≡ new → PutsOnly c moment members events games moves seen scores → AreSame (puts moment members events games moves seen scores (tables s)) (tables new)
     → IsDecided s after (record { outcome = o; changes = Some c })
-put_decided s after new o c moment members events games moves answer stands are same = record {
+put_decided s after new o c moment members events games moves seen scores answer stands are same = record {
   answer = answer;
-  rows = subst (λ n. AreSame (changed_if (Some c) (tables s)) (tables n)) (sym stands) (subst (λ content. AreSame content (tables new)) (sym (puts_changed c moment members events games moves are (tables s))) same);
+  rows = subst (λ n. AreSame (changed_if (Some c) (tables s)) (tables n)) (sym stands) (subst (λ content. AreSame content (tables new)) (sym (puts_changed c moment members events games moves seen scores are (tables s))) same);
 }
 
 module _ {T : Type 0} (s : ClubState) (f : T → ClubState) where
@@ -86,22 +90,22 @@ module _ {T : Type 0} (s : ClubState) (f : T → ClubState) where
 
 -- ---- members, events and games that are added
 
-pub member_decided : (s : ClubState) (moment : ℕ) (who : Caller) (name key : List ℕ) (o : given.Outcome) (c : Changes) → outcome_of o ≡ answered (by_officer who (member_step s.members name key)) → is_accepted (outcome_of o) ≡ true → PutsOnly c moment (member_row (1 + length s.members) (record { name = name; key = key }) ∷ []) [] [] []
+pub member_decided : (s : ClubState) (moment : ℕ) (who : Caller) (name key : List ℕ) (o : given.Outcome) (c : Changes) → outcome_of o ≡ answered (by_officer who (member_step s.members name key)) → is_accepted (outcome_of o) ≡ true → PutsOnly c moment (member_row (1 + length s.members) (record { name = name; key = key }) ∷ []) [] [] [] [] []
     → IsDecided s (caller_step s moment who (add_member name key)) (record { outcome = o; changes = Some c })
 member_decided s moment who name key o c answer is_in are =
     let m : core_members.Member = record { name = name; key = key } in
     let f = with_members s moment in
-    put_decided s (caller_step s moment who (add_member name key)) (f (s.members ++ m ∷ [])) o c moment (member_row (1 + length s.members) m ∷ []) [] [] []
+    put_decided s (caller_step s moment who (add_member name key)) (f (s.members ++ m ∷ [])) o c moment (member_row (1 + length s.members) m ∷ []) [] [] [] [] []
     (answer ∙ sym (answered_officer s f who (member_step s.members name key)))
     (officer_added s f who (same_member s.members name key) (member_refusal s.members name key) (s.members ++ m ∷ []) (member_added (length s.members + 1)) (ap is_accepted (sym answer) ∙ is_in))
     are
     (member_next both_games s m moment)
 
-pub event_decided : (s : ClubState) (moment : ℕ) (who : Caller) (e : Event) (o : given.Outcome) (c : Changes) → IsClub s → outcome_of o ≡ answered (by_officer who (event_step s.events e)) → is_accepted (outcome_of o) ≡ true → PutsOnly c moment [] (event_row (1 + length s.events) e ∷ []) [] []
+pub event_decided : (s : ClubState) (moment : ℕ) (who : Caller) (e : Event) (o : given.Outcome) (c : Changes) → IsClub s → outcome_of o ≡ answered (by_officer who (event_step s.events e)) → is_accepted (outcome_of o) ≡ true → PutsOnly c moment [] (event_row (1 + length s.events) e ∷ []) [] [] [] []
     → IsDecided s (caller_step s moment who (add_event e)) (record { outcome = o; changes = Some c })
 event_decided s moment who e o c club answer is_in are =
     let f = with_events s moment in
-    put_decided s (caller_step s moment who (add_event e)) (f (s.events ++ e ∷ [])) o c moment [] (event_row (1 + length s.events) e ∷ []) [] []
+    put_decided s (caller_step s moment who (add_event e)) (f (s.events ++ e ∷ [])) o c moment [] (event_row (1 + length s.events) e ∷ []) [] [] [] []
     (answer ∙ sym (answered_officer s f who (event_step s.events e)))
     (officer_added s f who (same_event s.events e) (event_refusal s.events e) (s.events ++ e ∷ []) (event_added (length s.events + 1)) (ap is_accepted (sym answer) ∙ is_in))
     are
@@ -153,20 +157,27 @@ pub seat_same : (seating : Outcome Pairing) (who : Caller) (key event first seco
 seat_same seating who key event first second members ms events es under u games n is m e k c =
     is ∙ (λ i. by_officer who (seat_step (m i) (e i) (k i) (c i) key event first second))
 
+-- a game that was just seated has one position
+one_seen : (kind : GameKind) (id : ℕ) (key : List ℕ) (pairing : Pairing) (moment : ℕ) → (row : Row) × (rows_of_seen both_games id (seated_as kind (Some key) pairing moment) ≡ row ∷ [])
+one_seen Draughts id key pairing moment = (_, seen-start both_games.draughts id (seated (Some key) pairing moment) refl)
+one_seen Shogi id key pairing moment = (_, seen-start both_games.shogi id (seated (Some key) pairing moment) refl)
+
 pub seat_decided : (s : ClubState) (moment : ℕ) (who : Caller) (key event first second : List ℕ) (p : Pairing) (id : ℕ) (c : Changes) → IsClub s → accepted p (game_seated id) ≡ by_officer who (seat_step s.members s.events (game_under s.games key) (length s.games) key event first second)
-    → PutsOnly c moment [] [] (started s.events id key p moment ∷ []) []
+    → PutsOnly c moment [] [] (started s.events id key p moment ∷ []) [] (started_seen s.events id key p moment) [] → started_scores s.events key p moment ≡ []
     → IsDecided s (caller_step s moment who (seat key event first second)) (record { outcome = given_is.Accepted (answer_is.Game id); changes = Some c })
-seat_decided s moment who key event first second p id c club answer are =
+seat_decided s moment who key event first second p id c club answer are running =
     let f = with_new_game s moment key in
     let step = seat_step s.members s.events (game_under s.games key) (length s.games) key event first second in
     let next : id ≡ length s.games + 1 = officer_id who (find_id (has_event_name event) s.events) (find_id (has_member_name first) s.members) (find_id (has_member_name second) s.members) (game_under s.games key) (length s.games) key p id answer in
     let same_id : id ≡ 1 + length s.games = omega (arith, next) in
     let row : started s.events id key p moment ≡ started s.events (1 + length s.games) key p moment = ap (λ k. started s.events k key p moment) same_id in
-    put_decided s (caller_step s moment who (seat key event first second)) (f p) (given_is.Accepted (answer_is.Game id)) c moment [] [] (started s.events (1 + length s.games) key p moment ∷ []) []
+    let seen : started_seen s.events id key p moment ≡ started_seen s.events (1 + length s.games) key p moment = ap (λ k. started_seen s.events k key p moment) same_id in
+    let (first_seen, first_is) = one_seen (kind_at (place s.events p.event)) (1 + length s.games) key p moment in
+    put_decided s (caller_step s moment who (seat key event first second)) (f p) (given_is.Accepted (answer_is.Game id)) c moment [] [] (started s.events (1 + length s.games) key p moment ∷ []) [] (first_seen ∷ []) []
     (ap answered answer ∙ sym (answered_officer s f who step))
     (officer_stands s f who step p (game_seated id) answer)
-    (subst (λ r. PutsOnly c moment [] [] (r ∷ []) []) row are)
-    (seat_next both_games s key p moment)
+    (subst₂ (λ r l. PutsOnly c moment [] [] (r ∷ []) [] l []) row (seen ∙ first_is) are)
+    (seat_next both_games s key p moment first_seen first_is running)
 
 -- ---- who asks
 

@@ -1,5 +1,5 @@
 -- What is decided of a command on a game, by the decision on that game.
-use Rattle.std.proofs.Common.{◌≡◌, ◌⊎◌, inl, inr, Bool, false, ℕ, zero, suc, ◌+◌, ◌-◌, ◌*◌, ◌<◌, ◌≤◌, ◌^◌, List, [], ◌∷◌, ◌++◌, length, map, Option, Some, None, Result, Ok, Err, true, refl, ap, sym, subst, ◌∙◌, arith, length-append}
+use Rattle.std.proofs.Common.{◌≡◌, ◌⊎◌, inl, inr, Bool, false, ℕ, zero, suc, ◌+◌, ◌-◌, ◌*◌, ◌<◌, ◌≤◌, ◌^◌, List, [], ◌∷◌, ◌++◌, length, map, Option, Some, None, Result, Ok, Err, true, refl, ap, sym, subst, subst₂, pos, ◌∙◌, arith, length-append}
 use Rattle.std.specs.Prelude.{if◌then◌else◌, slice_get, slice_set, IsTrue, nat_le}
 use Rattle.std.proofs.lemmas.Bool.Decides.{nat_tests}
 use Rattle.std.proofs.lemmas.List.{length-map}
@@ -31,19 +31,20 @@ use Rattle.club_core.specs.Limits.{is_budget, is_increment, most_plies}
 use Rattle.club_core.specs.Outcome.{Reply, MoveReply, moved, draw_offered, game_ended, Outcome, accepted, repeated, refused, map_outcome, unless, unless_repeat}
 use Rattle.club_core.specs.Answer.{outcome_of, answered, reply_of, move_reply_of}
 use Rattle.club_core.specs.Events.{Event, Terms}
-use Rattle.club_core.specs.Game.{Game, Entry, Clocks, moves_of, spend, spend_all, clocks_of, left_of, turn_of, last_position}
+use Rattle.club_core.specs.Game.{Game, Entry, Clocks, moves_of, spend, spend_all, clocks_of, left_of, turn_of, last_position, result_of}
 use Rattle.club_core.specs.Legal.{IsLegalGame}
 use Rattle.club_core.specs.LegalState.{Each, IsLegalEvent, IsLegalIn, IsGameOf}
-use Rattle.club_core.specs.Step.{GameCommand, move, offer_draw, accept_draw, resign, claim_time, played, offered, ended, plays, ends, by_side, side_step, caller_side, may_give, asked_ply, no_game_refusal, repeat_of, repeat_of_offer, repeat_of_accept, repeat_of_resign, repeat_of_claim, move_refusal, offer_refusal, accept_refusal, resign_refusal, claim_refusal, move_at, checked, game_step, reply_of_move}
+use Rattle.club_core.specs.Step.{GameCommand, move, offer_draw, accept_draw, resign, claim_time, played, offered, ended, plays, ends, by_side, side_step, caller_side, may_give, asked_ply, no_game_refusal, repeat_of, repeat_of_offer, repeat_of_accept, repeat_of_resign, repeat_of_claim, move_refusal, offer_refusal, accept_refusal, resign_refusal, claim_refusal, move_at, checked, game_step, reply_of_move, move_tests, offer_tests, accept_tests, resign_tests, claim_tests}
 use Rattle.club_core.specs.Seats.{Pairing}
 use Rattle.club_core.specs.State.{seated, seated_as, state_after, place, kind_at, terms_at, with_game, step_game, on_game}
-use Rattle.club_core.specs.View.{HasMade, IsConcluded, IsMade, IsRowOf, Stood, StoodAfter}
-use Rattle.club_core.proofs.Legals.{AreRules, checked-legal}
+use Rattle.club_core.specs.declared.settling.Settled.{Settled}
+use Rattle.club_core.specs.View.{concluded, HasMade, IsConcluded, IsMade, IsRowOf, Stood, StoodAfter}
+use Rattle.club_core.proofs.Legals.{AreRules, checked-legal, none-holds}
 use Rattle.club_core.proofs.LegalSteps.{in-place}
-use Rattle.club_core.proofs.Played.{reply-played, moves_of-played}
+use Rattle.club_core.proofs.Played.{reply-played, moves_of-played, made-played}
 use Rattle.club_rows.specs.Made.{made_row}
 use Rattle.club_rows.specs.Replay.{game_from}
-use Rattle.club_rows.specs.Tables.{game_row, move_rows, entry_row, entry_rows, with_entry, at_start, number, row_of_game, rows_of_moves}
+use Rattle.club_rows.specs.Tables.{game_row, move_rows, entry_row, entry_rows, with_entry, at_start, number, row_of_game, rows_of_moves, rows_of_seen}
 use Rattle.club_rows.proofs.KindLemmas.{Kind}
 use Rattle.club_rows.proofs.MadeLemmas.{made-last}
 use Rattle.store_tables.specs.Cells.{game_cells}
@@ -53,8 +54,20 @@ use Rattle.store.specs.declared.command.Decided.{Decided}
 use Rattle.club_rows.specs.Club.{both_games, ClubState, IsClub, tables}
 use Rattle.sqlite.specs.Order.{Row}
 use Rattle.store_tables.specs.Changed.{changed}
-use Rattle.store.specs.Steps.{caller_step, AreSame, PutsOnly, PutsMove, PutsRow, PutsGame, answered_rows, left_answered, IsDecided, IsDecidedIn, changed_if, first_row, started}
-use Rattle.store.proofs.NextRows.{play_next, change_next}
+use Rattle.store.specs.declared.game.Counts.{Counts}
+use Rattle.store.specs.Steps.{caller_step, AreSame, HaveSame, PutsOnly, PutsScoresOf, PutsMove, PutsRow, PutsGame, HasSeen, IsSeenAfter, HasTwoPlayers, AreScoresAfter, answered_rows, left_answered, seen_list, score_list, IsDecided, IsDecidedIn, changed_if, first_row, first_seen_rows, started, started_seen}
+use Rattle.squares.specs.declared.sides.Score.{Score}
+use Rattle.store_tables.specs.Cells.{seen_cells, score_cells}
+use Rattle.store_tables.specs.Changes.{Alters, put_rows}
+use Rattle.store_tables.specs.declared.rows.SeenRow.{SeenRow}
+use Rattle.store_tables.proofs.AlterLemmas.{altered}
+use Rattle.club_rows.specs.Scores.{Meeting, meetings, meetings_in, scores_in}
+use Rattle.club_rows.specs.Seen.{IsSeenRow}
+use Rattle.club_rows.proofs.ScoreLemmas.{met_running, met_ended, scores_next, scores_stay}
+use Rattle.club_rows.proofs.SeenLemmas.{entry-alters, seen-row-stays, seen-stay, seen-table-set}
+use Rattle.club_rows.proofs.ToldLemmas.{is_some-none}
+use Rattle.store.proofs.PutSame.{same_by}
+use Rattle.store.proofs.NextRows.{AreFew, play_next, change_next}
 use Rattle.store.proofs.OutcomeLemmas.{none_decided, answered_mapped, same_content}
 use Rattle.store.proofs.SameLemmas.{puts_changed}
 
@@ -103,6 +116,8 @@ module _ {P M E T : Type 0} (laws : GameRules P M E T) (terms : Terms) (g : Game
   -- an offer or an end: the event, the start and the entries stay, and the answer is not that to a move
   pub record IsChanged (new : Game M) (reply : Reply) : Type 0 where
     pub event : new.event ≡ g.event
+    pub first : new.first ≡ g.first
+    pub second : new.second ≡ g.second
     pub start : new.start ≡ g.start
     pub entries : new.entries ≡ g.entries
     pub unmoved : (r : MoveReply) → reply ≡ moved r → ⊥
@@ -126,10 +141,10 @@ module _ {P M E T : Type 0} (laws : GameRules P M E T) (terms : Terms) (g : Game
   if_done false o other is also = also
 
   offered_done : (offer : Offer) (ply : ℕ) → IsDone (accepted (offered g offer) (draw_offered ply))
-  offered_done offer ply = inr (record { event = refl; start = refl; entries = refl; unmoved = λ r is. cc })
+  offered_done offer ply = inr (record { event = refl; first = refl; second = refl; start = refl; entries = refl; unmoved = λ r is. cc })
 
   ends_done : (end : OutsideEnd) → IsDone (ends laws g end)
-  ends_done end = inr (record { event = refl; start = refl; entries = refl; unmoved = λ r is. cc })
+  ends_done end = inr (record { event = refl; first = refl; second = refl; start = refl; entries = refl; unmoved = λ r is. cc })
 
   side_done : (side : Side) (command : GameCommand) → IsDone (side_step laws terms g moment side command)
   side_done side (move ply text) =
@@ -149,6 +164,44 @@ module _ {P M E T : Type 0} (laws : GameRules P M E T) (terms : Terms) (g : Game
 
   pub step_done : (who : Caller) (command : GameCommand) → IsDone (game_step laws terms g moment who command)
   step_done who command = if_done (may_give who command) _ _ (by_done (caller_side g.first g.second who (asked_ply command)) command) tt
+
+  -- only a game that was running is changed
+  abbrev pub WasRunning : Outcome (Game M) → Type 0
+  WasRunning (accepted new reply) = result_of laws g ≡ None
+  WasRunning (repeated reply) = Unit {0}
+  WasRunning (refused refusal) = Unit {0}
+
+  plays_running : (r : Result M MoveRefusal) → result_of laws g ≡ None → WasRunning (plays laws terms g moment r)
+  plays_running (Ok m) running = running
+  plays_running (Err why) running = tt
+
+  unless_running : (again : Option Reply) (refusal : Option Refusal) (o : Outcome (Game M)) → (refusal ≡ None → WasRunning o) → WasRunning (unless_repeat again (unless refusal o))
+  unless_running (Some reply) refusal o is = tt
+  unless_running None (Some why) o is = tt
+  unless_running None None o is = is refl
+
+  if_running : (b : Bool) (o other : Outcome (Game M)) → WasRunning o → WasRunning other → WasRunning (if b then o else other)
+  if_running true o other is also = is
+  if_running false o other is also = also
+
+  side_running : (side : Side) (command : GameCommand) → WasRunning (side_step laws terms g moment side command)
+  side_running side (move ply text) =
+      let read = checked laws (last_position laws g) (laws.read_move (last_position laws g) text) in
+      unless_running (repeat_of laws terms g ply (move_at g ply) side text) (move_refusal laws terms g moment side ply text) (plays laws terms g moment read) (λ none. plays_running read (is_some-none (result_of laws g) (none-holds (move_tests laws terms g moment side ply text) none).0))
+  side_running side (offer_draw ply) =
+      let offer : Offer = record { side = side; ply = ply } in
+      if_running laws.has_draw_offers _ _ (unless_running (repeat_of_offer g.offer side ply) (offer_refusal laws g side ply) (accepted (offered g offer) (draw_offered ply)) (λ none. is_some-none (result_of laws g) (none-holds (offer_tests laws g side ply) none).0)) tt
+  side_running side (accept_draw ply) =
+      if_running laws.has_draw_offers _ _ (unless_running (repeat_of_accept laws g side ply) (accept_refusal laws g side ply) (ends laws g Agreed) (λ none. is_some-none (result_of laws g) (none-holds (accept_tests laws g side ply) none).0)) tt
+  side_running side resign = unless_running (repeat_of_resign laws g side) (resign_refusal laws g side) (ends laws g Resigned) (λ none. is_some-none (result_of laws g) (none-holds (resign_tests laws g side) none).0)
+  side_running side claim_time = unless_running (repeat_of_claim laws g side) (claim_refusal laws terms g moment side) (ends laws g Time) (λ none. is_some-none (result_of laws g) (none-holds (claim_tests laws terms g moment side) none).0)
+
+  by_running : (side : Option Side) (command : GameCommand) → WasRunning (by_side laws terms g moment side command)
+  by_running None command = tt
+  by_running (Some side) command = side_running side command
+
+  pub step_running : (who : Caller) (command : GameCommand) → WasRunning (game_step laws terms g moment who command)
+  step_running who command = if_running (may_give who command) _ _ (by_running (caller_side g.first g.second who (asked_ply command)) command) tt
 
   -- a game that a step leaves has a line of legal moves
   abbrev pub HasLegalLine : Outcome (Game M) → Type 0
@@ -190,53 +243,68 @@ module _ {P M E T : Type 0} (laws : GameRules P M E T) (terms : Terms) (g : Game
     pub step_legal : (who : Caller) (command : GameCommand) → HasLegalLine (game_step laws terms g moment who command)
     step_legal who command = if_legal (may_give who command) _ _ (by_legal (caller_side g.first g.second who (asked_ply command)) command) tt
 
-  -- a legal game has few plies
-  pub moves_few : IsLegalGame laws terms g → length (moves_of g) ≤ 600
-  moves_few legal =
-      let count : length (moves_of g) ≡ length g.entries = simp length-map in
-      let plies = legal.plies in
-      omega (arith, count, plies)
+  -- what the row of the last position tells of a game that a step leaves
+  module _ (id times first : ℕ) (seen : Option SeenRow) (tells : (row : SeenRow) → seen ≡ Some row → (id : ℕ) (new : Game M) → IsLegalLine laws laws.start (moves_of new) → IsSeenRow laws id new (laws.write_position (last_position laws new)) (seen_cells row)
+      → (times ≡ times_stood laws laws.start (moves_of new)) × FirstStands laws laws.start (moves_of new) first) where
+    seen_after_step : (o : Outcome (Game M)) → HasLegalLine o → HasSeen laws id o seen → StoodAfter laws o times first
+    seen_after_step (accepted new reply) line (row, seen_is, is) = tells row seen_is id new line is
+    seen_after_step (repeated reply) line is = tt
+    seen_after_step (refused refusal) line is = tt
 
-  -- how often the position stands that a decision's move leads to
-  abbrev pub TellsNext : ℕ → ℕ → P → Type 0
-  TellsNext times first position =
-      (m : M) → IsLegalLine laws laws.start (moves_of g ++ m ∷ []) → position ≡ position_after laws laws.start (moves_of g ++ m ∷ [])
-      → (times ≡ times_stood laws laws.start (moves_of g ++ m ∷ [])) × FirstStands laws laws.start (moves_of g ++ m ∷ []) first
+    pub seen_stood : {R : Type 0} (o : Outcome (Game M)) → HasLegalLine o → (d : Decision R P M E T) → IsSeenAfter laws id o d seen → Stood laws o d times first
+    seen_stood o line (decision.Accepted row (Some made) answer) is = seen_after_step o line is
+    seen_stood o line (decision.Accepted row None answer) is = tt
+    seen_stood o line (decision.Repeated answer) is = tt
+    seen_stood o line (decision.Refused refusal) is = tt
 
-  module _ {R : Type 0} (made : Made R P M E T) (times first : ℕ) (tells : TellsNext times first made.position) where
-    made_some : (new : Game M) (o : Option M) → IsMade laws new o (Some made) → (m : M) × (o ≡ Some m) × (made.position ≡ last_position laws new)
-    made_some new None is = absurd is
-    made_some new (Some m) is = (m, refl, is.1)
+  -- a move that was made leads to the position after it
+  made_some : {R : Type 0} (made : Made R P M E T) (new : Game M) (o : Option M) → IsMade laws new o (Some made) → (m : M) × (o ≡ Some m) × (made.position ≡ last_position laws new)
+  made_some made new None is = absurd is
+  made_some made new (Some m) is = (m, refl, is.1)
 
-    stood_either : (new : Game M) (reply : Reply) → IsMoved new reply ⊎ IsChanged new reply → IsLegalLine laws laws.start (moves_of new) → IsMade laws new (slice_get (moves_of new) (length g.entries)) (Some made)
-        → (times ≡ times_stood laws laws.start (moves_of new)) × FirstStands laws laws.start (moves_of new) first
-    stood_either new reply (inl (m, new_is, reply_is)) line is =
-        let all : moves_of new ≡ moves_of g ++ m ∷ [] = ap moves_of new_is ∙ moves_of-played g m moment in
-        let there = made_some new _ is in
-        subst (λ l. (times ≡ times_stood laws laws.start l) × FirstStands laws laws.start l first) (sym all)
-        (tells m (subst (IsLegalLine laws laws.start) all line) (there.2 ∙ ap (position_after laws laws.start) all))
-    stood_either new reply (inr changed) line is =
-        let there = made_some new _ is in
-        let inside = slice_get_within (moves_of new) (length g.entries) there.0 there.1 in
-        let count : length (moves_of new) ≡ length new.entries = simp length-map in
-        let same : length new.entries ≡ length g.entries = ap length changed.entries in
-        absurd (omega (arith, inside, count, same))
+  made_not : (R : Type 0) (new : Game M) (o : Option M) → IsMade {R = R} laws new o None → o ≡ None
+  made_not R new None is = refl
+  made_not R new (Some m) is = absurd is
 
-    stood_after_step : (o : Outcome (Game M)) → IsDone o → HasLegalLine o → (row : GameRow E) (answer : Answer) → HasMade laws g o (decision.Accepted row (Some made) answer) → StoodAfter laws o times first
-    stood_after_step (accepted new reply) done line row answer is = stood_either new reply done line is
-    stood_after_step (repeated reply) done line row answer is = tt
-    stood_after_step (refused refusal) done line row answer is = tt
+  -- nothing was made where the entries stayed
+  changed_unmade : {R : Type 0} (new : Game M) (reply : Reply) → IsChanged new reply → (made : Option (Made R P M E T)) → IsMade laws new (slice_get (moves_of new) (length g.entries)) made → made ≡ None
+  changed_unmade new reply changed None is = refl
+  changed_unmade new reply changed (Some made) is =
+      let there = made_some made new _ is in
+      let inside = slice_get_within (moves_of new) (length g.entries) there.0 there.1 in
+      let count : length (moves_of new) ≡ length new.entries = simp length-map in
+      let same : length new.entries ≡ length g.entries = ap length changed.entries in
+      absurd (omega (arith, inside, count, same))
 
-    pub stood_by_step : (o : Outcome (Game M)) → IsDone o → HasLegalLine o → (d : Decision R P M E T) (row : GameRow E) (found : Option (Made R P M E T)) (answer : Answer) → d ≡ decision.Accepted row found answer → found ≡ Some made → HasMade laws g o d → Stood laws o d times first
-    stood_by_step o done line d row found answer d_is found_is is =
-        let all : d ≡ decision.Accepted row (Some made) answer = d_is ∙ ap (λ x. decision.Accepted row x answer) found_is in
-        subst (λ x. Stood laws o x times first) (sym all) (stood_after_step o done line row answer (subst (HasMade laws g o) all is))
+  -- the end of a decision changes nothing of what was seen
+  pub seen_concluded : {R : Type 0} (id : ℕ) (o : Outcome (Game M)) (seen : Option SeenRow) (d : Decision R P M E T) (settled : Settled R P M E T) → IsSeenAfter laws id o d seen → IsSeenAfter laws id o (concluded laws d settled) seen
+  seen_concluded id o seen (decision.Accepted row (Some made) answer) settled is = is
+  seen_concluded id o seen (decision.Accepted row None answer) settled is = is
+  seen_concluded id o seen (decision.Repeated answer) settled is = is
+  seen_concluded id o seen (decision.Refused refusal) settled is = is
+
+  -- what was seen at an entry that a step made was seen at what its decision made
+  module _ {R : Type 0} (id : ℕ) (row : SeenRow) (made : Made R P M E T) (seen_at : (e : Entry M) → made.position ≡ last_position laws (with_entry g e) → IsSeenRow laws id (with_entry g e) (laws.write_position made.position) (seen_cells row)) where
+    seen_either : (new : Game M) (reply : Reply) → IsMoved new reply ⊎ IsChanged new reply → IsMade laws new (slice_get (moves_of new) (length g.entries)) (Some made) → IsSeenRow laws id new (laws.write_position (last_position laws new)) (seen_cells row)
+    seen_either new reply (inl (m, new_is, reply_is)) is =
+        let there = made_some made new _ is in
+        let e : Entry M = record { made = m; moment = moment } in
+        let entries : new.entries ≡ g.entries ++ e ∷ [] = ap (λ n. n.entries) new_is in
+        let position : last_position laws new ≡ last_position laws (with_entry g e) = ap (last_position laws) new_is in
+        seen-row-stays laws id (with_entry g e) new (laws.write_position (last_position laws new)) (seen_cells row) (sym entries)
+        (subst (λ p. IsSeenRow laws id (with_entry g e) (laws.write_position p) (seen_cells row)) there.2 (seen_at e (there.2 ∙ position)))
+    seen_either new reply (inr changed) is = let none = changed_unmade new reply changed (Some made) is in absurd cc
+
+    pub seen_by_step : (o : Outcome (Game M)) → IsDone o → (given : GameRow E) (answer : Answer) → HasMade laws g o (decision.Accepted given (Some made) answer) → HasSeen laws id o (Some row)
+    seen_by_step (accepted new reply) done given answer is = (row, refl, seen_either new reply done is)
+    seen_by_step (repeated reply) done given answer is = tt
+    seen_by_step (refused refusal) done given answer is = tt
 
   -- what was accepted, with its answer
   pub decided_change : {R : Type 0} (o : Outcome (Game M)) (row : GameRow E) (made : Option (Made R P M E T)) (answer : Answer) → IsDone o → IsConcluded laws terms g o (decision.Accepted row made answer)
-      → (new : Game M) × (o ≡ accepted new (reply_of answer)) × IsRowOf laws terms new row × (IsMoved new (reply_of answer) ⊎ IsChanged new (reply_of answer))
+      → (new : Game M) × (o ≡ accepted new (reply_of answer)) × IsRowOf laws terms new row × IsMade laws new (slice_get (moves_of new) (length g.entries)) made × (IsMoved new (reply_of answer) ⊎ IsChanged new (reply_of answer))
   decided_change (accepted new reply) row made answer is shown =
-      (new, ap (accepted new) (sym shown.2), shown.0, subst (λ r. IsMoved new r ⊎ IsChanged new r) (sym shown.2) is)
+      (new, ap (accepted new) (sym shown.2), shown.0, shown.1, subst (λ r. IsMoved new r ⊎ IsChanged new r) (sym shown.2) is)
   decided_change (repeated reply) row made answer is shown = absurd shown
   decided_change (refused refusal) row made answer is shown = absurd shown
 
@@ -266,27 +334,27 @@ since_within increment side (e ∷ es) c last within each =
 
 -- ---- what is decided in a game
 
-module _ {P M E T : Type 0} (laws : GameRules P M E T) (terms : Terms) (id : ℕ) (g : Game M) (moment : ℕ) where
-  repeated_puts : (R : Type 0) (o : Outcome (Game M)) (answer : Answer) → IsConcluded {R = R} laws terms g o (decision.Repeated answer) → PutsGame laws terms id moment g o None
+module _ {P M E T : Type 0} (laws : GameRules P M E T) (terms : Terms) (id : ℕ) (g : Game M) (moment : ℕ) (table : List Row) where
+  repeated_puts : (R : Type 0) (o : Outcome (Game M)) (answer : Answer) → IsConcluded {R = R} laws terms g o (decision.Repeated answer) → PutsGame laws terms id moment table g o None
   repeated_puts R (accepted new reply) answer shown = absurd shown
   repeated_puts R (repeated reply) answer shown = tt
   repeated_puts R (refused refusal) answer shown = absurd shown
 
-  refused_puts : (R : Type 0) (o : Outcome (Game M)) (why : Refusal) → IsConcluded {R = R} laws terms g o (decision.Refused why) → PutsGame laws terms id moment g o None
+  refused_puts : (R : Type 0) (o : Outcome (Game M)) (why : Refusal) → IsConcluded {R = R} laws terms g o (decision.Refused why) → PutsGame laws terms id moment table g o None
   refused_puts R (accepted new reply) why shown = absurd shown
   refused_puts R (repeated reply) why shown = absurd shown
   refused_puts R (refused refusal) why shown = tt
 
-  repeated_decided : (R : Type 0) (o : Outcome (Game M)) (answer : Answer) (d : Decided) → IsConcluded {R = R} laws terms g o (decision.Repeated answer) → d.outcome ≡ given_is.Repeated answer → d.changes ≡ None → IsDecidedIn laws terms id moment g o d
+  repeated_decided : (R : Type 0) (o : Outcome (Game M)) (answer : Answer) (d : Decided) → IsConcluded {R = R} laws terms g o (decision.Repeated answer) → d.outcome ≡ given_is.Repeated answer → d.changes ≡ None → IsDecidedIn laws terms id moment table g o d
   repeated_decided R o answer d shown is none = record {
     answer = ap outcome_of is ∙ repeated_answers laws terms g moment R o answer shown;
-    puts = subst (PutsGame laws terms id moment g o) (sym none) (repeated_puts R o answer shown);
+    puts = subst (PutsGame laws terms id moment table g o) (sym none) (repeated_puts R o answer shown);
   }
 
-  refused_decided : (R : Type 0) (o : Outcome (Game M)) (why : Refusal) (d : Decided) → IsConcluded {R = R} laws terms g o (decision.Refused why) → d.outcome ≡ given_is.Refused why → d.changes ≡ None → IsDecidedIn laws terms id moment g o d
+  refused_decided : (R : Type 0) (o : Outcome (Game M)) (why : Refusal) (d : Decided) → IsConcluded {R = R} laws terms g o (decision.Refused why) → d.outcome ≡ given_is.Refused why → d.changes ≡ None → IsDecidedIn laws terms id moment table g o d
   refused_decided R o why d shown is none = record {
     answer = ap outcome_of is ∙ refused_answers laws terms g moment R o why shown;
-    puts = subst (PutsGame laws terms id moment g o) (sym none) (refused_puts R o why shown);
+    puts = subst (PutsGame laws terms id moment table g o) (sym none) (refused_puts R o why shown);
   }
 
 -- the rows of the moves are those of the start and the entries
@@ -319,19 +387,28 @@ unmoved_rows id moment (answer_is.Offered ply) unmoved = (refl, refl)
 unmoved_rows id moment (answer_is.Ended end result) unmoved = (refl, refl)
 
 module _ {P M E T : Type 0} (laws : GameRules P M E T) (are_rules : AreRules laws) (terms : Terms) (id : ℕ) (g : Game M) (moment : ℕ) (who : Caller) (command : GameCommand)
-    (budget : IsTrue (is_budget terms.budget)) (increment : IsTrue (is_increment terms.increment)) (legal : IsLegalGame laws terms g) where
+    (budget : IsTrue (is_budget terms.budget)) (increment : IsTrue (is_increment terms.increment)) (legal : IsLegalGame laws terms g) (table : List Row) where
   abbrev pub step_in : Outcome (Game M)
   step_in = game_step laws terms g moment who command
 
   -- what is put of a game with this answer
-  abbrev pub ArePut : GameRow E → Answer → Changes → Type 0
-  ArePut row answer c =
+  abbrev pub ArePut : GameRow E → Answer → Counts → Changes → Type 0
+  ArePut row answer counts c =
       (terms : Terms) (new : Game M) → row.left_first < 2 ^ 63 → row.left_second < 2 ^ 63 → left_answered answer < 2 ^ 63 → IsRowOf laws terms new row
-      → PutsOnly c moment [] [] (game_row laws terms id new ∷ []) (answered_rows id answer moment)
+      → PutsOnly c moment [] [] (game_row laws terms id new ∷ []) (answered_rows id answer moment) (seen_list counts.seen) (score_list counts.scores)
 
-  move_puts : (row : GameRow E) (mv : Moved) (c : Changes) (m : M) → reply_of (answer_is.Moved mv) ≡ reply_of_move laws terms (played g m moment) (length g.entries + 1) m
-      → IsRowOf laws terms (played g m moment) row → ArePut row (answer_is.Moved mv) c → PutsMove laws terms id moment g (played g m moment) c
-  move_puts row mv c m reply_is is_row are =
+  -- the scores of the row are those of its game
+  scores_of : (row : GameRow E) (new : Game M) (rows : List Row) → IsRowOf laws terms new row → PutsScoresOf table row.event row.first row.second row.result rows → PutsScoresOf table new.event new.first new.second (result_of laws new) rows
+  scores_of row new rows is put =
+      subst (λ r. PutsScoresOf table new.event new.first new.second r rows) is.result
+      (subst (λ n. PutsScoresOf table new.event new.first n row.result rows) is.second
+      (subst (λ n. PutsScoresOf table new.event n row.second row.result rows) is.first
+      (subst (λ n. PutsScoresOf table n row.first row.second row.result rows) is.event put)))
+
+  move_puts : (row : GameRow E) (mv : Moved) (counts : Counts) (c : Changes) (m : M) → result_of laws g ≡ None → reply_of (answer_is.Moved mv) ≡ reply_of_move laws terms (played g m moment) (length g.entries + 1) m
+      → IsRowOf laws terms (played g m moment) row → (seen : SeenRow) → counts.seen ≡ Some seen → IsSeenRow laws id (played g m moment) (laws.write_position (last_position laws (played g m moment))) (seen_cells seen)
+      → PutsScoresOf table row.event row.first row.second row.result (score_list counts.scores) → ArePut row (answer_is.Moved mv) counts c → PutsMove laws terms id moment table g (played g m moment) c
+  move_puts row mv counts c m running reply_is is_row seen seen_is is_seen scores are =
       let new : Game M = played g m moment in
       let shows = same_moved _ _ (reply_is ∙ reply-played laws are_rules.turn_passes are_rules.first_starts g legal.line.legal m moment terms) in
       let count : length new.entries ≡ length g.entries + 1 = simp length-append in
@@ -342,15 +419,22 @@ module _ {P M E T : Type 0} (laws : GameRules P M E T) (are_rules : AreRules law
       let left : mv.left < 2 ^ 63 = subst (λ k. k < 2 ^ 63) (sym (ap (λ r. r.left) shows)) (left_side (turn_of laws g) (clocks_of new terms) (2 ^ 63) room.0 room.1) in
       record {
         event = refl;
+        running = running;
+        entry = record { made = m; moment = moment };
+        entries = refl;
         reply = move_reply_of mv;
         ply = ap (λ r. r.ply) shows;
-        puts = are terms new first second left is_row;
+        seen = seen_cells seen;
+        seen_is = is_seen;
+        scores = score_list counts.scores;
+        scores_are = scores_of row new (score_list counts.scores) is_row scores;
+        puts = subst (λ o. PutsOnly c moment [] [] (game_row laws terms id new ∷ []) (made_row id (move_reply_of mv) moment ∷ []) (seen_list o) (score_list counts.scores)) seen_is (are terms new first second left is_row);
         grown = made-last laws are_rules terms id g m moment (move_reply_of mv) legal.line.legal (sym reply_is);
       }
 
-  change_puts : (row : GameRow E) (answer : Answer) (c : Changes) (new : Game M) → IsChanged laws terms g moment new (reply_of answer) → IsRowOf laws terms new row → ArePut row answer c
-      → PutsRow laws terms id moment g new c
-  change_puts row answer c new is is_row are =
+  change_puts : (row : GameRow E) (answer : Answer) (counts : Counts) (c : Changes) (new : Game M) → result_of laws g ≡ None → IsChanged laws terms g moment new (reply_of answer) → IsRowOf laws terms new row → counts.seen ≡ None
+      → PutsScoresOf table row.event row.first row.second row.result (score_list counts.scores) → ArePut row answer counts c → PutsRow laws terms id moment table g new c
+  change_puts row answer counts c new running is is_row unseen scores are =
       let none = unmoved_rows id moment answer is.unmoved in
       let count : length new.entries ≡ length g.entries = ap length is.entries in
       let plies : length g.entries ≤ most_plies = legal.plies in
@@ -360,40 +444,83 @@ module _ {P M E T : Type 0} (laws : GameRules P M E T) (are_rules : AreRules law
       let left : left_answered answer < 2 ^ 63 = omega (arith, none.1) in
       record {
         event = is.event;
-        puts = subst (λ rows. PutsOnly c moment [] [] (game_row laws terms id new ∷ []) rows) none.0 (are terms new first second left is_row);
+        running = running;
+        entries = is.entries;
+        scores = score_list counts.scores;
+        scores_are = scores_of row new (score_list counts.scores) is_row scores;
+        puts = subst₂ (λ rows o. PutsOnly c moment [] [] (game_row laws terms id new ∷ []) rows (seen_list o) (score_list counts.scores)) none.0 unseen (are terms new first second left is_row);
         stays = rows_stay laws terms id new g is.start is.entries;
       }
 
-  puts_either : (row : GameRow E) (answer : Answer) (c : Changes) (new : Game M) → IsMoved laws terms g moment new (reply_of answer) ⊎ IsChanged laws terms g moment new (reply_of answer) → IsRowOf laws terms new row
-      → ArePut row answer c → PutsMove laws terms id moment g new c ⊎ PutsRow laws terms id moment g new c
-  puts_either row answer c new (inl (m, new_is, reply_is)) is_row are =
-      let (mv, moved_is) = moved_answer answer _ reply_is in
-      inl (subst (λ x. PutsMove laws terms id moment g x c) (sym new_is)
-      (move_puts row mv c m (subst (λ a. reply_of a ≡ reply_of_move laws terms (played g m moment) (length g.entries + 1) m) moved_is reply_is)
-      (subst (λ x. IsRowOf laws terms x row) new_is is_row) (subst (λ a. ArePut row a c) moved_is are)))
-  puts_either row answer c new (inr is) is_row are = inr (change_puts row answer c new is is_row are)
+  -- the row of the position is that which the step saw
+  seen_made : {R : Type 0} (row : GameRow E) (made : Option (Made R P M E T)) (answer : Answer) (m : M) (reply : Reply) (seen : Option SeenRow) → IsMade laws (played g m moment) (slice_get (moves_of (played g m moment)) (length g.entries)) made
+      → IsSeenAfter laws id (accepted (played g m moment) reply) (decision.Accepted row made answer) seen → HasSeen laws id (accepted (played g m moment) reply) seen
+  seen_made {R} row None answer m reply seen made_is after =
+      let none = made_not laws terms g moment R (played g m moment) _ made_is in
+      let some = made-played laws g m moment in
+      absurd (not_both (sym none ∙ some))
+    where
+      not_both : ◌≡◌ {A = Option M} None (Some m) → ⊥
+      not_both is = cc
+  seen_made row (Some made) answer m reply seen made_is after = after
 
-  change_decided : {R : Type 0} (row : GameRow E) (made : Option (Made R P M E T)) (answer : Answer) (c : Changes) → IsConcluded laws terms g step_in (decision.Accepted row made answer) → ArePut row answer c
-      → IsDecidedIn laws terms id moment g step_in (record { outcome = given_is.Accepted answer; changes = Some c })
-  change_decided row made answer c shown are =
-      let (new, step_is, is_row, how) = decided_change laws terms g moment step_in row made answer (step_done laws terms g moment who command) shown in
-      subst (λ o. IsDecidedIn laws terms id moment g o (record { outcome = given_is.Accepted answer; changes = Some c })) (sym step_is)
-      (record { answer = refl; puts = puts_either row answer c new how is_row are })
+  unseen_made : {R : Type 0} (row : GameRow E) (made : Option (Made R P M E T)) (answer : Answer) (o : Outcome (Game M)) (seen : Option SeenRow) → made ≡ None → IsSeenAfter laws id o (decision.Accepted row made answer) seen → seen ≡ None
+  unseen_made row made answer o seen none after = subst (λ x. IsSeenAfter laws id o (decision.Accepted row x answer) seen) none after
+
+  puts_either : {R : Type 0} (row : GameRow E) (made : Option (Made R P M E T)) (answer : Answer) (counts : Counts) (c : Changes) (new : Game M) → result_of laws g ≡ None → IsMoved laws terms g moment new (reply_of answer) ⊎ IsChanged laws terms g moment new (reply_of answer)
+      → IsRowOf laws terms new row → IsMade laws new (slice_get (moves_of new) (length g.entries)) made → IsSeenAfter laws id (accepted new (reply_of answer)) (decision.Accepted row made answer) counts.seen
+      → PutsScoresOf table row.event row.first row.second row.result (score_list counts.scores) → ArePut row answer counts c → PutsMove laws terms id moment table g new c ⊎ PutsRow laws terms id moment table g new c
+  puts_either row made answer counts c new running (inl (m, new_is, reply_is)) is_row made_is after scores are =
+      let (mv, moved_is) = moved_answer answer _ reply_is in
+      let new_made = subst (λ x. IsMade laws x (slice_get (moves_of x) (length g.entries)) made) new_is made_is in
+      let new_after = subst (λ x. IsSeenAfter laws id (accepted x (reply_of answer)) (decision.Accepted row made answer) counts.seen) new_is after in
+      let (seen, seen_is, is_seen) = seen_made row made answer m (reply_of answer) counts.seen new_made new_after in
+      inl (subst (λ x. PutsMove laws terms id moment table g x c) (sym new_is)
+      (move_puts row mv counts c m running (subst (λ a. reply_of a ≡ reply_of_move laws terms (played g m moment) (length g.entries + 1) m) moved_is reply_is)
+      (subst (λ x. IsRowOf laws terms x row) new_is is_row) seen seen_is is_seen scores (subst (λ a. ArePut row a counts c) moved_is are)))
+  puts_either row made answer counts c new running (inr is) is_row made_is after scores are =
+      let unmade = changed_unmade laws terms g moment new (reply_of answer) is made made_is in
+      inr (change_puts row answer counts c new running is is_row (unseen_made row made answer (accepted new (reply_of answer)) counts.seen unmade after) scores are)
+
+  change_decided : {R : Type 0} (row : GameRow E) (made : Option (Made R P M E T)) (answer : Answer) (counts : Counts) (c : Changes) → IsConcluded laws terms g step_in (decision.Accepted row made answer)
+      → IsSeenAfter laws id step_in (decision.Accepted row made answer) counts.seen → PutsScoresOf table row.event row.first row.second row.result (score_list counts.scores) → ArePut row answer counts c
+      → IsDecidedIn laws terms id moment table g step_in (record { outcome = given_is.Accepted answer; changes = Some c })
+  change_decided row made answer counts c shown after scores are =
+      let (new, step_is, is_row, made_is, how) = decided_change laws terms g moment step_in row made answer (step_done laws terms g moment who command) shown in
+      let running = subst (WasRunning laws terms g moment) step_is (step_running laws terms g moment who command) in
+      let seen = subst (λ o. IsSeenAfter laws id o (decision.Accepted row made answer) counts.seen) step_is after in
+      subst (λ o. IsDecidedIn laws terms id moment table g o (record { outcome = given_is.Accepted answer; changes = Some c })) (sym step_is)
+      (record { answer = refl; puts = puts_either row made answer counts c new running how is_row made_is seen scores are })
+
+  -- an accepted decision's game has two players
+  two_players : (row : GameRow E) (new : Game M) (reply : Reply) → IsRowOf laws terms new row → IsMoved laws terms g moment new reply ⊎ IsChanged laws terms g moment new reply → row.first ≡ row.second → ⊥
+  two_players row new reply is_row (inl (m, new_is, reply_is)) same =
+      legal.players (sym (is_row.first ∙ ap (λ x. x.first) new_is) ∙ (same ∙ (is_row.second ∙ ap (λ x. x.second) new_is)))
+  two_players row new reply is_row (inr is) same =
+      legal.players (sym (is_row.first ∙ is.first) ∙ (same ∙ (is_row.second ∙ is.second)))
+
+  pub decided_players : {R : Type 0} (d : Decision R P M E T) → IsConcluded laws terms g step_in d → HasTwoPlayers d
+  decided_players (decision.Accepted row made answer) shown =
+      let (new, step_is, is_row, made_is, how) = decided_change laws terms g moment step_in row made answer (step_done laws terms g moment who command) shown in
+      two_players row new (reply_of answer) is_row how
+  decided_players (decision.Repeated answer) shown = tt
+  decided_players (decision.Refused refusal) shown = tt
 
   -- by the decision as it was given
   module _ (R : Type 0) (shown : Decision R P M E T) (is : IsConcluded laws terms g step_in shown) where
     abbrev decided_of : Decision R P M E T → Type 0
     decided_of d = IsConcluded laws terms g step_in d
 
-    pub given_repeated : (answer : Answer) (d : Decided) → shown ≡ decision.Repeated answer → d.outcome ≡ given_is.Repeated answer → d.changes ≡ None → IsDecidedIn laws terms id moment g step_in d
-    given_repeated answer d was = repeated_decided laws terms id g moment R step_in answer d (subst decided_of was is)
+    pub given_repeated : (answer : Answer) (d : Decided) → shown ≡ decision.Repeated answer → d.outcome ≡ given_is.Repeated answer → d.changes ≡ None → IsDecidedIn laws terms id moment table g step_in d
+    given_repeated answer d was = repeated_decided laws terms id g moment table R step_in answer d (subst decided_of was is)
 
-    pub given_refused : (why : Refusal) (d : Decided) → shown ≡ decision.Refused why → d.outcome ≡ given_is.Refused why → d.changes ≡ None → IsDecidedIn laws terms id moment g step_in d
-    given_refused why d was = refused_decided laws terms id g moment R step_in why d (subst decided_of was is)
+    pub given_refused : (why : Refusal) (d : Decided) → shown ≡ decision.Refused why → d.outcome ≡ given_is.Refused why → d.changes ≡ None → IsDecidedIn laws terms id moment table g step_in d
+    given_refused why d was = refused_decided laws terms id g moment table R step_in why d (subst decided_of was is)
 
-    pub given_change : (row : GameRow E) (made : Option (Made R P M E T)) (answer : Answer) (c : Changes) → shown ≡ decision.Accepted row made answer → ArePut row answer c
-        → IsDecidedIn laws terms id moment g step_in (record { outcome = given_is.Accepted answer; changes = Some c })
-    given_change row made answer c was are = change_decided row made answer c (subst decided_of was is) are
+    pub given_change : (counts : Counts) → IsSeenAfter laws id step_in shown counts.seen → AreScoresAfter table shown counts.scores → (row : GameRow E) (made : Option (Made R P M E T)) (answer : Answer) (c : Changes) → shown ≡ decision.Accepted row made answer → ArePut row answer counts c
+        → IsDecidedIn laws terms id moment table g step_in (record { outcome = given_is.Accepted answer; changes = Some c })
+    given_change counts after scores row made answer c was are =
+        change_decided row made answer counts c (subst decided_of was is) (subst (λ d. IsSeenAfter laws id step_in d counts.seen) was after) (subst (λ d. AreScoresAfter table d counts.scores) was scores) are
 
 -- ---- in a game of the club
 
@@ -428,42 +555,72 @@ module _ {P M E T : Type 0} {laws : GameRules P M E T} {kind : GameKind} (k : Ki
       since_within terms.increment First g.entries _ s.last game.of.start game.of.entries
 
 module _ {P M E T : Type 0} {laws : GameRules P M E T} {kind : GameKind} (k : Kind laws kind) (s : ClubState) where
+  abbrev meets : Game M → List Meeting
+  meets g = meetings_in both_games (k.into g)
+
+  -- the scores that are put make the table of the club with the game after the change
+  module _ (n : ℕ) (g new : Game M) (at : slice_get s.games n ≡ Some (k.into g)) (running : result_of laws g ≡ None) where
+    none_before : meets g ≡ []
+    none_before = k.scores g ∙ met_running laws g running
+
+    scores_by_result : (result : Option Score) (rows : List Row) → result_of laws new ≡ result → PutsScoresOf (tables s 14) new.event new.first new.second result rows
+        → AreFew both_games rows × HaveSame (put_rows (0 ∷ 1 ∷ 2 ∷ []) rows (scores_in both_games s.games)) (scores_in both_games (slice_set s.games n (k.into new)))
+    scores_by_result None rows is none =
+        let after : meets new ≡ [] = k.scores new ∙ met_running laws new is in (
+          inl none,
+          subst (λ l. HaveSame (put_rows (0 ∷ 1 ∷ 2 ∷ []) l (scores_in both_games s.games)) (scores_in both_games (slice_set s.games n (k.into new)))) (sym none)
+              (same_by _ _ (sym (scores_stay both_games s.games n (k.into g) (k.into new) at (after ∙ sym none_before)))),
+        )
+    scores_by_result (Some score) rows is put =
+        let after : meets new ≡ meetings (pos new.event) (pos new.first) (pos new.second) score = k.scores new ∙ met_ended laws new score is in (
+          inr (_, _, put.rows_are),
+          subst (λ l. HaveSame (put_rows (0 ∷ 1 ∷ 2 ∷ []) l (scores_in both_games s.games)) (scores_in both_games (slice_set s.games n (k.into new)))) (sym put.rows_are)
+              (altered (0 ∷ 1 ∷ 2 ∷ []) (score_cells put.pair.first ∷ score_cells put.pair.second ∷ []) _ _
+              (scores_next both_games s.games new.event new.first new.second score put.firsts put.seconds put.pair put.firsts_are put.seconds_are put.next n (k.into g) (k.into new) at none_before after)),
+        )
+
   -- the rows that are put make the tables of the club with the game after the move
-  put_at : (n moment : ℕ) (g new : Game M) (c : Changes) → slice_get s.games n ≡ Some (k.into g) → PutsMove laws (terms_at (place s.events g.event)) (1 + n) moment g new c → AreSame (changed c (tables s)) (tables (with_game s moment (1 + n) (k.into new)))
+  put_at : (n moment : ℕ) (g new : Game M) (c : Changes) → slice_get s.games n ≡ Some (k.into g) → PutsMove laws (terms_at (place s.events g.event)) (1 + n) moment (tables s 14) g new c → AreSame (changed c (tables s)) (tables (with_game s moment (1 + n) (k.into new)))
   put_at n moment g new c at p =
       let made : Row = made_row (1 + n) p.reply moment in
       let row : game_row laws (terms_at (place s.events g.event)) (1 + n) new ≡ row_of_game both_games s.events (1 + n) (k.into new) =
       ap (λ e. game_row laws (terms_at (place s.events e)) (1 + n) new) (sym p.event) ∙ sym (k.row s.events (1 + n) new) in
       let grown : rows_of_moves both_games s.events (1 + n) (k.into new) ≡ rows_of_moves both_games s.events (1 + n) (k.into g) ++ made ∷ [] =
       k.moves s.events (1 + n) new ∙ (ap (λ e. move_rows laws (terms_at (place s.events e)) (1 + n) new) p.event ∙ (p.grown ∙ ap (λ rs. rs ++ made ∷ []) (sym (k.moves s.events (1 + n) g)))) in
-      let puts_are = subst (λ r. PutsOnly c moment [] [] (r ∷ []) (made ∷ [])) row p.puts in
+      let alters = subst₂ (λ was now. Alters (0 ∷ 1 ∷ []) (p.seen ∷ []) was now) (sym (k.seen (1 + n) g)) (sym (k.seen (1 + n) new)) (entry-alters laws (1 + n) g new p.entry p.seen p.entries p.seen_is) in
+      let seen = altered (0 ∷ 1 ∷ []) (p.seen ∷ []) _ _ (seen-table-set both_games s n (k.into g) (k.into new) moment (p.seen ∷ []) at alters) in
+      let (few, scores) = scores_by_result n g new at p.running (result_of laws new) p.scores refl p.scores_are in
+      let puts_are = subst (λ r. PutsOnly c moment [] [] (r ∷ []) (made ∷ []) (p.seen ∷ []) p.scores) row p.puts in
       let count = k.plies g in
-      let next = play_next both_games s n (k.into g) (k.into new) made (length g.entries + 1) at grown refl (ap number p.ply) (omega (arith, count)) moment in
+      let next = play_next both_games s n (k.into g) (k.into new) made (length g.entries + 1) at grown refl (ap number p.ply) (omega (arith, count)) moment p.seen seen p.scores few scores in
       let back : (1 + n) - 1 ≡ n = omega arith in
       subst (λ m. AreSame (changed c (tables s)) (tables (record s { last = moment; games = slice_set s.games m (k.into new) }))) (sym back)
-      (subst (λ content. AreSame content (tables (record s { last = moment; games = slice_set s.games n (k.into new) }))) (sym (puts_changed c moment [] [] (row_of_game both_games s.events (1 + n) (k.into new) ∷ []) (made ∷ []) puts_are (tables s))) next)
+      (subst (λ content. AreSame content (tables (record s { last = moment; games = slice_set s.games n (k.into new) }))) (sym (puts_changed c moment [] [] (row_of_game both_games s.events (1 + n) (k.into new) ∷ []) (made ∷ []) (p.seen ∷ []) p.scores puts_are (tables s))) next)
 
   -- and so do those of a game that changes without a move
-  change_at : (n moment : ℕ) (g new : Game M) (c : Changes) → slice_get s.games n ≡ Some (k.into g) → PutsRow laws (terms_at (place s.events g.event)) (1 + n) moment g new c → AreSame (changed c (tables s)) (tables (with_game s moment (1 + n) (k.into new)))
+  change_at : (n moment : ℕ) (g new : Game M) (c : Changes) → slice_get s.games n ≡ Some (k.into g) → PutsRow laws (terms_at (place s.events g.event)) (1 + n) moment (tables s 14) g new c → AreSame (changed c (tables s)) (tables (with_game s moment (1 + n) (k.into new)))
   change_at n moment g new c at p =
       let row : game_row laws (terms_at (place s.events g.event)) (1 + n) new ≡ row_of_game both_games s.events (1 + n) (k.into new) =
       ap (λ e. game_row laws (terms_at (place s.events e)) (1 + n) new) (sym p.event) ∙ sym (k.row s.events (1 + n) new) in
       let stays : rows_of_moves both_games s.events (1 + n) (k.into new) ≡ rows_of_moves both_games s.events (1 + n) (k.into g) =
       k.moves s.events (1 + n) new ∙ (ap (λ e. move_rows laws (terms_at (place s.events e)) (1 + n) new) p.event ∙ (p.stays ∙ sym (k.moves s.events (1 + n) g))) in
-      let puts_are = subst (λ r. PutsOnly c moment [] [] (r ∷ []) []) row p.puts in
-      let next = change_next both_games s n (k.into g) (k.into new) moment at stays in
+      let seen : rows_of_seen both_games (1 + n) (k.into new) ≡ rows_of_seen both_games (1 + n) (k.into g) =
+      k.seen (1 + n) new ∙ (seen-stay laws (1 + n) new g p.entries ∙ sym (k.seen (1 + n) g)) in
+      let (few, scores) = scores_by_result n g new at p.running (result_of laws new) p.scores refl p.scores_are in
+      let puts_are = subst (λ r. PutsOnly c moment [] [] (r ∷ []) [] [] p.scores) row p.puts in
+      let next = change_next both_games s n (k.into g) (k.into new) moment p.scores at stays seen few scores in
       let back : (1 + n) - 1 ≡ n = omega arith in
       subst (λ m. AreSame (changed c (tables s)) (tables (record s { last = moment; games = slice_set s.games m (k.into new) }))) (sym back)
-      (subst (λ content. AreSame content (tables (record s { last = moment; games = slice_set s.games n (k.into new) }))) (sym (puts_changed c moment [] [] (row_of_game both_games s.events (1 + n) (k.into new) ∷ []) [] puts_are (tables s))) next)
+      (subst (λ content. AreSame content (tables (record s { last = moment; games = slice_set s.games n (k.into new) }))) (sym (puts_changed c moment [] [] (row_of_game both_games s.events (1 + n) (k.into new) ∷ []) [] [] p.scores puts_are (tables s))) next)
 
-  put_game : (id moment : ℕ) (g : Game M) → place s.games id ≡ Some (k.into g) → (o : Outcome (Game M)) (c : Option Changes) → PutsGame laws (terms_at (place s.events g.event)) id moment g o c
+  put_game : (id moment : ℕ) (g : Game M) → place s.games id ≡ Some (k.into g) → (o : Outcome (Game M)) (c : Option Changes) → PutsGame laws (terms_at (place s.events g.event)) id moment (tables s 14) g o c
       → AreSame (changed_if c (tables s)) (tables (state_after s (map_outcome (λ new. with_game s moment id (k.into new)) o)))
   put_game id moment g at (accepted new reply) (Some c) p =
       let (n, id_is, stands) = place_at s.games id (k.into g) at in
       subst (λ i. AreSame (changed c (tables s)) (tables (with_game s moment i (k.into new)))) (sym id_is)
       (elim p [
-        | inl made ↦ put_at n moment g new c stands (subst (λ i. PutsMove laws (terms_at (place s.events g.event)) i moment g new c) id_is made)
-        | inr row ↦ change_at n moment g new c stands (subst (λ i. PutsRow laws (terms_at (place s.events g.event)) i moment g new c) id_is row)
+        | inl made ↦ put_at n moment g new c stands (subst (λ i. PutsMove laws (terms_at (place s.events g.event)) i moment (tables s 14) g new c) id_is made)
+        | inr row ↦ change_at n moment g new c stands (subst (λ i. PutsRow laws (terms_at (place s.events g.event)) i moment (tables s 14) g new c) id_is row)
       ])
   put_game id moment g at (repeated reply) None p = same_content s
   put_game id moment g at (refused refusal) None p = same_content s
@@ -473,7 +630,7 @@ module _ {P M E T : Type 0} {laws : GameRules P M E T} {kind : GameKind} (k : Ki
 
   -- what was decided in the game was decided in the club
   pub decided_club : (id moment : ℕ) (who : Caller) (command : GameCommand) (g : Game M) (d : Decided) → place s.games id ≡ Some (k.into g)
-      → IsDecidedIn laws (terms_at (place s.events g.event)) id moment g (game_step laws (terms_at (place s.events g.event)) g moment who command) d
+      → IsDecidedIn laws (terms_at (place s.events g.event)) id moment (tables s 14) g (game_step laws (terms_at (place s.events g.event)) g moment who command) d
       → IsDecided s (caller_step s moment who (on_game id command)) d
   decided_club id moment who command g d at decided =
       let f = λ (new : Game M). with_game s moment id (k.into new) in
@@ -503,6 +660,13 @@ started_first events p id key moment kind is =
     ap (λ k. row_of_game both_games events id (seated_as k (Some key) p moment)) is ∙ first kind
   where
     first : (k : GameKind) → row_of_game both_games events id (seated_as k (Some key) p moment) ≡ first_row k (terms_at (place events p.event)) id key p moment
+    first Draughts = refl
+    first Shogi = refl
+
+pub started_seen_first : (events : List Event) (p : Pairing) (id : ℕ) (key : List ℕ) (moment : ℕ) (kind : GameKind) → kind_at (place events p.event) ≡ kind → first_seen_rows kind id key p moment ≡ started_seen events id key p moment
+started_seen_first events p id key moment kind is = first kind ∙ ap (λ k. rows_of_seen both_games id (seated_as k (Some key) p moment)) (sym is)
+  where
+    first : (k : GameKind) → first_seen_rows k id key p moment ≡ rows_of_seen both_games id (seated_as k (Some key) p moment)
     first Draughts = refl
     first Shogi = refl
 

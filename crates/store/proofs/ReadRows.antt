@@ -1,9 +1,10 @@
 -- What rows of the tables of a club tell.
-use Rattle.std.proofs.Common.{◌≡◌, ℕ, zero, suc, ◌+◌, ◌-◌, ◌<◌, ◌≤◌, List, [], ◌∷◌, ◌++◌, length, map, take, get_or, Some, None, refl, ap, sym, ◌∙◌, arith, inl}
+use Rattle.std.proofs.Common.{◌≡◌, ℕ, zero, suc, ◌+◌, ◌-◌, ◌<◌, ◌≤◌, List, [], ◌∷◌, ◌++◌, length, map, take, get_or, pos, ℤ, Option, Some, None, refl, ap, sym, subst, ◌∙◌, arith, inl}
 use Rattle.std.specs.Prelude.{slice_get, string_bytes}
 use Rattle.std.proofs.Math.Seq.{take-length}
 use Rattle.std.proofs.lemmas.List.{length-map, map-append}
 use Rattle.sqlite.specs.Order.{Row, column}
+use Rattle.sqlite.specs.declared.types.Value.TheVariants.{Int}
 use Rattle.sqlite_rules.specs.Lists.{Has}
 use Rattle.club_core.specs.declared.members.Member as given_member
 use Rattle.club_core.specs.Answer.{member_of}
@@ -11,7 +12,11 @@ use Rattle.club_core.specs.Members.{Member}
 use Rattle.club_core.specs.Events.{Event}
 use Rattle.club_core.specs.State.{place}
 use Rattle.club_rows.specs.Tables.{number, numbered_from, member_row, event_row}
-use Rattle.store_tables.specs.Cells.{member_cells}
+use Rattle.store_tables.specs.Cells.{member_cells, score_cells}
+use Rattle.store_tables.specs.Contents.{AreThose}
+use Rattle.store_tables.specs.declared.rows.ScoreRow.{ScoreRow}
+use Rattle.club_rows.specs.NextScores.{IsFound, pair_of, pair_cells}
+use Rattle.club_rows.proofs.ScoreLemmas.{found_none, found_some}
 use Rattle.store_tables.specs.declared.rows.MemberRow.{MemberRow}
 use Rattle.store_sql.specs.Read.{BeginWithPlaces}
 use Rattle.club_rows.specs.Club.{both_games, ClubState, tables}
@@ -102,3 +107,16 @@ first_is cells (q ∷ rows) r z zs at same =
     let e : r ≡ q = cc in
     let first : cells q ≡ z = cc in
     ap cells e ∙ first
+
+-- ---- the row of a pair
+
+-- the first of the rows found is the row of the pair
+pub score_first : (table : List Row) (event member opponent : ℕ) (e m o : ℤ) (found : List ScoreRow) (row : Option ScoreRow) → e ≡ pos event → m ≡ pos member → o ≡ pos opponent
+    → AreThose (0 ∷ 1 ∷ 2 ∷ []) (Int e ∷ Int m ∷ Int o ∷ []) table (map score_cells found) → row ≡ slice_get found 0 → IsFound table (pair_of event member opponent) row
+score_first table event member opponent e m o found row e_is m_is o_is those row_is =
+    let cells : ◌≡◌ {A = Row} (Int e ∷ Int m ∷ Int o ∷ []) (pair_cells (pair_of event member opponent)) = λ i. Int (e_is i) ∷ Int (m_is i) ∷ Int (o_is i) ∷ [] in
+    subst (IsFound table (pair_of event member opponent)) (sym row_is) (first_of found (subst (λ w. AreThose (0 ∷ 1 ∷ 2 ∷ []) w table (map score_cells found)) cells those))
+  where
+    first_of : (found : List ScoreRow) → AreThose (0 ∷ 1 ∷ 2 ∷ []) (pair_cells (pair_of event member opponent)) table (map score_cells found) → IsFound table (pair_of event member opponent) (slice_get found 0)
+    first_of [] those = found_none table (pair_of event member opponent) those
+    first_of (r ∷ rs) those = found_some table (pair_of event member opponent) r (map score_cells (r ∷ rs)) those (inl refl)

@@ -6,7 +6,7 @@ use Rattle.sqlite.specs.Order.{Row}
 use Rattle.sqlite.specs.Table.{Table}
 use Rattle.sqlite.specs.Tree.{Trees}
 use Rattle.sqlite.specs.State.{State}
-use Rattle.store_tables.specs.Cells.{meta_cells, seen_cells, score_cells, challenge_cells}
+use Rattle.store_tables.specs.Cells.{meta_cells, challenge_cells}
 use Rattle.store_tables.specs.Content.{Keeps}
 use Rattle.store_tables.specs.Contents.{Content, put_in, put_each, Stores, AreStored}
 use Rattle.store_tables.specs.Club.{Leaves, IsExactly}
@@ -51,12 +51,12 @@ meta_put None row content is = cc
 meta_put (Some meta) row content is = let e : meta_cells meta ≡ row = cc in ap (λ r. put_in 0 (0 ∷ []) r content) e
 
 -- what rows to put make of a content
-pub puts_changed : (c : Changes) (moment : ℕ) (members events games moves : List Row) → PutsOnly c moment members events games moves → (content : Content) → changed c content ≡ puts moment members events games moves content
-puts_changed c moment members events games moves are content =
+pub puts_changed : (c : Changes) (moment : ℕ) (members events games moves seen scores : List Row) → PutsOnly c moment members events games moves seen scores → (content : Content) → changed c content ≡ puts moment members events games moves seen scores content
+puts_changed c moment members events games moves seen scores are content =
     meta_put c.meta (meta_row moment) _ are.meta
     ∙ (λ i. put_in 0 (0 ∷ []) (meta_row moment)
-    (put_each 14 (0 ∷ 1 ∷ 2 ∷ []) (map score_cells (are.scores_are i))
-    (put_each 12 (0 ∷ 1 ∷ []) (map seen_cells (are.seen_are i))
+    (put_each 14 (0 ∷ 1 ∷ 2 ∷ []) (are.scores_are i)
+    (put_each 12 (0 ∷ 1 ∷ []) (are.seen_are i)
     (put_each 8 (0 ∷ 1 ∷ []) (are.moves_are i)
     (put_each 10 (0 ∷ []) (are.games_are i)
     (put_each 6 (0 ∷ 1 ∷ []) (map challenge_cells (are.challenges_are i))

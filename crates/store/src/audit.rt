@@ -91,7 +91,7 @@ pub(crate) fn audit(alloc: Global, rows: &Rows) -> Result<(), OpenFault>
         Some(table) => return Err(OpenFault::Damaged(table)),
         None => {}
     }
-    match club_rows::wrong_table(alloc, rows) {
+    match club_audit::wrong_table(alloc, rows) {
         Ok(Some(table)) => Err(OpenFault::Damaged(table)),
         Ok(None) => Ok(()),
         Err(_) => Err(OpenFault::Memory),

@@ -17,19 +17,19 @@ ghost use Rattle.store_tables.specs.Club.{IsExactly};
 ghost use Rattle.store_tables.specs.Reading.{OnlyReads};
 ghost use Rattle.store_sql.specs.Read.{KeepsContent};
 ghost use Rattle.club_rows.specs.Club.{ClubGame, ClubState, IsClub, tables};
-ghost use Rattle.store.specs.Steps.{request, club_step, caller_step, game_in, started, PutsOnly, IsDecided};
+ghost use Rattle.store.specs.Steps.{request, club_step, caller_step, game_in, started, started_seen, started_scores, PutsOnly, IsDecided};
 ghost use Rattle.store.specs.Stored.{IsStoredGame, IsFoundGame};
 ghost use Rattle.store.specs.Whole.{IsWhole};
 
 use crate::fault::CallFault;
 use crate::game::StoredGame;
 use crate::kinds::{act_in, seat_in};
+use crate::people::{caller_by, event_with};
 use clocks::Moment;
 use club_core::values::{MOST_EVENTS, MOST_MEMBERS};
 use club_core::{
     AddEvent, AddMember, Answer, Caller, Command, Event, KeyedGame, Member, OnGame, Outcome,
-    Pairing, Refusal, Seat, Seating, Who, add_event, add_member, identify, refusal_without_game,
-    seat,
+    Pairing, Refusal, Seat, Seating, Who, add_event, add_member, refusal_without_game, seat,
 };
 use club_rows::numbers::{counted, id, moment as moment_of, stored};
 use club_rows::{Terms, kind_number, kind_of};
@@ -37,7 +37,7 @@ use club_rules::Memory;
 use sqlite::{Alter, Connection};
 use std::alloc::Global;
 use store_sql::{GameKey, count, find, find_by_first, list};
-use store_tables::{Changes, EventRow, GameRecord, MemberRow, MetaRow, MoveRow};
+use store_tables::{Changes, EventRow, GameRecord, MemberRow, MetaRow};
 
 /// An outcome, and the rows to put where it is accepted.
 #[derive(Drop)]
@@ -65,7 +65,7 @@ impl From<std::alloc::AllocError> for CallFault {
 }
 
 // The first of the rows, if there is one.
-fn first<T: Drop>(rows: Vec<T>) -> Option<T>
+pub(crate) fn first<T: Drop>(rows: Vec<T>) -> Option<T>
     ensures { result ≡ slice_get rows.items 0 }
 {
     rows.into_iter().next()
@@ -84,7 +84,7 @@ pub(crate) fn unchanged(outcome: Outcome) -> Decided
 
 // No rows but that of `meta`, at the moment of an accepted command.
 pub(crate) fn at(alloc: Global, moment: Moment) -> Changes
-    ensures { PutsOnly result moment [] [] [] [] }
+    ensures { PutsOnly result moment [] [] [] [] [] [] }
 {
     Changes {
         members: Vec::new(alloc),
@@ -133,7 +133,7 @@ fn members_of(alloc: Global, rows: &[MemberRow]) -> Result<Vec<Member>, CallFaul
 }
 
 // The event of which this is the row.
-fn event_of(row: &EventRow) -> Result<Event, CallFault>
+pub(crate) fn event_of(row: &EventRow) -> Result<Event, CallFault>
     ensures { IfOk result (λ e. (id : ℕ) (event : core.Event) → event_cells row.now ≡ event_row id event →
         event_of e ≡ event) }
 {
@@ -325,8 +325,11 @@ fn seated_rows(
     key: &str,
     moment: Moment,
 ) -> Result<Changes, CallFault>
-    ensures { IfOk result (λ changes. Each IsLegalEvent (events_of events.now) →
-        PutsOnly changes moment [] [] (started (events_of events.now) new.game key.now (pairing_of new.pairing) moment ∷ []) []) }
+    ensures puts { IfOk result (λ changes. Each IsLegalEvent (events_of events.now) →
+        PutsOnly changes moment [] [] (started (events_of events.now) new.game key.now (pairing_of new.pairing) moment ∷ []) []
+        (started_seen (events_of events.now) new.game key.now (pairing_of new.pairing) moment) []) }
+    ensures running { IfOk result (λ changes.
+        started_scores (events_of events.now) key.now (pairing_of new.pairing) moment ≡ []) }
 {
     let event = event_at(events, new.pairing.event)?;
     seat_in(alloc, event.game, terms_of(event), new, key, moment)
@@ -370,7 +373,7 @@ fn on_seat<S: Alter>(
     }
 }
 
-// A game as its rows and those of its event and its moves tell it.
+// A game as its row and that of its event tell it.
 fn read_game<S: Alter>(
     alloc: Global,
     conn: &mut Connection<S>,
@@ -384,15 +387,12 @@ fn read_game<S: Alter>(
         IsExactly (tables s) (state S.Store conn.old) → IsStoredGame s id game stored) }
 {
     let ids = ids_in(&row)?;
-    let events = events_of(alloc, &list::<EventRow, S>(alloc, conn)?)?;
-    let moves = find_by_first::<MoveRow, S>(alloc, conn, &row.id)?;
-    let event = event_at(&events, ids.pairing.event)?;
+    let event = event_with(alloc, conn, ids.pairing.event)?;
     Ok(StoredGame {
         id: ids.game,
         kind: event.game,
-        terms: terms_of(event),
+        terms: terms_of(&event),
         row,
-        moves,
     })
 }
 
@@ -437,7 +437,7 @@ fn on_game<S: Alter>(
         IsDecided s (caller_step s moment caller (on_game command.now.game (game_command_of command.now.command))) d) }
 {
     match stored_game(alloc, conn, command.game)? {
-        Some(stored) => act_in(alloc, &stored, caller, &command.command, moment),
+        Some(stored) => act_in(alloc, conn, &stored, caller, &command.command, moment),
         None => {
             let refusal = refusal_without_game(caller, &command.command);
             Ok(unchanged(Outcome::Refused(refusal)))
@@ -445,33 +445,61 @@ fn on_game<S: Alter>(
     }
 }
 
+// The members of the club, by id.
+fn all_members<S: Alter>(alloc: Global, conn: &mut Connection<S>) -> Result<Vec<Member>, CallFault>
+    ensures reads { OnlyReads (state S.Store conn.old) (state S.Store conn.new) }
+    ensures kept { HasCleanDisk (state S.Store conn.new) → OnOk result (KeepsContent (state S.Store conn.old)
+        (state S.Store conn.new)) }
+    ensures room { IfOk result (λ members. length members.items ≤ 200) }
+    ensures values { HasCleanDisk (state S.Store conn.new) → IfOk result (λ members. (s : ClubState) →
+        IsExactly (tables s) (state S.Store conn.old) → members_of members.items ≡ s.members) }
+{
+    let members = members_of(alloc, &list::<MemberRow, S>(alloc, conn)?)?;
+    Ok(members)
+}
+
+// The events of the club, by id.
+fn all_events<S: Alter>(alloc: Global, conn: &mut Connection<S>) -> Result<Vec<Event>, CallFault>
+    ensures reads { OnlyReads (state S.Store conn.old) (state S.Store conn.new) }
+    ensures kept { HasCleanDisk (state S.Store conn.new) → OnOk result (KeepsContent (state S.Store conn.old)
+        (state S.Store conn.new)) }
+    ensures room { IfOk result (λ events. length events.items ≤ 50) }
+    ensures values { HasCleanDisk (state S.Store conn.new) → IfOk result (λ events. (s : ClubState) →
+        IsExactly (tables s) (state S.Store conn.old) → events_of events.items ≡ s.events) }
+{
+    let events = events_of(alloc, &list::<EventRow, S>(alloc, conn)?)?;
+    Ok(events)
+}
+
 // What a caller's command does, at the effective moment.
 fn on_command<S: Alter>(
     alloc: Global,
     conn: &mut Connection<S>,
-    members: &[Member],
     caller: Caller,
     command: &Command,
     moment: Moment,
 ) -> Result<Decided, CallFault>
-    requires { length members.now ≤ 200 }
     ensures reads { OnlyReads (state S.Store conn.old) (state S.Store conn.new) }
     ensures kept { HasCleanDisk (state S.Store conn.new) → OnOk result (KeepsContent (state S.Store conn.old)
         (state S.Store conn.new)) }
     ensures acts { IfOk result IsWhole }
     ensures step { HasCleanDisk (state S.Store conn.new) → IfOk result (λ d. (s : ClubState) → IsClub s →
-        s.last ≤ moment → members_of members.now ≡ s.members →
-        IsExactly (tables s) (state S.Store conn.old) → IsDecided s (caller_step s moment caller (command_of command.now)) d) }
+        s.last ≤ moment → IsExactly (tables s) (state S.Store conn.old) →
+        IsDecided s (caller_step s moment caller (command_of command.now)) d) }
 {
     match command {
-        Command::AddMember(command) => on_member(alloc, members, caller, command, moment),
+        Command::AddMember(command) => {
+            let members = all_members(alloc, conn)?;
+            on_member(alloc, &members, caller, command, moment)
+        }
         Command::AddEvent(command) => {
-            let events = events_of(alloc, &list::<EventRow, S>(alloc, conn)?)?;
+            let events = all_events(alloc, conn)?;
             on_event(alloc, &events, caller, command, moment)
         }
         Command::Seat(command) => {
-            let events = events_of(alloc, &list::<EventRow, S>(alloc, conn)?)?;
-            on_seat(alloc, conn, members, &events, caller, command, moment)
+            let members = all_members(alloc, conn)?;
+            let events = all_events(alloc, conn)?;
+            on_seat(alloc, conn, &members, &events, caller, command, moment)
         }
         Command::OnGame(command) => on_game(alloc, conn, caller, command, moment),
     }
@@ -519,9 +547,8 @@ pub(crate) fn decide_request<S: Alter>(
         IsDecided s (club_step s (request who.now command.now moment)) d) }
 {
     let last = last_moment(alloc, conn)?;
-    let members = members_of(alloc, &list::<MemberRow, S>(alloc, conn)?)?;
-    match identify(&members, who) {
-        Some(caller) => { on_command(alloc, conn, &members, caller, command, moment.later(last)) }
+    match caller_by(alloc, conn, who)? {
+        Some(caller) => on_command(alloc, conn, caller, command, moment.later(last)),
         None => Ok(unchanged(Outcome::Refused(Refusal::UnknownKey))),
     }
 }

@@ -1,37 +1,44 @@
 //! What is done in one game, by its rules and its rows.
 
-ghost use Rattle.std.specs.Prelude.{◌≡◌, ◌≤◌, ◌<◌, ◌^◌, ℕ, List, [], ◌∷◌, length, map, Some, IfOk, IsTrue, string_bytes};
+ghost use Rattle.std.specs.Prelude.{◌≡◌, ◌≤◌, ◌<◌, ◌^◌, ℕ, List, [], ◌∷◌, length, map, Some, None, IfOk, OnOk, IsTrue, string_bytes};
 ghost use Rattle.club_core.specs.Answer.{pairing_of, game_command_of};
 ghost use Rattle.club_core.specs.Events as core;
-ghost use Rattle.club_core.specs.Game.{Game, clocks_of, moves_of};
+ghost use Rattle.club_core.specs.Game.{Game, clocks_of, result_of};
 ghost use Rattle.club_core.specs.Legal.{IsLegalGame};
 ghost use Rattle.club_core.specs.Limits.{is_budget, is_increment};
 ghost use Rattle.club_core.specs.State.{seated};
 ghost use Rattle.club_core.specs.Step as machine;
 ghost use Rattle.club_core.specs.Step.{asked_ply, game_step};
-ghost use Rattle.club_core.specs.View as shows;
-ghost use Rattle.club_core.specs.View.{HasMade, IsConcluded, IsSound, IsRowOf, Shows, ShowsPly, terms_of};
+ghost use Rattle.club_core.specs.View.{IsConcluded, IsDecision, IsSound, IsRowOf, Shows, ShowsPly, terms_of};
 ghost use Rattle.club_rows.specs.Listed.{AreLegalTexts};
 ghost use Rattle.club_rows.specs.Replay.{terms_given};
-ghost use Rattle.club_rows.specs.Tables.{game_row, move_rows};
-ghost use Rattle.club_rows.specs.Tally.{IsTallyOf};
+ghost use Rattle.club_rows.specs.Tables.{game_row};
 ghost use Rattle.store_tables.specs.Cells.{move_cells};
-ghost use Rattle.store.specs.Steps.{HaveSame, PutsOnly, IsDecidedIn, IsRecordOf, answered_rows, left_answered};
+ghost use Rattle.club_rows.specs.Seen.{seen_rows};
+ghost use Rattle.sqlite.specs.Order.{Row};
+ghost use Rattle.sqlite.specs.State.{HasCleanDisk};
+ghost use Rattle.sqlite.specs.Held.{state};
+ghost use Rattle.store_tables.specs.Club.{IsExactly};
+ghost use Rattle.store_tables.specs.Contents.{Content};
+ghost use Rattle.store_tables.specs.Reading.{OnlyReads};
+ghost use Rattle.store_sql.specs.Read.{KeepsContent};
+ghost use Rattle.store.specs.Steps.{PutsOnly, IsDecidedIn, IsRecordOf, IsSeenAfter, AreScoresAfter, HasTwoPlayers, TellsMoves, TellsSeen, answered_rows, left_answered, seen_list, score_list};
 ghost use Rattle.store.specs.Whole.{IsWhole};
 
 use crate::command::{Decided, at, unchanged};
+use crate::counts::{listed_scores, listed_seen, scores_by, seen_by, stood_by};
 use crate::fault::CallFault;
+use crate::shown::{asked_view, view};
 use clocks::Moment;
 use club_core::{
     Answer, Caller, Decision, GameCommand, GameRow, GameView, KeyedGame, Outcome, conclude, decide,
     seated_row, settle,
 };
-use club_rows::{
-    Played, Shown, Stood, Tally, Terms, ask, legal_texts, move_row, record_of, view_of,
-};
+use club_rows::{ScorePair, Terms, first_seen, legal_texts, move_row, record_of};
 use club_rules::{GameKind, Rules};
+use sqlite::{Alter, Connection};
 use std::alloc::Global;
-use store_tables::{Changes, GameRecord, MoveRow};
+use store_tables::{Changes, GameRecord, MoveRow, SeenRow};
 
 /// A game as it is stored, with the kind and the terms of its event.
 #[derive(Drop)]
@@ -40,7 +47,6 @@ pub(crate) struct StoredGame {
     pub kind: GameKind,
     pub terms: Terms,
     pub row: GameRecord,
-    pub moves: Vec<MoveRow>,
 }
 
 // The rows of a game that starts by these terms.
@@ -51,13 +57,28 @@ pub(crate) fn start<R: Rules>(
     key: &str,
     moment: Moment,
 ) -> Result<Changes, CallFault>
-    ensures { IfOk result (λ changes. IsTrue (is_budget terms.budget) →
-        PutsOnly changes moment [] [] (game_row R.rules (terms_given terms) new.game (seated (Some key.now) (pairing_of new.pairing) moment) ∷ []) []) }
+    ensures puts { IfOk result (λ changes. IsTrue (is_budget terms.budget) →
+        PutsOnly changes moment [] [] (game_row R.rules (terms_given terms) new.game (seated (Some key.now) (pairing_of new.pairing) moment) ∷ []) []
+        (seen_rows R.rules new.game (seated (Some key.now) (pairing_of new.pairing) moment)) []) }
+    ensures running { IfOk result (λ changes.
+        result_of R.rules (seated (Some key.now) (pairing_of new.pairing) moment) ≡ None) }
 {
     let row = seated_row::<R>(alloc, key, new.pairing, terms.budget, moment)?;
+    // No game ends before its first move.
+    if row.result.is_some() {
+        return Err(CallFault::Store);
+    }
     let mut changes = at(alloc, moment);
     changes.games.push(record_of::<R>(alloc, new.game, &row)?)?;
+    changes.seen.push(first_seen::<R>(alloc, new.game)?)?;
     Ok(changes)
+}
+
+/// The rows of the positions and of the scores that a decision puts.
+#[derive(Drop)]
+pub(crate) struct Counts {
+    pub seen: Option<SeenRow>,
+    pub scores: Option<ScorePair>,
 }
 
 // The row of the move that is answered so, if it is one.
@@ -89,16 +110,20 @@ fn changed_rows<R: Rules>(
     game: u32,
     row: &GameRow<R::End>,
     answer: &Answer,
+    counts: Counts,
     moment: Moment,
 ) -> Result<Changes, CallFault>
     // Seconds that 63 bits hold are stored as they are.
     ensures { IfOk result (λ changes. (terms : core.Terms) (new : Game R.Move) → row.now.left_first < 2 ^ 63 →
         row.now.left_second < 2 ^ 63 → left_answered answer.now < 2 ^ 63 → IsRowOf R.rules terms new row.now →
-        PutsOnly changes moment [] [] (game_row R.rules terms game new ∷ []) (answered_rows game answer.now moment)) }
+        PutsOnly changes moment [] [] (game_row R.rules terms game new ∷ []) (answered_rows game answer.now moment)
+        (seen_list counts.seen) (score_list counts.scores)) }
 {
     let mut changes = at(alloc, moment);
     changes.games.push(record_of::<R>(alloc, game, row)?)?;
     changes.moves = answered_moves(alloc, game, answer, moment)?;
+    changes.seen = listed_seen(alloc, counts.seen)?;
+    changes.scores = listed_scores(alloc, counts.scores)?;
     Ok(changes)
 }
 
@@ -107,13 +132,17 @@ fn done<R: Rules>(
     alloc: Global,
     game: u32,
     shown: Decision<R>,
+    counts: Counts,
     moment: Moment,
 ) -> Result<Decided, CallFault>
     ensures acts { IfOk result IsWhole }
-    ensures step { IfOk result (λ d. (terms : core.Terms) (old : Game R.Move) (who : Caller) (command : machine.GameCommand) →
-        IsTrue (is_budget terms.budget) → IsTrue (is_increment terms.increment) → IsLegalGame R.rules terms old →
+    ensures step { IfOk result (λ d. (terms : core.Terms) (old : Game R.Move) (who : Caller) (command : machine.GameCommand)
+        (table : List Row) → IsTrue (is_budget terms.budget) → IsTrue (is_increment terms.increment) →
+        IsLegalGame R.rules terms old →
         IsConcluded R.rules terms old (game_step R.rules terms old moment who command) shown →
-        IsDecidedIn R.rules terms game moment old (game_step R.rules terms old moment who command) d) }
+        IsSeenAfter R.rules game (game_step R.rules terms old moment who command) shown counts.seen →
+        AreScoresAfter table shown counts.scores →
+        IsDecidedIn R.rules terms game moment table old (game_step R.rules terms old moment who command) d) }
 {
     let (row, answer) = match shown {
         Decision::Accepted {
@@ -124,142 +153,123 @@ fn done<R: Rules>(
         Decision::Repeated(answer) => return Ok(unchanged(Outcome::Repeated(answer))),
         Decision::Refused(refusal) => return Ok(unchanged(Outcome::Refused(refusal))),
     };
-    let changes = changed_rows::<R>(alloc, game, &row, &answer, moment)?;
+    let changes = changed_rows::<R>(alloc, game, &row, &answer, counts, moment)?;
     Ok(Decided {
         outcome: Outcome::Accepted(answer),
         changes: Some(changes),
     })
 }
 
-// A game with its view, asked of a ply.
-fn asked_game<R: Rules>(
-    alloc: Global,
-    row: &GameRecord,
-    terms: Terms,
-    moves: &[MoveRow],
-    ply: u64,
-) -> Result<Played<R>, CallFault>
-    ensures sound { IfOk result (λ played. IsSound R.rules played.view) }
-    ensures terms { IfOk result (λ played. terms_of played.view ≡ terms_given terms) }
-    // The order and the number of the rows of the moves are found here, so that these may be any that are the game's.
-    ensures shows { IfOk result (λ played. (id : ℕ) (game : Game R.Move) →
-        IsRecordOf R.rules (terms_given terms) id row.now game →
-        HaveSame (map move_cells moves.now) (move_rows R.rules (terms_given terms) id game) →
-        Shows R.rules game played.view × ShowsPly R.rules game ply played.view × IsTallyOf R.rules (moves_of game) played.tally) }
-{
-    match view_of::<R>(alloc, row, terms, moves)? {
-        Shown::Game(played) => {
-            let view = ask(played.view, played.line.as_slice(), moves, ply);
-            Ok(Played {
-                view,
-                line: played.line,
-                tally: played.tally,
-            })
-        }
-        _ => Err(CallFault::Store),
-    }
+// A decision with its end and its result, and what it makes of the positions and the scores.
+#[derive(Drop)]
+struct Concluded<R: Rules> {
+    decision: Decision<R>,
+    counts: Counts,
 }
 
-// How often the position stands that a decision's move leads to from a game of so many plies. Nobody looks at the numbers
-// of another decision.
-fn stood_after<R: Rules>(
+// The decision with its end, by how often the position after its move has stood, and the rows that go with it.
+fn counted<R: Rules, S: Alter>(
     alloc: Global,
-    decision: &Decision<R>,
-    tally: &Tally,
+    conn: &mut Connection<S>,
+    game: u32,
+    decision: Decision<R>,
     plies: u32,
-) -> Result<Stood, CallFault>
-    ensures { IfOk result (λ stood. (terms : core.Terms) (old : Game R.Move) (moment : ℕ) (who : Caller) (command : machine.GameCommand) →
-        IsLegalGame R.rules terms old → IsTallyOf R.rules (moves_of old) tally.now → plies ≡ length old.entries →
-        HasMade R.rules old (game_step R.rules terms old moment who command) decision.now →
-        shows.Stood R.rules (game_step R.rules terms old moment who command) decision.now stood.times stood.first_ply) }
+) -> Result<Concluded<R>, CallFault>
+    requires { plies ≤ 600 }
+    ensures reads { OnlyReads (state S.Store conn.old) (state S.Store conn.new) }
+    ensures kept { HasCleanDisk (state S.Store conn.new) → OnOk result (KeepsContent (state S.Store conn.old)
+        (state S.Store conn.new)) }
+    ensures concluded { HasCleanDisk (state S.Store conn.new) → IfOk result (λ new. (content : Content)
+        (terms : core.Terms) (old : Game R.Move) (moment : ℕ) (who : Caller) (command : machine.GameCommand) →
+        IsExactly content (state S.Store conn.old) → TellsSeen R.rules game old content →
+        IsLegalGame R.rules terms old → plies ≡ length old.entries →
+        IsDecision R.rules terms old (game_step R.rules terms old moment who command) decision →
+        IsConcluded R.rules terms old (game_step R.rules terms old moment who command) new.decision
+        × IsSeenAfter R.rules game (game_step R.rules terms old moment who command) new.decision new.counts.seen
+        × (HasTwoPlayers new.decision → AreScoresAfter (content 14) new.decision new.counts.scores)) }
 {
-    match decision {
-        Decision::Accepted {
-            row: _,
-            made,
-            answer: _,
-        } => match made {
-            Some(made) => {
-                let text = R::write_position(alloc, &made.position)?;
-                Ok(tally.stood_after::<R>(&text, plies as usize + 1))
-            }
-            None => Ok(Stood {
-                times: 0,
-                first_ply: 0,
-            }),
-        },
-        _ => Ok(Stood {
-            times: 0,
-            first_ply: 0,
-        }),
-    }
+    let seen = seen_by(alloc, conn, game, &decision, plies)?;
+    let stood = stood_by::<R>(&seen);
+    let settled = settle(&decision, stood.times, stood.first_ply);
+    let decision = conclude(decision, settled);
+    let scores = scores_by(alloc, conn, &decision)?;
+    Ok(Concluded {
+        decision,
+        counts: Counts { seen, scores },
+    })
 }
 
 // What a command does in the game that the view shows.
-fn on_view<R: Rules>(
+fn on_view<R: Rules, S: Alter>(
     alloc: Global,
+    conn: &mut Connection<S>,
     game: u32,
     view: &GameView<R>,
-    tally: &Tally,
     caller: Caller,
     command: &GameCommand,
     moment: Moment,
 ) -> Result<Decided, CallFault>
     requires { IsSound R.rules view.now }
+    ensures reads { OnlyReads (state S.Store conn.old) (state S.Store conn.new) }
+    ensures kept { HasCleanDisk (state S.Store conn.new) → OnOk result (KeepsContent (state S.Store conn.old)
+        (state S.Store conn.new)) }
     ensures acts { IfOk result IsWhole }
-    ensures step { IfOk result (λ d. (old : Game R.Move) → IsTrue (is_budget view.now.budget) →
+    ensures step { HasCleanDisk (state S.Store conn.new) → IfOk result (λ d. (content : Content) (old : Game R.Move) →
+        IsExactly content (state S.Store conn.old) → TellsSeen R.rules game old content →
+        IsTrue (is_budget view.now.budget) →
         IsTrue (is_increment view.now.increment) → IsLegalGame R.rules (terms_of view.now) old → Shows R.rules old view.now →
-        ShowsPly R.rules old (asked_ply (game_command_of command.now)) view.now → IsTallyOf R.rules (moves_of old) tally.now →
+        ShowsPly R.rules old (asked_ply (game_command_of command.now)) view.now →
         (clocks_of old (terms_of view.now)).since ≤ moment →
-        IsDecidedIn R.rules (terms_of view.now) game moment old
+        IsDecidedIn R.rules (terms_of view.now) game moment (content 14) old
         (game_step R.rules (terms_of view.now) old moment caller (game_command_of command.now)) d) }
 {
     let moment = moment.later(view.row.since);
     let decision = decide(alloc, view, caller, command, moment)?;
-    let stood = stood_after(alloc, &decision, tally, view.row.plies)?;
-    let settled = settle(&decision, stood.times, stood.first_ply);
-    done(alloc, game, conclude(decision, settled), moment)
+    let concluded = counted(alloc, conn, game, decision, view.row.plies)?;
+    done(alloc, game, concluded.decision, concluded.counts, moment)
 }
 
 // What a command does in a stored game.
-pub(crate) fn act<R: Rules>(
+pub(crate) fn act<R: Rules, S: Alter>(
     alloc: Global,
+    conn: &mut Connection<S>,
     stored: &StoredGame,
     caller: Caller,
     command: &GameCommand,
     moment: Moment,
 ) -> Result<Decided, CallFault>
+    ensures reads { OnlyReads (state S.Store conn.old) (state S.Store conn.new) }
+    ensures kept { HasCleanDisk (state S.Store conn.new) → OnOk result (KeepsContent (state S.Store conn.old)
+        (state S.Store conn.new)) }
     ensures acts { IfOk result IsWhole }
-    ensures step { IfOk result (λ d. (old : Game R.Move) →
+    ensures step { HasCleanDisk (state S.Store conn.new) → IfOk result (λ d. (content : Content) (old : Game R.Move) →
+        IsExactly content (state S.Store conn.old) → TellsSeen R.rules stored.now.id old content →
+        TellsMoves R.rules (terms_given stored.now.terms) stored.now.id old content →
         IsRecordOf R.rules (terms_given stored.now.terms) stored.now.id stored.now.row old →
-        HaveSame (map move_cells stored.now.moves.items) (move_rows R.rules (terms_given stored.now.terms) stored.now.id old) →
         (clocks_of old (terms_given stored.now.terms)).since ≤ moment →
-        IsDecidedIn R.rules (terms_given stored.now.terms) stored.now.id moment old
+        IsDecidedIn R.rules (terms_given stored.now.terms) stored.now.id moment (content 14) old
         (game_step R.rules (terms_given stored.now.terms) old moment caller (game_command_of command.now)) d) }
 {
-    let moves = stored.moves.as_slice();
     let ply = command.asked_ply();
-    let played = asked_game::<R>(alloc, &stored.row, stored.terms, moves, ply)?;
-    on_view(
-        alloc,
-        stored.id,
-        &played.view,
-        &played.tally,
-        caller,
-        command,
-        moment,
-    )
+    let view = asked_view::<R, S>(alloc, conn, stored, ply)?;
+    on_view(alloc, conn, stored.id, &view, caller, command, moment)
 }
 
 // The legal moves of a stored game, as they are written.
-pub(crate) fn legal<R: Rules>(alloc: Global, stored: &StoredGame) -> Result<Vec<String>, CallFault>
-    ensures { IfOk result (λ texts. (game : Game R.Move) →
+pub(crate) fn legal<R: Rules, S: Alter>(
+    alloc: Global,
+    conn: &mut Connection<S>,
+    stored: &StoredGame,
+) -> Result<Vec<String>, CallFault>
+    ensures reads { OnlyReads (state S.Store conn.old) (state S.Store conn.new) }
+    ensures kept { HasCleanDisk (state S.Store conn.new) → OnOk result (KeepsContent (state S.Store conn.old)
+        (state S.Store conn.new)) }
+    ensures legal { HasCleanDisk (state S.Store conn.new) → IfOk result (λ texts. (content : Content) (game : Game R.Move) →
+        IsExactly content (state S.Store conn.old) → TellsSeen R.rules stored.now.id game content →
         IsRecordOf R.rules (terms_given stored.now.terms) stored.now.id stored.now.row game →
-        HaveSame (map move_cells stored.now.moves.items) (move_rows R.rules (terms_given stored.now.terms) stored.now.id game) →
         AreLegalTexts R.rules game (map (λ t. string_bytes t) texts.items)) }
 {
-    let moves = stored.moves.as_slice();
-    let played = asked_game::<R>(alloc, &stored.row, stored.terms, moves, 0)?;
-    let texts = legal_texts(alloc, &played.view)?;
+    let view = view::<R, S>(alloc, conn, stored)?;
+    let texts = legal_texts(alloc, &view)?;
     Ok(texts)
 }

@@ -1,13 +1,18 @@
 //! The kinds of games: what is done in a game by the rules of its event's kind.
 
-ghost use Rattle.std.specs.Prelude.{◌≡◌, ◌≤◌, ℕ, [], ◌∷◌, map, IfOk, IsTrue, Some, string_bytes};
+ghost use Rattle.std.specs.Prelude.{◌≡◌, ◌≤◌, ℕ, [], ◌∷◌, map, IfOk, OnOk, IsTrue, Some, string_bytes};
 ghost use Rattle.club_core.specs.Answer.{pairing_of, game_command_of};
 ghost use Rattle.club_core.specs.Events.{Event};
 ghost use Rattle.club_core.specs.Limits.{is_budget};
 ghost use Rattle.club_core.specs.State.{place, on_game};
-ghost use Rattle.club_rows.specs.Club.{ClubGame, ClubState, IsClub};
+ghost use Rattle.club_rows.specs.Club.{ClubGame, ClubState, IsClub, tables};
 ghost use Rattle.club_rows.specs.Replay.{terms_given};
-ghost use Rattle.store.specs.Steps.{caller_step, first_row, IsDecided, PutsOnly};
+ghost use Rattle.store_tables.specs.Club.{IsExactly};
+ghost use Rattle.store_tables.specs.Reading.{OnlyReads};
+ghost use Rattle.store_sql.specs.Read.{KeepsContent};
+ghost use Rattle.sqlite.specs.State.{HasCleanDisk};
+ghost use Rattle.sqlite.specs.Held.{state};
+ghost use Rattle.store.specs.Steps.{caller_step, first_row, first_seen_rows, first_meetings, IsDecided, PutsOnly};
 ghost use Rattle.store.specs.Stored.{IsStoredGame, AreMovesOf};
 ghost use Rattle.store.specs.Whole.{IsWhole};
 
@@ -19,6 +24,7 @@ use club_core::{Caller, GameCommand, KeyedGame};
 use club_games::{Draughts, Shogi};
 use club_rows::Terms;
 use club_rules::GameKind;
+use sqlite::{Alter, Connection};
 use std::alloc::Global;
 use store_tables::Changes;
 
@@ -31,8 +37,10 @@ pub(crate) fn seat_in(
     key: &str,
     moment: Moment,
 ) -> Result<Changes, CallFault>
-    ensures { IfOk result (λ changes. IsTrue (is_budget terms.budget) →
-        PutsOnly changes moment [] [] (first_row kind (terms_given terms) new.game key.now (pairing_of new.pairing) moment ∷ []) []) }
+    ensures puts { IfOk result (λ changes. IsTrue (is_budget terms.budget) →
+        PutsOnly changes moment [] [] (first_row kind (terms_given terms) new.game key.now (pairing_of new.pairing) moment ∷ []) []
+        (first_seen_rows kind new.game key.now (pairing_of new.pairing) moment) []) }
+    ensures running { IfOk result (λ changes. first_meetings kind key.now (pairing_of new.pairing) moment ≡ []) }
 {
     match kind {
         GameKind::Draughts => start::<Draughts>(alloc, terms, new, key, moment),
@@ -41,32 +49,44 @@ pub(crate) fn seat_in(
 }
 
 // What a command does in a game of the club.
-pub(crate) fn act_in(
+pub(crate) fn act_in<S: Alter>(
     alloc: Global,
+    conn: &mut Connection<S>,
     stored: &StoredGame,
     caller: Caller,
     command: &GameCommand,
     moment: Moment,
 ) -> Result<Decided, CallFault>
+    ensures reads { OnlyReads (state S.Store conn.old) (state S.Store conn.new) }
+    ensures kept { HasCleanDisk (state S.Store conn.new) → OnOk result (KeepsContent (state S.Store conn.old)
+        (state S.Store conn.new)) }
     ensures acts { IfOk result IsWhole }
-    ensures step { IfOk result (λ d. (s : ClubState) (id : ℕ) (game : ClubGame) → IsClub s → s.last ≤ moment →
-        place s.games id ≡ Some game → IsStoredGame s id game stored.now →
+    ensures step { HasCleanDisk (state S.Store conn.new) → IfOk result (λ d. (s : ClubState) (id : ℕ)
+        (game : ClubGame) → IsClub s → s.last ≤ moment → place s.games id ≡ Some game →
+        IsStoredGame s id game stored.now → IsExactly (tables s) (state S.Store conn.old) →
         IsDecided s (caller_step s moment caller (on_game id (game_command_of command.now))) d) }
 {
     match stored.kind {
-        GameKind::Draughts => act::<Draughts>(alloc, stored, caller, command, moment),
-        GameKind::Shogi => act::<Shogi>(alloc, stored, caller, command, moment),
+        GameKind::Draughts => act::<Draughts, S>(alloc, conn, stored, caller, command, moment),
+        GameKind::Shogi => act::<Shogi, S>(alloc, conn, stored, caller, command, moment),
     }
 }
 
 // The legal moves of a game of the club, as they are written.
-pub(crate) fn legal_in(alloc: Global, stored: &StoredGame) -> Result<Vec<String>, CallFault>
-    ensures { IfOk result (λ texts. (s : ClubState) (id : ℕ) (game : ClubGame) → IsClub s →
-        place s.games id ≡ Some game → IsStoredGame s id game stored.now →
-        AreMovesOf game (map (λ t. string_bytes t) texts.items)) }
+pub(crate) fn legal_in<S: Alter>(
+    alloc: Global,
+    conn: &mut Connection<S>,
+    stored: &StoredGame,
+) -> Result<Vec<String>, CallFault>
+    ensures reads { OnlyReads (state S.Store conn.old) (state S.Store conn.new) }
+    ensures kept { HasCleanDisk (state S.Store conn.new) → OnOk result (KeepsContent (state S.Store conn.old)
+        (state S.Store conn.new)) }
+    ensures legal { HasCleanDisk (state S.Store conn.new) → IfOk result (λ texts. (s : ClubState) (id : ℕ)
+        (game : ClubGame) → IsClub s → place s.games id ≡ Some game → IsStoredGame s id game stored.now →
+        IsExactly (tables s) (state S.Store conn.old) → AreMovesOf game (map (λ t. string_bytes t) texts.items)) }
 {
     match stored.kind {
-        GameKind::Draughts => legal::<Draughts>(alloc, stored),
-        GameKind::Shogi => legal::<Shogi>(alloc, stored),
+        GameKind::Draughts => legal::<Draughts, S>(alloc, conn, stored),
+        GameKind::Shogi => legal::<Shogi, S>(alloc, conn, stored),
     }
 }

@@ -4,13 +4,16 @@
 mod audit;
 mod club;
 mod command;
+mod counts;
 mod examine;
 mod fault;
 mod game;
 mod kinds;
 pub mod laws;
+mod people;
 mod read;
 mod reopen;
+mod shown;
 #[cfg(test)]
 mod tests;
 

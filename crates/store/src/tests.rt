@@ -30,6 +30,9 @@ fn nothing(alloc: Global) -> Changes {
     }
 }
 
+const START: &str =
+    "W:W31,32,33,34,35,36,37,38,39,40,41,42,43,44,45,46,47,48,49,50:B1,2,3,4,5,6,7,8,9,10,11,12,13,14,15,16,17,18,19,20";
+
 // The opening with First's man gone from 32 to 28.
 const AFTER_32_28: &str =
     "B:W28,31,33,34,35,36,37,38,39,40,41,42,43,44,45,46,47,48,49,50:B1,2,3,4,5,6,7,8,9,10,11,12,13,14,15,16,17,18,19,20";
@@ -77,7 +80,7 @@ fn add_people(alloc: Global, changes: &mut Changes) -> Result<(), Error> {
     Ok(())
 }
 
-// Rows of the tables that a club does not use yet.
+// A challenge, a position and a score.
 fn add_counts(alloc: Global, changes: &mut Changes) -> Result<(), Error> {
     changes.challenges.push(ChallengeRow {
         member: 1,
@@ -88,12 +91,7 @@ fn add_counts(alloc: Global, changes: &mut Changes) -> Result<(), Error> {
         state: 3,
         game: Some(1),
     })?;
-    changes.seen.push(SeenRow {
-        game: 1,
-        position: text(alloc, AFTER_32_28)?,
-        count: 1,
-        first_ply: 1,
-    })?;
+    changes.seen.push(seen(alloc, AFTER_32_28, 1)?)?;
     changes.scores.push(ScoreRow {
         event: 1,
         member: 1,
@@ -127,6 +125,23 @@ fn first_day(alloc: Global, left: i64) -> Result<Changes, Error> {
     Ok(changes)
 }
 
+fn seen(alloc: Global, position: &str, first_ply: i64) -> Result<SeenRow, Error> {
+    Ok(SeenRow {
+        game: 1,
+        position: text(alloc, position)?,
+        count: 1,
+        first_ply,
+    })
+}
+
+/// The first day with the positions that stood.
+fn whole_day(alloc: Global) -> Result<Changes, Error> {
+    let mut changes = first_day(alloc, 540)?;
+    changes.seen.push(seen(alloc, START, 0)?)?;
+    changes.seen.push(seen(alloc, AFTER_32_28, 1)?)?;
+    Ok(changes)
+}
+
 fn made(alloc: Global) -> Result<Club<MemStore>, Fail> {
     let empty = Connection::open_in_memory(alloc)?;
     match create(alloc, empty) {
@@ -147,7 +162,7 @@ fn adopted(alloc: Global, conn: Connection<MemStore>) -> Result<Club<MemStore>, 
 /// The fault of a club's database after this statement.
 fn fault_after(alloc: Global, sql: &str) -> Result<Option<OpenFault>, Fail> {
     let mut club = made(alloc)?;
-    club.apply_changes(&first_day(alloc, 540)?)?;
+    club.apply_changes(&whole_day(alloc)?)?;
     let mut conn = club.into_connection();
     conn.execute(sql, &[])?;
     if !conn.is_autocommit() {
@@ -204,7 +219,7 @@ fn an_empty_database_is_foreign(rt: HostRuntime) -> Result<(), Fail> {
 #[test]
 fn a_club_is_not_made_twice(rt: HostRuntime) -> Result<(), Fail> {
     let mut club = made(rt.alloc())?;
-    club.apply_changes(&first_day(rt.alloc(), 540)?)?;
+    club.apply_changes(&whole_day(rt.alloc())?)?;
     match create(rt.alloc(), club.into_connection()) {
         Ok(_) => assert!(rt; false),
         Err(unopened) => {
@@ -248,6 +263,11 @@ fn wrong_tables_are_named(rt: HostRuntime) -> Result<(), Fail> {
             "UPDATE moves SET left = 539",
             OpenFault::Damaged(Table::Moves),
         ),
+        (
+            "UPDATE seen SET count = 2 WHERE first_ply = 1",
+            OpenFault::Damaged(Table::Seen),
+        ),
+        ("DELETE FROM seen", OpenFault::Damaged(Table::Seen)),
         (
             "UPDATE meta SET last = 159",
             OpenFault::Damaged(Table::Meta),

@@ -40,8 +40,17 @@ fn on_game(game: u64, command: GameCommand) -> Command {
     Command::OnGame(OnGame { game, command })
 }
 
+impl By<'_> {
+    pub(crate) fn who(self, alloc: Global) -> Result<Who, Fail> {
+        Ok(match self {
+            By::Officer => Who::Officer,
+            By::Key(key) => Who::Key(text(alloc, key)?),
+        })
+    }
+}
+
 impl Given<'_> {
-    fn command(self, alloc: Global) -> Result<Command, Fail> {
+    pub(crate) fn command(self, alloc: Global) -> Result<Command, Fail> {
         Ok(match self {
             Given::Member(name, key) => Command::AddMember(AddMember {
                 name: text(alloc, name)?,
@@ -108,10 +117,7 @@ pub(crate) fn give<R: Abort + AllocGlobal>(
     wanted: &str,
 ) -> Result<Club<MemStore>, Fail> {
     let alloc = rt.alloc();
-    let who = match by {
-        By::Officer => Who::Officer,
-        By::Key(key) => Who::Key(text(alloc, key)?),
-    };
+    let who = by.who(alloc)?;
     let moment = Moment::new(seconds).ok_or("a moment")?;
     let mut club = club;
     let outcome = club.apply(alloc, &who, &given.command(alloc)?, moment)?;

@@ -8,7 +8,10 @@ use sqlite::{Connection, MemStore};
 use std::alloc::Global;
 use std::test::Fail;
 use store::{Club, OpenFault, create};
-use store_tables::{EventRow, GameRecord, MemberRow, MetaRow, MoveRow};
+use store_tables::{EventRow, GameRecord, MemberRow, MetaRow, MoveRow, SeenRow};
+
+const OPENING: &str =
+    "W:W31,32,33,34,35,36,37,38,39,40,41,42,43,44,45,46,47,48,49,50:B1,2,3,4,5,6,7,8,9,10,11,12,13,14,15,16,17,18,19,20";
 
 const AFTER_32_28: &str =
     "B:W28,31,33,34,35,36,37,38,39,40,41,42,43,44,45,46,47,48,49,50:B1,2,3,4,5,6,7,8,9,10,11,12,13,14,15,16,17,18,19,20";
@@ -138,6 +141,30 @@ fn two_moves(alloc: Global) -> Result<Vec<MoveRow>, Fail> {
     ]?)
 }
 
+// The opening, and the position after each move, each of which stood once.
+fn three_positions(alloc: Global) -> Result<Vec<SeenRow>, Fail> {
+    Ok(vec![in alloc;
+        SeenRow {
+            game: 1,
+            position: text(alloc, OPENING)?,
+            count: 1,
+            first_ply: 0,
+        },
+        SeenRow {
+            game: 1,
+            position: text(alloc, AFTER_32_28)?,
+            count: 1,
+            first_ply: 1,
+        },
+        SeenRow {
+            game: 1,
+            position: text(alloc, AFTER_19_23)?,
+            count: 1,
+            first_ply: 2,
+        },
+    ]?)
+}
+
 #[test]
 fn the_rows_of_each_table(rt: HostRuntime) -> Result<(), Fail> {
     let alloc = rt.alloc();
@@ -162,7 +189,9 @@ fn the_rows_of_each_table(rt: HostRuntime) -> Result<(), Fail> {
         ]?,
         games: one_game(alloc)?,
         moves: two_moves(alloc)?,
-        others: 0,
+        seen: three_positions(alloc)?,
+        scores: Vec::new(alloc),
+        challenges: 0,
     };
     assert!(rt; stored(alloc, &mut conn)? == wanted);
     Ok(())

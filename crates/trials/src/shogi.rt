@@ -168,3 +168,43 @@ fn checks_in_a_row_are_the_track_of_a_game(rt: HostRuntime) -> Result<(), Fail> 
     assert_eq!(rt; other_checks, 0);
     Ok(())
 }
+
+// The start and the three positions of a round: how often each stood, and after which ply first.
+#[test]
+fn positions_that_return_are_counted(rt: HostRuntime) -> Result<(), Fail> {
+    let club = played(&rt, GameKind::Shogi, ROUNDS)?;
+    let mut conn = club.into_connection();
+    assert_eq!(rt; conn.query_all("SELECT count FROM seen", &[])?.len(), 4);
+    for (sql, want) in [
+        ("SELECT count FROM seen WHERE first_ply = 0", 4_i64),
+        ("SELECT count FROM seen WHERE first_ply = 1", 3),
+        ("SELECT count FROM seen WHERE first_ply = 2", 3),
+        ("SELECT count FROM seen WHERE first_ply = 3", 3),
+    ] {
+        let found: i64 = conn.query_row(sql, &[])?.get(0)?;
+        assert_eq!(rt; found, want, "{sql}");
+    }
+    Ok(())
+}
+
+// A draw by repetition: one point and one draw for each of the two.
+#[test]
+fn a_draw_is_scored_for_both(rt: HostRuntime) -> Result<(), Fail> {
+    let club = played(&rt, GameKind::Shogi, ROUNDS)?;
+    let mut conn = club.into_connection();
+    assert_eq!(rt; conn.query_all("SELECT points FROM scores", &[])?.len(), 2);
+    for (sql, want) in [
+        ("SELECT points FROM scores WHERE member = 1", 1_i64),
+        ("SELECT wins FROM scores WHERE member = 1", 0),
+        ("SELECT draws FROM scores WHERE member = 1", 1),
+        ("SELECT losses FROM scores WHERE member = 1", 0),
+        ("SELECT points FROM scores WHERE member = 2", 1),
+        ("SELECT wins FROM scores WHERE member = 2", 0),
+        ("SELECT draws FROM scores WHERE member = 2", 1),
+        ("SELECT losses FROM scores WHERE member = 2", 0),
+    ] {
+        let found: i64 = conn.query_row(sql, &[])?.get(0)?;
+        assert_eq!(rt; found, want, "{sql}");
+    }
+    Ok(())
+}

@@ -1,10 +1,11 @@
-//! A move that is stopped at each call of the disk, for each of the two files.
+//! Requests that are stopped at each call of the disk, for each of the two files.
 
 ghost use Rattle.std.specs.Prelude.{◌≡◌, false, IfOk};
 
+use crate::commands::{By, Given};
 use crate::tables::{Tables, stored};
 use clocks::Moment;
-use club_core::{AddEvent, AddMember, Command, GameCommand, OnGame, Outcome, Seat, Who};
+use club_core::Outcome;
 use club_rules::GameKind;
 use sqlite::{Connection, FileStore, Files, Options};
 use sqlite_disk::{Crash, Disk, Fuse, Memory};
@@ -46,8 +47,21 @@ impl Stop {
     }
 }
 
-fn text(alloc: Global, letters: &str) -> Result<String, Fail> {
-    Ok(String::from_str(alloc, letters)?)
+/// One of the two files of a club.
+#[derive(Clone, Copy)]
+enum ClubFile {
+    Log,
+    Database,
+}
+
+impl ClubFile {
+    /// The stop after so many calls of the file.
+    fn stop(self, calls: u64) -> Stop {
+        match self {
+            ClubFile::Log => Stop::Log(calls),
+            ClubFile::Database => Stop::Database(calls),
+        }
+    }
 }
 
 fn disk(alloc: Global, bytes: &[u8], calls: u64) -> Result<Fuse<Memory>, Fail> {
@@ -103,34 +117,28 @@ fn closed(club: Club<Stopping>) -> Files<Fuse<Memory>> {
     club.into_connection().into_store().close()
 }
 
+/// A request: when it comes, who gives it, and what it asks for.
+type Asked<'a> = (u64, By<'a>, Given<'a>);
+
 fn given(
     alloc: Global,
     club: &mut Club<Stopping>,
-    command: &Command,
-) -> Result<Outcome, StoreFault> {
-    match Moment::new(1000) {
-        Some(moment) => club.apply(alloc, &Who::Officer, command, moment),
-        None => Err(StoreFault::Store),
-    }
+    asked: Asked<'_>,
+) -> Result<Result<Outcome, StoreFault>, Fail> {
+    let (seconds, by, command) = asked;
+    let moment = Moment::new(seconds).ok_or("a moment")?;
+    Ok(club.apply(alloc, &by.who(alloc)?, &command.command(alloc)?, moment))
 }
 
-fn a_move(alloc: Global, ply: u64, letters: &str) -> Result<Command, Fail> {
-    let text = text(alloc, letters)?;
-    Ok(Command::OnGame(OnGame {
-        game: 1,
-        command: GameCommand::Move { ply, text },
-    }))
+/// A club's requests, all accepted, and one more, which is stopped.
+#[derive(Clone, Copy)]
+struct Trial<'a> {
+    before: &'a [Asked<'a>],
+    stopped: Asked<'a>,
 }
 
-fn member(alloc: Global, name: &str, key: &str) -> Result<Command, Fail> {
-    Ok(Command::AddMember(AddMember {
-        name: text(alloc, name)?,
-        key: text(alloc, key)?,
-    }))
-}
-
-/// The files of a club with a game of two moves.
-fn two_moves(alloc: Global) -> Result<Image, Fail> {
+/// The files of the club before the request that is stopped.
+fn begun(alloc: Global, trial: Trial<'_>) -> Result<Image, Fail> {
     let nothing = Image {
         log: Vec::new(alloc),
         db: Vec::new(alloc),
@@ -141,29 +149,21 @@ fn two_moves(alloc: Global) -> Result<Image, Fail> {
         Ok(club) => club,
         Err(unopened) => return Err(Fail::from(unopened.fault)),
     };
-    given(alloc, &mut club, &member(alloc, "anna", "keyanna1")?)?;
-    given(alloc, &mut club, &member(alloc, "bert", "keybert2")?)?;
-    let autumn = Command::AddEvent(AddEvent {
-        name: text(alloc, "autumn")?,
-        game: GameKind::Draughts,
-        budget: 60,
-        increment: 5,
-    });
-    given(alloc, &mut club, &autumn)?;
-    let game = Command::Seat(Seat {
-        key: text(alloc, "g1")?,
-        event: text(alloc, "autumn")?,
-        first: text(alloc, "anna")?,
-        second: text(alloc, "bert")?,
-    });
-    given(alloc, &mut club, &game)?;
-    given(alloc, &mut club, &a_move(alloc, 1, "32-28")?)?;
-    given(alloc, &mut club, &a_move(alloc, 2, "20-25")?)?;
+    for asked in trial.before {
+        match given(alloc, &mut club, *asked)?? {
+            Outcome::Accepted(_) => {}
+            _ => return Err(Fail::new("not accepted before the stop")),
+        }
+    }
     image_of(alloc, &closed(club))
 }
 
-/// What stands in the files once nothing stops, and whether the third move, given then, is accepted or repeated.
-fn found(alloc: Global, files: Files<Fuse<Memory>>) -> Result<(Tables, Outcome), Fail> {
+/// What stands in the files once nothing stops, and whether the request, given then, is accepted or repeated.
+fn found(
+    alloc: Global,
+    trial: Trial<'_>,
+    files: Files<Fuse<Memory>>,
+) -> Result<(Tables, Outcome), Fail> {
     let club = opened(alloc, files).map_err(|_| Fail::new("not opened after a stop"))?;
     let mut conn = club.into_connection();
     let tables = stored(alloc, &mut conn)?;
@@ -171,30 +171,45 @@ fn found(alloc: Global, files: Files<Fuse<Memory>>) -> Result<(Tables, Outcome),
         Ok(club) => club,
         Err(unopened) => return Err(Fail::from(unopened.fault)),
     };
-    let outcome = given(alloc, &mut club, &a_move(alloc, 3, "31-26")?)?;
+    let outcome = given(alloc, &mut club, trial.stopped)??;
     Ok((tables, outcome))
 }
 
-/// Whether the third move was answered, and the files that the stop left.
-fn stopped(alloc: Global, before: &Image, stop: Stop) -> Result<(bool, Files<Fuse<Memory>>), Fail> {
+/// Whether the request was answered, and the files that the stop left.
+fn stopped(
+    alloc: Global,
+    trial: Trial<'_>,
+    before: &Image,
+    stop: Stop,
+) -> Result<(bool, Files<Fuse<Memory>>), Fail> {
     match opened(alloc, files(alloc, before, stop)?) {
         Ok(club) => {
             let mut club = club;
-            let answered = given(alloc, &mut club, &a_move(alloc, 3, "31-26")?).is_ok();
+            let answered = given(alloc, &mut club, trial.stopped)?.is_ok();
             Ok((answered, closed(club)))
         }
         Err(files) => Ok((false, files)),
     }
 }
 
-/// The tables before the third move, and after it.
+/// The tables before the request, and after it.
 #[derive(Drop)]
 struct Wanted {
     before: Tables,
     after: Tables,
 }
 
-/// Whole before the move, which is then accepted, or whole after it, which is then repeated; an answered move stands.
+fn make_wanted(alloc: Global, trial: Trial<'_>, before: &Image) -> Result<Wanted, Fail> {
+    let (tables, _) = found(alloc, trial, files(alloc, before, Stop::Never)?)?;
+    let (_, left) = stopped(alloc, trial, before, Stop::Never)?;
+    let (after, _) = found(alloc, trial, left)?;
+    Ok(Wanted {
+        before: tables,
+        after,
+    })
+}
+
+/// Whole before the request, which is then accepted, or whole after it, which is then repeated; what was answered stands.
 fn is_whole(wanted: &Wanted, answered: bool, found: &Tables, outcome: &Outcome) -> bool {
     match outcome {
         Outcome::Accepted(_) => !answered && *found == wanted.before,
@@ -203,62 +218,169 @@ fn is_whole(wanted: &Wanted, answered: bool, found: &Tables, outcome: &Outcome) 
     }
 }
 
-/// Stops the third move there, and looks at what is found with all that was written, and with what was synced alone.
+/// Stops the request there, and looks at what is found with all that was written, and with what was synced alone.
 fn tried<R: Abort + AllocGlobal>(
     rt: &R,
+    trial: Trial<'_>,
     before: &Image,
     wanted: &Wanted,
     stop: Stop,
 ) -> Result<bool, Fail> {
     let alloc = rt.alloc();
-    let (answered, left) = stopped(alloc, before, stop)?;
+    let (answered, left) = stopped(alloc, trial, before, stop)?;
     let written = files(alloc, &image_of(alloc, &left)?, Stop::Never)?;
-    let (tables, outcome) = found(alloc, written)?;
+    let (tables, outcome) = found(alloc, trial, written)?;
     assert!(rt; is_whole(wanted, answered, &tables, &outcome));
     let mut synced = left;
     synced.log.crash();
     synced.db.crash();
-    let (tables, outcome) = found(alloc, synced)?;
+    let (tables, outcome) = found(alloc, trial, synced)?;
     assert!(rt; is_whole(wanted, answered, &tables, &outcome));
     Ok(answered)
 }
 
-fn make_wanted(alloc: Global, before: &Image) -> Result<Wanted, Fail> {
-    let (tables, _) = found(alloc, files(alloc, before, Stop::Never)?)?;
-    let (_, left) = stopped(alloc, before, Stop::Never)?;
-    let (after, _) = found(alloc, left)?;
-    Ok(Wanted {
-        before: tables,
-        after,
-    })
+/// A stop at each call of one file, until the request is answered.
+fn tried_at_each<R: Abort + AllocGlobal>(
+    rt: &R,
+    trial: Trial<'_>,
+    file: ClubFile,
+) -> Result<u64, Fail> {
+    let before = begun(rt.alloc(), trial)?;
+    let wanted = make_wanted(rt.alloc(), trial, &before)?;
+    assert!(rt; wanted.before != wanted.after);
+    for calls in 0..100_000 {
+        if tried(rt, trial, &before, &wanted, file.stop(calls))? {
+            return Ok(calls);
+        }
+    }
+    Err(Fail::new("the request is stopped by any number of calls"))
+}
+
+/// The request is whole or not there, wherever a call of the log or of the database is the last.
+fn whole_or_none<R: Abort + AllocGlobal>(rt: &R, trial: Trial<'_>) -> Result<(), Fail> {
+    let log = tried_at_each(rt, trial, ClubFile::Log)?;
+    assert!(rt; log > 10);
+    let database = tried_at_each(rt, trial, ClubFile::Database)?;
+    assert!(rt; database > 0);
+    Ok(())
+}
+
+const ANNA: By<'static> = By::Key("keyanna1");
+
+const BERT: By<'static> = By::Key("keybert2");
+
+#[test]
+fn a_stopped_move_is_whole_or_none(rt: HostRuntime) -> Result<(), Fail> {
+    whole_or_none(
+        &rt,
+        Trial {
+            before: &[
+                (1000, By::Officer, Given::Member("anna", "keyanna1")),
+                (1000, By::Officer, Given::Member("bert", "keybert2")),
+                (
+                    1000,
+                    By::Officer,
+                    Given::Event("autumn", GameKind::Draughts, 60, 5),
+                ),
+                (
+                    1000,
+                    By::Officer,
+                    Given::Seat("g1", "autumn", "anna", "bert"),
+                ),
+                (1000, By::Officer, Given::Move(1, 1, "32-28")),
+                (1000, By::Officer, Given::Move(1, 2, "20-25")),
+            ],
+            stopped: (1000, By::Officer, Given::Move(1, 3, "31-26")),
+        },
+    )
 }
 
 #[test]
-fn a_stop_at_each_call_of_the_log_leaves_a_whole_move_or_none(rt: HostRuntime) -> Result<(), Fail> {
-    let before = two_moves(rt.alloc())?;
-    let wanted = make_wanted(rt.alloc(), &before)?;
-    assert_eq!(rt; wanted.before.moves.len(), 2);
-    assert_eq!(rt; wanted.after.moves.len(), 3);
-    for calls in 0..100_000 {
-        if tried(&rt, &before, &wanted, Stop::Log(calls))? {
-            assert!(rt; calls > 10);
-            return Ok(());
-        }
-    }
-    Err(Fail::new("the move is stopped by any number of calls"))
+fn a_stopped_offer_is_whole_or_none(rt: HostRuntime) -> Result<(), Fail> {
+    whole_or_none(
+        &rt,
+        Trial {
+            before: &[
+                (1000, By::Officer, Given::Member("anna", "keyanna1")),
+                (1000, By::Officer, Given::Member("bert", "keybert2")),
+                (
+                    1000,
+                    By::Officer,
+                    Given::Event("autumn", GameKind::Draughts, 60, 5),
+                ),
+                (
+                    1000,
+                    By::Officer,
+                    Given::Seat("g1", "autumn", "anna", "bert"),
+                ),
+            ],
+            stopped: (1010, ANNA, Given::OfferDraw(1, 1)),
+        },
+    )
 }
 
 #[test]
-fn a_stop_at_each_call_of_the_database_leaves_a_whole_move_or_none(
-    rt: HostRuntime,
-) -> Result<(), Fail> {
-    let before = two_moves(rt.alloc())?;
-    let wanted = make_wanted(rt.alloc(), &before)?;
-    for calls in 0..100_000 {
-        if tried(&rt, &before, &wanted, Stop::Database(calls))? {
-            assert!(rt; calls > 0);
-            return Ok(());
-        }
-    }
-    Err(Fail::new("the move is stopped by any number of calls"))
+fn a_stopped_agreement_is_whole_or_none(rt: HostRuntime) -> Result<(), Fail> {
+    whole_or_none(
+        &rt,
+        Trial {
+            before: &[
+                (1000, By::Officer, Given::Member("anna", "keyanna1")),
+                (1000, By::Officer, Given::Member("bert", "keybert2")),
+                (
+                    1000,
+                    By::Officer,
+                    Given::Event("autumn", GameKind::Draughts, 60, 5),
+                ),
+                (
+                    1000,
+                    By::Officer,
+                    Given::Seat("g1", "autumn", "anna", "bert"),
+                ),
+                (1010, ANNA, Given::OfferDraw(1, 1)),
+            ],
+            stopped: (1020, BERT, Given::AcceptDraw(1, 1)),
+        },
+    )
+}
+
+#[test]
+fn a_stopped_resignation_is_whole_or_none(rt: HostRuntime) -> Result<(), Fail> {
+    whole_or_none(
+        &rt,
+        Trial {
+            before: &[
+                (1000, By::Officer, Given::Member("anna", "keyanna1")),
+                (1000, By::Officer, Given::Member("bert", "keybert2")),
+                (
+                    1000,
+                    By::Officer,
+                    Given::Event("fuji", GameKind::Shogi, 60, 5),
+                ),
+                (1000, By::Officer, Given::Seat("s1", "fuji", "anna", "bert")),
+                (1005, ANNA, Given::Move(1, 1, "7g7f")),
+            ],
+            stopped: (1010, BERT, Given::Resign(1)),
+        },
+    )
+}
+
+#[test]
+fn a_stopped_claim_of_time_is_whole_or_none(rt: HostRuntime) -> Result<(), Fail> {
+    whole_or_none(
+        &rt,
+        Trial {
+            before: &[
+                (1000, By::Officer, Given::Member("anna", "keyanna1")),
+                (1000, By::Officer, Given::Member("bert", "keybert2")),
+                (
+                    1000,
+                    By::Officer,
+                    Given::Event("fuji", GameKind::Shogi, 60, 5),
+                ),
+                (1000, By::Officer, Given::Seat("s1", "fuji", "anna", "bert")),
+            ],
+            stopped: (1061, BERT, Given::ClaimTime(1)),
+        },
+    )
 }

@@ -5,9 +5,11 @@ ghost use Rattle.std.specs.Prelude.{◌≡◌, false};
 use sqlite::{Alter, Connection};
 use std::alloc::Global;
 use std::test::Fail;
-use store_tables::{EventRow, GameRecord, MemberRow, MetaRow, MoveRow, TableRow, parse_all};
+use store_tables::{
+    EventRow, GameRecord, MemberRow, MetaRow, MoveRow, ScoreRow, SeenRow, TableRow, parse_all,
+};
 
-/// All rows, in the order of their keys; of the tables that nothing writes yet, how many rows they have.
+/// All rows, in the order of their keys; of challenges, which nothing writes yet, how many rows there are.
 #[derive(Debug, PartialEq, Drop)]
 pub struct Tables {
     pub meta: Vec<MetaRow>,
@@ -15,7 +17,9 @@ pub struct Tables {
     pub events: Vec<EventRow>,
     pub games: Vec<GameRecord>,
     pub moves: Vec<MoveRow>,
-    pub others: usize,
+    pub seen: Vec<SeenRow>,
+    pub scores: Vec<ScoreRow>,
+    pub challenges: usize,
 }
 
 fn rows<S: Alter, T: TableRow>(
@@ -38,7 +42,7 @@ fn count<S: Alter>(conn: &mut Connection<S>, sql: &str) -> Result<usize, Fail>
     Ok(conn.query_all(sql, &[])?.len())
 }
 
-/// The rows that stand in a database.
+/// The rows that stand in a database, those of `seen` in the order in which the positions first stood.
 pub fn stored<S: Alter>(alloc: Global, conn: &mut Connection<S>) -> Result<Tables, Fail>
     ensures { conn.old.in_transaction ≡ false → conn.new.in_transaction ≡ false }
 {
@@ -60,14 +64,24 @@ pub fn stored<S: Alter>(alloc: Global, conn: &mut Connection<S>) -> Result<Table
         "SELECT game, ply, text, moment, left, position FROM moves ORDER BY game, ply",
     )?;
     let challenges = count(conn, "SELECT member FROM challenges")?;
-    let seen = count(conn, "SELECT game FROM seen")?;
-    let scores = count(conn, "SELECT event FROM scores")?;
+    let seen = rows(
+        alloc,
+        conn,
+        "SELECT game, position, count, first_ply FROM seen ORDER BY game, first_ply",
+    )?;
+    let scores = rows(
+        alloc,
+        conn,
+        "SELECT event, member, opponent, points, wins, draws, losses FROM scores ORDER BY event, member, opponent",
+    )?;
     Ok(Tables {
         meta,
         members,
         events,
         games,
         moves,
-        others: challenges.saturating_add(seen).saturating_add(scores),
+        seen,
+        scores,
+        challenges,
     })
 }

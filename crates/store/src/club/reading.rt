@@ -32,7 +32,7 @@ fn legal_of<S: Alter>(
 {
     match stored_game(alloc, conn, game)? {
         Some(stored) => {
-            let texts = legal_in(alloc, &stored)?;
+            let texts = legal_in(alloc, conn, &stored)?;
             Ok(Some(texts))
         }
         None => Ok(None),

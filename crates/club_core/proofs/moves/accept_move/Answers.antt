@@ -8,18 +8,18 @@ use Rattle.club_core.specs.Step.{played}
 use Rattle.club_core.specs.View.{IsSound, IsMade, CanPlay, clocks_in, terms_of, track_of_game}
 use Rattle.club_core.proofs.Legals.{no-rule-end}
 use Rattle.club_core.proofs.Played.{last-played, rule_end-played, end-played, made-played, clocks-played, reply-played, moved-same, score-none}
-use Rattle.club_core.proofs.Tracked.{line-played, next-track, moves-count, rule_in-Rule, tracked-end, reached-few}
+use Rattle.club_core.proofs.Tracked.{line-played, next-track, moves-count, rule_in-Rule, tracked-end}
 use Rattle.club_core.proofs.moves.accept_move.Goals as goal
 
 pub track_next-track-requires-clause-first : goal.track_next-track-requires-clause-first
 track_next-track-requires-clause-first g c =
     let sound : IsSound g.R.Rules.rules c.args.view.now = assumption c in
-    (reached-few g.R.Rules.rules g.met.R.Rules.numbers_are_few _ _ _ sound.reached sound.plies).0
+    sound.track.first
 
 pub track_next-track-requires-clause-second : goal.track_next-track-requires-clause-second
 track_next-track-requires-clause-second g c =
     let sound : IsSound g.R.Rules.rules c.args.view.now = assumption c in
-    (reached-few g.R.Rules.rules g.met.R.Rules.numbers_are_few _ _ _ sound.reached sound.plies).1
+    sound.track.second
 
 pub returns : goal.returns
 returns g c = λ game shows legal.

@@ -1,33 +1,39 @@
 use Rattle.store_tables.specs.Tables.{club_schema}
-use Rattle.std.proofs.Common.{map, refl, ap, sym, subst, ◌∙◌, arith}
+use Rattle.std.proofs.Common.{ap, sym, subst, ◌∙◌, arith}
 use Rattle.std.proofs.lemmas.Result.{IfOk-weaker}
 use Rattle.sqlite.specs.Held.{state}
 use Rattle.sqlite.specs.State.{HasCleanDisk}
-use Rattle.club_core.specs.Answer.{events_of, command_of}
-use Rattle.store_tables.specs.Cells.{event_cells}
+use Rattle.club_core.specs.Answer.{events_of, members_of, command_of}
 use Rattle.club_rows.specs.Club.{tables}
 use Rattle.store.specs.Steps.{caller_step, IsDecided}
 use Rattle.store.proofs.FoundLemmas.{on_ok}
-use Rattle.store.proofs.ReadRows.{events_begin}
 use Rattle.store.proofs.command.on_command.Goals as goal
+
+pub returns-in_ok-members-in-AddMember-clause-step : goal.returns-in_ok-members-in-AddMember-clause-step
+returns-in_ok-members-in-AddMember-clause-step g c clean =
+    IfOk-weaker c.on_member.result _ _ (λ d step s is_club later k.
+    let ms = ap members_of c.deref.ensures.value ∙ c.in_ok-members-in-AddMember.ensures.values clean s k in
+    subst (λ x. IsDecided s (caller_step s c.args.moment c.args.caller (command_of x)) d) (sym c.in-AddMember.is) (step s ms)) c.on_member.ensures.step
 
 pub returns-in_ok-events-in-AddEvent-clause-step : goal.returns-in_ok-events-in-AddEvent-clause-step
 returns-in_ok-events-in-AddEvent-clause-step g c clean =
-    IfOk-weaker c.on_event.result _ _ (λ d step s is_club later ms k.
-    let rows = ap (map event_cells) c.deref.ensures.value ∙ c.in_ok-list-in-AddEvent.ensures.rows clean refl (tables s) k (events_begin s.events) in
-    let es = ap events_of c.deref-in-AddEvent.ensures.value ∙ c.in_ok-events-in-AddEvent.ensures.values s.events rows in
+    IfOk-weaker c.on_event.result _ _ (λ d step s is_club later k.
+    let es = ap events_of c.deref-in-AddEvent.ensures.value ∙ c.in_ok-events-in-AddEvent.ensures.values clean s k in
     subst (λ x. IsDecided s (caller_step s c.args.moment c.args.caller (command_of x)) d) (sym c.in-AddEvent.is) (step s is_club es)) c.on_event.ensures.step
 
 pub returns-in_ok-events-in-Seat-clause-step : goal.returns-in_ok-events-in-Seat-clause-step
 returns-in_ok-events-in-Seat-clause-step g c clean =
-    IfOk-weaker c.on_seat.result _ _ (λ d step s is_club later ms k.
-    let read : HasCleanDisk (state g.S.Store c.list-in-Seat.new.conn) = omega (arith, c.on_seat.ensures.reads.clean) in
-    let rows = ap (map event_cells) c.deref-in-Seat.ensures.value ∙ c.in_ok-list-in-Seat.ensures.rows read refl (tables s) k (events_begin s.events) in
-    let es = ap events_of c.deref-in-Seat-2.ensures.value ∙ c.in_ok-events-in-Seat.ensures.values s.events rows in
-    let kept = c.in_ok-list-in-Seat.ensures.kept read club_schema (tables s) k in
-    subst (λ x. IsDecided s (caller_step s c.args.moment c.args.caller (command_of x)) d) (sym c.in-Seat.is) (step s is_club ms es kept)) (c.on_seat.ensures.step clean)
+    IfOk-weaker c.on_seat.result _ _ (λ d step s is_club later k.
+    let read : HasCleanDisk (state g.S.Store c.all_events-in-Seat.new.conn) = omega (arith, c.on_seat.ensures.reads.clean) in
+    let listed : HasCleanDisk (state g.S.Store c.all_members-in-Seat.new.conn) = omega (arith, c.all_events-in-Seat.ensures.reads.clean, c.on_seat.ensures.reads.clean) in
+    let one = c.in_ok-members-in-Seat.ensures.kept listed club_schema (tables s) k in
+    let two = c.in_ok-events-in-Seat.ensures.kept read club_schema (tables s) one in
+    let ms = ap members_of c.deref-in-Seat.ensures.value ∙ c.in_ok-members-in-Seat.ensures.values listed s k in
+    let es = ap events_of c.deref-in-Seat-2.ensures.value ∙ c.in_ok-events-in-Seat.ensures.values read s one in
+    subst (λ x. IsDecided s (caller_step s c.args.moment c.args.caller (command_of x)) d) (sym c.in-Seat.is) (step s is_club ms es two)) (c.on_seat.ensures.step clean)
 
 pub returns-in_ok-events-in-Seat-clause-kept : goal.returns-in_ok-events-in-Seat-clause-kept
 returns-in_ok-events-in-Seat-clause-kept g c clean =
-    let read : HasCleanDisk (state g.S.Store c.list-in-Seat.new.conn) = omega (arith, c.on_seat.ensures.reads.clean) in
-    on_ok c.on_seat.result _ _ (λ last schema content k. last schema content (c.in_ok-list-in-Seat.ensures.kept read schema content k)) (c.on_seat.ensures.kept clean)
+    let read : HasCleanDisk (state g.S.Store c.all_events-in-Seat.new.conn) = omega (arith, c.on_seat.ensures.reads.clean) in
+    let listed : HasCleanDisk (state g.S.Store c.all_members-in-Seat.new.conn) = omega (arith, c.all_events-in-Seat.ensures.reads.clean, c.on_seat.ensures.reads.clean) in
+    on_ok c.on_seat.result _ _ (λ last schema content k. last schema content (c.in_ok-events-in-Seat.ensures.kept read schema content (c.in_ok-members-in-Seat.ensures.kept listed schema content k))) (c.on_seat.ensures.kept clean)

@@ -1,18 +1,23 @@
-use Rattle.std.proofs.Common.{◌∙◌, ap, subst}
+use Rattle.std.proofs.Common.{◌∙◌, ap, subst, arith}
 use Rattle.std.proofs.lemmas.Result.{IfOk-weaker}
 use Rattle.club_core.specs.declared.answers.Outcome.TheVariants as given_is
 use Rattle.club_core.specs.Answer.{game_command_of}
 use Rattle.store.specs.Stored.{IsFoundGame}
 use Rattle.store.proofs.PlayedLemmas.{unknown_decided}
-use Rattle.store.proofs.FoundLemmas.{always}
+use Rattle.sqlite.specs.Held.{state}
+use Rattle.sqlite.specs.State.{HasCleanDisk}
+use Rattle.store_tables.specs.Tables.{club_schema}
+use Rattle.club_rows.specs.Club.{tables}
+use Rattle.store.proofs.FoundLemmas.{on_ok}
 use Rattle.store.proofs.command.on_game.Goals as goal
 
 pub returns-in-Some-clause-step : goal.returns-in-Some-clause-step
 returns-in-Some-clause-step g c clean =
+    let looked : HasCleanDisk (state g.S.Store c.stored_game.new.conn) = omega (arith, c.act_in.ensures.reads.clean) in
     IfOk-weaker c.act_in.result _ _ (λ d step s is_club later k.
     let id = c.args.command.now.game in
-    let (game, at, stored) = subst (IsFoundGame s id) c.in-Some.is (c.in_ok-stored.ensures.found clean s is_club k) in
-    step s id game is_club later at stored) c.act_in.ensures.step
+    let (game, at, stored) = subst (IsFoundGame s id) c.in-Some.is (c.in_ok-stored.ensures.found looked s is_club k) in
+    step s id game is_club later at stored (c.in_ok-stored.ensures.kept looked club_schema (tables s) k)) (c.act_in.ensures.step clean)
 
 pub returns-in-None-clause-step : goal.returns-in-None-clause-step
 returns-in-None-clause-step g c clean s is_club later k =
@@ -22,4 +27,6 @@ returns-in-None-clause-step g c clean s is_club later k =
     (c.unchanged.ensures.outcome ∙ ap given_is.Refused c.refusal_without_game-refusal.ensures) c.unchanged.ensures.none
 
 pub returns-in-Some-clause-kept : goal.returns-in-Some-clause-kept
-returns-in-Some-clause-kept g c clean = always c.act_in.result _ (c.in_ok-stored.ensures.kept clean)
+returns-in-Some-clause-kept g c clean =
+    let looked : HasCleanDisk (state g.S.Store c.stored_game.new.conn) = omega (arith, c.act_in.ensures.reads.clean) in
+    on_ok c.act_in.result _ _ (λ keeps schema content k. keeps schema content (c.in_ok-stored.ensures.kept looked schema content k)) (c.act_in.ensures.kept clean)

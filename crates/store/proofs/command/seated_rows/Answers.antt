@@ -1,4 +1,4 @@
-use Rattle.std.proofs.Common.{◌≡◌, [], ◌∷◌, Some, ap, sym, subst, ◌∙◌}
+use Rattle.std.proofs.Common.{◌≡◌, [], ◌∷◌, Some, ap, sym, subst, subst₂, ◌∙◌}
 use Rattle.std.specs.Prelude.{IsTrue}
 use Rattle.std.proofs.lemmas.Result.{IfOk-weaker}
 use Rattle.club_core.specs.Answer.{event_of, events_of, pairing_of}
@@ -7,12 +7,12 @@ use Rattle.club_core.specs.Limits.{is_budget}
 use Rattle.club_core.specs.State.{place, kind_at, terms_at}
 use Rattle.club_core.proofs.LegalSteps.{in-place}
 use Rattle.club_rows.specs.Replay.{terms_given}
-use Rattle.store.specs.Steps.{first_row, PutsOnly}
-use Rattle.store.proofs.PlayedLemmas.{started_first}
+use Rattle.store.specs.Steps.{first_row, first_seen_rows, first_meetings, started_seen, PutsOnly}
+use Rattle.store.proofs.PlayedLemmas.{started_first, started_seen_first}
 use Rattle.store.proofs.command.seated_rows.Goals as goal
 
-pub returns : goal.returns
-returns c =
+pub returns-clause-puts : goal.returns-clause-puts
+returns-clause-puts c =
     IfOk-weaker c.seat_in.result _ _ (λ changes puts legal.
     let events = events_of c.args.events.now in
     let event = event_of c.in_ok-event.event.now in
@@ -22,6 +22,12 @@ returns c =
     let terms : terms_given c.terms_of.result ≡ terms_at (place events pairing.event) = c.terms_of.ensures ∙ ap terms_at (sym at) in
     let budget = (in-place IsLegalEvent events pairing.event event legal at).budget in
     let is = started_first events pairing id c.args.key.now c.args.moment event.game (ap kind_at at) in
-    subst (λ r. PutsOnly changes c.args.moment [] [] (r ∷ []) [])
-    (ap (λ t. first_row event.game t id c.args.key.now pairing c.args.moment) terms ∙ sym is)
-    (puts (subst (λ t. IsTrue (is_budget t.budget)) (sym c.terms_of.ensures) budget))) c.seat_in.ensures
+    let seen : first_seen_rows event.game id c.args.key.now pairing c.args.moment ≡ started_seen events id c.args.key.now pairing c.args.moment = started_seen_first events pairing id c.args.key.now c.args.moment event.game (ap kind_at at) in
+    subst₂ (λ r l. PutsOnly changes c.args.moment [] [] (r ∷ []) [] l [])
+    (ap (λ t. first_row event.game t id c.args.key.now pairing c.args.moment) terms ∙ sym is) seen
+    (puts (subst (λ t. IsTrue (is_budget t.budget)) (sym c.terms_of.ensures) budget))) c.seat_in.ensures.puts
+
+pub returns-clause-running : goal.returns-clause-running
+returns-clause-running c =
+    IfOk-weaker c.seat_in.result _ _ (λ changes running.
+    ap (λ kind. first_meetings kind c.args.key.now (pairing_of c.args.new.pairing) c.args.moment) (ap kind_at c.in_ok-event.ensures) ∙ running) c.seat_in.ensures.running

@@ -1,9 +1,11 @@
-use Rattle.std.proofs.Common.{inl, inr, subst}
+use Rattle.std.proofs.Common.{inl, inr}
 use Rattle.sqlite.specs.Held.{state}
-use Rattle.store_tables.specs.Contents.{Content}
-use Rattle.store_tables.specs.Club.{IsExactly}
 use Rattle.store.proofs.BlameLemmas.{read_exactly, have_ids}
-use Rattle.store.proofs.ClubLemmas.{club_content, club_read}
+use Rattle.club_rows.specs.Club.{tables}
+use Rattle.store_tables.specs.Rows.{content_of}
+use Rattle.store.proofs.ClubLemmas.{club_read}
+use Rattle.store.proofs.OnceLemmas.{club_content_same}
+use Rattle.store.proofs.SameLemmas.{exactly_same}
 use Rattle.store.proofs.examine.examine.Goals as goal
 
 pub returns-in-Ok-audit-clause-found : goal.returns-in-Ok-audit-clause-found
@@ -13,7 +15,8 @@ returns-in-Ok-audit-clause-found g c clean opened =
     let rows = c.in-Ok.rows in
     let it = c.in-Ok.ensures.rows clean opened.schema in
     let (s, club, stored) = c.in-Ok-audit.ensures.club in
-    (s, club, subst (λ (content : Content). IsExactly content new) (club_content s rows stored it.id it.schema) (read_exactly rows old new opened it (c.read_rows.ensures.reads.may clean)))
+    let same = club_content_same s rows it.id it.schema stored.last stored.members stored.events stored.challenges stored.moves stored.games stored.seen.same stored.scores.same in
+    (s, club, exactly_same (content_of rows) (tables s) new same (read_exactly rows old new opened it (c.read_rows.ensures.reads.may clean)))
 
 pub returns-clause-blames : goal.returns-clause-blames
 returns-clause-blames g c clean has =

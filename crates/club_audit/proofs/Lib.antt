@@ -1,0 +1,11 @@
+pub mod AuditLemmas
+pub mod GameLemmas
+pub mod KeyLemmas
+pub mod MarkLemmas
+pub mod MatchLemmas
+pub mod PeopleLemmas
+pub mod PlacedLemmas
+pub mod SeenCounts
+pub mod SeenMoves
+pub mod StandingLemmas
+pub mod StandingsTold

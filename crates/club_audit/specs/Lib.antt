@@ -1,0 +1,5 @@
+pub mod Audit
+pub mod GameAudit
+pub mod Marks
+pub mod SeenAudit
+pub mod Standings

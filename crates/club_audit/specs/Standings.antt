@@ -1,0 +1,74 @@
+-- When rows of scores are those of the games whose rows these are.
+use Rattle.std.specs.Prelude.{◌≡◌, ◌≤◌, List, [], ◌∷◌, ◌++◌, map, length, Option, Some, None, cond, string_bytes}
+use Rattle.std.specs.Option.{option_map}
+use Rattle.std.specs.HashMap.{HashMap, get}
+use Rattle.squares.specs.declared.sides.Score.{Score}
+use Rattle.squares.specs.Sides.{score_text}
+use Rattle.store_tables.specs.Cells.{game_cells}
+use Rattle.store_tables.specs.declared.rows.GameRecord.{GameRecord}
+use Rattle.store_tables.specs.declared.rows.ScoreRow.{ScoreRow}
+use Rattle.club_core.specs.Limits.{most_games}
+use Rattle.club_rows.specs.Club.{ClubState, both_games}
+use Rattle.club_rows.specs.Tables.{numbered_from, row_of_game}
+use Rattle.club_rows.specs.NextScores.{no_sums, sums_found, sums_over}
+use Rattle.club_rows.specs.Scores.{Meeting, meetings_if, same_pair, scores_of}
+use Rattle.club_rows.specs.declared.scores.Pair.{Pair}
+use Rattle.club_rows.specs.declared.scores.OwnScore.{OwnScore}
+use Rattle.club_rows.specs.declared.scores.Sums.{Sums}
+
+-- the rows are those of the games of the club, in the order of their ids
+pub record AreGamesOf (s : ClubState) (rows : List GameRecord) : Type 0 where
+  pub few : length s.games ≤ most_games
+  pub rows_are : map game_cells rows ≡ numbered_from (row_of_game both_games s.events) 1 s.games
+
+-- ---- what the rows of games tell
+
+-- these are the meetings of the game of this row
+pub record Tells (row : GameRecord) (ms : List Meeting) : Type 0 where
+  pub score : Option Score
+  pub result : option_map (λ s. string_bytes s) row.result ≡ option_map score_text score
+  pub met : ms ≡ meetings_if row.event row.first row.second score
+
+-- those of all the games, one after another
+abbrev pub AreTold : List GameRecord → List Meeting → Type 0
+AreTold [] ms = ms ≡ []
+AreTold (row ∷ rows) ms = (own : List Meeting) × (rest : List Meeting) × Tells row own × AreTold rows rest × (ms ≡ own ++ rest)
+
+-- ---- the sums of all pairs
+
+-- one who has no score has no sums
+abbrev pub some_sums : List OwnScore → Option Sums
+some_sums [] = None
+some_sums (s ∷ ss) = Some (sums_over (s ∷ ss))
+
+-- the sums of one who may have none
+abbrev pub sums_or_none : Option Sums → Sums
+sums_or_none None = no_sums
+sums_or_none (Some sums) = sums
+
+abbrev pub sums_at : {S : Type 0} → HashMap Pair Sums S → Pair → Option Sums
+sums_at standings pair = get same_pair standings pair
+
+-- each pair has the sums of its scores
+abbrev pub AreStandings : {S : Type 0} → HashMap Pair Sums S → List Meeting → Type 0
+AreStandings standings ms = (pair : Pair) → sums_at standings pair ≡ some_sums (scores_of pair ms)
+
+-- ---- rows against sums
+
+abbrev pub firsts_pair : GameRecord → Pair
+firsts_pair row = record { event = row.event; member = row.first; opponent = row.second }
+
+abbrev pub seconds_pair : GameRecord → Pair
+seconds_pair row = record { event = row.event; member = row.second; opponent = row.first }
+
+abbrev pub pair_in : ScoreRow → Pair
+pair_in row = record { event = row.event; member = row.member; opponent = row.opponent }
+
+-- those of the other pairs
+abbrev pub without : Pair → (Pair → Option Sums) → Pair → Option Sums
+without pair sums other = cond (same_pair pair other) None (sums other)
+
+-- each row takes the sums of its pair, and none are left
+abbrev pub Clears : (Pair → Option Sums) → List ScoreRow → Type 0
+Clears sums [] = (pair : Pair) → sums pair ≡ None
+Clears sums (row ∷ rows) = (sums (pair_in row) ≡ Some (sums_found (Some row))) × Clears (without (pair_in row) sums) rows

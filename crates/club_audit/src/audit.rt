@@ -1,0 +1,251 @@
+//! Whether the rows of all tables are those of a legal club.
+
+ghost use Rattle.std.specs.Prelude.{◌≡◌, ◌≢◌, ◌+◌, ◌++◌, ◌<◌, ◌≤◌, ◌^◌, ℕ, List, pos, true, false, None, Some, IfOk, length, IfSome, slice_get, string_bytes};
+ghost use Rattle.std.specs.Option.{option_map};
+ghost use Rattle.club_core.specs.Game.{Game, left_of};
+ghost use Rattle.club_core.specs.LegalState.{Each, AreApartIfAny};
+ghost use Rattle.club_core.specs.Limits.{most_games};
+ghost use Rattle.club_core.specs.View.{clocks_in};
+ghost use Rattle.club_audit.specs.Audit.{HasPeople, NamesEvent, IsWithin, EndsBy, HaveGame, IsGameAt, AreGames};
+ghost use Rattle.club_rows.specs.Club.{ClubGame, ClubState, IsClub, IsStoredAs};
+ghost use Rattle.club_rows.specs.Replay.{terms_given};
+ghost use Rattle.club_rows.specs.Shown.{AreRowsOf};
+
+use crate::marks::seen_are;
+use crate::people::{are_events, are_members, is_place, terms_of};
+use crate::standings::scores_are;
+use clocks::Moment;
+use club_core::values::MOST_GAMES;
+use club_core::{GameEnd, GameView, OutsideEnd};
+use club_games::{Draughts, Shogi};
+use club_rows::kinds::kind_of;
+use club_rows::numbers::moment;
+use club_rows::replay::Terms;
+use club_rows::view::{Shown, view_of};
+use club_rules::{GameKind, Memory, Rules};
+use squares::Side;
+use std::alloc::Global;
+use std::collections::HashSet;
+use store_tables::{EventRow, GameRecord, MoveRow, Rows, Table};
+
+// Whether the row is of a move of the game.
+fn is_of(row: &MoveRow, game: &GameRecord) -> bool
+    ensures sound { result ≡ true → row.now.game ≡ game.now.id }
+    ensures complete { row.now.game ≡ game.now.id → result ≡ true }
+{
+    row.game == game.id
+}
+
+// The moves that a list begins with and that are this game's, and the rest.
+pub(crate) fn split_at_game<'a>(
+    moves: &'a [MoveRow],
+    game: &GameRecord,
+) -> (&'a [MoveRow], &'a [MoveRow])
+    ensures whole { moves.now ≡ result.0.now ++ result.1.now }
+    ensures own { Each (λ r. r.game ≡ game.now.id) result.0.now }
+    ensures others { (r : MoveRow) → slice_get result.1.now 0 ≡ Some r → r.game ≢ game.now.id }
+{
+    for (place, row) in moves.iter().enumerate() {
+        if !is_of(row, game) {
+            return moves.split_at(place);
+        }
+    }
+    moves.split_at(moves.len())
+}
+
+// The seconds that the side to move has left.
+fn left_to_mover<R: Rules>(view: &GameView<R>) -> u64
+    ensures { result ≡ left_of (R.rules.turn view.now.position) (clocks_in view.now.row) }
+{
+    match R::turn(&view.position) {
+        Side::First => view.row.left_first,
+        Side::Second => view.row.left_second,
+    }
+}
+
+// Whether no moment of the game is above the last one, and a side that lost by its time had run out of it before then.
+fn is_within<R: Rules>(view: &GameView<R>, last: Moment) -> bool
+    ensures sound { result ≡ true → IsWithin R.rules view.now last }
+    ensures complete { IsWithin R.rules view.now last → result ≡ true }
+{
+    if view.row.since > last {
+        return false;
+    }
+    let elapsed = last.seconds() - view.row.since.seconds();
+    match &view.row.end {
+        Some(GameEnd::Outside(OutsideEnd::Time)) => left_to_mover(view) < elapsed,
+        Some(GameEnd::Outside(OutsideEnd::Resigned)) => true,
+        Some(GameEnd::Outside(OutsideEnd::Agreed)) => true,
+        Some(GameEnd::Outside(OutsideEnd::Recorded(_))) => true,
+        Some(GameEnd::Rule(_)) => true,
+        None => true,
+    }
+}
+
+// Whether the id is that of one of so many rows.
+fn is_among(id: i64, count: usize) -> bool
+    ensures sound { result ≡ true → (n : ℕ) × (id ≡ pos n) × (0 < n) × (n ≤ count) }
+    ensures complete { (n : ℕ) → id ≡ pos n → 0 < n → n ≤ count → result ≡ true }
+{
+    match usize::try_from(id) {
+        Ok(id) => 0 < id && id <= count,
+        Err(_) => false,
+    }
+}
+
+// The row of the game's event, at its place, if there is one and the players exist.
+pub(crate) fn event_of<'a>(rows: &'a Rows, game: &GameRecord) -> Option<&'a EventRow>
+    ensures some { IfSome result (λ e. (event first second : ℕ) × NamesEvent rows.now game.now event first second e.now) }
+    ensures none { result ≡ None → (event first second : ℕ) (e : EventRow) → ¬ NamesEvent rows.now game.now event first second e }
+{
+    if !is_among(game.first, rows.members.as_slice().len()) {
+        return None;
+    }
+    if !is_among(game.second, rows.members.as_slice().len()) {
+        return None;
+    }
+    match usize::try_from(game.event) {
+        Ok(0) => None,
+        Ok(event) => rows.events.as_slice().get(event - 1),
+        Err(_) => None,
+    }
+}
+
+// The first wrong table by the rows of a game that is played by these rules and terms, up to the last moment.
+pub(crate) fn wrong_by_rules<R: Rules>(
+    alloc: Global,
+    game: &GameRecord,
+    terms: Terms,
+    moves: &[MoveRow],
+    last: Moment,
+) -> Result<Option<Table>, Memory>
+    ensures sound { IfOk result (λ wrong. wrong ≡ None → HaveGame R.rules (terms_given terms) last game.now moves.now) }
+    ensures complete { IfOk result (λ wrong. (id : ℕ) (g : Game R.Move) →
+        AreRowsOf R.rules (terms_given terms) id game.now moves.now g → EndsBy R.rules (terms_given terms) last g →
+        wrong ≡ None) }
+{
+    match view_of::<R>(alloc, game, terms, moves)? {
+        Shown::Game(played) => {
+            if !is_within(&played.view, last) {
+                return Ok(Some(Table::Meta));
+            }
+            Ok(None)
+        }
+        Shown::WrongMoves => Ok(Some(Table::Moves)),
+        Shown::WrongGame => Ok(Some(Table::Games)),
+    }
+}
+
+// The first wrong table by the rows of the game at this place, from 0, up to the last moment.
+fn wrong_by_game(
+    alloc: Global,
+    rows: &Rows,
+    place: usize,
+    game: &GameRecord,
+    moves: &[MoveRow],
+    last: Moment,
+) -> Result<Option<Table>, Memory>
+    requires room { place + 1 < 2 ^ 64 }
+    requires last { rows.now.meta.last ≡ pos last }
+    ensures sound { IfOk result (λ wrong. wrong ≡ None → (s : ClubState) → HasPeople s rows.now →
+        (g : ClubGame) × IsGameAt s (place + 1) game.now moves.now g) }
+    ensures complete { IfOk result (λ wrong. (s : ClubState) → HasPeople s rows.now → place < most_games →
+        (g : ClubGame) → IsGameAt s (place + 1) game.now moves.now g → wrong ≡ None) }
+{
+    if !is_place(game.id, place) {
+        return Ok(Some(Table::Games));
+    }
+    let event = match event_of(rows, game) {
+        Some(event) => event,
+        None => return Ok(Some(Table::Games)),
+    };
+    let terms = match terms_of(event) {
+        Some(terms) => terms,
+        None => return Ok(Some(Table::Games)),
+    };
+    match kind_of(event.game) {
+        Some(GameKind::Draughts) => wrong_by_rules::<Draughts>(alloc, game, terms, moves, last),
+        Some(GameKind::Shogi) => wrong_by_rules::<Shogi>(alloc, game, terms, moves, last),
+        None => Ok(Some(Table::Events)),
+    }
+}
+
+// The first wrong table by the rows of the games.
+fn wrong_by_games(alloc: Global, rows: &Rows, last: Moment) -> Result<Option<Table>, Memory>
+    requires { rows.now.meta.last ≡ pos last }
+    ensures sound { IfOk result (λ wrong. wrong ≡ None → (s : ClubState) → HasPeople s rows.now →
+        (games : List ClubGame) × AreGames s games rows.now.games.items rows.now.moves.items) }
+    ensures complete { IfOk result (λ wrong. (s : ClubState) → HasPeople s rows.now → (games : List ClubGame) →
+        AreGames s games rows.now.games.items rows.now.moves.items → length games ≤ most_games → wrong ≡ None) }
+{
+    let mut rest = rows.moves.as_slice();
+    for (place, game) in rows.games.iter().enumerate() {
+        let (moves, others) = split_at_game(rest, game);
+        match wrong_by_game(alloc, rows, place, game, moves, last)? {
+            Some(table) => return Ok(Some(table)),
+            None => {}
+        }
+        rest = others;
+    }
+    if rest.len() > 0 {
+        return Ok(Some(Table::Moves));
+    }
+    Ok(None)
+}
+
+// Whether two games have one key.
+fn share_key(alloc: Global, games: &[GameRecord]) -> Result<bool, Memory>
+    ensures apart { IfOk result (λ shared. shared ≡ false → AreApartIfAny (λ r. option_map (λ s. string_bytes s) r.key) games.now) }
+    ensures shared { IfOk result (λ shared. shared ≡ true → ¬ AreApartIfAny (λ r. option_map (λ s. string_bytes s) r.key) games.now) }
+{
+    let mut keys = HashSet::new(alloc);
+    for game in games {
+        match &game.key {
+            Some(key) => {
+                if !keys.insert(key.as_str())? {
+                    return Ok(true);
+                }
+            }
+            None => {}
+        }
+    }
+    Ok(false)
+}
+
+/// A table with rows that no legal club has, if there is one; none where the rows of all tables are those of a legal
+/// club.
+pub fn wrong_table(alloc: Global, rows: &Rows) -> Result<Option<Table>, Memory>
+    ensures sound { IfOk result (λ wrong. wrong ≡ None → (s : ClubState) × IsClub s × IsStoredAs s rows.now) }
+    ensures complete { IfOk result (λ wrong. (s : ClubState) → IsClub s → IsStoredAs s rows.now → wrong ≡ None) }
+{
+    if !are_members(&rows.members) {
+        return Ok(Some(Table::Members));
+    }
+    if !are_events(&rows.events) {
+        return Ok(Some(Table::Events));
+    }
+    if rows.challenges.len() > 0 {
+        return Ok(Some(Table::Challenges));
+    }
+    let last = match moment(rows.meta.last) {
+        Some(last) => last,
+        None => return Ok(Some(Table::Meta)),
+    };
+    if rows.games.len() > MOST_GAMES as usize {
+        return Ok(Some(Table::Games));
+    }
+    if share_key(alloc, &rows.games)? {
+        return Ok(Some(Table::Games));
+    }
+    match wrong_by_games(alloc, rows, last)? {
+        Some(table) => return Ok(Some(table)),
+        None => {}
+    }
+    if !seen_are(alloc, rows)? {
+        return Ok(Some(Table::Seen));
+    }
+    if !scores_are(alloc, &rows.games, &rows.scores)? {
+        return Ok(Some(Table::Scores));
+    }
+    Ok(None)
+}

@@ -1,8 +1,0 @@
-use Rattle.std.specs.Str.{bytes_eq}
-use Rattle.std.specs.HashSet.{contains}
-use Rattle.club_rows.proofs.AuditLemmas.{key_in}
-use Rattle.club_rows.proofs.KeyLemmas.{AreKept}
-use Rattle.club_rows.proofs.audit.share_key.Given as goal
-
-abbrev pub invariant-loop-game : goal.invariant-loop-game
-invariant-loop-game l = AreKept key_in l.games l.game-index (contains (λ x y. bytes_eq x.now y.now) l.keys)

@@ -1,6 +1,0 @@
-use Rattle.club_rows.specs.Audit.{IsOtherEvent}
-use Rattle.club_rows.proofs.PlacedLemmas.{Below}
-use Rattle.club_rows.proofs.people.is_used.Given as goal
-
-abbrev pub invariant-loop-other : goal.invariant-loop-other
-invariant-loop-other l = Below (λ k r. IsOtherEvent l.event r) l.other-index l.events

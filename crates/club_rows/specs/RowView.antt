@@ -1,0 +1,56 @@
+-- What the row of a game and the rows of one ply show of it, without its other moves.
+use Rattle.std.specs.Prelude.{◌≡◌, ◌≤◌, ◌<◌, ◌-◌, ◌^◌, ℕ, zero, suc, pos, Option, None, slice_get}
+use Rattle.std.specs.Option.{option_map}
+use Rattle.sqlite.specs.Order.{Row}
+use Rattle.club_rules.specs.GameRules.{GameRules}
+use Rattle.club_core.specs.declared.rows.Asked.{Asked}
+use Rattle.club_core.specs.Limits.{last_moment, most_plies}
+use Rattle.club_core.specs.Events.{Terms}
+use Rattle.club_core.specs.Game.{Game, moves_of, last_position}
+use Rattle.club_core.specs.View.{CanGrow}
+use Rattle.store_tables.specs.Cells.{move_cells}
+use Rattle.store_tables.specs.declared.rows.GameRecord.{GameRecord}
+use Rattle.club_rows.specs.Tables.{move_rows}
+use Rattle.club_rows.specs.Tally.{HasStood}
+use Rattle.club_rows.specs.declared.row_view.Counts.{Counts}
+use Rattle.club_rows.specs.declared.row_view.PlyRows.{PlyRows}
+use Rattle.club_rows.specs.declared.tally.Stood.{Stood}
+
+-- the row has these counts
+pub record HasCounts (stored : GameRecord) (counts : Counts) : Type 0 where
+  pub since : stored.since ≡ pos counts.since
+  pub plies : stored.plies ≡ pos counts.plies
+  pub left_first : stored.left1 ≡ pos counts.left_first
+  pub left_second : stored.left2 ≡ pos counts.left_second
+  pub track_first : stored.track_a ≡ pos counts.track.0
+  pub track_second : stored.track_b ≡ pos counts.track.1
+
+-- counts that the row of a game may have
+pub record AreCounts (counts : Counts) : Type 0 where
+  pub since : counts.since ≤ last_moment
+  pub plies : counts.plies ≤ most_plies
+  pub left_first : counts.left_first < 2 ^ 63
+  pub left_second : counts.left_second < 2 ^ 63
+  pub track : CanGrow counts.track
+
+-- the last position of the game stood so often, and after that ply first
+abbrev pub HasLastStood : {P M E T : Type 0} → GameRules P M E T → Game M → Stood → Type 0
+HasLastStood rules game stood = HasStood rules (moves_of game) (last_position rules game) stood
+
+-- this move was played at the ply, with so many seconds left after it, in that position
+pub record IsPlayed {R P M E T : Type 0} (asked : Asked R P M E T) (ply : ℕ) (made : M) (left : ℕ) (before : P) : Type 0 where
+  pub ply_is : asked.ply ≡ ply
+  pub made_is : asked.made ≡ made
+  pub left_is : asked.left ≡ left
+  pub before_is : asked.before ≡ before
+
+module _ {P M E T : Type 0} (rules : GameRules P M E T) (terms : Terms) (id : ℕ) (game : Game M) where
+  -- the row of a ply, counted from 1
+  abbrev pub row_at : ℕ → Option Row
+  row_at zero = None
+  row_at (suc n) = slice_get (move_rows rules terms id game) n
+
+  -- the rows are those of the ply and of the one before it, none where there is no such ply
+  pub record AreRowsAt (ply : ℕ) (rows : PlyRows) : Type 0 where
+    pub at : option_map move_cells rows.at ≡ row_at ply
+    pub before : option_map move_cells rows.before ≡ row_at (ply - 1)

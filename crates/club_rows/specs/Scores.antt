@@ -1,0 +1,120 @@
+-- What each member scored against each opponent in the ended games of an event: 2 points for a win, 1 for a draw.
+use Rattle.std.specs.Prelude.{◌+◌, ◌*◌, ◌&&◌, ℕ, ℤ, pos, Bool, true, false, not, List, [], ◌∷◌, map, filter, count_by, Option, Some, None}
+use Rattle.std.specs.Ordering.{int_eq}
+use Rattle.std.specs.List.{flat_map}
+use Rattle.sqlite_value.specs.declared.value.Value.{Value}
+use Rattle.sqlite_value.specs.declared.value.Value.TheVariants.{Int}
+use Rattle.sqlite.specs.Order.{Row}
+use Rattle.squares.specs.declared.sides.Score.{Score}
+use Rattle.squares.specs.declared.sides.Score.TheVariants as score
+use Rattle.club_rules.specs.GameRules.{GameRules}
+use Rattle.club_core.specs.ClubRules.{ClubRules}
+use Rattle.club_core.specs.Game.{Game, result_of}
+use Rattle.club_core.specs.State.{AnyGame, draughts, shogi}
+use Rattle.club_rows.specs.declared.scores.Pair.{Pair}
+use Rattle.club_rows.specs.declared.scores.OwnScore.{OwnScore}
+use Rattle.club_rows.specs.declared.scores.OwnScore.TheVariants.{Won, Drew, Lost}
+
+-- ---- an ended game, as each of its players has it
+
+-- an ended game as one of its players has it
+pub record Meeting : Type 0 where
+  pub pair : Pair
+  pub score : OwnScore
+
+abbrev pub own_first : Score → OwnScore
+own_first score.FirstWins = Won
+own_first score.Draw = Drew
+own_first score.SecondWins = Lost
+
+abbrev pub own_second : Score → OwnScore
+own_second score.FirstWins = Lost
+own_second score.Draw = Drew
+own_second score.SecondWins = Won
+
+-- a game that ended so, as First has it and as Second has it
+abbrev pub meetings : (event first second : ℤ) → Score → List Meeting
+meetings event first second score =
+    record { pair = record { event = event; member = first; opponent = second }; score = own_first score }
+    ∷ record { pair = record { event = event; member = second; opponent = first }; score = own_second score }
+    ∷ []
+
+-- a game that has not ended is none
+abbrev pub meetings_if : (event first second : ℤ) → Option Score → List Meeting
+meetings_if event first second None = []
+meetings_if event first second (Some score) = meetings event first second score
+
+-- ---- the sums of a member's scores
+
+abbrev pub is_win : OwnScore → Bool
+is_win Won = true
+is_win Drew = false
+is_win Lost = false
+
+abbrev pub is_draw : OwnScore → Bool
+is_draw Won = false
+is_draw Drew = true
+is_draw Lost = false
+
+abbrev pub is_loss : OwnScore → Bool
+is_loss Won = false
+is_loss Drew = false
+is_loss Lost = true
+
+abbrev pub wins : List OwnScore → ℕ
+wins scores = count_by is_win scores
+
+abbrev pub draws : List OwnScore → ℕ
+draws scores = count_by is_draw scores
+
+abbrev pub losses : List OwnScore → ℕ
+losses scores = count_by is_loss scores
+
+abbrev pub points : List OwnScore → ℕ
+points scores = 2 * wins scores + draws scores
+
+-- ---- the rows
+
+abbrev pub same_pair : Pair → Pair → Bool
+same_pair one other = int_eq one.event other.event && (int_eq one.member other.member && int_eq one.opponent other.opponent)
+
+-- the member's scores against the opponent in the event
+abbrev pub scores_of : Pair → List Meeting → List OwnScore
+scores_of pair ms = map (λ m. m.score) (filter (λ m. same_pair m.pair pair) ms)
+
+-- each pair once, where it first comes
+abbrev pub once_each : List Pair → List Pair
+once_each [] = []
+once_each (pair ∷ pairs) = pair ∷ filter (λ other. not (same_pair other pair)) (once_each pairs)
+
+abbrev pub amount : ℕ → Value
+amount n = Int (pos n)
+
+abbrev pub score_row : Pair → List OwnScore → Row
+score_row pair scores =
+    Int pair.event
+    ∷ Int pair.member
+    ∷ Int pair.opponent
+    ∷ amount (points scores)
+    ∷ amount (wins scores)
+    ∷ amount (draws scores)
+    ∷ amount (losses scores)
+    ∷ []
+
+-- a row for each pair that met, with its sums
+abbrev pub score_rows : List Meeting → List Row
+score_rows ms = map (λ pair. score_row pair (scores_of pair ms)) (once_each (map (λ m. m.pair) ms))
+
+-- ---- a club
+
+abbrev pub meetings_of : {P M E T : Type 0} → GameRules P M E T → Game M → List Meeting
+meetings_of rules game = meetings_if (pos game.event) (pos game.first) (pos game.second) (result_of rules game)
+
+module _ {DP DM DE DT SP SM SE ST : Type 0} (rules : ClubRules DP DM DE DT SP SM SE ST) where
+  abbrev pub meetings_in : AnyGame DM SM → List Meeting
+  meetings_in (draughts g) = meetings_of rules.draughts g
+  meetings_in (shogi g) = meetings_of rules.shogi g
+
+  -- the rows of all games of a club
+  abbrev pub scores_in : List (AnyGame DM SM) → List Row
+  scores_in games = score_rows (flat_map meetings_in games)

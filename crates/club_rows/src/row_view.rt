@@ -1,0 +1,297 @@
+//! The view of a game by its own row, and by the rows of the ply that a command asks of.
+
+ghost use Rattle.std.specs.Prelude.{◌≡◌, ◌≢◌, ◌≤◌, ◌<◌, ◌-◌, ◌^◌, ℕ, pos, IfOk, IfSome, IsSome, None, Some, Ok, string_bytes};
+ghost use Rattle.club_core.specs.Events as core;
+ghost use Rattle.club_core.specs.Game.{Game, game_at, last_position};
+ghost use Rattle.club_core.specs.Legal.{IsLegalGame};
+ghost use Rattle.club_core.specs.Step.{move_at};
+ghost use Rattle.club_core.specs.View.{IsAsked, IsRowOf, IsSound, Shows, ShowsPly, terms_of};
+ghost use Rattle.club_rows.specs.Replay.{terms_given};
+ghost use Rattle.club_rows.specs.RowView.{HasCounts, AreCounts, HasLastStood, AreRowsAt, IsPlayed};
+ghost use Rattle.club_rows.specs.Shown.{IsRecordOf};
+ghost use Rattle.club_rows.specs.Told.{HasNumbers};
+
+use crate::numbers::{counted, id, moment};
+use crate::records::copied;
+use crate::replay::{Terms, move_of};
+use crate::tally::Stood;
+use crate::view::{Numbers, end_with, numbers_in, offer_in, outside_left, score_of_end};
+use clocks::Moment;
+use club_core::values::{MOST_PLIES, is_increment};
+use club_core::{Asked, GameRow, GameView};
+use club_rules::{Memory, Rules};
+use std::alloc::Global;
+use store_tables::{GameRecord, MoveRow};
+
+/// The greatest number of a track that still grows.
+const MOST_TRACK: u32 = u32::MAX - 1;
+
+// The numbers of a row that a move changes.
+#[derive(Clone, Copy)]
+struct Counts {
+    since: Moment,
+    plies: u32,
+    left_first: u64,
+    left_second: u64,
+    track: (u32, u32),
+}
+
+// A number of a table that is at most so great.
+fn at_most(number: i64, most: u32) -> Option<u32>
+    ensures some { IfSome result (λ n. pos n ≡ number) }
+    ensures range { IfSome result (λ n. n ≤ most) }
+    ensures none { result ≡ None → (n : ℕ) → n ≤ most → number ≢ pos n }
+{
+    match id(number) {
+        Some(number) => { if number <= most { Some(number) } else { None } }
+        None => None,
+    }
+}
+
+// The counts of a row, if a game may have them.
+fn counts_in(row: &GameRecord) -> Option<Counts>
+    ensures some { IfSome result (HasCounts row.now) }
+    ensures range { IfSome result AreCounts }
+    ensures none { result ≡ None → (counts : _) → AreCounts counts → ¬ HasCounts row.now counts }
+{
+    let since = match moment(row.since) {
+        Some(since) => since,
+        None => return None,
+    };
+    let plies = match at_most(row.plies, MOST_PLIES) {
+        Some(plies) => plies,
+        None => return None,
+    };
+    let left_first = match counted(row.left1) {
+        Some(left) => left,
+        None => return None,
+    };
+    let left_second = match counted(row.left2) {
+        Some(left) => left,
+        None => return None,
+    };
+    let first = match at_most(row.track_a, MOST_TRACK) {
+        Some(first) => first,
+        None => return None,
+    };
+    let second = match at_most(row.track_b, MOST_TRACK) {
+        Some(second) => second,
+        None => return None,
+    };
+    Some(Counts {
+        since,
+        plies,
+        left_first,
+        left_second,
+        track: (first, second),
+    })
+}
+
+// The machine's row of a game, by its stored row and how often its last position stood.
+fn row_in<R: Rules>(
+    row: &GameRecord,
+    numbers: &Numbers,
+    counts: &Counts,
+    position: &R::Position,
+    stood: Stood,
+) -> Result<GameRow<R::End>, Memory>
+    ensures plies { IfOk result (λ new. new.plies ≡ counts.now.plies) }
+    ensures left_first { IfOk result (λ new. new.left_first ≡ counts.now.left_first) }
+    ensures left_second { IfOk result (λ new. new.left_second ≡ counts.now.left_second) }
+    ensures shows { IfOk result (λ new. (terms : core.Terms) (id : ℕ) (game : Game R.Move) →
+        IsRecordOf R.rules terms id row.now game →
+        HasNumbers row.now numbers.now.game numbers.now.event numbers.now.first numbers.now.second numbers.now.start →
+        HasCounts row.now counts.now → position.now ≡ last_position R.rules game → HasLastStood R.rules game stood →
+        IsRowOf R.rules terms game new) }
+{
+    let (first, second) = counts.track;
+    let track = R::track_of(first, second);
+    let ruled = R::track_end(
+        track,
+        position,
+        counts.plies as usize,
+        stood.times,
+        stood.first_ply,
+    );
+    let outside = outside_left(row, ruled.is_some());
+    let end = end_with(ruled, outside);
+    let result = score_of_end::<R>(&end, R::turn(position));
+    Ok(GameRow {
+        key: copied(&row.key)?,
+        event: numbers.event,
+        first: numbers.first,
+        second: numbers.second,
+        start: numbers.start,
+        since: counts.since,
+        plies: counts.plies,
+        left_first: counts.left_first,
+        left_second: counts.left_second,
+        track: counts.track,
+        offer: offer_in(row),
+        end,
+        result,
+        position: row.position.clone()?,
+    })
+}
+
+/// The view of the game whose row this is, with no ply asked of. `stood` is how often its last position stood, and after
+/// which ply first. None where no game that is played by these terms has this row.
+pub fn view_of_row<R: Rules>(
+    alloc: Global,
+    row: &GameRecord,
+    terms: Terms,
+    stood: Stood,
+) -> Result<Option<GameView<R>>, Memory>
+    ensures sound { IfOk result (λ found. IfSome found (IsSound R.rules)) }
+    ensures terms { IfOk result (λ found. IfSome found (λ view. terms_of view ≡ terms_given terms)) }
+    // The row of a legal game shows that game.
+    ensures shows { IfOk result (λ found. IfSome found (λ view. (id : ℕ) (game : Game R.Move) →
+        IsRecordOf R.rules (terms_given terms) id row.now game → HasLastStood R.rules game stood → Shows R.rules game view)) }
+    ensures found { IfOk result (λ found. (id : ℕ) (game : Game R.Move) →
+        IsRecordOf R.rules (terms_given terms) id row.now game → IsSome found) }
+{
+    if !is_increment(terms.increment) {
+        return Ok(None);
+    }
+    let numbers = match numbers_in(row) {
+        Some(numbers) => numbers,
+        None => return Ok(None),
+    };
+    let counts = match counts_in(row) {
+        Some(counts) => counts,
+        None => return Ok(None),
+    };
+    let position = match R::read_position(alloc, row.position.as_str())? {
+        Some(position) => position,
+        None => return Ok(None),
+    };
+    let new = row_in::<R>(row, &numbers, &counts, &position, stood)?;
+    let (first, second) = counts.track;
+    Ok(Some(GameView {
+        row: new,
+        budget: terms.budget,
+        increment: terms.increment,
+        position,
+        track: R::track_of(first, second),
+        asked: None,
+    }))
+}
+
+/// The row of the ply that a command asks of, and that of the ply before it; none where there is no such ply.
+#[derive(Drop)]
+pub struct PlyRows {
+    pub at: Option<MoveRow>,
+    pub before: Option<MoveRow>,
+}
+
+// The position before a ply.
+fn position_before<R: Rules>(
+    alloc: Global,
+    ply: u64,
+    rows: &PlyRows,
+) -> Result<Option<R::Position>, Memory>
+    requires { 1 ≤ ply }
+    // The ply is one that was played.
+    ensures { IfOk result (λ found. (terms : core.Terms) (id : ℕ) (game : Game R.Move) → IsLegalGame R.rules terms game →
+        AreRowsAt R.rules terms id game ply rows.now → IsSome (move_at game ply) →
+        found ≡ Some (last_position R.rules (game_at game (ply - 1)))) }
+{
+    if ply == 1 {
+        return Ok(Some(R::start()));
+    }
+    match &rows.before {
+        Some(row) => {
+            let found = R::read_position(alloc, row.position.as_str())?;
+            Ok(found)
+        }
+        None => Ok(None),
+    }
+}
+
+// The seconds that a row of a move has, unless they are below 0.
+fn seconds_in(row: &MoveRow) -> Option<u64>
+    ensures some { IfSome result (λ n. row.now.left ≡ pos n) }
+    ensures none { result ≡ None → (n : ℕ) → row.now.left ≢ pos n }
+{
+    match counted(row.left) {
+        Some(left) => Some(left),
+        None => None,
+    }
+}
+
+// What was played in a position, by the row of its ply.
+fn asked_in<R: Rules>(
+    alloc: Global,
+    ply: u64,
+    before: R::Position,
+    row: &MoveRow,
+) -> Result<Option<Asked<R>>, Memory>
+    requires { ply ≤ 600 }
+    ensures legal { IfOk result (λ found. IfSome found (λ a. R.rules.check a.before a.made ≡ Ok tt)) }
+    ensures shows { IfOk result (λ found. (made : R.Move) (left : ℕ) → R.rules.check before made ≡ Ok tt →
+        string_bytes row.now.text ≡ R.rules.write_move before made → row.now.left ≡ pos left →
+        (asked : _) × (found ≡ Some asked) × IsPlayed asked ply made left before) }
+{
+    let left = match seconds_in(row) {
+        Some(left) => left,
+        None => return Ok(None),
+    };
+    let made = match move_of::<R>(alloc, &before, row.text.as_str())? {
+        Some(made) => made,
+        None => return Ok(None),
+    };
+    Ok(Some(Asked {
+        ply: ply as u32,
+        made,
+        left,
+        before,
+    }))
+}
+
+// What was played at a ply, by its rows.
+fn asked_by<R: Rules>(alloc: Global, ply: u64, rows: &PlyRows) -> Result<Option<Asked<R>>, Memory>
+    ensures legal { IfOk result (λ found. IfSome found (λ a. R.rules.check a.before a.made ≡ Ok tt)) }
+    ensures shows { IfOk result (λ found. (terms : core.Terms) (id : ℕ) (game : Game R.Move) → IsLegalGame R.rules terms game →
+        AreRowsAt R.rules terms id game ply rows.now → IsAsked R.rules terms game ply (move_at game ply) found) }
+{
+    if ply == 0 || ply > u64::from(MOST_PLIES) {
+        return Ok(None);
+    }
+    let row = match &rows.at {
+        Some(row) => row,
+        None => return Ok(None),
+    };
+    let before = match position_before::<R>(alloc, ply, rows)? {
+        Some(before) => before,
+        None => return Ok(None),
+    };
+    let asked = asked_in::<R>(alloc, ply, before, row)?;
+    Ok(asked)
+}
+
+/// The view of a game, asked of a ply whose rows these are.
+pub fn ask_rows<R: Rules>(
+    alloc: Global,
+    view: GameView<R>,
+    ply: u64,
+    rows: &PlyRows,
+) -> Result<GameView<R>, Memory>
+    requires { IsSound R.rules view }
+    ensures sound { IfOk result (IsSound R.rules) }
+    ensures row { IfOk result (λ new. new.row ≡ view.row) }
+    ensures terms { IfOk result (λ new. terms_of new ≡ terms_of view) }
+    // Of each legal game that the view shows, and whose rows these are, the result shows the ply too.
+    ensures shows { IfOk result (λ new. (game : Game R.Move) → Shows R.rules game view → Shows R.rules game new) }
+    ensures ply { IfOk result (λ new. (id : ℕ) (game : Game R.Move) → IsLegalGame R.rules (terms_of view) game →
+        AreRowsAt R.rules (terms_of view) id game ply rows.now → ShowsPly R.rules game ply new) }
+{
+    let asked = asked_by::<R>(alloc, ply, rows)?;
+    Ok(GameView {
+        row: view.row,
+        budget: view.budget,
+        increment: view.increment,
+        position: view.position,
+        track: view.track,
+        asked,
+    })
+}

@@ -1,0 +1,177 @@
+//! What a member scored against an opponent in the ended games of an event.
+
+ghost use Rattle.std.specs.Prelude.{◌≡◌, ◌≢◌, ◌≤◌, ◌^◌, ◌+ℤ◌, ℕ, List, None, length, IfSome};
+ghost use Rattle.std.specs.Option.{option_map};
+ghost use Rattle.club_rows.specs.NextScores.{AreFound, AreNext, Fit};
+ghost use Rattle.club_rows.specs.NextScores.{gains_of, pair_of, plus_sums, sums_found, row_with};
+ghost use Rattle.club_rows.specs.Scores.{Meeting, own_first, own_second};
+
+use squares::Score;
+use store_tables::ScoreRow;
+
+/// A member and an opponent in an event, by their ids.
+#[derive(Clone, Copy, Debug, PartialEq, Eq, Hash)]
+pub struct Pair {
+    pub event: i64,
+    pub member: i64,
+    pub opponent: i64,
+}
+
+/// The score of an ended game as one of its players has it.
+#[derive(Clone, Copy, Debug, PartialEq, Eq)]
+pub enum OwnScore {
+    Won,
+    Drew,
+    Lost,
+}
+
+impl OwnScore {
+    /// First's.
+    pub fn of_first(score: Score) -> OwnScore
+        ensures { result ≡ own_first score }
+    {
+        match score {
+            Score::FirstWins => OwnScore::Won,
+            Score::Draw => OwnScore::Drew,
+            Score::SecondWins => OwnScore::Lost,
+        }
+    }
+
+    /// Second's.
+    pub fn of_second(score: Score) -> OwnScore
+        ensures { result ≡ own_second score }
+    {
+        match score {
+            Score::FirstWins => OwnScore::Lost,
+            Score::Draw => OwnScore::Drew,
+            Score::SecondWins => OwnScore::Won,
+        }
+    }
+}
+
+/// The rows of the two players of a game: what First scored against Second, and Second against First.
+#[derive(Debug, PartialEq, Drop)]
+pub struct ScorePair {
+    pub first: ScoreRow,
+    pub second: ScoreRow,
+}
+
+/// Points, wins, draws and losses.
+#[derive(Clone, Copy)]
+pub struct Sums {
+    pub points: i64,
+    pub wins: i64,
+    pub draws: i64,
+    pub losses: i64,
+}
+
+/// What one score adds.
+pub fn gains(score: OwnScore) -> Sums
+    ensures { result ≡ gains_of score }
+{
+    let (points, wins, draws, losses) = match score {
+        OwnScore::Won => (2, 1, 0, 0),
+        OwnScore::Drew => (1, 0, 1, 0),
+        OwnScore::Lost => (0, 0, 0, 1),
+    };
+    Sums {
+        points,
+        wins,
+        draws,
+        losses,
+    }
+}
+
+/// The sums of a row, or of none.
+pub fn sums_of(row: Option<&ScoreRow>) -> Sums
+    ensures { result ≡ sums_found (option_map (λ r. r.now) row.entry) }
+{
+    match row {
+        Some(row) => Sums {
+            points: row.points,
+            wins: row.wins,
+            draws: row.draws,
+            losses: row.losses,
+        },
+        None => Sums {
+            points: 0,
+            wins: 0,
+            draws: 0,
+            losses: 0,
+        },
+    }
+}
+
+/// The sums together, unless one does not fit.
+pub fn plus(sums: Sums, more: Sums) -> Option<Sums>
+    ensures some { IfSome result (λ s. s ≡ plus_sums sums more) }
+    ensures none { result ≡ None → ¬ Fit (plus_sums sums more) }
+{
+    let points = sums.points.checked_add(more.points)?;
+    let wins = sums.wins.checked_add(more.wins)?;
+    let draws = sums.draws.checked_add(more.draws)?;
+    let losses = sums.losses.checked_add(more.losses)?;
+    Some(Sums {
+        points,
+        wins,
+        draws,
+        losses,
+    })
+}
+
+// The pair's row, once a score is added to the one that was found.
+fn row_after(pair: Pair, found: Option<&ScoreRow>, score: OwnScore) -> Option<ScoreRow>
+    ensures some { IfSome result (λ row.
+        row ≡ row_with pair (plus_sums (sums_found (option_map (λ r. r.now) found.entry)) (gains_of score))) }
+    ensures none { result ≡ None →
+        ¬ Fit (plus_sums (sums_found (option_map (λ r. r.now) found.entry)) (gains_of score)) }
+{
+    let sums = plus(sums_of(found), gains(score))?;
+    Some(ScoreRow {
+        event: pair.event,
+        member: pair.member,
+        opponent: pair.opponent,
+        points: sums.points,
+        wins: sums.wins,
+        draws: sums.draws,
+        losses: sums.losses,
+    })
+}
+
+fn pair_of(event: u32, member: u32, opponent: u32) -> Pair
+    ensures { result ≡ pair_of event member opponent }
+{
+    Pair {
+        event: i64::from(event),
+        member: i64::from(member),
+        opponent: i64::from(opponent),
+    }
+}
+
+/// The rows of the two players of a game of that event once it has ended so, from those that stand for the games that
+/// ended before it, where there are any; none where a sum does not fit.
+pub fn score_after(
+    event: u32,
+    first: u32,
+    second: u32,
+    score: Score,
+    firsts: Option<&ScoreRow>,
+    seconds: Option<&ScoreRow>,
+) -> Option<ScorePair>
+    ensures some { IfSome result (λ rows. first ≢ second →
+        AreNext event first second score (option_map (λ r. r.now) firsts.entry)
+        (option_map (λ r. r.now) seconds.entry) rows) }
+    // Only the sums of very many games do not fit.
+    ensures none { result ≡ None → (ms : List Meeting) →
+        AreFound event first second (option_map (λ r. r.now) firsts.entry) (option_map (λ r. r.now) seconds.entry) ms →
+        2 ^ 61 ≤ length ms }
+{
+    let firsts_pair = pair_of(event, first, second);
+    let first_row = row_after(firsts_pair, firsts, OwnScore::of_first(score))?;
+    let seconds_pair = pair_of(event, second, first);
+    let second_row = row_after(seconds_pair, seconds, OwnScore::of_second(score))?;
+    Some(ScorePair {
+        first: first_row,
+        second: second_row,
+    })
+}

@@ -1,0 +1,30 @@
+use Rattle.std.proofs.Common.{◌≡◌, ap, sym, subst, ◌∙◌, arith}
+use Rattle.sqlite.specs.Held.{state}
+use Rattle.sqlite.specs.State.{HasCleanDisk}
+use Rattle.store_tables.specs.Tables.{club_schema}
+use Rattle.club_core.specs.Step.{game_step}
+use Rattle.club_core.specs.View.{IsConcluded, concluded, settled_of}
+use Rattle.store.specs.Steps.{IsSeenAfter}
+use Rattle.store.proofs.PlayedLemmas.{step_legal, seen_stood, seen_concluded}
+use Rattle.store.proofs.game.counted.Goals as goal
+
+pub returns-clause-kept : goal.returns-clause-kept
+returns-clause-kept g c clean schema content k =
+    let looked : HasCleanDisk (state g.S.Store c.seen_by.new.conn) = omega (arith, c.scores_by.ensures.reads.clean) in
+    c.in_ok-scores.ensures.kept clean schema content (c.in_ok-seen.ensures.kept looked schema content k)
+
+pub returns-clause-concluded : goal.returns-clause-concluded
+returns-clause-concluded g c clean content terms old moment who command k tells legal plies decided =
+    let laws = g.R.Rules.rules in
+    let o = game_step laws terms old moment who command in
+    let looked : HasCleanDisk (state g.S.Store c.seen_by.new.conn) = omega (arith, c.scores_by.ensures.reads.clean) in
+    let times = c.stood_by-stood.result.times in
+    let first = c.stood_by-stood.result.first_ply in
+    let seen = c.in_ok-seen.ensures.seen looked content terms old moment who command k tells legal plies decided.0 in
+    let stood = seen_stood laws terms old moment c.args.game times first c.in_ok-seen.seen c.stood_by-stood.ensures o (step_legal laws terms old moment legal.line.legal who command) c.args.decision seen in
+    let concluded_as : c.conclude-decision.result ≡ concluded laws c.args.decision (settled_of laws c.args.decision times first) =
+    c.conclude-decision.ensures ∙ ap (concluded laws c.args.decision) c.settle-settled.ensures in (
+      subst (IsConcluded laws terms old o) (sym concluded_as) (decided.1 times first stood),
+      subst (λ d. IsSeenAfter laws c.args.game o d c.in_ok-seen.seen) (sym concluded_as) (seen_concluded laws terms old moment c.args.game o c.in_ok-seen.seen c.args.decision (settled_of laws c.args.decision times first) seen),
+      λ players. c.in_ok-scores.ensures.scores clean content (c.in_ok-seen.ensures.kept looked club_schema content k) players,
+    )
