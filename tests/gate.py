@@ -1,8 +1,8 @@
 #!/usr/bin/env python3
 """Runs `rt ci` and passes on what it prints; then prints the processor seconds of each crate, slowest first.
 
-It reads /proc every half second for the prover's processes below this one: which crate they check, whether its proofs, its
-tests or its must-fail edits, and how long the processor has worked for them. The status is that of `rt ci`.
+It reads /proc every half second for the prover's processes in this folder, and for those that try edits: which crate they check,
+whether its proofs, its tests or its must-fail edits, and how long the processor has worked for them. The status is that of `rt ci`.
 """
 import os
 import re
@@ -38,8 +38,10 @@ def processes():
 def look():
     for name, words, fields, peak, folder in processes():
         crate = words[words.index("--crate-name") + 1]
-        if not folder.startswith(f"{TOP}/"):
+        if "/rt-edit-" in folder:
             kind = "edits"
+        elif not folder.startswith(f"{TOP}/"):
+            continue
         elif any(it.startswith("--test") for it in words):
             kind = "tests"
         else:
