@@ -8,6 +8,3 @@ pub mod moment;
 pub use clock::{Clock, OutOfTime};
 pub use dates::{CivilTime, civil};
 pub use moment::Moment;
-
-#[cfg(test)]
-mod tests;

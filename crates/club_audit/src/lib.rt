@@ -3,18 +3,10 @@
 
 pub mod audit;
 mod game_audit;
-#[cfg(test)]
-mod mark_tests;
 mod marks;
 mod people;
-#[cfg(test)]
-mod score_tests;
 mod seen_audit;
-#[cfg(test)]
-mod seen_tests;
 mod standings;
-#[cfg(test)]
-mod tests;
 
 pub use audit::wrong_table;
 pub use game_audit::audit_game;

@@ -29,6 +29,3 @@ pub use rows::{Asked, GameEnd, GameRow, GameView, Made, Offer, OutsideEnd};
 pub use seats::{KeyedGame, Pairing, Seating, seat, seated_row};
 pub use settling::{Settled, conclude, settle};
 pub use values::{is_member_key, is_name};
-
-#[cfg(test)]
-mod tests;

@@ -6,6 +6,3 @@ pub mod shogi;
 
 pub use draughts::Draughts;
 pub use shogi::Shogi;
-
-#[cfg(test)]
-mod tests;

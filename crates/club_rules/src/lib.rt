@@ -9,6 +9,3 @@ pub use game::Rules;
 pub use names::{EndName, GameKind};
 pub use refusals::MoveRefusal;
 pub use squares::Memory;
-
-#[cfg(test)]
-mod tests;

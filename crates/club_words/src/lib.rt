@@ -8,6 +8,3 @@ pub mod words;
 pub use doing::act;
 pub use report::{BAD_WORDS, DONE, FAULT, REFUSED, Report, print};
 pub use words::{BadWords, Order, Task, read_words};
-
-#[cfg(test)]
-mod tests;

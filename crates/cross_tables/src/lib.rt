@@ -10,6 +10,3 @@ pub use cells::{Cell, cell_of, cells_of};
 pub use lines::{header, line};
 pub use standings::{Standing, Standings, StandingsFault};
 pub use sums::{Scored, Sums};
-
-#[cfg(test)]
-mod tests;

@@ -27,6 +27,3 @@ pub use game_writer::GameWriter;
 pub use head::{CsaEnd, CsaHead};
 pub use reading::read_games;
 pub use record_writer::WriteFault;
-
-#[cfg(test)]
-mod tests;

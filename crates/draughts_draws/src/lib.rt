@@ -15,8 +15,3 @@ pub use ends::DEnd;
 pub use faults::Fault;
 pub use judging::judge;
 pub use tails::{Class, Tail};
-
-#[cfg(test)]
-mod long_line;
-#[cfg(test)]
-mod tests;

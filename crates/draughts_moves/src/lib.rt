@@ -26,6 +26,3 @@ pub use mover::Mover;
 pub use playing::play;
 pub use routing::routes;
 pub use squares::Memory;
-
-#[cfg(test)]
-mod tests;

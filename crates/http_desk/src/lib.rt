@@ -16,8 +16,6 @@ pub mod routes;
 pub mod serve;
 pub mod served;
 pub mod status;
-#[cfg(test)]
-mod tests;
 
 pub use closed::Closed;
 pub use deadline::{Countdown, Deadline, REQUEST_SECONDS};

@@ -8,8 +8,6 @@ pub mod laws;
 pub mod refusals;
 pub mod request;
 pub mod stream;
-#[cfg(test)]
-mod tests;
 
 pub use framing::{HeadEnd, Line, Scan};
 pub use head::{Outline, number_of};

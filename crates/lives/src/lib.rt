@@ -82,6 +82,3 @@ pub fn live<D: Disk + Drop>(
 pub fn new_files_are_void()
     ensures { (files : Image) → IsNothing files → AreVoid files }
 {}
-
-#[cfg(test)]
-mod tests;

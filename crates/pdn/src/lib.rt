@@ -20,6 +20,3 @@ pub use fen::write_fen;
 pub use moves::write_move;
 pub use reading::read_move;
 pub use reading_fen::read_fen;
-
-#[cfg(test)]
-mod tests;

@@ -27,6 +27,3 @@ pub use game_writer::GameWriter;
 pub use head::PdnHead;
 pub use reading::read_game;
 pub use record_writer::WriteFault;
-
-#[cfg(test)]
-mod tests;

@@ -6,6 +6,3 @@ pub mod piece;
 
 pub use fault::WriteFault;
 pub use piece::write_piece;
-
-#[cfg(test)]
-mod tests;

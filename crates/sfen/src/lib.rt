@@ -18,10 +18,3 @@ pub use squares::Memory;
 pub use usi_reading::read_usi;
 pub use usi_writing::write_usi;
 pub use writing::{write, write_position};
-
-#[cfg(test)]
-mod reading_tests;
-#[cfg(test)]
-mod usi_tests;
-#[cfg(test)]
-mod writing_tests;

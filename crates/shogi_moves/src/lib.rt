@@ -22,6 +22,3 @@ pub use listing::legal;
 pub use mating::mated;
 pub use playing::play;
 pub use squares::Memory;
-
-#[cfg(test)]
-mod tests;

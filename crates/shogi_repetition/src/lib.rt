@@ -14,6 +14,3 @@ pub use faults::Fault;
 pub use judging::judge;
 pub use marks::{Marks, Stood};
 pub use tails::Tail;
-
-#[cfg(test)]
-mod tests;

@@ -9,5 +9,3 @@ pub mod position;
 pub mod ray;
 pub mod set;
 pub mod square;
-#[cfg(test)]
-mod tests;

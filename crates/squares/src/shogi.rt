@@ -8,6 +8,4 @@ mod opening;
 pub mod piece;
 pub mod position;
 pub mod square;
-#[cfg(test)]
-mod tests;
 mod words;

@@ -14,8 +14,6 @@ mod people;
 mod read;
 mod reopen;
 mod shown;
-#[cfg(test)]
-mod tests;
 
 pub use club::{Club, Run, Unopened, adopt, create, resume};
 pub use fault::{OpenFault, StoreFault};

@@ -5,8 +5,6 @@ mod ids;
 mod names;
 mod parse;
 mod rows;
-#[cfg(test)]
-mod tests;
 
 pub use ids::check_ids;
 pub use names::Table;

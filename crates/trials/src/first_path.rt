@@ -226,7 +226,7 @@ fn no_club_is_made_beside_one_of_its_tables(rt: HostRuntime) -> Result<(), Fail>
                 let mut conn = unopened.conn;
                 let shown = format!(in alloc; "SELECT x FROM {table}")?;
                 let found: i64 = conn.query_row(shown.as_str(), &[])?.get(0)?;
-                assert_eq!(rt; found, 7, "{table}");
+                assert!(rt; found == 7, "{table}");
                 assert!(rt; conn.query_all("SELECT last FROM meta", &[]).is_err());
                 assert!(rt; conn.query_all("SELECT points FROM scores", &[]).is_err());
             }

@@ -10,6 +10,14 @@ mod endings;
 #[cfg(test)]
 mod first_path;
 #[cfg(test)]
+mod histories;
+#[cfg(test)]
+mod opening;
+#[cfg(test)]
+mod orders;
+#[cfg(test)]
+mod parsed_rows;
+#[cfg(test)]
 mod shogi;
 #[cfg(test)]
 mod stops;

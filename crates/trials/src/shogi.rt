@@ -143,9 +143,9 @@ fn a_fourfold_repetition_ends_a_game(rt: HostRuntime) -> Result<(), Fail> {
     let plies: i64 = row.get(0)?;
     let end: String = row.get(1)?;
     let result: String = row.get(2)?;
-    assert_eq!(rt; plies, 12);
-    assert_eq!(rt; end.as_str(), "Fourfold");
-    assert_eq!(rt; result.as_str(), "1-1");
+    assert!(rt; plies == 12);
+    assert!(rt; end.as_str() == "Fourfold");
+    assert!(rt; result.as_str() == "1-1");
     Ok(())
 }
 
@@ -163,9 +163,9 @@ fn checks_in_a_row_are_the_track_of_a_game(rt: HostRuntime) -> Result<(), Fail> 
     let plies: i64 = row.get(0)?;
     let checks: i64 = row.get(1)?;
     let other_checks: i64 = row.get(2)?;
-    assert_eq!(rt; plies, 3);
-    assert_eq!(rt; checks, 1);
-    assert_eq!(rt; other_checks, 0);
+    assert!(rt; plies == 3);
+    assert!(rt; checks == 1);
+    assert!(rt; other_checks == 0);
     Ok(())
 }
 
@@ -174,7 +174,7 @@ fn checks_in_a_row_are_the_track_of_a_game(rt: HostRuntime) -> Result<(), Fail> 
 fn positions_that_return_are_counted(rt: HostRuntime) -> Result<(), Fail> {
     let club = played(&rt, GameKind::Shogi, ROUNDS)?;
     let mut conn = club.into_connection();
-    assert_eq!(rt; conn.query_all("SELECT count FROM seen", &[])?.len(), 4);
+    assert!(rt; conn.query_all("SELECT count FROM seen", &[])?.len() == 4);
     for (sql, want) in [
         ("SELECT count FROM seen WHERE first_ply = 0", 4_i64),
         ("SELECT count FROM seen WHERE first_ply = 1", 3),
@@ -182,7 +182,7 @@ fn positions_that_return_are_counted(rt: HostRuntime) -> Result<(), Fail> {
         ("SELECT count FROM seen WHERE first_ply = 3", 3),
     ] {
         let found: i64 = conn.query_row(sql, &[])?.get(0)?;
-        assert_eq!(rt; found, want, "{sql}");
+        assert!(rt; found == want, "{sql}");
     }
     Ok(())
 }
@@ -192,7 +192,7 @@ fn positions_that_return_are_counted(rt: HostRuntime) -> Result<(), Fail> {
 fn a_draw_is_scored_for_both(rt: HostRuntime) -> Result<(), Fail> {
     let club = played(&rt, GameKind::Shogi, ROUNDS)?;
     let mut conn = club.into_connection();
-    assert_eq!(rt; conn.query_all("SELECT points FROM scores", &[])?.len(), 2);
+    assert!(rt; conn.query_all("SELECT points FROM scores", &[])?.len() == 2);
     for (sql, want) in [
         ("SELECT points FROM scores WHERE member = 1", 1_i64),
         ("SELECT wins FROM scores WHERE member = 1", 0),
@@ -204,7 +204,7 @@ fn a_draw_is_scored_for_both(rt: HostRuntime) -> Result<(), Fail> {
         ("SELECT losses FROM scores WHERE member = 2", 0),
     ] {
         let found: i64 = conn.query_row(sql, &[])?.get(0)?;
-        assert_eq!(rt; found, want, "{sql}");
+        assert!(rt; found == want, "{sql}");
     }
     Ok(())
 }

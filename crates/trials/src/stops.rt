@@ -175,6 +175,11 @@ fn found(
     Ok((tables, outcome))
 }
 
+/// Whether a request after the fault is refused until the files are opened again.
+fn is_shut(alloc: Global, club: &mut Club<Stopping>, asked: Asked<'_>) -> Result<bool, Fail> {
+    Ok(given(alloc, club, asked)?.err() == Some(StoreFault::Reopen))
+}
+
 /// Whether the request was answered, and the files that the stop left.
 fn stopped(
     alloc: Global,
@@ -186,6 +191,9 @@ fn stopped(
         Ok(club) => {
             let mut club = club;
             let answered = given(alloc, &mut club, trial.stopped)?.is_ok();
+            if !answered && !is_shut(alloc, &mut club, trial.stopped)? {
+                return Err(Fail::new("a club is open after a fault"));
+            }
             Ok((answered, closed(club)))
         }
         Err(files) => Ok((false, files)),

@@ -1,0 +1,64 @@
+use clocks::{CivilTime, Clock, Moment, OutOfTime, civil};
+use std::test::Fail;
+
+fn shown(seconds: u64) -> Option<CivilTime> {
+    Some(civil(Moment::new(seconds)?))
+}
+
+fn civil_time(date: (i16, u8, u8), time: (u8, u8, u8)) -> Option<CivilTime> {
+    Some(CivilTime {
+        year: date.0,
+        month: date.1,
+        day: date.2,
+        hour: time.0,
+        minute: time.1,
+        second: time.2,
+    })
+}
+
+// Each date is what `date -u -d @SECONDS` prints.
+#[test]
+fn moments_have_dates_in_utc(rt: HostRuntime) {
+    assert!(rt; shown(0) == civil_time((1970, 1, 1), (0, 0, 0)));
+    assert!(rt; shown(1000) == civil_time((1970, 1, 1), (0, 16, 40)));
+    assert!(rt; shown(951_782_400) == civil_time((2000, 2, 29), (0, 0, 0)));
+    assert!(rt; shown(1_709_251_199) == civil_time((2024, 2, 29), (23, 59, 59)));
+    assert!(rt; shown(4_107_542_399) == civil_time((2100, 2, 28), (23, 59, 59)));
+    assert!(rt; shown(253_402_300_799) == civil_time((9999, 12, 31), (23, 59, 59)));
+    assert!(rt; shown(253_402_300_800) == None);
+}
+
+// A budget of 60 seconds and an increment of 5: a move after 60 seconds is in time and leaves 5, one after 61 is not.
+#[test]
+fn a_move_takes_seconds_and_adds_the_increment(rt: HostRuntime) {
+    let clock = Clock {
+        left: 60,
+        increment: 5,
+    };
+    assert!(rt; clock.spend(61) == Err(OutOfTime));
+    let after = Clock {
+        left: 5,
+        increment: 5,
+    };
+    assert!(rt; clock.spend(60) == Ok(after));
+}
+
+#[test]
+fn a_deadline_is_the_last_second_in_time(rt: HostRuntime) {
+    let clock = Clock {
+        left: 60,
+        increment: 5,
+    };
+    let deadline = Moment::new(1060).map(|since| clock.deadline(since));
+    assert!(rt; deadline == Some(1120));
+    assert!(rt; Moment::new(1000).map(|m| m.seconds()) == Some(1000));
+}
+
+#[test]
+fn the_later_moment_counts(rt: HostRuntime) -> Result<(), Fail> {
+    let early = Moment::new(900).ok_or("in range")?;
+    let late = Moment::new(5000).ok_or("in range")?;
+    assert!(rt; early.later(late).seconds() == 5000);
+    assert!(rt; late.later(early).seconds() == 5000);
+    Ok(())
+}

@@ -1,0 +1,127 @@
+//! What anna and bert, the members 1 and 2, score in event 1: bert wins the first game, as Second; the next is drawn.
+
+use crate::one_game::{AFTER_32_28, club, row as game_row, text};
+use club_audit::{scores_are, wrong_table};
+use club_rows::{ScorePair, score_after};
+use squares::Score;
+use std::alloc::Global;
+use std::test::Fail;
+use store_tables::{GameRecord, ScoreRow, Table};
+
+/// A row of event 1: points, wins, draws and losses of a member against an opponent.
+fn row(member: i64, opponent: i64, sums: (i64, i64, i64, i64)) -> ScoreRow {
+    let (points, wins, draws, losses) = sums;
+    ScoreRow {
+        event: 1,
+        member,
+        opponent,
+        points,
+        wins,
+        draws,
+        losses,
+    }
+}
+
+/// A game of event 1 between anna, who plays First, and bert.
+fn game(alloc: Global, id: i64, score: Option<&str>) -> Result<GameRecord, Fail> {
+    let result = match score {
+        Some(text) => Some(String::from_str(alloc, text)?),
+        None => None,
+    };
+    Ok(GameRecord {
+        id,
+        key: None,
+        event: 1,
+        first: 1,
+        second: 2,
+        start: 1000,
+        since: 1000,
+        plies: 0,
+        left1: 60,
+        left2: 60,
+        offer_side: None,
+        offer_ply: None,
+        end: None,
+        result,
+        position: String::new(alloc),
+        track_a: 0,
+        track_b: 0,
+    })
+}
+
+#[test]
+fn a_win_scores_two_and_a_draw_one(rt: HostRuntime) -> Result<(), Fail> {
+    let Some(won) = score_after(1, 1, 2, Score::SecondWins, None, None) else {
+        return Err(Fail::new("no rows"));
+    };
+    let want = ScorePair {
+        first: row(1, 2, (0, 0, 0, 1)),
+        second: row(2, 1, (2, 1, 0, 0)),
+    };
+    assert!(rt; won == want);
+    let Some(drawn) = score_after(1, 1, 2, Score::Draw, Some(&won.first), Some(&won.second)) else {
+        return Err(Fail::new("no rows"));
+    };
+    let want = ScorePair {
+        first: row(1, 2, (1, 0, 1, 1)),
+        second: row(2, 1, (3, 1, 1, 0)),
+    };
+    assert!(rt; drawn == want);
+    Ok(())
+}
+
+#[test]
+fn sums_that_do_not_fit_give_no_rows(rt: HostRuntime) -> Result<(), Fail> {
+    let full = row(1, 2, (i64::MAX, 0, 0, 0));
+    assert!(rt; score_after(1, 1, 2, Score::FirstWins, Some(&full), None) == None);
+    Ok(())
+}
+
+/// Whether the rows are the scores of the two games, between which another one runs.
+fn are_scores(alloc: Global, rows: &[ScoreRow]) -> Result<bool, Fail> {
+    let games = [
+        game(alloc, 1, Some("0-2"))?,
+        game(alloc, 2, None)?,
+        game(alloc, 3, Some("1-1"))?,
+    ];
+    Ok(scores_are(alloc, &games, rows)?)
+}
+
+#[test]
+fn the_rows_of_both_stand_in_any_order(rt: HostRuntime) -> Result<(), Fail> {
+    let alloc = rt.alloc();
+    let anna = || row(1, 2, (1, 0, 1, 1));
+    let bert = || row(2, 1, (3, 1, 1, 0));
+    assert!(rt; are_scores(alloc, &[anna(), bert()])?);
+    assert!(rt; are_scores(alloc, &[bert(), anna()])?);
+    Ok(())
+}
+
+#[test]
+fn a_row_that_lacks_or_differs_is_seen(rt: HostRuntime) -> Result<(), Fail> {
+    let alloc = rt.alloc();
+    let anna = || row(1, 2, (1, 0, 1, 1));
+    let bert = || row(2, 1, (3, 1, 1, 0));
+    assert!(rt; !are_scores(alloc, &[anna()])?);
+    assert!(rt; !are_scores(alloc, &[anna(), bert(), bert()])?);
+    assert!(rt; !are_scores(alloc, &[anna(), row(2, 1, (2, 1, 1, 0))])?);
+    assert!(rt; !are_scores(alloc, &[anna(), bert(), row(3, 1, (0, 0, 0, 0))])?);
+    Ok(())
+}
+
+#[test]
+fn an_ended_game_wants_its_scores(rt: HostRuntime) -> Result<(), Fail> {
+    let alloc = rt.alloc();
+    let resigned = GameRecord {
+        end: Some(text(alloc, "Resigned")?),
+        result: Some(text(alloc, "2-0")?),
+        ..game_row(alloc, 1, 1060, AFTER_32_28)?
+    };
+    let mut rows = club(alloc, resigned, 1060)?;
+    assert!(rt; wrong_table(alloc, &rows)? == Some(Table::Scores));
+    rows.scores = vec![in alloc; row(1, 2, (2, 1, 0, 0)), row(2, 1, (0, 0, 0, 1))]?;
+    assert!(rt; wrong_table(alloc, &rows)? == None);
+    rows.scores = vec![in alloc; row(1, 2, (0, 0, 0, 1)), row(2, 1, (2, 1, 0, 0))]?;
+    assert!(rt; wrong_table(alloc, &rows)? == Some(Table::Scores));
+    Ok(())
+}

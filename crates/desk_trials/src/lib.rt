@@ -1,0 +1,7 @@
+//! Trials of the desk: requests as bytes and the replies that are due. It has tests alone.
+#![tactic(auto)]
+
+#[cfg(test)]
+mod heads;
+#[cfg(test)]
+mod replies;

@@ -1,0 +1,669 @@
+use clocks::Moment;
+use club_core::{
+    Answer, Command, GameCommand, GameEnd, Moved, OnGame, Outcome, OutsideEnd, Refusal, Who,
+};
+use http_desk::{
+    ChallengeCommand, ChallengeRefusal, ChallengeState, Closed, ClubFault, Countdown, Deadline,
+    DeskFault, GameShown, ServedClub, answer, serve_one, status_of,
+};
+use squares::Score;
+use std::alloc::Global;
+use std::io;
+use std::io::{ErrorKind, Read};
+use std::process::Abort;
+use std::test::Fail;
+
+const AFTER_7G7F: &str = "lnsgkgsnl/1r5b1/ppppppppp/9/9/2P6/PP1PPPPPP/1B5R1/LNSGKGSNL w -";
+
+const AFTER_TWO: &str = "W:W28,31,33,34,35,36,37,38,39,40,41,42,43,44,45,46,47,48,49,50\
+    :B1,2,3,4,5,6,7,8,9,10,11,12,13,14,15,16,17,18,20,23";
+
+/// A club whose answers are given, as its papers give them: nothing is claimed of it.
+#[derive(Drop)]
+struct Toy {
+    /// The move of game 8 was played.
+    played: bool,
+    fault: Option<ClubFault>,
+}
+
+fn new_club() -> Toy {
+    Toy {
+        played: false,
+        fault: None,
+    }
+}
+
+fn text(alloc: Global, text: &str) -> Result<String, ClubFault> {
+    match String::from_str(alloc, text) {
+        Ok(text) => Ok(text),
+        Err(_) => Err(ClubFault::Memory),
+    }
+}
+
+fn list(alloc: Global, rows: &[&str]) -> Result<Vec<String>, ClubFault> {
+    let mut list = Vec::new(alloc);
+    for row in rows {
+        let row = text(alloc, row)?;
+        if list.push(row).is_err() {
+            return Err(ClubFault::Memory);
+        }
+    }
+    Ok(list)
+}
+
+// The first game of the club after its script.
+fn ended_game(alloc: Global) -> Result<GameShown, ClubFault> {
+    Ok(GameShown {
+        event: text(alloc, "autumn")?,
+        first: text(alloc, "anna")?,
+        second: text(alloc, "bert")?,
+        moves: list(alloc, &["32-28", "19-23"])?,
+        position: text(alloc, AFTER_TWO)?,
+        left_first: 5,
+        left_second: 5,
+        offer: None,
+        end: Some(GameEnd::Outside(OutsideEnd::Time)),
+        result: Some(Score::SecondWins),
+    })
+}
+
+fn first_move(alloc: Global) -> Result<Answer, ClubFault> {
+    Ok(Answer::Moved(Moved {
+        ply: 1,
+        text: text(alloc, "7g7f")?,
+        left: 86_400,
+        position: text(alloc, AFTER_7G7F)?,
+        end: None,
+    }))
+}
+
+fn ends(end: OutsideEnd, score: Score) -> Answer {
+    Answer::Ended { end, result: score }
+}
+
+impl Toy {
+    fn play(&mut self, alloc: Global, text: &str) -> Result<Outcome, ClubFault> {
+        if text.as_bytes() != b"7g7f".as_slice() {
+            return Ok(Outcome::Refused(Refusal::Conflict));
+        }
+        let answer = first_move(alloc)?;
+        if self.played {
+            return Ok(Outcome::Repeated(answer));
+        }
+        self.played = true;
+        Ok(Outcome::Accepted(answer))
+    }
+
+    fn on_game(&mut self, alloc: Global, command: &GameCommand) -> Result<Outcome, ClubFault> {
+        let answer = match command {
+            GameCommand::Move { ply: _, text } => return self.play(alloc, text.as_str()),
+            GameCommand::OfferDraw { ply: _ } => Answer::Offered { ply: 5 },
+            GameCommand::AcceptDraw { ply: _ } => ends(OutsideEnd::Agreed, Score::Draw),
+            GameCommand::Resign => ends(OutsideEnd::Resigned, Score::SecondWins),
+            GameCommand::ClaimTime => ends(OutsideEnd::Time, Score::FirstWins),
+        };
+        Ok(Outcome::Accepted(answer))
+    }
+}
+
+impl ServedClub for Toy {
+    ghost use Rattle.http_desk.specs.Closed.{closed};
+
+    type State = ();
+
+    ghost club = { closed };
+
+    ghost IsClean = { λ b. ⊥ };
+
+    ghost Stands = { λ b s. Unit {0} };
+
+    ghost Leaves = { λ b s t. Unit {0} };
+
+    ghost IsShut = { λ b fault. ⊥ };
+
+    fn has_key(&mut self, _alloc: Global, key: &str) -> Result<bool, ClubFault> {
+        match self.fault {
+            Some(fault) => Err(fault),
+            None => Ok(key.as_bytes() == b"keyanna1".as_slice()),
+        }
+    }
+
+    fn view_game(&mut self, alloc: Global, game: u64) -> Result<Option<GameShown>, ClubFault> {
+        if game == 1 {
+            Ok(Some(ended_game(alloc)?))
+        } else {
+            Ok(None)
+        }
+    }
+
+    fn legal_rows(&mut self, alloc: Global, game: u64) -> Result<Option<Vec<String>>, ClubFault> {
+        match game {
+            1 => Ok(Some(Vec::new(alloc))),
+            2 => Ok(Some(list(alloc, &["32-28", "33-29"])?)),
+            _ => Ok(None),
+        }
+    }
+
+    fn table_lines(
+        &mut self,
+        alloc: Global,
+        event: &str,
+    ) -> Result<Option<Vec<String>>, ClubFault> {
+        if event.as_bytes() != b"autumn".as_slice() {
+            return Ok(None);
+        }
+        let lines = [
+            "Event autumn",
+            "  1 bert                         2     1     1     0     0     -     2",
+            "  2 anna                         0     1     0     0     1     0     -",
+        ];
+        Ok(Some(list(alloc, &lines)?))
+    }
+
+    fn apply(
+        &mut self,
+        alloc: Global,
+        _who: &Who,
+        command: &Command,
+        _moment: Moment,
+    ) -> Result<Outcome, ClubFault> {
+        match command {
+            Command::OnGame(OnGame { game: _, command }) => self.on_game(alloc, command),
+            _ => Ok(Outcome::Refused(Refusal::NotAllowed)),
+        }
+    }
+
+    fn apply_challenge(
+        &mut self,
+        _alloc: Global,
+        _key: &str,
+        command: &ChallengeCommand,
+        _moment: Moment,
+    ) -> Result<Result<ChallengeState, ChallengeRefusal>, ClubFault> {
+        let state = match command {
+            ChallengeCommand::Make {
+                number: _,
+                event: _,
+                other: _,
+                first: _,
+            } => ChallengeState::Open,
+            ChallengeCommand::Withdraw { number: 3 } => ChallengeState::Withdrawn,
+            ChallengeCommand::Withdraw { number: _ } => {
+                return Ok(Err(ChallengeRefusal::UnknownChallenge));
+            }
+            ChallengeCommand::Answer {
+                member: _,
+                number: _,
+                accept: true,
+            } => ChallengeState::Accepted(7),
+            ChallengeCommand::Answer {
+                member: _,
+                number: _,
+                accept: false,
+            } => ChallengeState::Refused,
+        };
+        Ok(Ok(state))
+    }
+
+    ghost stays = { λ b s t h. tt };
+
+    ghost settled = { λ b s t h. tt };
+
+    ghost wider = { λ b s t h. tt };
+}
+
+// A request of anna's, or of nobody where there is no key.
+fn request(alloc: Global, line: &str, body: &str) -> Result<Vec<u8>, Fail> {
+    let length = body.len();
+    let mut bytes = Vec::new(alloc);
+    bytes.extend_from_slice(line.as_bytes())?;
+    bytes.extend_from_slice(b" HTTP/1.1\r\nHost: localhost\r\nMember-Key: keyanna1\r\n")?;
+    let named = format!(in alloc; "Content-Length: {length}\r\n\r\n")?;
+    bytes.extend_from_slice(named.as_bytes())?;
+    bytes.extend_from_slice(body.as_bytes())?;
+    Ok(bytes)
+}
+
+// The reply has this head and this body.
+fn is_answered<R: Abort + AllocGlobal, C: ServedClub>(
+    rt: &R,
+    club: &mut C,
+    bytes: &[u8],
+    head: &str,
+    body: &str,
+) {
+    let Some(moment) = Moment::new(1000) else {
+        assert!(rt; false);
+        return;
+    };
+    let reply = match answer(rt.alloc(), club, bytes, moment) {
+        Ok(reply) => reply,
+        Err(_) => {
+            assert!(rt; false);
+            return;
+        }
+    };
+    assert!(rt; reply.starts_with(head.as_bytes()));
+    assert!(rt; reply.ends_with(body.as_bytes()));
+    assert!(rt; reply.len() == head.len() + body.len());
+}
+
+// The reply to anna's request is 200 with this body of JSON, or has the status line with that of a refusal.
+fn says<R: Abort + AllocGlobal>(
+    rt: &R,
+    line: &str,
+    asked: &str,
+    status: &str,
+    body: &str,
+) -> Result<(), Fail> {
+    let alloc = rt.alloc();
+    let length = body.len();
+    let bytes = request(alloc, line, asked)?;
+    let first = format!(in alloc; "HTTP/1.1 {status}\r\nContent-Type: application/json\r\n")?;
+    let rest = format!(in alloc; "Content-Length: {length}\r\nConnection: close\r\n\r\n")?;
+    let mut head = String::new(alloc);
+    head.push_str(first.as_str())?;
+    head.push_str(rest.as_str())?;
+    is_answered(rt, &mut new_club(), &bytes, head.as_str(), body);
+    Ok(())
+}
+
+#[test]
+fn pages_are_shown(rt: HostRuntime) -> Result<(), Fail> {
+    let game =
+        "{\"end\":\"Time\",\"event\":\"autumn\",\"first\":\"anna\",\"game\":1,\"left\":[5,5],\
+        \"moves\":[\"32-28\",\"19-23\"],\"offer\":null,\"ply\":2,\
+        \"position\":\"W:W28,31,33,34,35,36,37,38,39,40,41,42,43,44,45,46,47,48,49,50\
+        :B1,2,3,4,5,6,7,8,9,10,11,12,13,14,15,16,17,18,20,23\",\"result\":\"0-2\",\"second\":\"bert\"}";
+    says(&rt, "GET /games/1", "", "200 OK", game)?;
+    says(&rt, "GET /games/1/legal", "", "200 OK", "{\"moves\":[]}")?;
+    let two = "{\"moves\":[\"32-28\",\"33-29\"]}";
+    says(&rt, "GET http://club/games/2/legal?all", "", "200 OK", two)?;
+    let none = "{\"error\":53,\"name\":\"UnknownGame\"}";
+    says(&rt, "GET /games/9", "", "404 Not Found", none)?;
+    let none = "{\"error\":52,\"name\":\"UnknownEvent\"}";
+    says(&rt, "GET /events/spring/table", "", "404 Not Found", none)?;
+    let bytes = request(rt.alloc(), "GET /events/autumn/table", "")?;
+    let head = "HTTP/1.1 200 OK\r\nContent-Type: text/plain\r\nContent-Length: 155\r\n\
+        Connection: close\r\n\r\n";
+    let table =
+        "Event autumn\n  1 bert                         2     1     1     0     0     -     2\n\
+        \u{20} 2 anna                         0     1     0     0     1     0     -\n";
+    is_answered(&rt, &mut new_club(), &bytes, head, table);
+    Ok(())
+}
+
+// In a game of 86,400 seconds whose start is the moment.
+#[test]
+fn a_move_is_answered_alike_for_ever(rt: HostRuntime) -> Result<(), Fail> {
+    let mut club = new_club();
+    let bytes = request(
+        rt.alloc(),
+        "POST /games/8/moves/1",
+        "{\"move\":\"7g7f\",\"clock\":[1]}",
+    )?;
+    let head = "HTTP/1.1 200 OK\r\nContent-Type: application/json\r\nContent-Length: 133\r\n\
+        Connection: close\r\n\r\n";
+    let body = "{\"end\":null,\"game\":8,\"left\":86400,\"move\":\"7g7f\",\"ply\":1,\
+        \"position\":\"lnsgkgsnl/1r5b1/ppppppppp/9/9/2P6/PP1PPPPPP/1B5R1/LNSGKGSNL w -\"}";
+    is_answered(&rt, &mut club, &bytes, head, body);
+    is_answered(&rt, &mut club, &bytes, head, body);
+    let bytes = request(rt.alloc(), "POST /games/8/moves/1", "{\"move\":\"2g2f\"}")?;
+    let head = "HTTP/1.1 409 Conflict\r\nContent-Type: application/json\r\nContent-Length: 30\r\n\
+        Connection: close\r\n\r\n";
+    is_answered(
+        &rt,
+        &mut club,
+        &bytes,
+        head,
+        "{\"error\":58,\"name\":\"Conflict\"}",
+    );
+    Ok(())
+}
+
+#[test]
+fn commands_on_games_are_answered(rt: HostRuntime) -> Result<(), Fail> {
+    let offered = "{\"draw\":\"offered\",\"game\":7,\"ply\":5}";
+    says(&rt, "POST /games/7/draw/5/offer", "", "200 OK", offered)?;
+    let agreed = "{\"end\":\"Agreed\",\"game\":7,\"result\":\"1-1\"}";
+    says(&rt, "POST /games/7/draw/5/accept", "", "200 OK", agreed)?;
+    let resigned = "{\"end\":\"Resigned\",\"game\":7,\"result\":\"0-2\"}";
+    says(&rt, "POST /games/7/resign", "no JSON", "200 OK", resigned)?;
+    let claimed = "{\"end\":\"Time\",\"game\":7,\"result\":\"2-0\"}";
+    says(&rt, "POST /games/7/claim-time", "", "200 OK", claimed)
+}
+
+#[test]
+fn challenges_are_answered(rt: HostRuntime) -> Result<(), Fail> {
+    let made = "{\"event\":\"autumn\",\"first\":true,\"other\":\"bert\"}";
+    let stands_open = "{\"challenge\":3,\"state\":\"open\"}";
+    says(&rt, "POST /challenges/3", made, "200 OK", stands_open)?;
+    let withdrawn = "{\"challenge\":3,\"state\":\"withdrawn\"}";
+    says(&rt, "POST /challenges/3/withdraw", "", "200 OK", withdrawn)?;
+    let unknown = "{\"error\":54,\"name\":\"UnknownChallenge\"}";
+    says(
+        &rt,
+        "POST /challenges/4/withdraw",
+        "",
+        "404 Not Found",
+        unknown,
+    )?;
+    let accepted = "{\"challenge\":3,\"game\":7,\"state\":\"accepted\"}";
+    says(
+        &rt,
+        "POST /answers/bert/3",
+        "{\"accept\":true}",
+        "200 OK",
+        accepted,
+    )?;
+    let refused = "{\"challenge\":3,\"state\":\"refused\"}";
+    says(
+        &rt,
+        "POST /answers/bert/3",
+        "{\"accept\":false}",
+        "200 OK",
+        refused,
+    )?;
+    let bad = "{\"error\":81,\"name\":\"BadBody\"}";
+    says(
+        &rt,
+        "POST /answers/bert/3",
+        "{\"accept\":1}",
+        "400 Bad Request",
+        bad,
+    )?;
+    let headless = "{\"event\":\"autumn\",\"first\":true}";
+    says(&rt, "POST /challenges/3", headless, "400 Bad Request", bad)
+}
+
+#[test]
+fn bodies_and_paths_are_refused(rt: HostRuntime) -> Result<(), Fail> {
+    let alloc = rt.alloc();
+    let bad = "{\"error\":81,\"name\":\"BadBody\"}";
+    let mut blanks = String::new(alloc);
+    for _ in 0..65536_u32 {
+        blanks.push_str(" ")?;
+    }
+    says(
+        &rt,
+        "POST /games/8/moves/1",
+        blanks.as_str(),
+        "400 Bad Request",
+        bad,
+    )?;
+    let mut nested = String::new(alloc);
+    for _ in 0..200_u32 {
+        nested.push_str("[")?;
+    }
+    for _ in 0..200_u32 {
+        nested.push_str("]")?;
+    }
+    says(
+        &rt,
+        "POST /games/8/moves/1",
+        nested.as_str(),
+        "400 Bad Request",
+        bad,
+    )?;
+    says(
+        &rt,
+        "POST /games/8/moves/1",
+        "{\"move\":7}",
+        "400 Bad Request",
+        bad,
+    )?;
+    let no_route = "{\"error\":82,\"name\":\"NoRoute\"}";
+    says(&rt, "GET /games/0000000001", "", "404 Not Found", no_route)?;
+    says(&rt, "PUT /games/one", "", "404 Not Found", no_route)?;
+    says(
+        &rt,
+        "GET HTTP://club/games/1",
+        "",
+        "404 Not Found",
+        no_route,
+    )?;
+    says(&rt, "GET http:///games/1", "", "404 Not Found", no_route)?;
+    says(&rt, "GET /games/1/", "", "404 Not Found", no_route)
+}
+
+#[test]
+fn heads_are_refused(rt: HostRuntime) -> Result<(), Fail> {
+    let mut club = new_club();
+    let hostless = b"GET /games/1 HTTP/1.1\r\n\r\n".as_slice();
+    let head =
+        "HTTP/1.1 400 Bad Request\r\nContent-Type: application/json\r\nContent-Length: 29\r\n\
+        Connection: close\r\n\r\n";
+    is_answered(
+        &rt,
+        &mut club,
+        hostless,
+        head,
+        "{\"error\":88,\"name\":\"BadHost\"}",
+    );
+    let unmeasured = b"POST /games/1/resign HTTP/1.1\r\nHost: a\r\n\r\n".as_slice();
+    let head = "HTTP/1.1 411 Length Required\r\nContent-Type: application/json\r\n\
+        Content-Length: 30\r\nConnection: close\r\n\r\n";
+    is_answered(
+        &rt,
+        &mut club,
+        unmeasured,
+        head,
+        "{\"error\":84,\"name\":\"NoLength\"}",
+    );
+    let chunked = b"GET / HTTP/1.1\r\nHost: a\r\nTransfer-Encoding: chunked\r\n\r\n".as_slice();
+    let head = "HTTP/1.1 501 Not Implemented\r\nContent-Type: application/json\r\n\
+        Content-Length: 36\r\nConnection: close\r\n\r\n";
+    is_answered(
+        &rt,
+        &mut club,
+        chunked,
+        head,
+        "{\"error\":87,\"name\":\"NotImplemented\"}",
+    );
+    let asks_head = b"HEAD /games/1 HTTP/1.1\r\nHost: a\r\n\r\n".as_slice();
+    let head = "HTTP/1.1 405 Method Not Allowed\r\nContent-Type: application/json\r\n\
+        Content-Length: 33\r\nConnection: close\r\nAllow: GET\r\n\r\n";
+    is_answered(&rt, &mut club, asks_head, head, "");
+    let read_of_a_write = b"GET /games/1/resign HTTP/1.0\n\n".as_slice();
+    let head = "HTTP/1.1 405 Method Not Allowed\r\nContent-Type: application/json\r\n\
+        Content-Length: 33\r\nConnection: close\r\nAllow: POST\r\n\r\n";
+    is_answered(
+        &rt,
+        &mut club,
+        read_of_a_write,
+        head,
+        "{\"error\":83,\"name\":\"WrongMethod\"}",
+    );
+    Ok(())
+}
+
+#[test]
+fn keys_are_asked_for(rt: HostRuntime) {
+    let mut club = new_club();
+    let head =
+        "HTTP/1.1 401 Unauthorized\r\nContent-Type: application/json\r\nContent-Length: 32\r\n\
+        Connection: close\r\nWWW-Authenticate: Member-Key\r\n\r\n";
+    let body = "{\"error\":50,\"name\":\"UnknownKey\"}";
+    let keyless = b"GET /games/1 HTTP/1.1\r\nHost: a\r\n\r\n".as_slice();
+    is_answered(&rt, &mut club, keyless, head, body);
+    let doubled =
+        b"GET /games/1 HTTP/1.0\r\nMember-Key: keyanna1\r\nmember-key: keyanna1\r\n\r\n".as_slice();
+    is_answered(&rt, &mut club, doubled, head, body);
+    let other = b"GET /games/1 HTTP/1.0\r\nMember-Key: nobody77\r\n\r\n".as_slice();
+    is_answered(&rt, &mut club, other, head, body);
+}
+
+#[test]
+fn a_club_that_fails_is_told(rt: HostRuntime) {
+    let bytes = b"GET /games/1 HTTP/1.0\r\nMember-Key: keyanna1\r\n\r\n".as_slice();
+    let mut club = new_club();
+    club.fault = Some(ClubFault::Reopen);
+    let head = "HTTP/1.1 503 Service Unavailable\r\nContent-Type: application/json\r\n\
+        Content-Length: 28\r\nConnection: close\r\n\r\n";
+    is_answered(
+        &rt,
+        &mut club,
+        bytes,
+        head,
+        "{\"error\":74,\"name\":\"Reopen\"}",
+    );
+    let mut closed = Closed {
+        fault: ClubFault::Damaged,
+    };
+    let head = "HTTP/1.1 503 Service Unavailable\r\nContent-Type: application/json\r\n\
+        Content-Length: 29\r\nConnection: close\r\n\r\n";
+    is_answered(
+        &rt,
+        &mut closed,
+        bytes,
+        head,
+        "{\"error\":72,\"name\":\"Damaged\"}",
+    );
+    let unrouted = b"GET /game/1 HTTP/1.0\r\n\r\n".as_slice();
+    let head = "HTTP/1.1 404 Not Found\r\nContent-Type: application/json\r\nContent-Length: 29\r\n\
+        Connection: close\r\n\r\n";
+    is_answered(
+        &rt,
+        &mut closed,
+        unrouted,
+        head,
+        "{\"error\":82,\"name\":\"NoRoute\"}",
+    );
+}
+
+/// A reader that gives one byte at a time.
+#[derive(Drop)]
+struct Dripping<'b> {
+    bytes: &'b [u8],
+}
+
+impl Read for Dripping<'_> {
+    ghost use Rattle.std.specs.Prelude.{None};
+
+    ghost remaining = { λ r. None };
+
+    fn read(&mut self, buf: &mut [u8]) -> io::Result<usize> {
+        if buf.is_empty() {
+            return Ok(0);
+        }
+        match self.bytes.split_first() {
+            None => Ok(0),
+            Some((byte, rest)) => {
+                buf[0] = *byte;
+                self.bytes = rest;
+                Ok(1)
+            }
+        }
+    }
+}
+
+/// A countdown of calls.
+#[derive(Drop)]
+struct Calls {
+    left: u32,
+}
+
+impl Countdown for Calls {
+    fn allow(&mut self) -> io::Result<()> {
+        if self.left == 0 {
+            return Err(io::Error::from(ErrorKind::TimedOut));
+        }
+        self.left -= 1;
+        Ok(())
+    }
+}
+
+#[test]
+fn a_request_may_come_in_pieces(rt: HostRuntime) -> Result<(), Fail> {
+    let alloc = rt.alloc();
+    let Some(moment) = Moment::new(1000) else {
+        return Ok(());
+    };
+    let bytes = request(alloc, "POST /games/8/moves/1", "{\"move\":\"7g7f\"}")?;
+    let mut at_once = Vec::new(alloc);
+    let mut reader = bytes.as_slice();
+    let done = serve_one(alloc, &mut reader, &mut at_once, &mut new_club(), moment);
+    assert!(rt; done == Ok(()));
+    assert!(rt; status_of(&at_once) == Some(200));
+    let mut slowly = Vec::new(alloc);
+    let mut reader = Dripping { bytes: &bytes };
+    let done = serve_one(alloc, &mut reader, &mut slowly, &mut new_club(), moment);
+    assert!(rt; done == Ok(()));
+    assert!(rt; slowly.as_slice() == at_once.as_slice());
+    for n in 0..bytes.len() {
+        let mut reader = &bytes[..n];
+        let mut nothing = Vec::new(alloc);
+        let done = serve_one(alloc, &mut reader, &mut nothing, &mut new_club(), moment);
+        assert!(rt; done == Ok(()));
+        assert!(rt; nothing.is_empty());
+        assert!(rt; status_of(&nothing) == None);
+    }
+    Ok(())
+}
+
+#[test]
+fn a_slow_peer_is_given_up(rt: HostRuntime) -> Result<(), Fail> {
+    let alloc = rt.alloc();
+    let Some(moment) = Moment::new(1000) else {
+        return Ok(());
+    };
+    let bytes = request(alloc, "POST /games/8/moves/1", "{\"move\":\"7g7f\"}")?;
+    let mut club = new_club();
+    let mut reply = Vec::new(alloc);
+    let slow = Dripping { bytes: &bytes };
+    let mut reader = Deadline::new(slow, Calls { left: 50 });
+    let done = serve_one(alloc, &mut reader, &mut reply, &mut club, moment);
+    assert!(rt; done == Err(DeskFault::Read));
+    assert!(rt; reply.is_empty());
+    assert!(rt; !club.played);
+    let mut in_time = Deadline::new(bytes.as_slice(), Calls { left: 50 });
+    let mut writer = Deadline::new(&mut reply, Calls { left: 1 });
+    let done = serve_one(alloc, &mut in_time, &mut writer, &mut club, moment);
+    assert!(rt; done == Ok(()));
+    assert!(rt; club.played);
+    Ok(())
+}
+
+#[test]
+fn a_reply_that_is_lost_is_given_again(rt: HostRuntime) -> Result<(), Fail> {
+    let alloc = rt.alloc();
+    let Some(moment) = Moment::new(1000) else {
+        return Ok(());
+    };
+    let bytes = request(alloc, "POST /games/8/moves/1", "{\"move\":\"7g7f\"}")?;
+    let mut undisturbed = Vec::new(alloc);
+    let mut reader = bytes.as_slice();
+    let done = serve_one(
+        alloc,
+        &mut reader,
+        &mut undisturbed,
+        &mut new_club(),
+        moment,
+    );
+    assert!(rt; done == Ok(()));
+    let mut club = new_club();
+    for n in 0..undisturbed.len() {
+        let mut room = [0_u8; 256];
+        let Some(mut part) = room.get_mut(..n) else {
+            return Ok(());
+        };
+        let mut reader = bytes.as_slice();
+        let done = serve_one(alloc, &mut reader, &mut part, &mut club, moment);
+        assert!(rt; done == Err(DeskFault::Write));
+        assert!(rt; undisturbed.starts_with(&room[..n]));
+        let mut again = Vec::new(alloc);
+        let mut reader = bytes.as_slice();
+        let done = serve_one(alloc, &mut reader, &mut again, &mut club, moment);
+        assert!(rt; done == Ok(()));
+        assert!(rt; again.as_slice() == undisturbed.as_slice());
+    }
+    Ok(())
+}
+
+#[test]
+fn faults_have_words(rt: HostRuntime) -> Result<(), Fail> {
+    let fault = DeskFault::Write;
+    let words = format!(in rt.alloc(); "{fault}")?;
+    assert!(rt; words.as_bytes() == b"the reply could not be written".as_slice());
+    Ok(())
+}

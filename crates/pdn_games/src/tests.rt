@@ -1,3 +1,0 @@
-mod read;
-mod records;
-mod written;

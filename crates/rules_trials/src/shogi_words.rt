@@ -1,0 +1,158 @@
+use squares::{Hand, HandKind, Hands, Kind, Role, SBoard, SPiece, SPos, Side, Ssq};
+use std::cmp::Ordering;
+use std::test::Fail;
+
+fn square(file: u8, rank: u8) -> Result<Ssq, Fail> {
+    Ok(Ssq::new(file, rank).ok_or("on the board")?)
+}
+
+fn piece(side: Side, role: Role) -> SPiece {
+    SPiece { side, role }
+}
+
+// Two kings in the corners, and that many pawns in First's hand.
+fn kings_and_pawns(pawns: u8) -> Result<Option<SPos>, Fail> {
+    let mut board = SBoard::empty();
+    board.put(square(9, 1)?, piece(Side::Second, Role::King));
+    board.put(square(9, 9)?, piece(Side::First, Role::King));
+    let hands = Hands {
+        first: Hand::default().with_count(HandKind::Pawn, pawns),
+        second: Hand::default(),
+    };
+    Ok(SPos::new(board, hands, Side::First))
+}
+
+#[test]
+fn squares_have_files_and_ranks(rt: HostRuntime) -> Result<(), Fail> {
+    let last = square(9, 9)?;
+    assert!(rt; (last.file(), last.rank(), last.index()) == (9, 9, 80));
+    let pawn = square(7, 6)?;
+    assert!(rt; (pawn.file(), pawn.rank(), pawn.index()) == (7, 6, 59));
+    assert!(rt; Ssq::new(0, 5) == None);
+    assert!(rt; Ssq::new(5, 10) == None);
+    let all = Ssq::all();
+    let squares = &all[..];
+    assert!(rt; squares.get(59).copied() == Some(pawn));
+    Ok(())
+}
+
+#[test]
+fn kings_and_golds_do_not_promote(rt: HostRuntime) {
+    assert!(rt; SPiece::new(Side::First, Kind::Gold, true) == None);
+    assert!(rt; SPiece::new(Side::Second, Kind::King, true) == None);
+    let dragon = SPiece::new(Side::First, Kind::Rook, true);
+    assert!(rt; dragon == Some(piece(Side::First, Role::PromotedRook)));
+    assert!(rt; Role::PromotedPawn.kind().in_hand() == Some(HandKind::Pawn));
+    assert!(rt; Role::PromotedPawn.is_promoted());
+    assert!(rt; HandKind::Lance.kind().role() == Role::Lance);
+}
+
+#[test]
+fn a_board_keeps_what_is_put(rt: HostRuntime) -> Result<(), Fail> {
+    let mut board = SBoard::empty();
+    let rook = piece(Side::First, Role::Rook);
+    board.put(square(2, 8)?, rook);
+    assert!(rt; board.at(square(2, 8)?) == Some(rook));
+    assert!(rt; board.at(square(8, 2)?) == None);
+    assert!(rt; board.count_kind(HandKind::Rook) == 1);
+    assert!(rt; board.count_kings(Side::First) == 0);
+    board.clear(square(2, 8)?);
+    assert!(rt; board.at(square(2, 8)?) == None);
+    Ok(())
+}
+
+// The set of a game has eighteen pawns.
+#[test]
+fn a_position_has_one_set(rt: HostRuntime) -> Result<(), Fail> {
+    let position = kings_and_pawns(18)?.ok_or("eighteen pawns")?;
+    assert!(rt; position.turn() == Side::First);
+    assert!(rt; position.hands().of(Side::First).count(HandKind::Pawn) == 18);
+    assert!(rt; position.hands().of(Side::Second).count(HandKind::Pawn) == 0);
+    assert!(rt; position.board().count_kings(Side::Second) == 1);
+    assert!(rt; kings_and_pawns(19)?.is_none());
+    Ok(())
+}
+
+// Each side has one king.
+#[test]
+fn a_position_has_two_kings(rt: HostRuntime) -> Result<(), Fail> {
+    let mut board = SBoard::empty();
+    board.put(square(9, 9)?, piece(Side::First, Role::King));
+    assert!(rt; SPos::new(board, Hands::default(), Side::First).is_none());
+    Ok(())
+}
+
+// Whether a position is the one of two kings with so many pawns in First's hand.
+fn has_pawns(position: &SPos, pawns: u8) -> Result<bool, Fail> {
+    let other = kings_and_pawns(pawns)?.ok_or("a position")?;
+    Ok(*position == other)
+}
+
+// Whether a position is the one with its own hands, this board and this turn.
+fn is_on(position: &SPos, board: SBoard, turn: Side) -> Result<bool, Fail> {
+    let other = SPos::new(board, position.hands(), turn).ok_or("a position")?;
+    Ok(*position == other)
+}
+
+#[test]
+fn positions_are_the_same_by_hands_and_turn(rt: HostRuntime) -> Result<(), Fail> {
+    let position = kings_and_pawns(2)?.ok_or("two pawns")?;
+    assert!(rt; position.copied() == position);
+    assert!(rt; has_pawns(&position, 2)?);
+    assert!(rt; !has_pawns(&position, 1)?);
+    assert!(rt; is_on(&position, position.board().copied(), Side::First)?);
+    assert!(rt; !is_on(&position, position.board().copied(), Side::Second)?);
+    Ok(())
+}
+
+#[test]
+fn positions_are_the_same_by_board(rt: HostRuntime) -> Result<(), Fail> {
+    let position = kings_and_pawns(2)?.ok_or("two pawns")?;
+    let mut moved = position.board().copied();
+    assert!(rt; moved == *position.board());
+    moved.clear(square(9, 9)?);
+    moved.put(square(9, 8)?, piece(Side::First, Role::King));
+    assert!(rt; moved != *position.board());
+    assert!(rt; !is_on(&position, moved, Side::First)?);
+    Ok(())
+}
+
+// The opening as it stands in every book: the rook on 2h, the king on 5i, and pawns on the third ranks.
+#[test]
+fn a_game_opens_with_two_armies(rt: HostRuntime) -> Result<(), Fail> {
+    let position = SPos::opening();
+    assert!(rt; position.turn() == Side::First);
+    assert!(rt; position.hands() == Hands::default());
+    assert!(rt; position.word(piece(Side::First, Role::Rook)) == 1 << 16);
+    assert!(rt; position.word(piece(Side::First, Role::Bishop)) == 1 << 70);
+    assert!(rt; position.word(piece(Side::Second, Role::Rook)) == 1 << 64);
+    assert!(rt; position.word(piece(Side::Second, Role::Bishop)) == 1 << 10);
+    assert!(rt; position.word(piece(Side::First, Role::King)) == 1 << 44);
+    assert!(rt; position.word(piece(Side::Second, Role::King)) == 1 << 36);
+    let pawns = position.word(piece(Side::Second, Role::Pawn));
+    assert!(rt; pawns.count_ones() == 9);
+    assert!(rt; pawns.trailing_zeros() == 2);
+    assert!(rt; position.board().squares_of_side(Side::First).len() == 20);
+    assert!(rt; position.word(piece(Side::First, Role::PromotedPawn)) == 0);
+    Ok(())
+}
+
+// A square of any number, and none past the last.
+#[test]
+fn numbers_above_eighty_are_no_squares(rt: HostRuntime) -> Result<(), Fail> {
+    assert!(rt; Ssq::from_number(59) == Some(square(7, 6)?));
+    assert!(rt; Ssq::from_number(81) == None);
+    Ok(())
+}
+
+// Positions are ordered by turn, then hands, then board.
+#[test]
+fn positions_have_an_order(rt: HostRuntime) -> Result<(), Fail> {
+    let opening = SPos::opening();
+    let fewer = kings_and_pawns(1)?.ok_or("one pawn")?;
+    let more = kings_and_pawns(2)?.ok_or("two pawns")?;
+    assert!(rt; fewer < more);
+    assert!(rt; opening < fewer);
+    assert!(rt; opening.cmp(&SPos::opening()) == Ordering::Equal);
+    Ok(())
+}
