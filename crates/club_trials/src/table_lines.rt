@@ -1,5 +1,5 @@
 use cross_tables::{
-    Cell, Scored, Standings, StandingsFault, Sums, cell_of, cells_of, header, line,
+    Cell, Scored, Standing, Standings, StandingsFault, Sums, cell_of, cells_of, header, line,
 };
 use squares::Memory;
 use std::alloc::Global;
