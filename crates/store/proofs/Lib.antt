@@ -1,5 +1,6 @@
 pub mod BlameLemmas
 pub mod ClubLemmas
+pub mod CrossTableLemmas
 pub mod FoundLemmas
 pub mod FoundMoves
 pub mod FoundPeople

@@ -1,5 +1,6 @@
 pub mod Blames
 pub mod Clubs
+pub mod CrossTable
 pub mod Faults
 pub mod FaultText
 pub mod Lives

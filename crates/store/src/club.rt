@@ -21,6 +21,7 @@ ghost use Rattle.store.specs.Steps.{request, club_step, club_next};
 mod life;
 mod reading;
 mod run;
+mod standings;
 
 use crate::command::{Decided, decide_request};
 use crate::examine::examine;

@@ -446,7 +446,10 @@ fn on_game<S: Alter>(
 }
 
 // The members of the club, by id.
-fn all_members<S: Alter>(alloc: Global, conn: &mut Connection<S>) -> Result<Vec<Member>, CallFault>
+pub(crate) fn all_members<S: Alter>(
+    alloc: Global,
+    conn: &mut Connection<S>,
+) -> Result<Vec<Member>, CallFault>
     ensures reads { OnlyReads (state S.Store conn.old) (state S.Store conn.new) }
     ensures kept { HasCleanDisk (state S.Store conn.new) → OnOk result (KeepsContent (state S.Store conn.old)
         (state S.Store conn.new)) }

@@ -5,6 +5,7 @@ mod audit;
 mod club;
 mod command;
 mod counts;
+mod cross_table;
 mod examine;
 mod fault;
 mod game;
@@ -13,6 +14,7 @@ pub mod laws;
 mod people;
 mod read;
 mod reopen;
+mod scored;
 mod shown;
 
 pub use club::{Club, Run, Unopened, adopt, create, resume};

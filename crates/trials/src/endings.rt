@@ -38,9 +38,23 @@ fn seated<R: Abort + AllocGlobal>(rt: &R, game: GameKind) -> Result<Club<MemStor
     )
 }
 
+fn is_line(lines: &[String], index: usize, text: &str) -> bool {
+    lines.get(index).is_some_and(|line| line.as_str() == text)
+}
+
+/// Whether the lines are those of the cross table where anna and bert drew once.
+fn are_lines_of_a_draw(lines: &[String]) -> bool {
+    let anna = "  1 anna                         1     1     0     1     0     -     1";
+    let bert = "  2 bert                         1     1     0     1     0     1     -";
+    lines.len() == 3
+        && is_line(lines, 0, "Event spring")
+        && is_line(lines, 1, anna)
+        && is_line(lines, 2, bert)
+}
+
 #[test]
 fn a_draw_is_offered_and_agreed(rt: HostRuntime) -> Result<(), Fail> {
-    let club = serve_at_once(
+    let mut club = serve_at_once(
         &rt,
         seated(&rt, GameKind::Draughts)?,
         &[
@@ -62,6 +76,9 @@ fn a_draw_is_offered_and_agreed(rt: HostRuntime) -> Result<(), Fail> {
             (1061, BERT, Given::ClaimTime(1), "56 GameOver"),
         ],
     )?;
+    let table = club.table_rows(rt.alloc(), "spring")?;
+    assert!(rt; table.is_some_and(|lines| are_lines_of_a_draw(&lines)));
+    assert!(rt; club.table_rows(rt.alloc(), "autumn")?.is_none());
     let mut conn = club.into_connection();
     let tables = stored(rt.alloc(), &mut conn)?;
     let game = tables.games.as_slice().first().ok_or("a game")?;
