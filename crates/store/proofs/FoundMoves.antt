@@ -56,7 +56,7 @@ module _ {P M E T : Type 0} (laws : GameRules P M E T) (terms : Terms) (id : ℕ
   abbrev rows : List Row
   rows = move_rows laws terms id game
 
-  ply_is : (n : ℕ) (z : Row) → slice_get rows n ≡ Some z → column z 1 ≡ number (suc n)
+  pub ply_is : (n : ℕ) (z : Row) → slice_get rows n ≡ Some z → column z 1 ≡ number (suc n)
   ply_is n z at =
       let same : 0 + (1 + n) ≡ suc n = omega arith in
       entry_rows_at laws terms id (at_start game) game.entries n z at ∙ ap number same
@@ -116,7 +116,7 @@ module _ {P M E T : Type 0} {laws : GameRules P M E T} {kind : GameKind} (k : Ki
   all = rows_of_moves both_games s.events
 
   -- a row of the table that has the id is one of the game's
-  of_game : (z : Row) → Has (tables s 8) z → column z 0 ≡ number id → Has (move_rows laws terms id g) z
+  pub of_game : (z : Row) → Has (tables s 8) z → column z 0 ≡ number id → Has (move_rows laws terms id g) z
   of_game z has is =
       let (m, id_is, there) = place_at s.games id (k.into g) here in
       let (n, x, stands, in_rows) = gathered_had all 1 s.games z has in
@@ -126,12 +126,12 @@ module _ {P M E T : Type 0} {laws : GameRules P M E T} {kind : GameKind} (k : Ki
       subst (λ l. Has l z) (k.moves s.events id g) (subst₂ (λ i y. Has (all i y) z) same x_is in_rows)
 
   -- and the game's are rows of the table
-  in_table : (z : Row) → Has (move_rows laws terms id g) z → Has (tables s 8) z
+  pub in_table : (z : Row) → Has (move_rows laws terms id g) z → Has (tables s 8) z
   in_table z has =
       let (m, id_is, there) = place_at s.games id (k.into g) here in
       gathered_has all 1 s.games m (k.into g) z there (subst (λ i. Has (all i (k.into g)) z) id_is (subst (λ l. Has l z) (sym (k.moves s.events id g)) has))
 
-  id_of : (z : Row) → Has (move_rows laws terms id g) z → column z 0 ≡ number id
+  pub id_of : (z : Row) → Has (move_rows laws terms id g) z → column z 0 ≡ number id
   id_of z has = moves_had both_games s.events id (k.into g) z (subst (λ l. Has l z) (sym (k.moves s.events id g)) has)
 
   pub tells_moves : TellsMoves laws terms id g (tables s)

@@ -1,6 +1,6 @@
 -- The member of a key, and the event of an id, by the rows that are found for them.
 use Rattle.std.proofs.Common.{◌≡◌, ℕ, ◌+◌, List, [], ◌∷◌, Option, Some, None, true, refl, ap, sym, subst, ◌∙◌, arith, true≢false}
-use Rattle.std.specs.Prelude.{slice_get}
+use Rattle.std.specs.Prelude.{slice_get, string_bytes}
 use Rattle.std.specs.Cmp.{tied_itself}
 use Rattle.std.proofs.lemmas.Bool.{and_parts, and_from}
 use Rattle.std.proofs.lemmas.Map.Lookups.{exact_bytes}
@@ -17,6 +17,8 @@ use Rattle.club_core.specs.declared.requests.Caller.TheVariants as caller
 use Rattle.club_core.proofs.Lists.{bytes_eq-same, same-bytes_eq, find_id-found, find_id-none}
 use Rattle.club_rows.specs.Club.{ClubState, IsClub, tables}
 use Rattle.club_rows.specs.Tables.{number, member_row, event_row}
+use Rattle.store_tables.specs.Cells.{member_cells}
+use Rattle.store_tables.specs.declared.rows.MemberRow.{MemberRow}
 use Rattle.store_tables.specs.Content.{same_key}
 use Rattle.store_tables.specs.Contents.{AreThose}
 use Rattle.store_tables.proofs.Laws.{equal_cmp, equal_from}
@@ -62,6 +64,23 @@ module _ (s : ClubState) (is_club : IsClub s) (key : List ℕ) where
 
   pub with_none : (found : List Row) → AreThose (2 ∷ []) (asked key) (tables s 1) found → found ≡ [] → ◌≡◌ {A = Option Caller} None (caller_found (find_id (has_member_key key) s.members))
   with_none found those none = none_with (find_id (has_member_key key) s.members) (subst (AreThose (2 ∷ []) (asked key) (tables s 1)) none those) refl
+
+one_at : {A : Type 0} (o : Option A) (x y : A) → o ≡ Some x → o ≡ Some y → x ≡ y
+one_at o x y one two = let e = sym one ∙ two in cc
+
+-- what is found for the id of a member is its row
+pub member_found : (s : ClubState) (id : ℕ) (found : List Row) (z : Row) (known : Member) → AreThose (0 ∷ []) (number id ∷ []) (tables s 1) found → Has found z → place s.members id ≡ Some known → z ≡ member_row id known
+member_found s id found z known those has at =
+    let those_z = those.sound z has in
+    let (n, m, stands, is) = numbered_had member_row 1 s.members z those_z.0 in
+    let same : 1 + n ≡ id = ids_same z (number id ∷ []) (1 + n) id (ap (λ w. column w 0) is) refl those_z.1 in
+    let (k, id_is, there) = place_at s.members id known at in
+    let k_is : n ≡ k = omega (arith, same, id_is) in
+    let m_is : m ≡ known = one_at (slice_get s.members k) m known (subst (λ i. slice_get s.members i ≡ Some m) k_is stands) there in
+    is ∙ (λ i. member_row (same i) (m_is i))
+
+pub name_same : (row : MemberRow) (id : ℕ) (known : Member) → member_cells row ≡ member_row id known → string_bytes row.name ≡ known.name
+name_same row id known is = cc
 
 -- ---- the event of an id
 

@@ -18,7 +18,7 @@ use Rattle.sqlite_rules.specs.Lists.{Has}
 use Rattle.club_rules.specs.declared.names.GameKind.{GameKind}
 use Rattle.club_rules.specs.GameRules.{GameRules}
 use Rattle.club_core.specs.Events.{Event, Terms}
-use Rattle.club_core.specs.Members.{find_id}
+use Rattle.club_core.specs.Members.{Member, find_id}
 use Rattle.club_core.specs.Seats.{KeyedGame}
 use Rattle.club_core.specs.Game.{Game, clocks_of}
 use Rattle.club_core.specs.LegalState.{IsLegalIn}
@@ -192,10 +192,34 @@ ids_same k id g is =
     let e : k ≡ record { id = id; pairing = pairing_of g } = cc in
     (ap (λ x. x.id) e, ap (λ x. x.pairing.event) e)
 
+some_of : {A : Type 0} (o : Option A) → IsSome o → (x : A) × (o ≡ Some x)
+some_of None some = absurd (true≢false (sym some))
+some_of (Some x) some = (x, refl)
+
+both_stand : (s : ClubState) (a b : ℕ) → IsSome (place s.members a) → IsSome (place s.members b) → (first : Member) × (second : Member) × (place s.members a ≡ Some first) × (place s.members b ≡ Some second)
+both_stand s a b one two =
+    let (first, first_at) = some_of (place s.members a) one in
+    let (second, second_at) = some_of (place s.members b) two in
+    (first, second, first_at, second_at)
+
 -- the event of a game of the club stands
 pub event_stands : (s : ClubState) → IsClub s → (id : ℕ) (game : ClubGame) → place s.games id ≡ Some game → (known : Event) × (place s.events (pairing_of game).event ≡ Some known)
 event_stands s is_club id (club.draughts g) at = let legal = in-place (IsLegalIn both_games s) s.games id (club.draughts g) is_club.games at in (legal.event, legal.in_event)
 event_stands s is_club id (club.shogi g) at = let legal = in-place (IsLegalIn both_games s) s.games id (club.shogi g) is_club.games at in (legal.event, legal.in_event)
+
+-- and so do its players
+pub players_stand : (s : ClubState) → IsClub s → (id : ℕ) (game : ClubGame) → place s.games id ≡ Some game → (first : Member) × (second : Member) × (place s.members (pairing_of game).first ≡ Some first) × (place s.members (pairing_of game).second ≡ Some second)
+players_stand s is_club id (club.draughts g) at =
+    let legal = in-place (IsLegalIn both_games s) s.games id (club.draughts g) is_club.games at in
+    both_stand s g.first g.second legal.first legal.second
+players_stand s is_club id (club.shogi g) at =
+    let legal = in-place (IsLegalIn both_games s) s.games id (club.shogi g) is_club.games at in
+    both_stand s g.first g.second legal.first legal.second
+
+pub pairing_same : (k : KeyedGame) (id : ℕ) (g : ClubGame) → Some k ≡ keyed_game (Some g) id → k.pairing ≡ pairing_of g
+pairing_same k id g is =
+    let e : k ≡ record { id = id; pairing = pairing_of g } = cc in
+    ap (λ x. x.pairing) e
 
 -- ---- a stored game
 

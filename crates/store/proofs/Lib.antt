@@ -18,3 +18,4 @@ pub mod PutSame
 pub mod ReadRows
 pub mod RunLemmas
 pub mod SameLemmas
+pub mod ViewedLemmas

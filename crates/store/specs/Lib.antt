@@ -8,4 +8,5 @@ pub mod Places
 pub mod Runs
 pub mod Steps
 pub mod Stored
+pub mod Viewed
 pub mod Whole

@@ -171,6 +171,11 @@ TellsMoves laws terms id game content =
     (ply : ℕ) (found : List MoveRow) → AreThose (0 ∷ 1 ∷ []) (number id ∷ number ply ∷ []) (content 8) (map move_cells found)
     → option_map move_cells (slice_get found 0) ≡ row_at laws terms id game ply
 
+-- the rows of a table of moves that have its number are this game's
+abbrev pub TellsLine : {P M E T : Type 0} → GameRules P M E T → Terms → ℕ → Game M → Content → Type 0
+TellsLine laws terms id game content =
+    (found : List Row) → AreThose (0 ∷ []) (number id ∷ []) (content 8) found → HaveSame found (move_rows laws terms id game)
+
 -- the row of the last position of a game that a step leaves
 abbrev pub HasSeen : {P M E T : Type 0} → GameRules P M E T → ℕ → Outcome (Game M) → Option SeenRow → Type 0
 HasSeen laws id (accepted new reply) seen =

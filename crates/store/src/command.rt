@@ -252,7 +252,7 @@ fn on_event(
 }
 
 // The ids in the row of a game: its own, and those of its event and players.
-fn ids_in(row: &GameRecord) -> Result<KeyedGame, CallFault>
+pub(crate) fn ids_in(row: &GameRecord) -> Result<KeyedGame, CallFault>
     ensures { IfOk result (λ k. (s : ClubState) (id : ℕ) (game : ClubGame) →
         game_cells row.now ≡ game_in s id game →
         Some (keyed_of k) ≡ keyed_game (Some game) id) }

@@ -14,11 +14,13 @@ ghost use Rattle.sqlite.specs.State.{HasCleanDisk};
 ghost use Rattle.sqlite.specs.Held.{state};
 ghost use Rattle.store.specs.Steps.{caller_step, first_row, first_seen_rows, first_meetings, IsDecided, PutsOnly};
 ghost use Rattle.store.specs.Stored.{IsStoredGame, AreMovesOf};
+ghost use Rattle.store.specs.Viewed.{IsPlayedIn};
 ghost use Rattle.store.specs.Whole.{IsWhole};
 
 use crate::command::Decided;
 use crate::fault::CallFault;
 use crate::game::{StoredGame, act, legal, start};
+use crate::viewed::{Played, make_played};
 use clocks::Moment;
 use club_core::{Caller, GameCommand, KeyedGame};
 use club_games::{Draughts, Shogi};
@@ -88,5 +90,24 @@ pub(crate) fn legal_in<S: Alter>(
     match stored.kind {
         GameKind::Draughts => legal::<Draughts, S>(alloc, conn, stored),
         GameKind::Shogi => legal::<Shogi, S>(alloc, conn, stored),
+    }
+}
+
+// What was played in a game of the club.
+pub(crate) fn played_in<S: Alter>(
+    alloc: Global,
+    conn: &mut Connection<S>,
+    stored: &StoredGame,
+) -> Result<Played, CallFault>
+    ensures reads { OnlyReads (state S.Store conn.old) (state S.Store conn.new) }
+    ensures kept { HasCleanDisk (state S.Store conn.new) → OnOk result (KeepsContent (state S.Store conn.old)
+        (state S.Store conn.new)) }
+    ensures played { HasCleanDisk (state S.Store conn.new) → IfOk result (λ played. (s : ClubState) (id : ℕ)
+        (game : ClubGame) → IsClub s → place s.games id ≡ Some game → IsStoredGame s id game stored.now →
+        IsExactly (tables s) (state S.Store conn.old) → IsPlayedIn s game played) }
+{
+    match stored.kind {
+        GameKind::Draughts => make_played::<Draughts, S>(alloc, conn, stored),
+        GameKind::Shogi => make_played::<Shogi, S>(alloc, conn, stored),
     }
 }

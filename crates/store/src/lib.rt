@@ -16,9 +16,11 @@ mod read;
 mod reopen;
 mod scored;
 mod shown;
+mod viewed;
 
 pub use club::{Club, Run, Unopened, adopt, create, resume};
 pub use fault::{OpenFault, StoreFault};
 pub use reopen::{holds_nothing, holds_what_sessions_left, leaves_what_sessions_left};
 pub use store_sql::holds_exactly;
 pub use store_tables::Table;
+pub use viewed::{Played, ViewedGame};

@@ -1,6 +1,6 @@
 //! Who gives a command, and in which event a game is played: single rows, by their keys.
 
-ghost use Rattle.std.specs.Prelude.{◌≡◌, ◌≤◌, ℕ, pos, [], ◌∷◌, map, Some, None, IfOk, OnOk, slice_get};
+ghost use Rattle.std.specs.Prelude.{◌≡◌, ◌≤◌, ℕ, pos, [], ◌∷◌, map, Some, None, IfOk, OnOk, slice_get, string_bytes};
 ghost use Rattle.sqlite.specs.State.{HasCleanDisk};
 ghost use Rattle.sqlite.specs.Held.{state};
 ghost use Rattle.club_core.specs.Answer.{event_of, who_of};
@@ -91,6 +91,26 @@ pub(crate) fn event_with<S: Alter>(
     let number = i64::from(event);
     match first(find_by_first::<EventRow, S>(alloc, conn, &number)?) {
         Some(row) => Ok(event_of(&row)?),
+        None => Err(CallFault::Store),
+    }
+}
+
+// The name of the member of this id.
+pub(crate) fn name_of<S: Alter>(
+    alloc: Global,
+    conn: &mut Connection<S>,
+    member: u32,
+) -> Result<String, CallFault>
+    ensures reads { OnlyReads (state S.Store conn.old) (state S.Store conn.new) }
+    ensures kept { HasCleanDisk (state S.Store conn.new) → OnOk result (KeepsContent (state S.Store conn.old)
+        (state S.Store conn.new)) }
+    ensures found { HasCleanDisk (state S.Store conn.new) → IfOk result (λ name. (s : ClubState) →
+        IsExactly (tables s) (state S.Store conn.old) → (known : core_members.Member) →
+        place s.members member ≡ Some known → string_bytes name ≡ known.name) }
+{
+    let number = i64::from(member);
+    match first(find_by_first::<MemberRow, S>(alloc, conn, &number)?) {
+        Some(row) => Ok(row.name),
         None => Err(CallFault::Store),
     }
 }

@@ -7,7 +7,7 @@ use club_rules::GameKind;
 use sqlite::{Connection, MemStore};
 use std::alloc::Global;
 use std::test::Fail;
-use store::{Club, OpenFault, create};
+use store::{Club, OpenFault, ViewedGame, create};
 use store_tables::{EventRow, GameRecord, MemberRow, MetaRow, MoveRow, SeenRow};
 
 const OPENING: &str =
@@ -163,6 +163,38 @@ fn three_positions(alloc: Global) -> Result<Vec<SeenRow>, Fail> {
             first_ply: 2,
         },
     ]?)
+}
+
+/// The names in a view, its plies, the seconds that are left and the moves.
+fn line_of(alloc: Global, viewed: &ViewedGame) -> Result<String, Fail> {
+    let shown = &viewed.played;
+    let [first, second] = shown.moves.as_slice() else {
+        return Err(Fail::new("other moves"));
+    };
+    Ok(format!(in alloc;
+        "{} {} {} {} {} {} {first} {second} {}",
+        viewed.event.as_str(),
+        viewed.first.as_str(),
+        viewed.second.as_str(),
+        shown.ply,
+        shown.left_first,
+        shown.left_second,
+        shown.position.as_str()
+    )?)
+}
+
+#[test]
+fn a_game_is_shown(rt: HostRuntime) -> Result<(), Fail> {
+    let alloc = rt.alloc();
+    let mut club = played(alloc)?;
+    assert!(rt; club.view_game(alloc, 2)?.is_none());
+    let viewed = club.view_game(alloc, 1)?.ok_or("a game")?;
+    let wanted = format!(in alloc; "autumn anna bert 2 5 5 32-28 19-23 {AFTER_19_23}")?;
+    assert!(rt; line_of(alloc, &viewed)?.as_str() == wanted.as_str());
+    assert!(rt; viewed.played.offer == None);
+    assert!(rt; viewed.played.end.is_none());
+    assert!(rt; viewed.played.result == None);
+    Ok(())
 }
 
 #[test]
