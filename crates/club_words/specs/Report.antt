@@ -6,18 +6,20 @@ use Rattle.club_core.specs.declared.requests.Who.TheVariants.{Officer}
 use Rattle.club_core.specs.declared.requests.Command.{Command}
 use Rattle.club_core.specs.declared.answers.Outcome.{Outcome}
 use Rattle.club_core.specs.declared.answers.Outcome.TheVariants as outcome
-use Rattle.club_core.specs.declared.refusals.Refusal.TheVariants.{UnknownGame}
+use Rattle.club_core.specs.declared.refusals.Refusal.TheVariants.{UnknownEvent, UnknownGame}
 use Rattle.club_core.specs.AnswerText.{outcome_text}
 use Rattle.club_core.specs.State.{Request}
 use Rattle.club_rows.specs.Club.{ClubState}
+use Rattle.store.specs.declared.fault.OpenFault.{OpenFault}
 use Rattle.store.specs.declared.fault.OpenFault.TheVariants as open_fault
 use Rattle.store.specs.declared.fault.StoreFault.TheVariants as store_fault
 use Rattle.store.specs.FaultText.{open_fault_text, store_fault_text}
 use Rattle.store.specs.Lives.{Session, IsLed, answered_session, cut_session}
 use Rattle.store.specs.Steps.{request}
+use Rattle.store.specs.CrossTable.{AreTableRows}
 use Rattle.store.specs.Stored.{AreLegalRows}
 use Rattle.club_words.specs.declared.report.Report.{Report}
-use Rattle.club_words.specs.declared.report.Report.TheVariants.{Ready, Answered, Listed, Unopened, Stopped, InUse, NotOpened, NoMoment, NoMemory}
+use Rattle.club_words.specs.declared.report.Report.TheVariants.{Ready, Sound, Answered, Listed, Unopened, Stopped, InUse, NotOpened, NoMoment, NoMemory}
 use Rattle.club_words.specs.declared.words.Task.{Task}
 use Rattle.club_words.specs.declared.words.Task.TheVariants as task
 
@@ -29,6 +31,7 @@ lines (text ∷ texts) = text ++ codes "\n" ++ lines texts
 -- what is printed of an order
 abbrev pub report_text : Report → List ℕ
 report_text Ready = codes "ready\n"
+report_text Sound = codes "sound\n"
 report_text (Answered outcome) = outcome_text outcome ++ codes "\n"
 report_text (Listed texts) = lines (map (λ t. string_bytes t) texts.items)
 report_text (Unopened fault) = codes "store " ++ open_fault_text fault ++ codes "\n"
@@ -46,6 +49,7 @@ outcome_status (outcome.Refused refusal) = 1
 -- 0 for what was done, 1 for what was refused, 3 for a fault
 abbrev pub report_status : Report → ℕ
 report_status Ready = 0
+report_status Sound = 0
 report_status (Answered outcome) = outcome_status outcome
 report_status (Listed texts) = 0
 report_status (Unopened fault) = 3
@@ -71,6 +75,8 @@ request_sessions asked _ = []
 abbrev pub task_sessions : Task → ℕ → Report → List Session
 task_sessions task.Init moment report = []
 task_sessions (task.Legal game) moment report = []
+task_sessions (task.Table name) moment report = []
+task_sessions task.Verify moment report = []
 task_sessions (task.Request command) moment report = request_sessions (given command moment) report
 
 -- the command was answered so, or a call of the database failed or memory was refused
@@ -84,11 +90,29 @@ abbrev pub IfRequest : Task → (Command → Type 0) → Type 0
 IfRequest task.Init Holds = ⊤
 IfRequest (task.Request command) Holds = Holds command
 IfRequest (task.Legal game) Holds = ⊤
+IfRequest (task.Table name) Holds = ⊤
+IfRequest task.Verify Holds = ⊤
 
 abbrev pub IfLegal : Task → (ℕ → Type 0) → Type 0
 IfLegal task.Init Holds = ⊤
 IfLegal (task.Request command) Holds = ⊤
 IfLegal (task.Legal game) Holds = Holds game
+IfLegal (task.Table name) Holds = ⊤
+IfLegal task.Verify Holds = ⊤
+
+abbrev pub IfTable : Task → (List ℕ → Type 0) → Type 0
+IfTable task.Init Holds = ⊤
+IfTable (task.Request command) Holds = ⊤
+IfTable (task.Legal game) Holds = ⊤
+IfTable (task.Table name) Holds = Holds (string_bytes name)
+IfTable task.Verify Holds = ⊤
+
+abbrev pub IfVerify : Task → Type 0 → Type 0
+IfVerify task.Init Holds = ⊤
+IfVerify (task.Request command) Holds = ⊤
+IfVerify (task.Legal game) Holds = ⊤
+IfVerify (task.Table name) Holds = ⊤
+IfVerify task.Verify Holds = Holds
 
 -- the legal moves of the game are listed, or there is no such game; or a call of the database failed, or memory was refused
 abbrev pub ListsMoves : ClubState → ℕ → Report → Type 0
@@ -97,6 +121,26 @@ ListsMoves s game (Answered answer) = (answer ≡ outcome.Refused UnknownGame) �
 ListsMoves s game (Unopened fault) = (fault ≡ open_fault.Store) ⊎ (fault ≡ open_fault.Memory)
 ListsMoves s game (Stopped fault) = (fault ≡ store_fault.Store) ⊎ (fault ≡ store_fault.Memory)
 ListsMoves s game _ = ⊥
+
+-- the lines of the cross table of the event of this name are listed, or there is no such event; or a call of the
+-- database failed, or memory was refused
+abbrev pub ListsTable : ClubState → List ℕ → Report → Type 0
+ListsTable s name (Listed texts) = AreTableRows s name (Some (map (λ t. string_bytes t) texts.items))
+ListsTable s name (Answered answer) = (answer ≡ outcome.Refused UnknownEvent) × AreTableRows s name None
+ListsTable s name (Unopened fault) = (fault ≡ open_fault.Store) ⊎ (fault ≡ open_fault.Memory)
+ListsTable s name (Stopped fault) = (fault ≡ store_fault.Store) ⊎ (fault ≡ store_fault.Memory)
+ListsTable s name _ = ⊥
+
+-- the file was found sound; or a call of the database failed, or memory was refused
+abbrev pub IsPassed : Report → Type 0
+IsPassed Sound = ⊤
+IsPassed (Unopened fault) = (fault ≡ open_fault.Store) ⊎ (fault ≡ open_fault.Memory)
+IsPassed _ = ⊥
+
+-- the fault of a report that the file was not taken as a club's
+abbrev pub IfUnopened : Report → (OpenFault → Type 0) → Type 0
+IfUnopened (Unopened fault) Holds = Holds fault
+IfUnopened _ Holds = ⊤
 
 -- The club with nothing in it stands; or none was made, and there is still no table, or it stands nevertheless.
 abbrev pub IsBegun : Report → Trees → Type 0

@@ -1,19 +1,24 @@
 //! What an order does over a connection.
 
-ghost use Rattle.std.specs.Prelude.{◌≡◌, ◌≤◌, ◌++◌, ℕ, map, false, string_bytes};
+ghost use Rattle.std.specs.Prelude.{◌≡◌, ◌≤◌, ◌⊎◌, ◌++◌, ℕ, List, map, false, string_bytes};
 ghost use Rattle.sqlite.specs.State.{HasCleanDisk, Opens, IsLive};
 ghost use Rattle.sqlite.specs.Held.{state};
 ghost use Rattle.sqlite_trees.specs.View.{doubt};
 ghost use Rattle.store_tables.specs.Contents.{IsEmpty};
-ghost use Rattle.store_tables.specs.Club.{Leaves};
+ghost use Rattle.store_tables.specs.Club.{Leaves, IsExactly, IsOpened};
+ghost use Rattle.store_tables.specs.Tables.{club_schema};
 ghost use Rattle.club_core.specs.Answer.{answered, outcome_of};
 ghost use Rattle.club_rows.specs.Club.{ClubState, IsClub, tables};
 ghost use Rattle.store.specs.Steps.{club_step};
 ghost use Rattle.std.specs.Option.{option_map};
+ghost use Rattle.store.specs.Blames.{NamesTable, NamesSchema};
+ghost use Rattle.store.specs.CrossTable.{AreTableRows};
 ghost use Rattle.store.specs.Lives.{IsLed};
+ghost use Rattle.store.specs.Places.{NamesRows};
 ghost use Rattle.store.specs.Stored.{AreLegalRows};
 ghost use Rattle.club_words.specs.declared.words.Task.TheVariants.{Init};
-ghost use Rattle.club_words.specs.Report.{given, Answers, IfRequest, IfLegal, ListsMoves, IsBegun, request_sessions, task_sessions};
+ghost use Rattle.club_words.specs.Report.{given, Answers, IfRequest, IfLegal, IfTable, IfVerify, IfUnopened};
+ghost use Rattle.club_words.specs.Report.{ListsMoves, ListsTable, IsPassed, IsBegun, request_sessions, task_sessions};
 
 use crate::report::Report;
 use crate::words::Task;
@@ -127,10 +132,81 @@ fn legal<S: Alter>(alloc: Global, conn: Connection<S>, game: u64) -> (Report, Co
     }
 }
 
+// What is reported of the cross table of an event, where none is that of no event.
+fn tabled(found: Option<Vec<String>>) -> Report
+    ensures { (s : ClubState) (name : List ℕ) →
+        AreTableRows s name (option_map (λ lines. map (λ t. string_bytes t) lines.items) found) →
+        ListsTable s name result }
+{
+    match found {
+        Some(lines) => Report::Listed(lines),
+        None => Report::Answered(Outcome::Refused(Refusal::UnknownEvent)),
+    }
+}
+
+// Shows the cross table of an event.
+fn table<S: Alter>(alloc: Global, conn: Connection<S>, event: &str) -> (Report, Connection<S>)
+    requires { conn.in_transaction ≡ false }
+    ensures idle { result.1.in_transaction ≡ false }
+    ensures clean { doubt (state S.Store conn).is_clean ≤ doubt (state S.Store result.1).is_clean }
+    ensures table { HasCleanDisk (state S.Store result.1) → Opens (state S.Store conn) → IsLive (state S.Store conn) →
+        (s : ClubState) → IsClub s → Leaves (tables s) (state S.Store conn).committed.trees →
+        ListsTable s event.now result.0 }
+    ensures led { HasCleanDisk (state S.Store result.1) → Opens (state S.Store conn) → IsLive (state S.Store conn) →
+        (sessions : _) → IsLed sessions (state S.Store conn).committed.trees →
+        (db : _) → (state S.Store result.1).may_leave db → IsLed sessions db }
+{
+    holds_exactly(&conn);
+    holds_what_sessions_left(&conn);
+    leaves_what_sessions_left(&conn);
+    let mut club = match adopt(alloc, conn) {
+        Ok(club) => club,
+        Err(unopened) => return (Report::Unopened(unopened.fault), unopened.conn),
+    };
+    match club.table_rows(alloc, event) {
+        Ok(found) => {
+            let conn = club.into_connection();
+            leaves_what_sessions_left(&conn);
+            (tabled(found), conn)
+        }
+        Err(fault) => (Report::Stopped(fault), club.into_connection()),
+    }
+}
+
+// Tests that the rows are those of a club.
+fn verify<S: Alter>(alloc: Global, conn: Connection<S>) -> (Report, Connection<S>)
+    requires { conn.in_transaction ≡ false }
+    ensures idle { result.1.in_transaction ≡ false }
+    ensures clean { doubt (state S.Store conn).is_clean ≤ doubt (state S.Store result.1).is_clean }
+    ensures passes { HasCleanDisk (state S.Store result.1) → Opens (state S.Store conn) → IsLive (state S.Store conn) →
+        (s : ClubState) → IsClub s → Leaves (tables s) (state S.Store conn).committed.trees → IsPassed result.0 }
+    ensures sound { HasCleanDisk (state S.Store result.1) → IsOpened (state S.Store conn) → result.0 ≡ Report.Sound →
+        (s : ClubState) × IsClub s × IsExactly (tables s) (state S.Store result.1) }
+    ensures blames { HasCleanDisk (state S.Store result.1) → (state S.Store conn).now.schema ≡ club_schema →
+        IfUnopened result.0 (λ fault. NamesTable (state S.Store conn).now fault ⊎ (NamesSchema
+        (state S.Store conn).now fault ⊎ NamesRows (state S.Store conn).now fault)) }
+    ensures led { HasCleanDisk (state S.Store result.1) → Opens (state S.Store conn) → IsLive (state S.Store conn) →
+        (sessions : _) → IsLed sessions (state S.Store conn).committed.trees →
+        (db : _) → (state S.Store result.1).may_leave db → IsLed sessions db }
+{
+    holds_exactly(&conn);
+    holds_what_sessions_left(&conn);
+    leaves_what_sessions_left(&conn);
+    match adopt(alloc, conn) {
+        Ok(club) => {
+            let conn = club.into_connection();
+            leaves_what_sessions_left(&conn);
+            (Report::Sound, conn)
+        }
+        Err(found) => (Report::Unopened(found.fault), found.conn),
+    }
+}
+
 /// Does what is asked for over a connection that was just opened, at that moment, and gives the connection back: makes
-/// a club, gives the club that stands there a command of the officer's, or lists the legal moves of a game. The answer
-/// is the machine's. Sessions that led to what the opening found lead, with this request as one more, to whatever a
-/// stop leaves; where there was no table, and a club was to be made, none led to it, or there is no table still.
+/// a club, gives the club that stands there a command of the officer's, lists the legal moves of a game, shows the
+/// cross table of an event, or tests that the rows are those of a club. The answer is the machine's. Sessions that led
+/// to what the opening found lead, with this request as one more, to whatever a stop leaves; where there was no table,
+/// and a club was to be made, none led to it, or there is no table still.
 pub fn act<S: Alter>(
     alloc: Global,
     conn: Connection<S>,
@@ -150,6 +226,18 @@ pub fn act<S: Alter>(
     ensures moves { HasCleanDisk (state S.Store result.1) → Opens (state S.Store conn) → IsLive (state S.Store conn) →
         (s : ClubState) → IsClub s → Leaves (tables s) (state S.Store conn).committed.trees →
         IfLegal task.now (λ game. ListsMoves s game result.0) }
+    ensures table { HasCleanDisk (state S.Store result.1) → Opens (state S.Store conn) → IsLive (state S.Store conn) →
+        (s : ClubState) → IsClub s → Leaves (tables s) (state S.Store conn).committed.trees →
+        IfTable task.now (λ name. ListsTable s name result.0) }
+    ensures passes { HasCleanDisk (state S.Store result.1) → Opens (state S.Store conn) → IsLive (state S.Store conn) →
+        (s : ClubState) → IsClub s → Leaves (tables s) (state S.Store conn).committed.trees →
+        IfVerify task.now (IsPassed result.0) }
+    ensures sound { HasCleanDisk (state S.Store result.1) → IsOpened (state S.Store conn) →
+        IfVerify task.now (result.0 ≡ Report.Sound →
+        (s : ClubState) × IsClub s × IsExactly (tables s) (state S.Store result.1)) }
+    ensures blames { HasCleanDisk (state S.Store result.1) → (state S.Store conn).now.schema ≡ club_schema →
+        IfVerify task.now (IfUnopened result.0 (λ fault. NamesTable (state S.Store conn).now fault ⊎ (NamesSchema
+        (state S.Store conn).now fault ⊎ NamesRows (state S.Store conn).now fault))) }
     ensures led { HasCleanDisk (state S.Store result.1) → Opens (state S.Store conn) → IsLive (state S.Store conn) →
         (sessions : _) → IsLed sessions (state S.Store conn).committed.trees →
         (db : _) → (state S.Store result.1).may_leave db →
@@ -159,5 +247,7 @@ pub fn act<S: Alter>(
         Task::Init => init(alloc, conn),
         Task::Request(command) => request(alloc, conn, command, moment),
         Task::Legal(game) => legal(alloc, conn, *game),
+        Task::Table(event) => table(alloc, conn, event.as_str()),
+        Task::Verify => verify(alloc, conn),
     }
 }

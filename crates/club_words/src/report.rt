@@ -28,7 +28,9 @@ pub enum Report {
     Ready,
     /// A command was answered.
     Answered(Outcome),
-    /// The legal moves of a game, as they are written.
+    /// The rows of the file are those of a club.
+    Sound,
+    /// Lines that were asked for: the legal moves of a game, as they are written, or the cross table of an event.
     Listed(Vec<String>),
     /// No club was made, or none was found.
     Unopened(OpenFault),
@@ -51,6 +53,7 @@ impl Report {
     {
         match self {
             Report::Ready => DONE,
+            Report::Sound => DONE,
             Report::Answered(Outcome::Accepted(_)) => DONE,
             Report::Answered(Outcome::Repeated(_)) => DONE,
             Report::Answered(Outcome::Refused(_)) => REFUSED,
@@ -65,13 +68,13 @@ impl Report {
     }
 }
 
-// Adds each of the moves to a text, a line each.
-fn write_lines(text: &mut String, moves: &[String]) -> Result<(), AllocError>
+// Adds each of the lines to a text, and ends it.
+fn write_lines(text: &mut String, listed: &[String]) -> Result<(), AllocError>
     ensures { OnOk result (string_bytes text.new
-        ≡ string_bytes text.old ++ lines (map (λ t. string_bytes t) moves.now)) }
+        ≡ string_bytes text.old ++ lines (map (λ t. string_bytes t) listed.now)) }
 {
-    for made in moves {
-        writeln!(text, "{made}")?;
+    for line in listed {
+        writeln!(text, "{line}")?;
     }
     Ok(())
 }
@@ -82,8 +85,9 @@ fn write_report(text: &mut String, report: &Report) -> Result<(), AllocError>
 {
     match report {
         Report::Ready => writeln!(text, "ready"),
+        Report::Sound => writeln!(text, "sound"),
         Report::Answered(outcome) => writeln!(text, "{outcome}"),
-        Report::Listed(moves) => write_lines(text, moves.as_slice()),
+        Report::Listed(listed) => write_lines(text, listed.as_slice()),
         Report::Unopened(fault) => writeln!(text, "store {fault}"),
         Report::Stopped(fault) => writeln!(text, "store {fault}"),
         Report::InUse => writeln!(text, "store 73 Store"),

@@ -16,6 +16,10 @@ pub enum Task {
     Request(Command),
     /// List the legal moves of a game.
     Legal(u64),
+    /// Show the cross table of the event of a name.
+    Table(String),
+    /// Test that the rows of the file are those of a club.
+    Verify,
 }
 
 /// A file, the moment that is to count if the words give one, and what to do.
@@ -127,6 +131,14 @@ fn legal_words<'a>(alloc: Global) -> Result<clap::Command<'a>, AllocError> {
         .arg(number(alloc, "GAME", "The game's number, as 'seat' printed it"))
 }
 
+fn table_words<'a>(alloc: Global) -> Result<clap::Command<'a>, AllocError> {
+    clap::Command::new(alloc, "table")
+        .about(
+            "Shows the cross table of an event: who has an ended game in it, by points, wins and id",
+        )
+        .arg(word(alloc, "EVENT", "The event's name"))
+}
+
 // The program's words, as the parser takes them.
 fn club_words<'a>(alloc: Global) -> Result<clap::Command<'a>, AllocError> {
     let now = Arg::new(alloc, "SECONDS")
@@ -136,6 +148,9 @@ fn club_words<'a>(alloc: Global) -> Result<clap::Command<'a>, AllocError> {
         .value_parser(value_parser!(u64).range(0..=253_402_300_799));
     let init = clap::Command::new(alloc, "init").about(
         "Makes the tables of a club in an empty file",
+    );
+    let verify = clap::Command::new(alloc, "verify").about(
+        "Reads and replays the whole file, and says that it is sound, or which table is damaged",
     );
     clap::Command::new(alloc, "club")
         .about(
@@ -153,7 +168,9 @@ fn club_words<'a>(alloc: Global) -> Result<clap::Command<'a>, AllocError> {
         .subcommand(event_words(alloc)?)?
         .subcommand(seat_words(alloc)?)?
         .subcommand(move_words(alloc)?)?
-        .subcommand(legal_words(alloc)?)
+        .subcommand(legal_words(alloc)?)?
+        .subcommand(table_words(alloc)?)?
+        .subcommand(verify)
 }
 
 // A copy of a word that has to be there.
@@ -198,6 +215,8 @@ fn task_of(alloc: Global, name: &str, words: &ArgMatches<'_>) -> Result<Task, Ba
     let command = match name {
         "init" => return Ok(Task::Init),
         "legal" => return Ok(Task::Legal(number_of(words, "GAME"))),
+        "table" => return Ok(Task::Table(text(alloc, words, "EVENT")?)),
+        "verify" => return Ok(Task::Verify),
         "member" => Command::AddMember(AddMember {
             name: text(alloc, words, "NAME")?,
             key: text(alloc, words, "KEY")?,

@@ -85,6 +85,7 @@ fn says<R: Abort + AllocGlobal>(
 fn the_first_path(rt: HostRuntime) -> Result<(), Fail> {
     let conn = Connection::open_in_memory(rt.alloc())?;
     let conn = says(&rt, conn, "member anna keyanna1", FAULT, "store 70 Foreign")?;
+    let conn = says(&rt, conn, "verify", FAULT, "store 70 Foreign")?;
     let conn = says(&rt, conn, "init", DONE, "ready")?;
     let conn = says(&rt, conn, "member anna keyanna1", DONE, "accepted member 1")?;
     let conn = says(&rt, conn, "member bert keybert2", DONE, "accepted member 2")?;
@@ -110,6 +111,15 @@ fn the_first_path(rt: HostRuntime) -> Result<(), Fail> {
         "31-26\n31-27\n32-27\n32-28\n33-28\n33-29\n34-29\n34-30\n35-30",
     )?;
     let conn = says(&rt, conn, "legal 2", REFUSED, "refused 53 UnknownGame")?;
+    let conn = says(&rt, conn, "table autumn", DONE, "Event autumn")?;
+    let conn = says(
+        &rt,
+        conn,
+        "table winter",
+        REFUSED,
+        "refused 52 UnknownEvent",
+    )?;
+    let conn = says(&rt, conn, "verify", DONE, "sound")?;
     let conn = says(&rt, conn, "move 1 1 32-28", DONE, "accepted ply 1 32-28")?;
     let conn = says(&rt, conn, "move 1 1 32-28", DONE, "repeated ply 1 32-28")?;
     let conn = says(&rt, conn, "move 1 1 32-27", REFUSED, "refused 58 Conflict")?;
@@ -143,6 +153,7 @@ fn words_that_are_no_order(rt: HostRuntime) -> Result<(), Fail> {
     assert!(rt; are_bad(alloc, &["club"])?);
     assert!(rt; are_bad(alloc, &["club", "--help"])?);
     assert!(rt; are_bad(alloc, &["club", "c.db", "sit"])?);
+    assert!(rt; are_bad(alloc, &["club", "c.db", "table"])?);
     assert!(rt; are_bad(alloc, &["club", "--now", "253402300800", "c.db", "init"])?);
     assert!(rt; !are_bad(alloc, &["club", "--now", "253402300799", "c.db", "init"])?);
     assert!(rt; are_bad(alloc, &["club", "--now", "1", "c.db", "init", "more"])?);

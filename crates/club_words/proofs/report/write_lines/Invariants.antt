@@ -2,7 +2,7 @@ use Rattle.std.specs.Prelude.{◌≡◌, ◌++◌, map, drop, string_bytes}
 use Rattle.club_words.specs.Report.{lines}
 use Rattle.club_words.proofs.report.write_lines.Given as goal
 
-abbrev pub invariant-loop-made : goal.invariant-loop-made
-invariant-loop-made l =
-    string_bytes l.text ++ lines (map (λ t. string_bytes t) (drop l.made-index l.moves))
-    ≡ string_bytes l.initial.text ++ lines (map (λ t. string_bytes t) l.moves)
+abbrev pub invariant-loop-line : goal.invariant-loop-line
+invariant-loop-line l =
+    string_bytes l.text ++ lines (map (λ t. string_bytes t) (drop l.line-index l.listed))
+    ≡ string_bytes l.initial.text ++ lines (map (λ t. string_bytes t) l.listed)

@@ -1,0 +1,31 @@
+use Rattle.std.proofs.Common.{◌≡◌, sym, subst}
+use Rattle.sqlite.specs.State.{HasCleanDisk}
+use Rattle.sqlite.specs.Held.{state}
+use Rattle.club_rows.specs.Club.{ClubState, IsClub, tables}
+use Rattle.store_tables.specs.Club.{IsExactly}
+use Rattle.store.specs.Lives.{Stands}
+use Rattle.club_words.proofs.SessionLemmas.{stands_still}
+use Rattle.club_words.proofs.doing.verify.Goals as goal
+
+pub returns-in-Ok-clause-sound : goal.returns-in-Ok-clause-sound
+returns-in-Ok-clause-sound g c clean opened is =
+    let same = c.into_connection-conn.ensures.same in
+    let taken = subst (λ h. HasCleanDisk (state g.S.Store h)) same clean in
+    let (s, is_club, at) = c.in-Ok.ensures.found taken opened in
+    (s, is_club, subst (λ h. IsExactly (tables s) (state g.S.Store h)) (sym same) at)
+
+pub returns-in-Ok-clause-led : goal.returns-in-Ok-clause-led
+returns-in-Ok-clause-led g c clean opens live sessions led db left =
+    let same = c.into_connection-conn.ensures.same in
+    let taken = subst (λ h. HasCleanDisk (state g.S.Store h)) same clean in
+    let at = stands_still sessions _ _ (c.in-Ok.ensures.same taken) (c.holds_what_sessions_left.ensures opens live sessions led) in
+    c.leaves_what_sessions_left-in-Ok.ensures sessions (subst (λ h. Stands sessions (state g.S.Store h)) (sym same) at) db left
+
+pub returns-in-Err-clause-passes : goal.returns-in-Err-clause-passes
+returns-in-Err-clause-passes g c clean opens live s is_club left =
+    c.in-Err.ensures.good clean s is_club (c.holds_exactly.ensures opens live _ _ left)
+
+pub returns-in-Err-clause-led : goal.returns-in-Err-clause-led
+returns-in-Err-clause-led g c clean opens live sessions led db left =
+    let at = c.holds_what_sessions_left.ensures opens live sessions led in
+    c.leaves_what_sessions_left.ensures sessions at db (c.in-Err.ensures.reads.may clean db left)
