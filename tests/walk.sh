@@ -143,39 +143,61 @@ copies() {
     if [ -e "$1-wal" ]; then cp "$1-wal" "$2-wal"; fi
 }
 
-# A move with each of its requests for memory refused in turn, up to the last one. After a fault the tables are as before,
-# and the move can be made (which is tried after every sixty-first); where the program could do without that memory, the
-# move stands whole.
+# A move with each of its requests for memory refused in turn, up to the last one; one lane of this for each processor. After a
+# fault the tables are as before, and the move can be made (which is tried after every sixty-first); where the program could do
+# without that memory, the move stands whole.
 refused_memory() {
     gcc -shared -fPIC -O1 -o refuse.so "$top/tests/refuse.c" -ldl || return 1
-    copies before.db r.db
-    local before after said status number=0 faults=0
-    before=$(told r.db)
+    local lanes lane before after requests faults well=0 all=0 failed=0
+    lanes=$(nproc)
+    before=$(told before.db)
     after=$(told c.db)
+    for lane in $(seq "$lanes"); do
+        mkdir "lane$lane"
+        cp before.db* "lane$lane/"
+        (cd "lane$lane" && refused_in_lane "$lane" "$lanes" "$before" "$after" > told) &
+    done
+    for lane in $(seq "$lanes"); do
+        if ! wait -n; then well=1; fi
+    done
+    for lane in $(seq "$lanes"); do
+        grep -v '^[0-9]* [0-9]*$' "lane$lane/told"
+        read -r requests faults < <(grep '^[0-9]* [0-9]*$' "lane$lane/told")
+        all=$((all + ${requests:-0}))
+        failed=$((failed + ${faults:-0}))
+    done
+    echo "  $all requests, $failed faults"
+    [ "$well" -eq 0 ] && [ "$all" -gt 1000 ] && [ "$failed" -gt 1000 ]
+}
+
+# refused_in_lane FIRST STEP BEFORE AFTER: refuses the first request, and each so many further on.
+refused_in_lane() {
+    local said status number=$1 tried=0 faults=0
     while [ "$number" -lt 1000000 ]; do
-        number=$((number + 1))
         copies before.db r.db
         rm -f refused
-        said=$(REFUSE=$number LD_PRELOAD=./refuse.so "$top/build/club" --now 1000 r.db move 1 2 19-23 2>&1)
+        said=$(REFUSE=$number LD_PRELOAD=../refuse.so "$top/build/club" --now 1000 r.db move 1 2 19-23 2>&1)
         status=$?
         if [ ! -e refused ]; then break; fi
+        tried=$((tried + 1))
         case "$status:$said" in
             '3:store 75 Memory' | '3:store 73 Store')
                 faults=$((faults + 1))
-                if ! stands "$before"; then echo "  after $number was refused the tables are not those before" && return 1; fi
-                if [ $((number % 61)) -ne 0 ]; then continue; fi
-                said=$("$top/build/club" --now 1000 r.db move 1 2 19-23 2>&1)
-                if [ "$said" != 'accepted ply 2 19-23' ]; then echo "  after $number was refused: $said" && return 1; fi
+                if ! stands "$3"; then echo "  after $number was refused the tables are not those before" && return 1; fi
+                if [ $((number % 61)) -eq 0 ]; then
+                    said=$("$top/build/club" --now 1000 r.db move 1 2 19-23 2>&1)
+                    if [ "$said" != 'accepted ply 2 19-23' ]; then echo "  after $number was refused: $said" && return 1; fi
+                fi
                 ;;
             '0:accepted ply 2 19-23')
                 copies r.db s.db
-                if [ "$(told s.db)" != "$after" ]; then echo "  done without $number, and the tables are not those after" && return 1; fi
+                if [ "$(told s.db)" != "$4" ]; then echo "  done without $number, and the tables are not those after" && return 1; fi
                 ;;
             *) echo "  refused $number: $status $said" && return 1 ;;
         esac
+        number=$((number + $2))
     done
-    echo "  $((number - 1)) requests, $faults faults"
-    [ "$number" -gt 1000 ] && [ "$faults" -gt 1000 ]
+    echo "$tried $faults"
 }
 
 # stands BEFORE: r.db has these tables: it is the file before, byte for byte, or sqlite3 reads the same rows.
