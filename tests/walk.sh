@@ -49,6 +49,7 @@ for row in sqlite3.connect("c.db").execute(sys.argv[1]):
 "$top/club" > /dev/null 2>&1 # builds it, where it is not built
 at() { says "$1" "$2" --now 1000 c.db "${@:3}"; }
 at 3 'store 70 Foreign' member anna keyanna1
+at 3 'store 70 Foreign' verify
 at 0 'ready' init
 at 0 'accepted member 1' member anna keyanna1
 at 0 'repeated member 1' member anna keyanna1
@@ -78,6 +79,9 @@ at 1 'refused 20 BadText 3' move 1 3 28x
 says 1 'refused 60 OutOfTime' --now 1066 c.db move 1 3 28x19
 at 0 '28x19' legal 1
 at 1 'refused 53 UnknownGame' legal 2
+at 0 'Event autumn' table autumn
+at 1 'refused 52 UnknownEvent' table winter
+at 0 'sound' verify
 at 3 'store 70 Foreign' init
 says 3 'store 73 Store' --now 1000 nowhere/c.db init
 says 2 'error: a word is not UTF-8' --now 1000 c.db $'\xff'
@@ -121,6 +125,11 @@ both 0 'accepted ply 12 7b8b end Fourfold' move 1 12 7b8b
 both 0 'repeated ply 12 7b8b end Fourfold' move 1 12 7b8b
 both 1 'refused 56 GameOver' move 1 13 2h3h
 both 0 '' legal 1
+both 0 'Event fuji
+  1 anna                         1     1     0     1     0     -     1
+  2 bert                         1     1     0     1     0     1     -' table fuji
+both 0 'Event autumn' table autumn
+both 0 'sound' verify
 
 # told FILE: all rows of all tables, as sqlite3 reads them.
 told() {
@@ -142,6 +151,16 @@ copies() {
     cp "$1" "$2"
     if [ -e "$1-wal" ]; then cp "$1-wal" "$2-wal"; fi
 }
+
+# A row of scores is gone.
+copies both.db broken.db
+if command -v sqlite3 > /dev/null 2>&1; then
+    sqlite3 broken.db 'DELETE FROM scores WHERE member = 1'
+else
+    python3 -c 'import sqlite3
+with sqlite3.connect("broken.db") as db: db.execute("DELETE FROM scores WHERE member = 1")'
+fi
+says 3 'store 72 Damaged scores' --now 1000 broken.db verify
 
 # A move with each of its requests for memory refused in turn, up to the last one; one lane of this for each processor. After a
 # fault the tables are as before, and the move can be made (which is tried after every sixty-first); where the program could do
