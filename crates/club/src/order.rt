@@ -13,7 +13,8 @@ ghost use Rattle.store.specs.Steps.{club_step};
 ghost use Rattle.lives.specs.Finds.{IsFoundIn, AreLed, AreVoid};
 ghost use Rattle.club_words.specs.declared.words.Task.TheVariants.{Init};
 ghost use Rattle.club_words.specs.declared.report.Report.TheVariants.{InUse, NotOpened};
-ghost use Rattle.club_words.specs.Report.{given, Answers, IfRequest, IfLegal, ListsMoves, IsBegun, task_sessions};
+ghost use Rattle.club_words.specs.Report.{given, Answers, IfRequest, IfLegal, IfTable, IfVerify};
+ghost use Rattle.club_words.specs.Report.{ListsMoves, ListsTable, IsPassed, IsBegun, task_sessions};
 
 use clocks::Moment;
 use club_words::{Order, Report, act};
@@ -32,12 +33,14 @@ fn unopened(error: Error) -> Report
 }
 
 /// Does what is ordered, at that moment, over the files of the order's path, which hold at first what `S` stands for:
-/// opens them, makes a club, gives the club that stands there a command of the officer's or lists a game's moves, and
-/// closes. Gives what it came to, and the files where they were opened.
+/// opens them, makes a club, gives the club that stands there a command of the officer's, lists a game's moves, shows
+/// the cross table of an event or tests that the rows are a club's, and closes. Gives what it came to, and the files
+/// where they were opened.
 ///
-/// Where sessions led to whatever an opening finds in the files, they lead, with this command as one more, to whatever an
-/// opening finds in them after it, of whatever a stop leaves. Where they were new, and a club was to be made, no session
-/// leads to that, or there is no table still. The answer is the machine's, and a listing that of the game's legal moves.
+/// Where sessions led to whatever an opening finds in the files, they lead, with this command as one more, to whatever
+/// an opening finds in them after it, of whatever a stop leaves. Where they were new, and a club was to be made, no
+/// session leads to that, or there is no table still. The answer is the machine's, a listing that of the game's legal
+/// moves or of the event's cross table, and a club's files are found sound.
 pub fn obey<S: Start>(
     rt: &HostRuntime,
     order: &Order,
@@ -56,6 +59,12 @@ pub fn obey<S: Start>(
     ensures moves { IfSome result.1 (λ store. IsClean (store_view store) →
         (s : ClubState) → IsClub s → ((found : Trees) → IsFoundIn (image_at S.Start) found → Leaves (tables s) found) →
         IfLegal order.entry.now.task (λ game. ListsMoves s game result.0)) }
+    ensures table { IfSome result.1 (λ store. IsClean (store_view store) →
+        (s : ClubState) → IsClub s → ((found : Trees) → IsFoundIn (image_at S.Start) found → Leaves (tables s) found) →
+        IfTable order.entry.now.task (λ name. ListsTable s name result.0)) }
+    ensures passes { IfSome result.1 (λ store. IsClean (store_view store) →
+        (s : ClubState) → IsClub s → ((found : Trees) → IsFoundIn (image_at S.Start) found → Leaves (tables s) found) →
+        IfVerify order.entry.now.task (IsPassed result.0)) }
     ensures led { IfSome result.1 (λ store. IsClean (store_view store) →
         (sessions : _) → AreLed sessions (image_at S.Start) →
         (left : Image) → (store_state store).may_leave left →

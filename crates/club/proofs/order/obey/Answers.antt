@@ -37,3 +37,19 @@ returns-clause-moves g c clean s is_club holds =
     let opened = c.in-Ok.ensures.opened before in
     let here = c.in-Ok.ensures.found before in
     c.act-report.ensures.moves after opened.0 opened.1 s is_club (holds _ (record { holds = here.holds; reads = here.reads }))
+
+pub returns-clause-table : goal.returns-clause-table
+returns-clause-table g c clean s is_club holds =
+    let after = was_clean _ _ c.close.ensures.clean clean in
+    let before = was_clean _ _ c.act-report.ensures.clean after in
+    let opened = c.in-Ok.ensures.opened before in
+    let here = c.in-Ok.ensures.found before in
+    c.act-report.ensures.table after opened.0 opened.1 s is_club (holds _ (record { holds = here.holds; reads = here.reads }))
+
+pub returns-clause-passes : goal.returns-clause-passes
+returns-clause-passes g c clean s is_club holds =
+    let after = was_clean _ _ c.close.ensures.clean clean in
+    let before = was_clean _ _ c.act-report.ensures.clean after in
+    let opened = c.in-Ok.ensures.opened before in
+    let here = c.in-Ok.ensures.found before in
+    c.act-report.ensures.passes after opened.0 opened.1 s is_club (holds _ (record { holds = here.holds; reads = here.reads }))
