@@ -1,4 +1,4 @@
-ghost use Rattle.std.specs.Prelude.{◌≡◌, false};
+ghost use Rattle.std.specs.Prelude.{◌≡◌, false, IfOk};
 
 use clocks::Moment;
 use club_core::{AddMember, Answer, Command, Outcome, Refusal, Request, Who};
@@ -162,7 +162,9 @@ fn adopted(alloc: Global, conn: Connection<MemStore>) -> Result<Club<MemStore>, 
 }
 
 /// The database of a club into which these rows were put.
-fn holding(alloc: Global, changes: &Changes) -> Result<Connection<MemStore>, Fail> {
+fn holding(alloc: Global, changes: &Changes) -> Result<Connection<MemStore>, Fail>
+    ensures { IfOk result (λ conn. conn.in_transaction ≡ false) }
+{
     let mut conn = made(alloc)?.into_connection();
     commit_changes(&mut conn, changes)?;
     Ok(conn)
@@ -224,9 +226,6 @@ fn an_empty_database_is_foreign(rt: HostRuntime) -> Result<(), Fail> {
 #[test]
 fn a_club_is_not_made_twice(rt: HostRuntime) -> Result<(), Fail> {
     let conn = holding(rt.alloc(), &whole_day(rt.alloc())?)?;
-    if !conn.is_autocommit() {
-        return Err(Fail::new("a transaction is open"));
-    }
     match create(rt.alloc(), conn) {
         Ok(_) => assert!(rt; false),
         Err(unopened) => {
