@@ -33,15 +33,15 @@ says() {
     fi
 }
 
-# reads TEXT SQL: sqlite3 reads the file so.
+# reads TEXT SQL [FILE]: sqlite3 reads the file so, c.db if none is named.
 reads() {
-    local got
+    local got file=${3:-c.db}
     if command -v sqlite3 > /dev/null 2>&1; then
-        got=$(sqlite3 c.db "$2")
+        got=$(sqlite3 "$file" "$2")
     else
         got=$(python3 -c 'import sqlite3, sys
-for row in sqlite3.connect("c.db").execute(sys.argv[1]):
-    print("|".join("" if cell is None else str(cell) for cell in row))' "$2")
+for row in sqlite3.connect(sys.argv[1]).execute(sys.argv[2]):
+    print("|".join("" if cell is None else str(cell) for cell in row))' "$file" "$2")
     fi
     verdict "sqlite3 $2" "$1" "$got"
 }
@@ -79,6 +79,16 @@ at 1 'refused 20 BadText 3' move 1 3 28x
 says 1 'refused 60 OutOfTime' --now 1066 c.db move 1 3 28x19
 at 0 '28x19' legal 1
 at 1 'refused 53 UnknownGame' legal 2
+at 0 '[Event "autumn"]
+[Date "1970.01.01"]
+[White "anna"]
+[Black "bert"]
+[Result "*"]
+[GameType "20"]
+
+1. 32-28 19-23
+*' export 1
+at 1 'refused 53 UnknownGame' export 2
 at 0 'Event autumn' table autumn
 at 1 'refused 52 UnknownEvent' table winter
 at 0 'sound' verify
@@ -131,6 +141,74 @@ both 0 'Event fuji
 both 0 'Event autumn' table autumn
 both 0 'sound' verify
 
+# Games out of files as other programs write them, each counted once.
+records=$top/tests/records
+both 0 'accepted game 3' import-pdn evening autumn anna bert "$records/evening.pdn"
+both 0 'repeated game 3' import-pdn evening autumn anna bert "$records/evening.pdn"
+both 1 'refused 58 Conflict' import-pdn evening autumn anna bert "$records/draw.pdn"
+both 0 'accepted game 4' import-pdn returns autumn anna bert "$records/returns.pdn"
+both 0 'accepted game 5' import-pdn draw autumn bert anna - < "$records/draw.pdn"
+both 0 'accepted game 6' import-csa resigned fuji anna bert "$records/resigned.csa"
+both 0 'accepted game 7' import-csa floodgate fuji anna bert "$records/floodgate.csa"
+both 0 'accepted game 8' import-csa --part 2 second fuji anna bert "$records/two.csa"
+both 0 'repeated game 8' import-csa --part 2 second fuji anna bert "$records/two.csa"
+both 1 'refused 65 BadValue' import-csa --part 3 third fuji anna bert "$records/two.csa"
+both 1 'refused 65 BadValue' import-csa --part 0 third fuji anna bert "$records/two.csa"
+both 1 'refused 65 BadValue' import-pdn other fuji anna bert "$records/evening.pdn"
+both 1 'refused 41 Version' import-csa other fuji anna bert "$records/evening.pdn"
+both 1 'refused 20 BadText 0' import-pdn other autumn anna bert - < /dev/null
+both 3 'store 76 Input' import-pdn other autumn anna bert nowhere.pdn
+reads '1|1|2|5|2|1|1
+1|2|1|3|1|1|2
+2|1|2|5|2|1|0
+2|2|1|1|0|1|2' 'SELECT * FROM scores ORDER BY 1, 2, 3' both.db
+reads '3|1|32-28|1000|86400
+3|2|19-23|1000|86400
+3|3|28x19|1000|86400
+3|4|14x23|1000|86400
+3|5|37-32|1000|86400
+3|6|10-14|1000|86400' 'SELECT game, ply, text, moment, "left" FROM moves WHERE game = 3 ORDER BY 2' both.db
+reads '3|evening|6|Recorded|2-0' "SELECT id, key, plies, end, result FROM games WHERE key = 'evening'" both.db
+
+# Games out of the club as files, and back in: each text is that of the game, and is read as the same game.
+both 0 "$(cat "$records/fourfold.csa")" export 1
+both 0 'accepted game 9' import-csa fourfold fuji anna bert "$records/fourfold.csa"
+both 0 'accepted game 10' import-csa checkmate fuji anna bert "$records/checkmate.csa"
+both 0 "$(cat "$records/checkmate.csa")" export 10
+both 0 'accepted game 11' import-csa perpetual fuji anna bert "$records/perpetual.csa"
+both 0 "$(cat "$records/perpetual.csa")" export 11
+reads '9|12|Fourfold|1-1
+10|'"$(grep -c '^[-+][0-9]' "$records/checkmate.csa")"'|NoMove|2-0
+11|'"$(grep -c '^[-+][0-9]' "$records/perpetual.csa")"'|PerpetualCheck|0-2' 'SELECT id, plies, "end", result FROM games WHERE id > 8 ORDER BY id' both.db
+both 1 'refused 46 ResultDiffers' import-csa lost fuji anna bert - < <(sed 's/%SENNICHITE/%TORYO/' "$records/fourfold.csa")
+both 0 '[Event "autumn"]
+[Date "1970.01.01"]
+[White "anna"]
+[Black "bert"]
+[Result "2-0"]
+[GameType "20"]
+
+1. 32-28 19-23
+2. 28x19 14x23
+3. 37-32 10-14
+2-0' export 3
+"$top/club" both.db export 3 > evening.pdn
+both 0 'accepted game 12' import-pdn evening2 autumn anna bert evening.pdn
+both 0 'repeated game 12' import-pdn evening2 autumn anna bert evening.pdn
+both 1 'refused 27 ResultDiffers' import-pdn turned autumn anna bert - < <(sed 's/Result "2-0"/Result "0-2"/' evening.pdn)
+both 1 'refused 53 UnknownGame' export 13
+both 0 'sound' verify
+begun() { # each beginning of the record that lacks a part of its last statement is refused
+    local left
+    for left in $(seq 0 $(($(wc -c < evening.pdn) - 2))); do
+        head -c "$left" evening.pdn > begun.pdn
+        if "$top/build/club" --now 1000 both.db import-pdn begun autumn anna bert begun.pdn > /dev/null 2>&1; then
+            echo "  $left bytes are a game" && return 1
+        fi
+    done
+}
+if begun; then echo 'ok beginnings of a record'; else echo 'not ok beginnings of a record'; bad=1; fi
+
 # told FILE: all rows of all tables, as sqlite3 reads them.
 told() {
     local table
@@ -162,19 +240,25 @@ with sqlite3.connect("broken.db") as db: db.execute("DELETE FROM scores WHERE me
 fi
 says 3 'store 72 Damaged scores' --now 1000 broken.db verify
 
-# A move with each of its requests for memory refused in turn, up to the last one; one lane of this for each processor. After a
-# fault the tables are as before, and the move can be made (which is tried after every sixty-first); where the program could do
-# without that memory, the move stands whole.
+# refused_memory EACH WANTED WORD..: the words over before.db, with each so-manieth of their requests for memory refused in turn, up to
+# the last one; one lane of this for each processor. After a fault the tables are as before and what was printed is a beginning of
+# what is wanted, and the words can be given again (which is tried after every sixty-first); where the program could do without that
+# memory, the words are done whole.
 refused_memory() {
     gcc -shared -fPIC -O1 -o refuse.so "$top/tests/refuse.c" -ldl || return 1
+    local each=$1 wanted=$2
+    shift 2
     local lanes lane before after requests faults well=0 all=0 failed=0
     lanes=$(nproc)
+    copies before.db after.db
+    "$top/build/club" --now 1000 after.db "$@" > /dev/null || return 1
     before=$(told before.db)
-    after=$(told c.db)
+    after=$(told after.db)
     for lane in $(seq "$lanes"); do
+        rm -rf "lane$lane"
         mkdir "lane$lane"
         cp before.db* "lane$lane/"
-        (cd "lane$lane" && refused_in_lane "$lane" "$lanes" "$before" "$after" > told) &
+        (cd "lane$lane" && refused_in_lane $((1 + (lane - 1) * each)) $((lanes * each)) "$before" "$after" "$wanted" "$@" > told) &
     done
     for lane in $(seq "$lanes"); do
         if ! wait -n; then well=1; fi
@@ -186,35 +270,39 @@ refused_memory() {
         failed=$((failed + ${faults:-0}))
     done
     echo "  $all requests, $failed faults"
-    [ "$well" -eq 0 ] && [ "$all" -gt 1000 ] && [ "$failed" -gt 1000 ]
+    [ "$well" -eq 0 ] && [ "$all" -gt $((1000 / each)) ] && [ "$failed" -gt $((1000 / each)) ]
 }
 
-# refused_in_lane FIRST STEP BEFORE AFTER: refuses the first request, and each so many further on.
+# refused_in_lane FIRST STEP BEFORE AFTER WANTED WORD..: refuses the first request, and each so many further on.
 refused_in_lane() {
-    local said status number=$1 tried=0 faults=0
+    local said status number=$1 step=$2 before=$3 after=$4 wanted=$5 tried=0 faults=0
+    shift 5
     while [ "$number" -lt 1000000 ]; do
         copies before.db r.db
         rm -f refused
-        said=$(REFUSE=$number LD_PRELOAD=../refuse.so "$top/build/club" --now 1000 r.db move 1 2 19-23 2>&1)
+        said=$(REFUSE=$number LD_PRELOAD=../refuse.so "$top/build/club" --now 1000 r.db "$@" 2>&1)
         status=$?
         if [ ! -e refused ]; then break; fi
         tried=$((tried + 1))
         case "$status:$said" in
-            '3:store 75 Memory' | '3:store 73 Store')
+            3:*'store 75 Memory' | 3:*'store 73 Store')
                 faults=$((faults + 1))
-                if ! stands "$3"; then echo "  after $number was refused the tables are not those before" && return 1; fi
+                if ! stands "$before"; then echo "  after $number was refused the tables are not those before" && return 1; fi
+                if [ "${wanted#"${said%store 7*}"}" = "$wanted" ] && [ -n "${said%store 7*}" ]; then
+                    echo "  refused $number: $said" && return 1
+                fi
                 if [ $((number % 61)) -eq 0 ]; then
-                    said=$("$top/build/club" --now 1000 r.db move 1 2 19-23 2>&1)
-                    if [ "$said" != 'accepted ply 2 19-23' ]; then echo "  after $number was refused: $said" && return 1; fi
+                    said=$("$top/build/club" --now 1000 r.db "$@" 2>&1)
+                    if [ "$said" != "$wanted" ]; then echo "  after $number was refused: $said" && return 1; fi
                 fi
                 ;;
-            '0:accepted ply 2 19-23')
+            0:"$wanted")
                 copies r.db s.db
-                if [ "$(told s.db)" != "$4" ]; then echo "  done without $number, and the tables are not those after" && return 1; fi
+                if [ "$(told s.db)" != "$after" ]; then echo "  done without $number, and the tables are not those after" && return 1; fi
                 ;;
             *) echo "  refused $number: $status $said" && return 1 ;;
         esac
-        number=$((number + $2))
+        number=$((number + step))
     done
     echo "$tried $faults"
 }
@@ -229,8 +317,17 @@ stands() {
 same_log() {
     if [ -e before.db-wal ]; then cmp -s before.db-wal r.db-wal; else [ ! -s r.db-wal ]; fi
 }
+# refuses NAME EACH WANTED WORD..: says how refusing their memory went.
+refuses() {
+    local name=$1
+    shift
+    if refused_memory "$@"; then echo "ok $name with its memory refused in turn"; else echo "not ok $name with its memory refused in turn" && bad=1; fi
+}
 if command -v gcc > /dev/null 2>&1; then
-    if refused_memory; then echo 'ok a move with its memory refused in turn'; else echo 'not ok a move with its memory refused in turn' && bad=1; fi
+    refuses 'a move' 1 'accepted ply 2 19-23' move 1 2 19-23
+    refuses 'an import' 11 'accepted game 2' import-pdn evening autumn anna bert "$records/evening.pdn"
+    copies before.db e.db
+    refuses 'an export' 11 "$("$top/build/club" e.db export 1)" export 1
 fi
 at 0 'accepted ply 3 28x19' move 1 3 28x19
 at 0 'repeated ply 3 28x19' move 1 3 28:19

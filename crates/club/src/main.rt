@@ -8,7 +8,8 @@ use club_words::{BAD_WORDS, BadWords, Order, Report, print, read_words};
 use order::obey;
 use sqlite_disk::Wary;
 use std::alloc::AllocError;
-use std::io::ErrorKind;
+use std::fs::File;
+use std::io::{ErrorKind, Read};
 use std::process::ExitCode;
 use std::thread::sleep;
 use std::time::{Duration, SystemTime, UNIX_EPOCH};
@@ -17,6 +18,9 @@ use std::time::{Duration, SystemTime, UNIX_EPOCH};
 const TURNS: u8 = 50;
 
 const PAUSE_MILLISECONDS: u64 = 100;
+
+// The bytes of a record that are looked at: one more than it may have, so that a longer one is seen to be.
+const RECORD_BYTES: u64 = 65_537;
 
 // The room that is set aside for the line that is printed.
 const LINE_BYTES: usize = 256;
@@ -51,6 +55,34 @@ fn texts<'a>(rt: &HostRuntime, words: &'a [String]) -> Result<Vec<&'a str>, Allo
     words.iter().map(|word| word.as_str()).collect(rt.alloc())
 }
 
+// Reads a record to its end, or as far as it is looked at.
+fn read_bytes<I: Read + Drop>(rt: &HostRuntime, input: I) -> Result<Vec<u8>, Report> {
+    let mut bytes = Vec::new(rt.alloc());
+    match input.take(RECORD_BYTES).read_to_end(&mut bytes) {
+        Ok(_) => Ok(bytes),
+        Err(error) if error.kind() == ErrorKind::OutOfMemory => Err(Report::NoMemory),
+        Err(_) => Err(Report::Unread),
+    }
+}
+
+// The text of the record that an import asks for.
+fn record_in(rt: &HostRuntime, order: &Order) -> Result<Option<Vec<u8>>, Report> {
+    let Some(path) = &order.record else {
+        return Ok(None);
+    };
+    if path.as_str() == "-" {
+        let text = read_bytes(rt, rt.stdin())?;
+        return Ok(Some(text));
+    }
+    match File::open(rt, path.as_str()) {
+        Ok(file) => {
+            let text = read_bytes(rt, file)?;
+            Ok(Some(text))
+        }
+        Err(_) => Err(Report::Unread),
+    }
+}
+
 // What the words order.
 fn order_of(rt: &HostRuntime, words: &[String]) -> Result<Order, BadWords> {
     let words = texts(rt, words)?;
@@ -62,8 +94,9 @@ fn obey_in_turn(rt: &HostRuntime, order: &Order) -> Report {
     let Some(moment) = order.now.or(clock(rt)) else {
         return Report::NoMoment;
     };
+    let mut out = rt.stdout();
     for _ in 0..TURNS {
-        match obey(rt, order, moment, Wary) {
+        match obey(rt, order, moment, Wary, &mut out) {
             (Report::InUse, _) => sleep(rt, Duration::from_millis(PAUSE_MILLISECONDS)),
             (report, _) => return report,
         }
@@ -80,6 +113,12 @@ fn run(rt: &HostRuntime, order: &Order) -> u8 {
     print(line, &report, &mut rt.stdout(), &mut rt.stderr())
 }
 
+// Says why nothing was done.
+fn print_fault(rt: &HostRuntime, report: &Report) -> u8 {
+    let line = String::new(rt.alloc());
+    print(line, report, &mut rt.stdout(), &mut rt.stderr())
+}
+
 // Says why the words are no order.
 fn refuse_words(rt: &HostRuntime, bad: BadWords) -> u8 {
     match bad {
@@ -87,12 +126,16 @@ fn refuse_words(rt: &HostRuntime, bad: BadWords) -> u8 {
             let _ = rt.eprint(text);
             BAD_WORDS
         }
-        BadWords::Memory => print(
-            String::new(rt.alloc()),
-            &Report::NoMemory,
-            &mut rt.stdout(),
-            &mut rt.stderr(),
-        ),
+        BadWords::Memory => print_fault(rt, &Report::NoMemory),
+    }
+}
+
+// Does what is ordered, once the record of an import was read.
+fn run_with_record(rt: &HostRuntime, order: Order) -> u8 {
+    match record_in(rt, &order) {
+        Ok(None) => run(rt, &order),
+        Ok(Some(text)) => run(rt, &order.with_text(text)),
+        Err(report) => print_fault(rt, &report),
     }
 }
 
@@ -103,7 +146,7 @@ fn status_of(rt: &HostRuntime) -> u8 {
         Err(bad) => return refuse_words(rt, bad),
     };
     match order_of(rt, words.as_slice()) {
-        Ok(order) => run(rt, &order),
+        Ok(order) => run_with_record(rt, order),
         Err(bad) => refuse_words(rt, bad),
     }
 }

@@ -13,14 +13,15 @@ ghost use Rattle.store.specs.Steps.{club_step};
 ghost use Rattle.lives.specs.Finds.{IsFoundIn, AreLed, AreVoid};
 ghost use Rattle.club_words.specs.declared.words.Task.TheVariants.{Init};
 ghost use Rattle.club_words.specs.declared.report.Report.TheVariants.{InUse, NotOpened};
-ghost use Rattle.club_words.specs.Report.{given, Answers, IfRequest, IfLegal, IfTable, IfVerify};
-ghost use Rattle.club_words.specs.Report.{ListsMoves, ListsTable, IsPassed, IsBegun, task_sessions};
+ghost use Rattle.club_words.specs.Report.{given, Answers, IfRequest, IfLegal, IfTable, IfExport, IfVerify};
+ghost use Rattle.club_words.specs.Report.{ListsMoves, ListsTable, WritesRecord, IsPassed, IsBegun, task_sessions};
 
 use clocks::Moment;
 use club_words::{Order, Report, act};
 use lives::close;
 use sqlite::{Connection, Error, ErrorCode, FileFrom, FileStore};
 use sqlite_disk::Start;
+use std::io::Write;
 
 // Why the files were not opened.
 fn unopened(error: Error) -> Report
@@ -34,20 +35,21 @@ fn unopened(error: Error) -> Report
 
 /// Does what is ordered, at that moment, over the files of the order's path, which hold at first what `S` stands for:
 /// opens them, makes a club, gives the club that stands there a command of the officer's, lists a game's moves, shows
-/// the cross table of an event or tests that the rows are a club's, and closes. Gives what it came to, and the files
+/// the cross table of an event, writes the record of a game to `out` or tests that the rows are a club's, and closes. Gives what it came to, and the files
 /// where they were opened.
 ///
 /// Where sessions led to whatever an opening finds in the files, they lead, with this command as one more, to whatever
 /// an opening finds in them after it, of whatever a stop leaves. Where they were new, and a club was to be made, no
 /// session leads to that, or there is no table still. The answer is the machine's, a listing that of the game's legal
 /// moves or of the event's cross table, and a club's files are found sound.
-pub fn obey<S: Start>(
+pub fn obey<S: Start, W: Write>(
     rt: &HostRuntime,
     order: &Order,
     moment: Moment,
     start: S,
+    out: &mut W,
 ) -> (Report, Option<FileStore<FileFrom<S>>>)
-    ensures unopened { result.1 ≡ None → (result.0 ≡ InUse) ⊎ (result.0 ≡ NotOpened) }
+    ensures unopened { result.1 ≡ None → ((result.0 ≡ InUse) ⊎ (result.0 ≡ NotOpened)) × (out.new ≡ out.old) }
     ensures begun { IfSome result.1 (λ store. IsClean (store_view store) →
         order.entry.now.task ≡ Init → AreVoid (image_at S.Start) →
         (left : Image) → (store_state store).may_leave left →
@@ -62,6 +64,10 @@ pub fn obey<S: Start>(
     ensures table { IfSome result.1 (λ store. IsClean (store_view store) →
         (s : ClubState) → IsClub s → ((found : Trees) → IsFoundIn (image_at S.Start) found → Leaves (tables s) found) →
         IfTable order.entry.now.task (λ name. ListsTable s name result.0)) }
+    ensures record_of { IfSome result.1 (λ store. IsClean (store_view store) →
+        (s : ClubState) → IsClub s → ((found : Trees) → IsFoundIn (image_at S.Start) found → Leaves (tables s) found) →
+        IfExport order.entry.now.task (λ game.
+        WritesRecord s game (W.contents out.old) (W.contents out.new) result.0)) }
     ensures passes { IfSome result.1 (λ store. IsClean (store_view store) →
         (s : ClubState) → IsClub s → ((found : Trees) → IsFoundIn (image_at S.Start) found → Leaves (tables s) found) →
         IfVerify order.entry.now.task (IsPassed result.0)) }
@@ -74,6 +80,6 @@ pub fn obey<S: Start>(
         Ok(conn) => conn,
         Err((error, _)) => return (unopened(error), None),
     };
-    let (report, conn) = act(rt.alloc(), conn, &order.task, moment);
+    let (report, conn) = act(rt.alloc(), conn, &order.task, moment, out);
     (report, Some(close(conn)))
 }

@@ -6,10 +6,13 @@ use Rattle.club_core.specs.declared.requests.Caller.{Caller}
 use Rattle.club_core.specs.declared.requests.Caller.TheVariants.{Officer, Member}
 use Rattle.club_core.specs.Outcome.{Outcome, accepted, repeated, refused, map_outcome, by_officer}
 use Rattle.club_core.specs.Members.{member_step}
-use Rattle.club_core.specs.Events.{event_step}
+use Rattle.club_core.specs.Events.{event_step, event_kind}
+use Rattle.club_core.specs.Imports.{Import}
+use Rattle.club_rules.specs.declared.names.GameKind.{GameKind}
+use Rattle.club_rules.specs.declared.names.GameKind.TheVariants.{Draughts, Shogi}
 use Rattle.club_core.specs.Seats.{seat_step}
 use Rattle.club_core.specs.Step.{GameCommand, game_step}
-use Rattle.club_core.specs.State.{AnyGame, draughts, shogi, State, Command, add_member, add_event, seat, on_game, Request, is_accepted, state_after, place, terms_at, caller_of, game_under, step_game, step_command, step_by, step, next, fold, accepted_of}
+use Rattle.club_core.specs.State.{AnyGame, draughts, shogi, State, Command, add_member, add_event, seat, import_record, on_game, Request, is_accepted, state_after, place, terms_at, caller_of, game_under, any_under, draughts_in, shogi_in, import_looked_up, import_as, step_game, step_command, step_by, step, next, fold, accepted_of}
 
 -- an outcome that is not accepted leaves what stood
 pub unmoved : {S : Type 0} (s : S) (o : Outcome S) → is_accepted o ≡ false → state_after s o ≡ s
@@ -41,11 +44,18 @@ module _ {DP DM DE DT SP SM SE ST : Type 0} (kinds : ClubRules DP DM DE DT SP SM
   game-raises s moment id who command (Some (draughts g)) above = raises s _ (game_step kinds.draughts (terms_at (place s.events g.event)) g moment who command) (λ t. above)
   game-raises s moment id who command (Some (shogi g)) above = raises s _ (game_step kinds.shogi (terms_at (place s.events g.event)) g moment who command) (λ t. above)
 
+  import-raises : (s : State DM SM) (moment : ℕ) (who : Caller) (given : Import) (kind : GameKind) → s.last ≤ moment → s.last ≤ (state_after s (by_officer who (import_as kinds s moment given kind))).last
+  import-raises s moment who given Draughts above =
+      officer-raises s _ who (import_looked_up kinds.draughts kinds.draughts_records s given (draughts_in (any_under s.games given.key))) (λ t. above)
+  import-raises s moment who given Shogi above =
+      officer-raises s _ who (import_looked_up kinds.shogi kinds.shogi_records s given (shogi_in (any_under s.games given.key))) (λ t. above)
+
   command-raises : (s : State DM SM) (moment : ℕ) (who : Caller) (command : Command) → s.last ≤ moment → s.last ≤ (state_after s (step_command kinds s moment who command)).last
   command-raises s moment who (add_member name key) above = officer-raises s _ who (member_step s.members name key) (λ t. above)
   command-raises s moment who (add_event event) above = officer-raises s _ who (event_step s.events event) (λ t. above)
   command-raises s moment who (seat key event first second) above =
       officer-raises s _ who (seat_step s.members s.events (game_under s.games key) _ key event first second) (λ t. above)
+  command-raises s moment who (import_record given) above = import-raises s moment who given (event_kind s.events given.event) above
   command-raises s moment who (on_game id command) above = game-raises s moment id who command (place s.games id) above
 
   by-raises : (s : State DM SM) (moment : ℕ) (who : Option Caller) (command : Command) → s.last ≤ moment → s.last ≤ (state_after s (step_by kinds s moment who command)).last

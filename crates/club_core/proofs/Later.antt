@@ -19,11 +19,14 @@ use Rattle.club_core.specs.declared.refusals.Refusal.TheVariants.{NotAllowed, No
 use Rattle.club_core.specs.Outcome.{Reply, draw_offered, Outcome, accepted, repeated, refused, map_outcome, by_officer, first_refusal, unless, unless_repeat}
 use Rattle.club_core.specs.Members as members
 use Rattle.club_core.specs.Members.{find_id, member_refusal, same_member, member_step}
-use Rattle.club_core.specs.Events.{Terms, Event, event_refusal, same_event, event_step}
-use Rattle.club_core.specs.Seats.{Pairing, seat_step}
+use Rattle.club_rules.specs.declared.names.GameKind.{GameKind}
+use Rattle.club_rules.specs.declared.names.GameKind.TheVariants.{Draughts, Shogi}
+use Rattle.club_core.specs.Imports.{Import}
+use Rattle.club_core.specs.Events.{Terms, Event, event_kind, event_refusal, same_event, event_step}
+use Rattle.club_core.specs.Seats.{seat_step}
 use Rattle.club_core.specs.Game.{Game, last_position, rule_end, end_of, turn_of, result_of}
 use Rattle.club_core.specs.Step.{GameCommand, move, offer_draw, accept_draw, resign, claim_time, may_give, asked_ply, has_offer, repeat_of_offer, caller_side, played, offered, ended, checked, is_over, offer_tests, offer_refusal, step_offer, reply_of_end, ends, accept_tests, repeat_of_accept, step_accept, resign_tests, repeat_of_resign, step_resign, repeat_of_claim, move_tests, plays, claim_tests, step_claim, by_side, game_step, move_refusal, repeat_of, move_at}
-use Rattle.club_core.specs.State.{AnyGame, draughts, shogi, State, Command, add_member, add_event, seat, on_game, Request, state_after, place, terms_at, game_under, caller_of, with_members, with_events, with_new_game, with_game, step_game, step_command, step_by, next, fold}
+use Rattle.club_core.specs.State.{AnyGame, draughts, shogi, State, Command, add_member, add_event, seat, import_record, on_game, Request, state_after, place, terms_at, game_under, any_under, draughts_in, shogi_in, caller_of, with_members, with_events, with_new_game, with_imported, with_game, import_looked_up, import_as, step_game, step_command, step_by, next, fold}
 use Rattle.club_core.proofs.Lists.{get-append, set-got}
 use Rattle.club_core.proofs.Legals.{NoneHolds, none-holds, not-some}
 use Rattle.club_core.proofs.Played.{outside-alone, score-none}
@@ -131,8 +134,8 @@ module _ {DM SM : Type 0} where
   events-later : (s : State DM SM) (moment : ℕ) (more : List Event) → IsLater s (with_events s moment (s.events ++ more))
   events-later s moment more = record { members = begins-refl s.members; events = (more, refl); games = games-stay s }
 
-  new-game-later : (s : State DM SM) (moment : ℕ) (key : List ℕ) (pairing : Pairing) → IsLater s (with_new_game s moment key pairing)
-  new-game-later s moment key pairing =
+  game-added-later : (s : State DM SM) (moment : ℕ) (new : AnyGame DM SM) → IsLater s (with_imported s moment new)
+  game-added-later s moment new =
       record {
         members = begins-refl s.members;
         events = begins-refl s.events;
@@ -160,12 +163,12 @@ module _ {DM SM : Type 0} where
       }
 
 -- what stands after an outcome is later, where each accepted one is
-outcome-later : {S T : Type 0} (Is : S → Type 0) (s : S) (f : T → S) (o : Outcome T) → Is s → ((t : T) (reply : Reply) → o ≡ accepted t reply → Is (f t)) → Is (state_after s (map_outcome f o))
+pub outcome-later : {S T : Type 0} (Is : S → Type 0) (s : S) (f : T → S) (o : Outcome T) → Is s → ((t : T) (reply : Reply) → o ≡ accepted t reply → Is (f t)) → Is (state_after s (map_outcome f o))
 outcome-later Is s f (accepted t reply) stays new = new t reply refl
 outcome-later Is s f (repeated reply) stays new = stays
 outcome-later Is s f (refused refusal) stays new = stays
 
-officer-later : {S T : Type 0} (Is : S → Type 0) (s : S) (f : T → S) (who : Caller) (o : Outcome T) → Is s → ((t : T) (reply : Reply) → o ≡ accepted t reply → Is (f t)) → Is (state_after s (by_officer who (map_outcome f o)))
+pub officer-later : {S T : Type 0} (Is : S → Type 0) (s : S) (f : T → S) (who : Caller) (o : Outcome T) → Is s → ((t : T) (reply : Reply) → o ≡ accepted t reply → Is (f t)) → Is (state_after s (by_officer who (map_outcome f o)))
 officer-later Is s f Officer o stays new = outcome-later Is s f o stays new
 officer-later Is s f (Member id) o stays new = stays
 
@@ -335,6 +338,14 @@ module _ {DP DM DE DT SP SM SE ST : Type 0} (kinds : ClubRules DP DM DE DT SP SM
       outcome-later (λ t. IsLater s t) s (λ new. with_game s moment id (shogi new)) (game_step kinds.shogi (terms_at (place s.events game.event)) game moment who command) (later-refl s)
       (λ new reply is. game-later s moment id (shogi game) (shogi new) at (caller-later kinds.shogi (terms_at (place s.events game.event)) game moment who command new reply is))
 
+  import-later : (s : State DM SM) (moment : ℕ) (who : Caller) (given : Import) (kind : GameKind) → IsLater s (state_after s (by_officer who (import_as kinds s moment given kind)))
+  import-later s moment who given Draughts =
+      officer-later (λ t. IsLater s t) s _ who (import_looked_up kinds.draughts kinds.draughts_records s given (draughts_in (any_under s.games given.key))) (later-refl s)
+      (λ i reply is. game-added-later s moment _)
+  import-later s moment who given Shogi =
+      officer-later (λ t. IsLater s t) s _ who (import_looked_up kinds.shogi kinds.shogi_records s given (shogi_in (any_under s.games given.key))) (later-refl s)
+      (λ i reply is. game-added-later s moment _)
+
   command-later : (s : State DM SM) (moment : ℕ) (who : Caller) (command : Command) → IsLater s (state_after s (step_command kinds s moment who command))
   command-later s moment who (add_member name key) =
       officer-later (λ t. IsLater s t) s (with_members s moment) who (member_step s.members name key) (later-refl s)
@@ -350,7 +361,8 @@ module _ {DP DM DE DT SP SM SE ST : Type 0} (kinds : ClubRules DP DM DE DT SP SM
       rw (← e) (events-later s moment (event ∷ [])))
   command-later s moment who (seat key event first second) =
       officer-later (λ t. IsLater s t) s (with_new_game s moment key) who (seat_step s.members s.events (game_under s.games key) _ key event first second) (later-refl s)
-      (λ pairing reply is. new-game-later s moment key pairing)
+      (λ pairing reply is. game-added-later s moment _)
+  command-later s moment who (import_record given) = import-later s moment who given (event_kind s.events given.event)
   command-later s moment who (on_game id command) = step-game-later s moment id who command (place s.games id) refl
 
   by-later : (s : State DM SM) (moment : ℕ) (who : Option Caller) (command : Command) → IsLater s (state_after s (step_by kinds s moment who command))

@@ -5,7 +5,7 @@ use Rattle.std.specs.Str.{bytes_eq}
 use Rattle.std.proofs.lemmas.Bool.{eq-eqb}
 use Rattle.std.proofs.lemmas.Bool.Decides.{nat_tests}
 use Rattle.squares.specs.declared.sides.Side.{Side}
-use Rattle.squares.specs.declared.sides.Side.TheVariants.{First, Second}
+use Rattle.squares.specs.declared.sides.Side.TheVariants.{First}
 use Rattle.squares.specs.declared.sides.Score.{Score}
 use Rattle.squares.specs.Sides.{other}
 use Rattle.club_rules.specs.declared.refusals.MoveRefusal.{MoveRefusal}
@@ -23,20 +23,22 @@ use Rattle.club_core.specs.declared.refusals.Refusal.TheVariants.{NotAllowed, No
 use Rattle.club_core.specs.Limits.{last_moment, most_members, most_events, most_games, is_name, is_member_key, is_budget, is_increment}
 use Rattle.club_core.specs.Outcome.{Reply, Outcome, refused, map_outcome, by_officer, first_refusal, unless, unless_repeat}
 use Rattle.club_core.specs.Members.{find_id, has_name_or_key, member_tests, member_refusal, same_member, member_step}
-use Rattle.club_core.specs.Events.{Event, has_event_name, has_good_values, event_tests, event_refusal, same_event, event_step}
+use Rattle.club_core.specs.Events.{Event, event_kind, has_event_name, has_good_values, event_tests, event_refusal, same_event, event_step}
 use Rattle.club_core.specs.Seats.{Pairing, KeyedGame, has_member_name, are_two, same_seats, seat_tests, seat_refusal, pair, seat_found, seat_step}
+use Rattle.club_core.specs.Imports.{Import}
 use Rattle.club_core.specs.Game.{Game, Entry, Clocks, spend, spend_all, clocks_of, left_of, turn_of, last_position, rule_end, end_of, result_of}
 use Rattle.club_core.specs.Step.{GameCommand, move, offer_draw, accept_draw, resign, claim_time, may_give, asked_ply, has_offer, repeat_of_offer, caller_side, played, offered, ended, checked, offer_tests, offer_refusal, step_offer, ends, accept_tests, repeat_of_accept, step_accept, resign_tests, repeat_of_resign, step_resign, repeat_of_claim, plays, step_move, claim_tests, step_claim, by_side, game_step, move_refusal, repeat_of, move_at}
-use Rattle.club_core.specs.State.{AnyGame, draughts, shogi, State, Command, add_member, add_event, seat, on_game, Request, state_after, place, kind_at, key_of, has_key, keyed_at, pairing_of, game_under, seated, seated_as, caller_of, with_members, with_events, with_new_game, with_game, step_game, step_command, step_by, next}
+use Rattle.club_core.specs.State.{AnyGame, draughts, shogi, State, Command, add_member, add_event, seat, import_record, on_game, Request, state_after, place, kind_at, key_of, has_key, keyed_at, pairing_of, game_under, seated, seated_as, caller_of, with_members, with_events, with_new_game, with_imported, with_game, import_as, step_game, step_command, step_by, next}
 use Rattle.club_core.specs.LegalState.{Each, IsLegalMember, IsLegalEvent, IsGameOf, IsLegalIn, IsLegalState}
-use Rattle.club_core.proofs.PlayedLines.{IsPlayedLine-none}
+use Rattle.club_rules.proofs.Proved.{IsPlayedLine-none}
 use Rattle.club_core.proofs.Played.{outside-alone, score-none}
+use Rattle.club_core.proofs.ImportedGames.{spend-since}
 use Rattle.club_core.proofs.Lists.{bytes_eq-same, place-append, is_some-append, each-append, each-set, find_id-found, find_id-none, list_any-false, are_apart-append, are_apart_if_any-append, are_apart_if_any-set}
 use Rattle.club_core.proofs.Legals.{AreRules, NoneHolds, none-holds, not-some, allowed-running, allowed-in_time, checked-legal, legal-played, running-alone, legal-offered, legal-ended}
 use Rattle.club_core.proofs.Later.{is-next}
 
 -- an outcome that is not accepted leaves a legal state, and an accepted one is legal where nothing is refused
-kept-unless : {S T : Type 0} (IsSo : S → Type 0) (s : S) (f : T → S) (reply : Option Reply) (refusal : Option Refusal) (x : Outcome T) → IsSo s → (refusal ≡ None → IsSo (state_after s (map_outcome f x))) → IsSo (state_after s (map_outcome f (unless_repeat reply (unless refusal x))))
+pub kept-unless : {S T : Type 0} (IsSo : S → Type 0) (s : S) (f : T → S) (reply : Option Reply) (refusal : Option Refusal) (x : Outcome T) → IsSo s → (refusal ≡ None → IsSo (state_after s (map_outcome f x))) → IsSo (state_after s (map_outcome f (unless_repeat reply (unless refusal x))))
 kept-unless IsSo s f (Some reply) refusal x so new = so
 kept-unless IsSo s f None (Some refusal) x so new = so
 kept-unless IsSo s f None None x so new = new refl
@@ -45,7 +47,7 @@ kept-if : {S T : Type 0} (IsSo : S → Type 0) (s : S) (f : T → S) (b : Bool) 
 kept-if IsSo s f true refusal x so new = new refl
 kept-if IsSo s f false refusal x so new = so
 
-kept-officer : {S T : Type 0} (IsSo : S → Type 0) (s : S) (f : T → S) (who : Caller) (x : Outcome T) → IsSo s → IsSo (state_after s (map_outcome f x)) → IsSo (state_after s (by_officer who (map_outcome f x)))
+pub kept-officer : {S T : Type 0} (IsSo : S → Type 0) (s : S) (f : T → S) (who : Caller) (x : Outcome T) → IsSo s → IsSo (state_after s (map_outcome f x)) → IsSo (state_after s (by_officer who (map_outcome f x)))
 kept-officer IsSo s f Officer x so new = new
 kept-officer IsSo s f (Member id) x so new = so
 
@@ -53,15 +55,15 @@ pub not-false : (b : Bool) → not b ≡ false → b ≡ true
 not-false true is = refl
 not-false false is = cc
 
-not-true : (b : Bool) → not b ≡ true → b ≡ false
+pub not-true : (b : Bool) → not b ≡ true → b ≡ false
 not-true true is = cc
 not-true false is = refl
 
-both-true : (a b : Bool) → (a && b) ≡ true → (a ≡ true) × (b ≡ true)
+pub both-true : (a b : Bool) → (a && b) ≡ true → (a ≡ true) × (b ≡ true)
 both-true true b is = (refl, is)
 both-true false b is = cc
 
-three-true : (a b c : Bool) → (a && b && c) ≡ true → (a ≡ true) × (b ≡ true) × (c ≡ true)
+pub three-true : (a b c : Bool) → (a && b && c) ≡ true → (a ≡ true) × (b ≡ true) × (c ≡ true)
 three-true true true true is = (refl, refl, refl)
 three-true true true false is = cc
 three-true true false c is = cc
@@ -78,11 +80,11 @@ or-true_right false b is = is
 some-same : {A : Type 0} (x y : A) → Some x ≡ Some y → x ≡ y
 some-same x y is = cc
 
-false-true : (b : Bool) → b ≡ false → b ≡ true → ⊥
+pub false-true : (b : Bool) → b ≡ false → b ≡ true → ⊥
 false-true true is_false is_true = cc
 false-true false is_false is_true = cc
 
-nat_le-false : (a b : ℕ) → nat_le a b ≡ false → b < a
+pub nat_le-false : (a b : ℕ) → nat_le a b ≡ false → b < a
 nat_le-false a b is = grind (arith, nat_tests)
 
 -- a game of one state is a game of a later one that has kept its events and members
@@ -115,7 +117,7 @@ module _ {DM SM : Type 0} where
   no-game-under games key none =
       no-keyed games (find_id (has_key key) games) (λ k is. let (g, at, _) = find_id-found (has_key key) games k is in (g, at)) (not-some (game_under games key) none)
 
-  fresh-key : (games : List (AnyGame DM SM)) (key : List ℕ) → is_some (game_under games key) ≡ false → (n : ℕ) (g : AnyGame DM SM) → slice_get games n ≡ Some g → has_key key g ≡ false
+  pub fresh-key : (games : List (AnyGame DM SM)) (key : List ℕ) → is_some (game_under games key) ≡ false → (n : ℕ) (g : AnyGame DM SM) → slice_get games n ≡ Some g → has_key key g ≡ false
   fresh-key games key none = find_id-none (has_key key) games (no-game-under games key none)
 
 -- a game that was just seated is legal
@@ -145,10 +147,6 @@ module _ {DM SM P M E T : Type 0} (laws : GameRules P M E T) (kind : GameKind) (
       }
 
 -- the clocks run from a moment that is at most the last
-spend-since : (increment : ℕ) (side : Side) (m : ℕ) (c : Clocks) → (spend increment side m c).since ≡ m
-spend-since increment First m c = refl
-spend-since increment Second m c = refl
-
 since-within : {M : Type 0} (increment : ℕ) (side : Side) (es : List (Entry M)) (c : Clocks) (last : ℕ) → c.since ≤ last → Each (λ e. e.moment ≤ last) es → (spend_all increment side (map (λ e. e.moment) es) c).since ≤ last
 since-within increment side [] c last within each = within
 since-within increment side (e ∷ es) c last within each =
@@ -211,9 +209,9 @@ module _ {DP DM DE DT SP SM SE ST : Type 0} (kinds : ClubRules DP DM DE DT SP SM
   any-seated Draughts t = seated-game kinds.draughts Draughts t
   any-seated Shogi t = seated-game kinds.shogi Shogi t
 
-  -- two members are seated for a game
-  game-seated : (s : State DM SM) (moment : ℕ) (key : List ℕ) (event first second : ℕ) (e : Event) → s.last ≤ moment → moment ≤ last_moment → IsLegalState kinds s → place s.events event ≡ Some e → IsSome (place s.members first) → IsSome (place s.members second) → first ≢ second → is_name key ≡ true → length s.games < most_games → ((n : ℕ) (g : AnyGame DM SM) → slice_get s.games n ≡ Some g → has_key key g ≡ false) → IsLegalState kinds (with_new_game s moment key (record { event = event; first = first; second = second }))
-  game-seated s moment key event first second e later within legal found is_first is_second apart named room fresh =
+  -- a game is added under a key that is free
+  pub game-added : (s : State DM SM) (moment : ℕ) (new : AnyGame DM SM) (key : List ℕ) → s.last ≤ moment → moment ≤ last_moment → IsLegalState kinds s → IsLegalIn kinds (with_imported s moment new) new → length s.games < most_games → key_of new ≡ Some key → ((n : ℕ) (g : AnyGame DM SM) → slice_get s.games n ≡ Some g → has_key key g ≡ false) → IsLegalState kinds (with_imported s moment new)
+  game-added s moment new key later within legal is_legal room keyed fresh =
       record {
         last = within;
         members = legal.members;
@@ -223,12 +221,20 @@ module _ {DP DM DE DT SP SM SE ST : Type 0} (kinds : ClubRules DP DM DE DT SP SM
         events = legal.events;
         event_count = legal.event_count;
         event_names = legal.event_names;
-        games = each-append (IsLegalIn kinds (with_new_game s moment key (record { event = event; first = first; second = second }))) s.games _ (λ n g at. later-any s _ (λ id e is. is) (λ id is. is) later g (legal.games n g at)) (rw found (any-seated e.game _ key _ moment e found refl is_first is_second apart named (omega arith)));
-        game_count = let count : length (s.games ++ seated_as (kind_at (place s.events event)) (Some key) (record { event = event; first = first; second = second }) moment ∷ []) ≡ length s.games + 1 = simp length-append in omega (arith, count, room);
-        game_keys = are_apart_if_any-append (λ g. key_of g) s.games _ legal.game_keys (λ n g b at has new. false-true _ (rw has at (fresh n g at)) (bytes_eq-same b key (some-same b key (sym new ∙ key-seated (kind_at (place s.events event)) key _ moment))));
+        games = each-append (IsLegalIn kinds (with_imported s moment new)) s.games new (λ n g at. later-any s _ (λ id e is. is) (λ id is. is) later g (legal.games n g at)) is_legal;
+        game_count = let count : length (s.games ++ new ∷ []) ≡ length s.games + 1 = simp length-append in omega (arith, count, room);
+        game_keys = are_apart_if_any-append (λ g. key_of g) s.games new legal.game_keys (λ n g b at has same. false-true _ (rw has at (fresh n g at)) (bytes_eq-same b key (some-same b key (sym same ∙ keyed))));
       }
 
-  found-some : {A : Type 0} (test : A → Bool) (xs : List A) (id : ℕ) → find_id test xs ≡ Some id → IsSome (place xs id)
+  -- two members are seated for a game
+  game-seated : (s : State DM SM) (moment : ℕ) (key : List ℕ) (event first second : ℕ) (e : Event) → s.last ≤ moment → moment ≤ last_moment → IsLegalState kinds s → place s.events event ≡ Some e → IsSome (place s.members first) → IsSome (place s.members second) → first ≢ second → is_name key ≡ true → length s.games < most_games → ((n : ℕ) (g : AnyGame DM SM) → slice_get s.games n ≡ Some g → has_key key g ≡ false) → IsLegalState kinds (with_new_game s moment key (record { event = event; first = first; second = second }))
+  game-seated s moment key event first second e later within legal found is_first is_second apart named room fresh =
+      let pairing : Pairing = record { event = event; first = first; second = second } in
+      game-added s moment (seated_as (kind_at (place s.events event)) (Some key) pairing moment) key later within legal
+      (rw found (any-seated e.game _ key pairing moment e found refl is_first is_second apart named (omega arith)))
+      room (key-seated (kind_at (place s.events event)) key pairing moment) fresh
+
+  pub found-some : {A : Type 0} (test : A → Bool) (xs : List A) (id : ℕ) → find_id test xs ≡ Some id → IsSome (place xs id)
   found-some test xs id is = let (x, at, _) = find_id-found test xs id is in rw at refl
 
   pair-kept : (s : State DM SM) (moment : ℕ) (key : List ℕ) (event : ℕ) (e : Event) (first second : Option ℕ) → s.last ≤ moment → moment ≤ last_moment → IsLegalState kinds s → place s.events event ≡ Some e → ((id : ℕ) → first ≡ Some id → IsSome (place s.members id)) → ((id : ℕ) → second ≡ Some id → IsSome (place s.members id)) → seat_refusal (game_under s.games key) (length s.games) key first second ≡ None → IsLegalState kinds (state_after s (map_outcome (with_new_game s moment key) (pair event first second (length s.games))))
@@ -388,7 +394,12 @@ pub in-place : {A : Type 0} (P : A → Type 0) (xs : List A) (id : ℕ) (x : A) 
 in-place P xs zero x each at = cc
 in-place P xs (suc n) x each at = each n x at
 
-module _ {DP DM DE DT SP SM SE ST : Type 0} (kinds : ClubRules DP DM DE DT SP SM SE ST) (are_draughts : AreRules kinds.draughts) (are_shogi : AreRules kinds.shogi) (s : State DM SM) (moment : ℕ) (later : s.last ≤ moment) (within : moment ≤ last_moment) (legal : IsLegalState kinds s) where
+module _ {DP DM DE DT SP SM SE ST : Type 0} (kinds : ClubRules DP DM DE DT SP SM SE ST) where
+  -- an import leaves a legal state legal
+  abbrev pub KeepsByImport : Type 0
+  KeepsByImport = (s : State DM SM) (moment : ℕ) → s.last ≤ moment → moment ≤ last_moment → IsLegalState kinds s → (who : Caller) (given : Import) → IsLegalState kinds (state_after s (by_officer who (import_as kinds s moment given (event_kind s.events given.event))))
+
+module _ {DP DM DE DT SP SM SE ST : Type 0} (kinds : ClubRules DP DM DE DT SP SM SE ST) (are_draughts : AreRules kinds.draughts) (are_shogi : AreRules kinds.shogi) (by_import : KeepsByImport kinds) (s : State DM SM) (moment : ℕ) (later : s.last ≤ moment) (within : moment ≤ last_moment) (legal : IsLegalState kinds s) where
   game-kept : (id : ℕ) (who : Caller) (command : GameCommand) (g : Option (AnyGame DM SM)) → place s.games id ≡ g → IsLegalState kinds (state_after s (step_game kinds s moment id who command g))
   game-kept id who command None at = legal
   game-kept id who command (Some (draughts game)) at =
@@ -411,13 +422,14 @@ module _ {DP DM DE DT SP SM SE ST : Type 0} (kinds : ClubRules DP DM DE DT SP SM
       (λ id is. let (e, at, _) = find_id-found (has_event_name event) s.events id is in (e, at))
       (λ id is. found-some kinds (has_member_name first) s.members id is)
       (λ id is. found-some kinds (has_member_name second) s.members id is))
+  command-kept who (import_record given) = by_import s moment later within legal who given
   command-kept who (on_game id command) = game-kept id who command (place s.games id) refl
 
   by-kept : (who : Option Caller) (command : Command) → IsLegalState kinds (state_after s (step_by kinds s moment who command))
   by-kept None command = legal
   by-kept (Some who) command = command-kept who command
 
-module _ {DP DM DE DT SP SM SE ST : Type 0} (kinds : ClubRules DP DM DE DT SP SM SE ST) (are_draughts : AreRules kinds.draughts) (are_shogi : AreRules kinds.shogi) where
+module _ {DP DM DE DT SP SM SE ST : Type 0} (kinds : ClubRules DP DM DE DT SP SM SE ST) (are_draughts : AreRules kinds.draughts) (are_shogi : AreRules kinds.shogi) (by_import : KeepsByImport kinds) where
   pub next-legal : (s : State DM SM) (r : Request) → r.moment ≤ last_moment → IsLegalState kinds s → IsLegalState kinds (next kinds s r)
   next-legal s r within legal =
-      by-kept kinds are_draughts are_shogi s (max r.moment s.last) (omega arith) (let before = legal.last in omega (arith, within, before)) legal (caller_of s.members r.who) r.command
+      by-kept kinds are_draughts are_shogi by_import s (max r.moment s.last) (omega arith) (let before = legal.last in omega (arith, within, before)) legal (caller_of s.members r.who) r.command

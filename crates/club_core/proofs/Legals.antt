@@ -20,7 +20,7 @@ use Rattle.club_core.specs.Outcome.{first_refusal}
 use Rattle.club_core.specs.Game.{Game, Clocks, turns, spend, spend_all, moves_of, clocks_of, last_position, rule_end, end_of, turn_of, result_of, end_with, left_of, side_after}
 use Rattle.club_core.specs.Legal.{IsTimely, IsOffer, IsLegalGame}
 use Rattle.club_core.specs.Step.{played, offered, ended, checked, checked_as, move_tests, move_refusal}
-use Rattle.club_core.proofs.PlayedLines.{IsPlayedLine-append}
+use Rattle.club_rules.proofs.Proved.{IsPlayedLine-append}
 use Rattle.club_core.proofs.Played.{moves_of-played, turn-of-game, outside-alone, score-none}
 
 -- the laws that the rules of a game keep

@@ -7,8 +7,12 @@ pub mod Tracked
 pub mod Folds
 pub mod Lists
 pub mod Legals
+pub mod ImportedGames
 pub mod LegalSteps
+pub mod ImportSteps
 pub mod Later
+pub mod Kept
 pub mod Repeats
+pub mod ImportRepeats
 pub mod Room
 pub mod Sound

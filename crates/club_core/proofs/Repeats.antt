@@ -23,24 +23,26 @@ use Rattle.club_core.specs.declared.requests.Caller.TheVariants.{Officer, Member
 use Rattle.club_core.specs.Outcome.{Reply, member_added, event_added, game_seated, Outcome, accepted, repeated, refused, map_outcome, by_officer}
 use Rattle.club_core.specs.Members as members
 use Rattle.club_core.specs.Members.{find_id, is_member, member_refusal, same_member, member_step}
-use Rattle.club_core.specs.Events.{Terms, Event, same_game, is_event, has_event_name, event_refusal, same_event, event_step}
+use Rattle.club_core.specs.Events.{Terms, Event, event_kind, same_game, is_event, has_event_name, event_refusal, same_event, event_step}
 use Rattle.club_core.specs.Seats.{Pairing, KeyedGame, has_member_name, same_seats, seat_tests, seat_refusal, pair, seat_found, seat_step}
+use Rattle.club_core.specs.Imports.{Import}
 use Rattle.club_core.specs.Game.{Game, Entry, moves_of, last_position, turn_of, side_after, game_at}
 use Rattle.club_core.specs.Step.{GameCommand, move, offer_draw, accept_draw, resign, claim_time, may_give, asked_ply, has_offer, caller_side, played, offered, ended, checked, checked_as, reads_as, repeats, plays, step_move, step_offer, step_accept, step_resign, step_claim, by_side, game_step, move_tests, move_refusal, repeat_of, reply_of_move, move_at}
-use Rattle.club_core.specs.State.{AnyGame, draughts, shogi, State, Command, add_member, add_event, seat, on_game, Who, officer, key_holder, Request, state_after, place, terms_at, has_key, is_key, pairing_of, game_under, seated_as, kind_at, caller_of, caller_found, has_member_key, with_members, with_events, with_new_game, with_game, step_game, step_command, step_by, step, next, fold}
+use Rattle.club_core.specs.State.{AnyGame, draughts, shogi, State, Command, add_member, add_event, seat, import_record, on_game, Who, officer, key_holder, Request, state_after, place, terms_at, has_key, is_key, pairing_of, game_under, seated_as, kind_at, caller_of, caller_found, has_member_key, with_members, with_events, with_new_game, with_imported, with_game, import_as, step_game, step_command, step_by, step, next, fold}
 use Rattle.club_core.specs.LegalState.{IsGameOf, IsLegalIn, IsLegalState}
 use Rattle.club_core.specs.Laws.{StillRepeats, StillRepeatsOn}
 use Rattle.club_core.proofs.Lists.{bytes_eq-same, find_id-append, find_id-new, find_id-pointwise, place-append, get-append, put-at_same, at-last}
 use Rattle.club_core.proofs.Legals.{AreRules, none-holds}
 use Rattle.club_core.proofs.Played.{turn-of-game, made-played, take-before, take-whole}
 use Rattle.club_core.proofs.LegalSteps.{no-game-under, not-false, in-place}
+use Rattle.club_core.proofs.Kept.{KeepsOver, fold-over}
 use Rattle.club_core.proofs.Later.{Begins, IsLater, IsLaterAny, IsLaterGame, later-trans, next-later, fold-later, unless-accepted, accepted-same, if-accepted, is-next, offer-accepts, accept-accepts, resign-accepts, claim-accepts, caller-later}
 
 none-found : (f : ℕ → Reply) (o : Option ℕ) → option_map f o ≡ None → o ≡ None
 none-found f None is = refl
 none-found f (Some id) is = cc
 
-and-true : (a b : Bool) → a ≡ true → b ≡ true → (a && b) ≡ true
+pub and-true : (a b : Bool) → a ≡ true → b ≡ true → (a && b) ≡ true
 and-true true b is_a is_b = is_b
 and-true false b is_a is_b = cc
 
@@ -48,14 +50,14 @@ same_game-refl : (g : GameKind) → same_game g g ≡ true
 same_game-refl Draughts = refl
 same_game-refl Shogi = refl
 
-find-later : {A : Type 0} (test : A → Bool) (xs ys : List A) (id : ℕ) → Begins xs ys → find_id test xs ≡ Some id → find_id test ys ≡ Some id
+pub find-later : {A : Type 0} (test : A → Bool) (xs ys : List A) (id : ℕ) → Begins xs ys → find_id test xs ≡ Some id → find_id test ys ≡ Some id
 find-later test xs ys id begins is = rw begins.1 (find_id-append test xs begins.0 id is)
 
 -- the outcome of a repeat, whatever would stand after it
 map-repeated : {S T : Type 0} (f : T → S) (o : Outcome T) (reply : Reply) → o ≡ repeated reply → map_outcome f o ≡ repeated reply
 map-repeated f o reply is = rw is refl
 
-map-accepted : {S T : Type 0} (f : T → S) (o : Outcome T) (after : S) (reply : Reply) → map_outcome f o ≡ accepted after reply → (t : T) × (o ≡ accepted t reply) × (f t ≡ after)
+pub map-accepted : {S T : Type 0} (f : T → S) (o : Outcome T) (after : S) (reply : Reply) → map_outcome f o ≡ accepted after reply → (t : T) × (o ≡ accepted t reply) × (f t ≡ after)
 map-accepted f (accepted t r) after reply is =
     let e : r ≡ reply = cc in
     let same : f t ≡ after = cc in
@@ -63,7 +65,7 @@ map-accepted f (accepted t r) after reply is =
 map-accepted f (repeated r) after reply is = cc
 map-accepted f (refused refusal) after reply is = cc
 
-officer-accepted : {S : Type 0} (who : Caller) (o : Outcome S) (after : S) (reply : Reply) → by_officer who o ≡ accepted after reply → (who ≡ Officer) × (o ≡ accepted after reply)
+pub officer-accepted : {S : Type 0} (who : Caller) (o : Outcome S) (after : S) (reply : Reply) → by_officer who o ≡ accepted after reply → (who ≡ Officer) × (o ≡ accepted after reply)
 officer-accepted Officer o after reply is = (refl, is)
 officer-accepted (Member id) o after reply is = cc
 
@@ -142,17 +144,20 @@ seated-key DM SM Draughts key pairing moment = bytes_eq-same key key refl
 seated-key DM SM Shogi key pairing moment = bytes_eq-same key key refl
 
 module _ {DM SM : Type 0} (s t : State DM SM) (moment again : ℕ) where
-  -- the game stands under its key from then on
-  keyed-later : (key : List ℕ) (pairing : Pairing) → is_some (game_under s.games key) ≡ false → IsLater (with_new_game s moment key pairing) t → game_under t.games key ≡ Some (record { id = length s.games + 1; pairing = pairing })
-  keyed-later key pairing fresh later =
-      let new = seated_as (kind_at (place s.events pairing.event)) (Some key) pairing moment in
-      let (game, at, is_later) = later.games (length s.games) new (at-last s.games new) in
+  -- a game that was added is found by its key from then on
+  pub added-found : (key : List ℕ) (new : AnyGame DM SM) → has_key key new ≡ true → is_some (game_under s.games key) ≡ false → IsLater (with_imported s moment new) t → find_id (has_key key) t.games ≡ Some (length s.games + 1)
+  added-found key new has fresh later =
       let first_found : find_id (has_key key) (s.games ++ new ∷ []) ≡ Some (length s.games + 1) =
-      find_id-new (has_key key) s.games new (no-game-under s.games key fresh) (seated-key DM SM (kind_at (place s.events pairing.event)) key pairing moment) in
-      let found : find_id (has_key key) t.games ≡ Some (length s.games + 1) =
+      find_id-new (has_key key) s.games new (no-game-under s.games key fresh) has in
       find_id-pointwise (has_key key) (s.games ++ new ∷ []) t.games (length s.games + 1)
-      (λ n g is. let (other, stands, so) = later.games n g is in (other, stands, has_key-later key g other so)) first_found in
-      let same : pairing_of game ≡ pairing = pairing-later new game is_later ∙ seated-pairing DM SM (kind_at (place s.events pairing.event)) key pairing moment in
+      (λ n g is. let (other, stands, so) = later.games n g is in (other, stands, has_key-later key g other so)) first_found
+
+  -- and stands under it
+  pub keyed-later : (key : List ℕ) (pairing : Pairing) (new : AnyGame DM SM) → has_key key new ≡ true → pairing_of new ≡ pairing → is_some (game_under s.games key) ≡ false → IsLater (with_imported s moment new) t → game_under t.games key ≡ Some (record { id = length s.games + 1; pairing = pairing })
+  keyed-later key pairing new has of fresh later =
+      let (game, at, is_later) = later.games (length s.games) new (at-last s.games new) in
+      let found = added-found key new has fresh later in
+      let same : pairing_of game ≡ pairing = pairing-later new game is_later ∙ of in
       let next_id : length s.games + 1 ≡ suc (length s.games) = add-one (length s.games) in
       let stands : place t.games (length s.games + 1) ≡ Some game = rw next_id at in
       rw (found, stands, same) refl
@@ -166,7 +171,8 @@ module _ {DM SM : Type 0} (s t : State DM SM) (moment again : ℕ) where
       let in_event : find_id (has_event_name event) t.events ≡ Some pairing.event = find-later _ s.events t.events _ since.events was.in_event in
       let has_first : find_id (has_member_name first) t.members ≡ Some pairing.first = find-later _ s.members t.members _ since.members was.has_first in
       let has_second : find_id (has_member_name second) t.members ≡ Some pairing.second = find-later _ s.members t.members _ since.members was.has_second in
-      let under = keyed-later key pairing was.fresh since in
+      let kind = kind_at (place s.events pairing.event) in
+      let under = keyed-later key pairing (seated_as kind (Some key) pairing moment) (seated-key DM SM kind key pairing moment) (seated-pairing DM SM kind key pairing moment) was.fresh since in
       let same : (pairing.event == pairing.event && pairing.first == pairing.first && pairing.second == pairing.second) ≡ true =
       and-true _ _ (and-true _ _ (eq-eqb pairing.event pairing.event refl) (eq-eqb pairing.first pairing.first refl)) (eq-eqb pairing.second pairing.second refl) in
       rw (by.0, in_event, has_first, has_second, under, same, was.answer) refl
@@ -346,7 +352,12 @@ unwrap-shogi : {DM SM : Type 0} (g : Game SM) (new : AnyGame DM SM) → IsLaterA
 unwrap-shogi g (shogi later) is = (later, refl, is)
 unwrap-shogi g (draughts later) is = absurd is
 
-module _ {DP DM DE DT SP SM SE ST : Type 0} (kinds : ClubRules DP DM DE DT SP SM SE ST) (are_draughts : AreRules kinds.draughts) (are_shogi : AreRules kinds.shogi) where
+module _ {DP DM DE DT SP SM SE ST : Type 0} (kinds : ClubRules DP DM DE DT SP SM SE ST) where
+  -- an import that was accepted is repeated in each later state that keeps the games that were over
+  abbrev pub RepeatsImport : Type 0
+  RepeatsImport = (s t : State DM SM) (moment again : ℕ) (who : Caller) (given : Import) (after : State DM SM) (reply : Reply) → by_officer who (import_as kinds s moment given (event_kind s.events given.event)) ≡ accepted after reply → IsLater after t → KeepsOver kinds after t → by_officer who (import_as kinds t again given (event_kind t.events given.event)) ≡ repeated reply
+
+module _ {DP DM DE DT SP SM SE ST : Type 0} (kinds : ClubRules DP DM DE DT SP SM SE ST) (are_draughts : AreRules kinds.draughts) (are_shogi : AreRules kinds.shogi) (import_again : RepeatsImport kinds) where
   on-game-again : (s t : State DM SM) (moment again id : ℕ) (who : Caller) (command : GameCommand) (g : Option (AnyGame DM SM)) (after : State DM SM) (reply : Reply) → IsLegalState kinds s → place s.games id ≡ g → step_game kinds s moment id who command g ≡ accepted after reply → IsLater after t → StillRepeatsOn (place t.games id) command → step_game kinds t again id who command (place t.games id) ≡ repeated reply
   on-game-again s t moment again id who command None after reply legal at is since still = cc
   on-game-again s t moment again id who command (Some (draughts game)) after reply legal at is since still =
@@ -358,11 +369,12 @@ module _ {DP DM DE DT SP SM SE ST : Type 0} (kinds : ClubRules DP DM DE DT SP SM
       let (later, stands, so) = game-again kinds kinds.shogi are_shogi Shogi shogi unwrap-shogi (still-shogi DM SM) s t moment again id who command game after reply at of is since still in
       rw stands so
 
-  command-again : (s t : State DM SM) (moment again : ℕ) (who : Caller) (command : Command) (after : State DM SM) (reply : Reply) → IsLegalState kinds s → step_command kinds s moment who command ≡ accepted after reply → IsLater after t → StillRepeats t command → step_command kinds t again who command ≡ repeated reply
-  command-again s t moment again who (add_member name key) after reply legal is since still = member-again s t moment again who name key after reply is since
-  command-again s t moment again who (add_event event) after reply legal is since still = event-again s t moment again who event after reply is since
-  command-again s t moment again who (seat key event first second) after reply legal is since still = seat-again s t moment again who key event first second after reply is since
-  command-again s t moment again who (on_game id command) after reply legal is since still = on-game-again s t moment again id who command (place s.games id) after reply legal refl is since still
+  command-again : (s t : State DM SM) (moment again : ℕ) (who : Caller) (command : Command) (after : State DM SM) (reply : Reply) → IsLegalState kinds s → step_command kinds s moment who command ≡ accepted after reply → IsLater after t → KeepsOver kinds after t → StillRepeats t command → step_command kinds t again who command ≡ repeated reply
+  command-again s t moment again who (add_member name key) after reply legal is since kept still = member-again s t moment again who name key after reply is since
+  command-again s t moment again who (add_event event) after reply legal is since kept still = event-again s t moment again who event after reply is since
+  command-again s t moment again who (seat key event first second) after reply legal is since kept still = seat-again s t moment again who key event first second after reply is since
+  command-again s t moment again who (import_record given) after reply legal is since kept still = import_again s t moment again who given after reply is since kept
+  command-again s t moment again who (on_game id command) after reply legal is since kept still = on-game-again s t moment again id who command (place s.games id) after reply legal refl is since still
 
   found-later : (o : Option ℕ) (who : Caller) → caller_found o ≡ Some who → (id : ℕ) × (o ≡ Some id) × (Member id ≡ who)
   found-later None who is = cc
@@ -374,9 +386,9 @@ module _ {DP DM DE DT SP SM SE ST : Type 0} (kinds : ClubRules DP DM DE DT SP SM
       let (id, found, member) = found-later (find_id (has_member_key key) all) who is in
       rw (find-later (has_member_key key) all more id begins found, member) refl
 
-  by-again : (s t : State DM SM) (moment again : ℕ) (who later_who : Option Caller) (command : Command) (after : State DM SM) (reply : Reply) → IsLegalState kinds s → ((c : Caller) → who ≡ Some c → later_who ≡ Some c) → step_by kinds s moment who command ≡ accepted after reply → IsLater after t → StillRepeats t command → step_by kinds t again later_who command ≡ repeated reply
-  by-again s t moment again None later_who command after reply legal same is since still = cc
-  by-again s t moment again (Some who) later_who command after reply legal same is since still = rw (same who refl) (command-again s t moment again who command after reply legal is since still)
+  by-again : (s t : State DM SM) (moment again : ℕ) (who later_who : Option Caller) (command : Command) (after : State DM SM) (reply : Reply) → IsLegalState kinds s → ((c : Caller) → who ≡ Some c → later_who ≡ Some c) → step_by kinds s moment who command ≡ accepted after reply → IsLater after t → KeepsOver kinds after t → StillRepeats t command → step_by kinds t again later_who command ≡ repeated reply
+  by-again s t moment again None later_who command after reply legal same is since kept still = cc
+  by-again s t moment again (Some who) later_who command after reply legal same is since kept still = rw (same who refl) (command-again s t moment again who command after reply legal is since kept still)
 
   pub answers-again : (s after : State DM SM) (r : Request) (reply : Reply) (between : List Request) (moment : ℕ) → IsLegalState kinds s → step kinds s r ≡ accepted after reply → StillRepeats (fold kinds after between) r.command → step kinds (fold kinds after between) (record r { moment = moment }) ≡ repeated reply
   answers-again s after r reply between moment legal is still =
@@ -384,4 +396,4 @@ module _ {DP DM DE DT SP SM SE ST : Type 0} (kinds : ClubRules DP DM DE DT SP SM
       let stands : next kinds s r ≡ after = ap (state_after s) is in
       let to_after : IsLater s after = rw (← stands) (next-later kinds s r) in
       let to_t : IsLater s t = later-trans s after t to_after (fold-later kinds after between) in
-      by-again s t (max r.moment s.last) (max moment t.last) (caller_of s.members r.who) (caller_of t.members r.who) r.command after reply legal (λ c. same-caller s.members t.members r.who c to_t.members) is (fold-later kinds after between) still
+      by-again s t (max r.moment s.last) (max moment t.last) (caller_of s.members r.who) (caller_of t.members r.who) r.command after reply legal (λ c. same-caller s.members t.members r.who c to_t.members) is (fold-later kinds after between) (fold-over kinds after between) still

@@ -13,6 +13,7 @@ use Rattle.club_core.specs.declared.requests.Command.TheVariants as given_is
 use Rattle.club_core.specs.declared.requests.GameCommand as given_game
 use Rattle.club_core.specs.declared.requests.GameCommand.TheVariants as given_does
 use Rattle.club_core.specs.declared.requests.Request as given_request
+use Rattle.club_core.specs.declared.requests.Import as given_import
 use Rattle.club_core.specs.declared.requests.Who as given_who
 use Rattle.club_core.specs.declared.requests.Who.TheVariants as given_who_is
 use Rattle.club_core.specs.declared.seats.Pairing as given_pairing
@@ -23,8 +24,9 @@ use Rattle.club_core.specs.Outcome.{Reply, MoveReply, member_added, event_added,
 use Rattle.club_core.specs.Members.{Member}
 use Rattle.club_core.specs.Events.{Event}
 use Rattle.club_core.specs.Seats.{Pairing, KeyedGame}
+use Rattle.club_core.specs.Imports.{Import}
 use Rattle.club_core.specs.Step.{GameCommand, move, offer_draw, accept_draw, resign, claim_time}
-use Rattle.club_core.specs.State.{Command, add_member, add_event, seat, on_game, Who, officer, key_holder, Request}
+use Rattle.club_core.specs.State.{Command, add_member, add_event, seat, import_record, on_game, Who, officer, key_holder, Request}
 
 abbrev pub move_reply_of : Moved → MoveReply
 move_reply_of m = record { ply = m.ply; text = string_bytes m.text; left = m.left; position = string_bytes m.position; end = m.end }
@@ -86,11 +88,25 @@ game_command_of (given_does.AcceptDraw ply) = accept_draw ply
 game_command_of given_does.Resign = resign
 game_command_of given_does.ClaimTime = claim_time
 
+-- an import, its texts being the bytes that were given
+abbrev pub import_of : given_import.Import → Import
+import_of c =
+    record {
+      key = string_bytes c.key;
+      event = string_bytes c.event;
+      first = string_bytes c.first;
+      second = string_bytes c.second;
+      part = c.part;
+      format = c.format;
+      text = c.text.items;
+    }
+
 -- a command, its texts being the bytes that were given
 abbrev pub command_of : given_commands.Command → Command
 command_of (given_is.AddMember c) = add_member (string_bytes c.name) (string_bytes c.key)
 command_of (given_is.AddEvent c) = add_event (added_event c)
 command_of (given_is.Seat c) = seat (string_bytes c.key) (string_bytes c.event) (string_bytes c.first) (string_bytes c.second)
+command_of (given_is.Import c) = import_record (import_of c)
 command_of (given_is.OnGame c) = on_game c.game (game_command_of c.command)
 
 abbrev pub request_of : given_request.Request → Request

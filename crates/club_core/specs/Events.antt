@@ -1,5 +1,5 @@
 -- The events of the club, and what adding one does.
-use Rattle.std.specs.Prelude.{ℕ, ◌+◌, List, [], ◌∷◌, ◌++◌, length, Option, Bool, true, false, not, ◌&&◌, nat_le, ◌==◌}
+use Rattle.std.specs.Prelude.{ℕ, ◌+◌, List, [], ◌∷◌, ◌++◌, length, Option, Bool, true, false, not, ◌&&◌, nat_le, ◌==◌, if◌then◌else◌}
 use Rattle.std.specs.Str.{bytes_eq}
 use Rattle.std.specs.Option.{option_map}
 use Rattle.std.specs.List.{list_any}
@@ -36,6 +36,11 @@ is_event given e =
 
 abbrev pub has_good_values : Event → Bool
 has_good_values e = is_name e.name && is_budget e.terms.budget && is_increment e.terms.increment
+
+-- the game of the event of a name; of no event it is not asked
+abbrev pub event_kind : List Event → List ℕ → GameKind
+event_kind [] name = Draughts
+event_kind (e ∷ es) name = if has_event_name name e then e.game else event_kind es name
 
 module _ (events : List Event) (given : Event) where
   -- such an event is there already

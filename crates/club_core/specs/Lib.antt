@@ -8,6 +8,7 @@ pub mod Events
 pub mod Seats
 pub mod Game
 pub mod Legal
+pub mod Imports
 pub mod Step
 pub mod State
 pub mod Answer

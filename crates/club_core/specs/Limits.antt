@@ -21,6 +21,10 @@ most_plies = ply_limit
 abbrev pub most_text_bytes : ℕ
 most_text_bytes = 200
 
+-- the most bytes of a text of records
+abbrev pub most_record_bytes : ℕ
+most_record_bytes = 65536
+
 -- the last moment, in Unix seconds: the end of the year 9999
 abbrev pub last_moment : ℕ
 last_moment = 253402300799

@@ -1,10 +1,11 @@
 -- The refusals of commands: their numbers, their names and how they are written.
 use Rattle.std.specs.Prelude.{List, [], ℕ, ◌++◌, codes, decimal}
 use Rattle.club_rules.specs.MoveRefusal.{move_refusal_number, move_refusal_name, move_refusal_tail}
+use Rattle.club_rules.specs.RecordRefusal.{record_refusal_number, record_refusal_name, record_refusal_tail}
 use Rattle.club_rules.specs.declared.refusals.MoveRefusal.{MoveRefusal}
 use Rattle.club_rules.specs.declared.refusals.MoveRefusal.TheVariants.{Ambiguous}
 use Rattle.club_core.specs.declared.refusals.Refusal.{Refusal}
-use Rattle.club_core.specs.declared.refusals.Refusal.TheVariants.{UnknownKey, NotAllowed, UnknownEvent, UnknownGame, NotAPlayer, NotInThisGame, GameOver, WrongPly, Conflict, NotYourTurn, OutOfTime, TimeLeft, NoOffer, NameTaken, BadValue, Full, Play}
+use Rattle.club_core.specs.declared.refusals.Refusal.TheVariants.{UnknownKey, NotAllowed, UnknownEvent, UnknownGame, NotAPlayer, NotInThisGame, GameOver, WrongPly, Conflict, NotYourTurn, OutOfTime, TimeLeft, NoOffer, NameTaken, BadValue, Full, Play, Record}
 
 abbrev pub refusal_number : Refusal → ℕ
 refusal_number UnknownKey = 50
@@ -24,6 +25,7 @@ refusal_number NameTaken = 64
 refusal_number BadValue = 65
 refusal_number Full = 66
 refusal_number (Play ply refusal) = move_refusal_number refusal
+refusal_number (Record refusal) = record_refusal_number refusal
 
 abbrev pub refusal_name : Refusal → List ℕ
 refusal_name UnknownKey = codes "UnknownKey"
@@ -43,6 +45,7 @@ refusal_name NameTaken = codes "NameTaken"
 refusal_name BadValue = codes "BadValue"
 refusal_name Full = codes "Full"
 refusal_name (Play ply refusal) = move_refusal_name refusal
+refusal_name (Record refusal) = record_refusal_name refusal
 
 -- the ply of a text that several moves fit, and else what the rules of the game name
 abbrev pub play_tail : ℕ → MoveRefusal → List ℕ
@@ -52,6 +55,7 @@ play_tail ply refusal = move_refusal_tail refusal
 -- the numbers that follow the name, each after a blank
 abbrev pub refusal_tail : Refusal → List ℕ
 refusal_tail (Play ply refusal) = play_tail ply refusal
+refusal_tail (Record refusal) = record_refusal_tail refusal
 refusal_tail UnknownKey = []
 refusal_tail NotAllowed = []
 refusal_tail UnknownEvent = []

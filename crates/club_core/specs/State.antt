@@ -10,9 +10,12 @@ use Rattle.club_core.specs.declared.refusals.Refusal.TheVariants.{UnknownKey}
 use Rattle.club_core.specs.Outcome.{Outcome, accepted, repeated, refused, map_outcome, by_officer}
 use Rattle.club_core.specs.Members as members
 use Rattle.club_core.specs.Members.{find_id, member_step}
-use Rattle.club_core.specs.Events.{Terms, Event, event_step}
-use Rattle.club_core.specs.Seats.{Pairing, KeyedGame, seat_step}
+use Rattle.club_core.specs.Events.{Terms, Event, has_event_name, event_kind, event_step}
+use Rattle.club_core.specs.Seats.{Pairing, KeyedGame, has_member_name, seat_step}
 use Rattle.club_core.specs.Game.{Game}
+use Rattle.club_rules.specs.GameRules.{GameRules}
+use Rattle.club_rules.specs.Records.{GameRecords}
+use Rattle.club_core.specs.Imports.{Import, Imported, imported, import_found}
 use Rattle.club_core.specs.Step.{GameCommand, no_game_refusal, game_step}
 
 -- a game of one of the two kinds
@@ -35,6 +38,7 @@ pub data Command : Type 0 where
   add_member : (name key : List ℕ) → Command
   add_event : Event → Command
   seat : (key event first second : List ℕ) → Command
+  import_record : Import → Command
   on_game : (id : ℕ) → GameCommand → Command
 
 -- who gives a command: the officer, or one who shows a member's key
@@ -50,6 +54,11 @@ pub record Request : Type 0 where
 abbrev pub place : {A : Type 0} → List A → ℕ → Option A
 place xs zero = None
 place xs (suc n) = slice_get xs n
+
+-- the element of an id that was found
+abbrev pub at_found : {A : Type 0} → List A → Option ℕ → Option A
+at_found xs None = None
+at_found xs (Some id) = place xs id
 
 abbrev pub terms_at : Option Event → Terms
 terms_at None = record { budget = 0; increment = 0 }
@@ -82,6 +91,20 @@ module _ {DM SM : Type 0} where
   abbrev pub keyed_at : List (AnyGame DM SM) → Option ℕ → Option KeyedGame
   keyed_at games None = None
   keyed_at games (Some id) = keyed_game (place games id) id
+
+  abbrev pub any_under : List (AnyGame DM SM) → List ℕ → Option (AnyGame DM SM)
+  any_under games key = at_found games (find_id (has_key key) games)
+
+  -- a game of one of the kinds, if it is that
+  abbrev pub draughts_in : Option (AnyGame DM SM) → Option (Game DM)
+  draughts_in None = None
+  draughts_in (Some (draughts g)) = Some g
+  draughts_in (Some (shogi g)) = None
+
+  abbrev pub shogi_in : Option (AnyGame DM SM) → Option (Game SM)
+  shogi_in None = None
+  shogi_in (Some (draughts g)) = None
+  shogi_in (Some (shogi g)) = Some g
 
   -- the game that stands under a key
   abbrev pub game_under : List (AnyGame DM SM) → List ℕ → Option KeyedGame
@@ -142,8 +165,22 @@ module _ {DM SM : Type 0} (s : State DM SM) (moment : ℕ) where
         games = s.games ++ seated_as (kind_at (place s.events pairing.event)) (Some key) pairing moment ∷ [];
       }
 
+  abbrev pub with_imported : AnyGame DM SM → State DM SM
+  with_imported game = record s { last = moment; games = s.games ++ game ∷ [] }
+
   abbrev pub with_game : ℕ → AnyGame DM SM → State DM SM
   with_game id game = record s { last = moment; games = slice_set s.games (id - 1) game }
+
+abbrev pub import_looked_up : {DM SM P M E T : Type 0} →
+    GameRules P M E T → GameRecords M → State DM SM → Import → Option (Game M) → Outcome (Imported M)
+import_looked_up rules records s given old =
+    import_found rules records given
+    (find_id (has_event_name given.event) s.events)
+    (find_id (has_member_name given.first) s.members)
+    (find_id (has_member_name given.second) s.members)
+    (game_under s.games given.key)
+    old
+    (length s.games)
 
 module _ {DP DM DE DT SP SM SE ST : Type 0} (rules : ClubRules DP DM DE DT SP SM SE ST) where
   abbrev pub step_game : State DM SM → ℕ → ℕ → Caller → GameCommand → Option (AnyGame DM SM) → Outcome (State DM SM)
@@ -155,6 +192,17 @@ module _ {DP DM DE DT SP SM SE ST : Type 0} (rules : ClubRules DP DM DE DT SP SM
       map_outcome (λ new. with_game s moment id (shogi new))
       (game_step rules.shogi (terms_at (place s.events g.event)) g moment who command)
 
+  -- an import into an event of that kind; its names are looked up, and the game under its key
+  abbrev pub import_as : State DM SM → ℕ → Import → GameKind → Outcome (State DM SM)
+  import_as s moment given Draughts =
+      map_outcome
+      (λ i. with_imported s moment (draughts (imported rules.draughts (Some given.key) i.pairing moment i.recorded)))
+      (import_looked_up rules.draughts rules.draughts_records s given (draughts_in (any_under s.games given.key)))
+  import_as s moment given Shogi =
+      map_outcome
+      (λ i. with_imported s moment (shogi (imported rules.shogi (Some given.key) i.pairing moment i.recorded)))
+      (import_looked_up rules.shogi rules.shogi_records s given (shogi_in (any_under s.games given.key)))
+
   -- a command of a caller, at the effective moment
   abbrev pub step_command : State DM SM → ℕ → Caller → Command → Outcome (State DM SM)
   step_command s moment who (add_member name key) = by_officer who (map_outcome (with_members s moment) (member_step s.members name key))
@@ -163,6 +211,8 @@ module _ {DP DM DE DT SP SM SE ST : Type 0} (rules : ClubRules DP DM DE DT SP SM
       by_officer who
       (map_outcome (with_new_game s moment key)
       (seat_step s.members s.events (game_under s.games key) (length s.games) key event first second))
+  step_command s moment who (import_record given) =
+      by_officer who (import_as s moment given (event_kind s.events given.event))
   step_command s moment who (on_game id command) = step_game s moment id who command (place s.games id)
 
   abbrev pub step_by : State DM SM → ℕ → Option Caller → Command → Outcome (State DM SM)

@@ -9,32 +9,32 @@ ghost use Rattle.club_core.specs.View.{Shows, ShowsPly, IsSound, terms_of};
 ghost use Rattle.club_core.specs.Laws.{FoldsAccepted, LeavesState, NeverFalls, KeepsLegal, AnswersAgain};
 
 use crate::rows::GameView;
-use club_rules::Rules;
+use club_rules::{Records, Rules};
 
 /// The requests that were accepted lead alone to the same state.
-pub fn accepted_suffice<D: Rules, S: Rules>()
-    ensures { FoldsAccepted (both D.rules S.rules) }
+pub fn accepted_suffice<D: Records, S: Records>()
+    ensures { FoldsAccepted (both D.rules S.rules D.records S.records) }
 {}
 
 /// A request that is refused or repeated leaves the state.
-pub fn others_leave<D: Rules, S: Rules>()
-    ensures { LeavesState (both D.rules S.rules) }
+pub fn others_leave<D: Records, S: Records>()
+    ensures { LeavesState (both D.rules S.rules D.records S.records) }
 {}
 
 /// The moment of the last accepted request never falls.
-pub fn moments_rise<D: Rules, S: Rules>()
-    ensures { NeverFalls (both D.rules S.rules) }
+pub fn moments_rise<D: Records, S: Records>()
+    ensures { NeverFalls (both D.rules S.rules D.records S.records) }
 {}
 
 /// A request, at a moment that there is, leaves a legal state legal.
-pub fn requests_keep_legal<D: Rules, S: Rules>()
-    ensures { KeepsLegal (both D.rules S.rules) }
+pub fn requests_keep_legal<D: Records, S: Records>()
+    ensures { KeepsLegal (both D.rules S.rules D.records S.records) }
 {}
 
 /// An accepted command that comes again from the one who gave it is repeated with the same answer, at any moment and
 /// whatever requests stand between.
-pub fn repeats_answer_again<D: Rules, S: Rules>()
-    ensures { AnswersAgain (both D.rules S.rules) }
+pub fn repeats_answer_again<D: Records, S: Records>()
+    ensures { AnswersAgain (both D.rules S.rules D.records S.records) }
 {}
 
 /// A view that shows a legal game of an event is sound, so that a command can be decided over it.

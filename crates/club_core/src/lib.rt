@@ -5,7 +5,7 @@ pub mod answers;
 pub mod decisions;
 mod draws;
 mod endings;
-mod ends;
+pub mod ends;
 pub mod events;
 mod ids;
 pub mod laws;
@@ -24,7 +24,9 @@ pub use decisions::{decide, refusal_without_game};
 pub use events::{Event, add_event};
 pub use members::{Member, add_member, identify};
 pub use refusals::Refusal;
-pub use requests::{AddEvent, AddMember, Caller, Command, GameCommand, OnGame, Request, Seat, Who};
+pub use requests::{
+    AddEvent, AddMember, Caller, Command, GameCommand, Import, OnGame, Request, Seat, Who,
+};
 pub use rows::{Asked, GameEnd, GameRow, GameView, Made, Offer, OutsideEnd};
 pub use seats::{KeyedGame, Pairing, Seating, seat, seated_row};
 pub use settling::{Settled, conclude, settle};

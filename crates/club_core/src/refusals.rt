@@ -3,7 +3,7 @@
 ghost use Rattle.std.specs.Prelude.{◌≡◌};
 ghost use Rattle.club_core.specs.Refusal.{refusal_number, refusal_name, refusal_text};
 
-use club_rules::MoveRefusal;
+use club_rules::{MoveRefusal, RecordRefusal};
 use std::fmt;
 
 /// Why a command is refused. Of several reasons the first in this order is given, a repeat of an accepted command coming
@@ -26,7 +26,7 @@ pub enum Refusal {
     GameOver,
     /// The ply is 0 or not yet due, or for a draw not the next one.
     WrongPly,
-    /// Another move was played at the ply, another game stands under the key, or the other side has offered a draw.
+    /// Another move was played at the ply, another game or record stands under the key, or the other side has offered a draw.
     Conflict,
     /// The other side is to move, or for a claim the caller's own.
     NotYourTurn,
@@ -38,16 +38,18 @@ pub enum Refusal {
     NoOffer,
     /// The name or the key is in use.
     NameTaken,
-    /// A value is outside its limits, or a player is unknown or twice the same.
+    /// A value is outside its limits, a player is unknown or twice the same, or a text has no such record.
     BadValue,
     /// The club holds no more of these.
     Full,
     /// The text or the move of that ply is refused by the rules of the game.
     Play { ply: u32, refusal: MoveRefusal },
+    /// The record of an import is refused.
+    Record(RecordRefusal),
 }
 
 impl Refusal {
-    /// The number of the refusal: 50 to 66, or that of the move's refusal.
+    /// The number of the refusal: 50 to 66, or that of the move's or the record's refusal.
     pub fn number(self) -> u8
         ensures { result ≡ refusal_number self }
     {
@@ -69,6 +71,7 @@ impl Refusal {
             Refusal::BadValue => 65,
             Refusal::Full => 66,
             Refusal::Play { ply: _, refusal } => refusal.number(),
+            Refusal::Record(refusal) => refusal.number(),
         }
     }
 
@@ -94,6 +97,7 @@ impl Refusal {
             Refusal::BadValue => "BadValue",
             Refusal::Full => "Full",
             Refusal::Play { ply: _, refusal } => refusal.name(),
+            Refusal::Record(refusal) => refusal.name(),
         }
     }
 }
@@ -106,6 +110,10 @@ impl fmt::Display for Refusal {
     ghost output = { λ refusal. Some (refusal_text refusal) };
 
     fn fmt<W: fmt::Write>(&self, f: &mut fmt::Formatter<W>) -> fmt::Result {
+        match self {
+            Refusal::Record(refusal) => return write!(f, "{refusal}"),
+            _ => {}
+        }
         let number = self.number();
         let name = self.name();
         write!(f, "{number} {name}")?;

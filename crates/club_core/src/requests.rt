@@ -5,7 +5,7 @@ ghost use Rattle.club_core.specs.Answer.{game_command_of};
 ghost use Rattle.club_core.specs.Step.{asked_ply};
 
 use clocks::Moment;
-use club_rules::GameKind;
+use club_rules::{GameKind, RecordFormat};
 
 /// Who gives a command: the officer, or one who shows a member's key.
 #[derive(Debug, Drop)]
@@ -44,6 +44,19 @@ pub struct Seat {
     pub event: String,
     pub first: String,
     pub second: String,
+}
+
+/// Adds a game that was played elsewhere, from a part of a text of records, to an event, between two members, under a key
+/// of its own. Parts count from 1.
+#[derive(Debug, Drop)]
+pub struct Import {
+    pub key: String,
+    pub event: String,
+    pub first: String,
+    pub second: String,
+    pub part: u64,
+    pub format: RecordFormat,
+    pub text: Vec<u8>,
 }
 
 /// A command on a game. Plies count from 1.
@@ -86,6 +99,7 @@ pub enum Command {
     AddMember(AddMember),
     AddEvent(AddEvent),
     Seat(Seat),
+    Import(Import),
     OnGame(OnGame),
 }
 

@@ -47,7 +47,7 @@ pub enum Seating {
 }
 
 /// The id of the event of that name.
-fn find_event(events: &[Event], name: &str) -> Option<u32>
+pub fn find_event(events: &[Event], name: &str) -> Option<u32>
     requires { length events.now ≤ most_events }
     ensures { result ≡ find_id (has_event_name name.now) (events_of events.now) }
 {
@@ -55,7 +55,7 @@ fn find_event(events: &[Event], name: &str) -> Option<u32>
 }
 
 /// The id of the member of that name.
-fn find_member(members: &[Member], name: &str) -> Option<u32>
+pub fn find_member(members: &[Member], name: &str) -> Option<u32>
     requires { length members.now ≤ most_members }
     ensures { result ≡ find_id (has_member_name name.now) (members_of members.now) }
 {
@@ -73,7 +73,7 @@ fn is_id(found: Option<u32>, id: u32) -> bool
 }
 
 /// Whether both were found and differ.
-fn are_two(first: Option<u32>, second: Option<u32>) -> bool
+pub fn are_two(first: Option<u32>, second: Option<u32>) -> bool
     ensures { result ≡ are_two first second }
 {
     match first {
@@ -86,7 +86,7 @@ fn are_two(first: Option<u32>, second: Option<u32>) -> bool
 }
 
 /// The game under the key, if it is of the same event and has the same members on the same sides.
-fn repeated_seat(
+pub fn repeated_seat(
     event: u32,
     first: Option<u32>,
     second: Option<u32>,

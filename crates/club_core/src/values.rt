@@ -20,6 +20,9 @@ pub const MOST_PLIES: u32 = 600;
 /// The most bytes of a move's text.
 pub const MOST_TEXT_BYTES: usize = 200;
 
+/// The most bytes of a text of records.
+pub const MOST_RECORD_BYTES: usize = 65_536;
+
 /// The longest budget, in seconds: 365 days.
 pub const LONGEST_BUDGET: u64 = 31_536_000;
 

@@ -1,4 +1,9 @@
+pub mod CsaLaws
+pub mod CsaReading
 pub mod Draughts
 pub mod DraughtsLaws
+pub mod FenReading
+pub mod PdnLaws
+pub mod PdnReading
 pub mod Shogi
 pub mod ShogiLaws

@@ -2,7 +2,9 @@
 #![tactic(auto)]
 
 pub mod draughts;
+pub mod draughts_records;
 pub mod shogi;
+pub mod shogi_records;
 
 pub use draughts::Draughts;
 pub use shogi::Shogi;

@@ -13,8 +13,8 @@ use std::alloc::Global;
 /// Shogi.
 pub struct Shogi;
 
-// Why the club refuses a move that the rules refuse.
-fn refusal_of(illegal: Illegal) -> MoveRefusal
+/// Why the club refuses a move that the rules refuse.
+pub fn refusal_of(illegal: Illegal) -> MoveRefusal
     ensures { result ≡ refusal_of illegal }
 {
     match illegal {

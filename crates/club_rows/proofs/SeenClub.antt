@@ -1,5 +1,5 @@
 -- The table of the positions of all games, where a game changes or is added.
-use Rattle.std.proofs.Common.{◌≡◌, ℕ, ℤ, ◌+◌, List, [], ◌∷◌, length, map, pos, Some, true, inl, refl, ap, sym, subst, subst₂, ◌∙◌, arith}
+use Rattle.std.proofs.Common.{◌≡◌, ℕ, ℤ, ◌+◌, List, [], ◌∷◌, ◌++◌, length, map, pos, Some, true, inl, refl, ap, sym, subst, subst₂, ◌∙◌, arith}
 use Rattle.std.specs.Prelude.{slice_get, slice_set, string_bytes}
 use Rattle.sqlite_value.specs.declared.value.Value.{Value}
 use Rattle.sqlite_value.specs.declared.value.Value.TheVariants.{Int, Text}
@@ -15,7 +15,7 @@ use Rattle.club_core.specs.ClubRules.{ClubRules}
 use Rattle.club_core.specs.Game.{Game}
 use Rattle.club_core.specs.Seats.{Pairing}
 use Rattle.club_core.specs.State.{AnyGame, draughts, shogi, State, place, kind_at, seated_as, with_new_game}
-use Rattle.club_rows.specs.Tables.{number, rows_of_seen, tables_of}
+use Rattle.club_rows.specs.Tables.{number, gathered_from, rows_of_seen, tables_of}
 use Rattle.club_rows.specs.Seen.{texts_of, seen_rows, IsFound}
 use Rattle.club_rows.proofs.GatheredLemmas.{gathered-had, gathered-has, gathered-apart, gathered-set, gathered-added, gathered-kept}
 use Rattle.club_rows.proofs.KeyPairs.{same-numbers, same-ids, ids-agree, same-texts, pairs-agree}
@@ -53,12 +53,16 @@ module _ {DP DM DE DT SP SM SE ST : Type 0} (kinds : ClubRules DP DM DE DT SP SM
       → tables_of kinds (record s { last = moment; games = slice_set s.games n new }) 12 ≡ tables_of kinds s 12
   seen-table-kept s n old new moment at same = gathered-kept (rows_of_seen kinds) 1 s.games n old new at same
 
-  -- a game more adds the row of its opening
+  -- a game more adds its rows
+  pub seen-added : (games : List (AnyGame DM SM)) (new : AnyGame DM SM) → Alters (0 ∷ 1 ∷ []) (rows_of_seen kinds (1 + length games) new) (gathered_from (rows_of_seen kinds) 1 games) (gathered_from (rows_of_seen kinds) 1 (games ++ new ∷ []))
+  seen-added games new = gathered-added (rows_of_seen kinds) numbered apart games new
+
+  -- a game that was just seated adds the row of its opening
   pub seen-table-added : (s : State DM SM) (key : List ℕ) (pairing : Pairing) (moment : ℕ) (row : Row) → rows_of_seen kinds (1 + length s.games) (seated_as (kind_at (place s.events pairing.event)) (Some key) pairing moment) ≡ row ∷ []
       → Alters (0 ∷ 1 ∷ []) (row ∷ []) (tables_of kinds s 12) (tables_of kinds (with_new_game s moment key pairing) 12)
   seen-table-added s key pairing moment row is =
       subst (λ rows. Alters (0 ∷ 1 ∷ []) rows (tables_of kinds s 12) (tables_of kinds (with_new_game s moment key pairing) 12)) is
-      (gathered-added (rows_of_seen kinds) numbered apart s.games (seated_as (kind_at (place s.events pairing.event)) (Some key) pairing moment))
+      (seen-added s.games (seated_as (kind_at (place s.events pairing.event)) (Some key) pairing moment))
 
   -- ---- the row of a position
 

@@ -8,7 +8,9 @@ use Rattle.draughts_draws.specs.declared.ends.DEnd.{DEnd}
 use Rattle.draughts_draws.specs.declared.tails.Tail as draughts_track
 use Rattle.shogi_repetition.specs.declared.ends.SEnd.{SEnd}
 use Rattle.shogi_repetition.specs.declared.tails.Tail as shogi_track
+use Rattle.club_games.specs.CsaReading.{shogi_records}
 use Rattle.club_games.specs.Draughts.{draughts}
+use Rattle.club_games.specs.PdnReading.{draughts_records}
 use Rattle.club_games.specs.Shogi.{shogi}
 use Rattle.club_core.specs.ClubRules.{ClubRules, both}
 use Rattle.club_core.specs.LegalState.{IsLegalState}
@@ -20,9 +22,9 @@ use Rattle.club_rows.specs.EachOnce.{AreEachOnce}
 use Rattle.club_rows.specs.Scores.{scores_in}
 use Rattle.club_rows.specs.Tables.{member_row, event_row, numbered_from, gathered_from, row_of_game, rows_of_moves, rows_of_seen, tables_of}
 
--- the rules of the club's games
+-- the rules of the club's games, and their records
 abbrev pub both_games : ClubRules Position DMove DEnd draughts_track.Tail ShogiPosition SMove SEnd shogi_track.Tail
-both_games = both draughts shogi
+both_games = both draughts shogi draughts_records shogi_records
 
 -- a game of either kind
 abbrev pub ClubGame : Type 0

@@ -7,7 +7,7 @@ ghost use Rattle.club_core.specs.State.{State};
 ghost use Rattle.club_rows.specs.Made.{MadeRowIsLast};
 ghost use Rattle.club_rows.specs.Tables.{tables_of};
 
-use club_rules::Rules;
+use club_rules::{Records, Rules};
 
 /// A move that is played in a legal game adds the row of its answer to the rows of the game's moves, as the last one.
 pub fn made_row_is_last<R: Rules>()
@@ -15,7 +15,9 @@ pub fn made_row_is_last<R: Rules>()
 {}
 
 /// The tables tell the club: two legal states with the same tables are one.
-pub fn tables_tell_the_club<R: Rules, Q: Rules>()
-    ensures { (s t : State R.Move Q.Move) → IsLegalState (both R.rules Q.rules) s → IsLegalState (both R.rules Q.rules) t →
-        ((n : ℕ) → tables_of (both R.rules Q.rules) s n ≡ tables_of (both R.rules Q.rules) t n) → s ≡ t }
+pub fn tables_tell_the_club<D: Records, S: Records>()
+    ensures { (s t : State D.Move S.Move) → IsLegalState (both D.rules S.rules D.records S.records) s →
+        IsLegalState (both D.rules S.rules D.records S.records) t →
+        ((n : ℕ) → tables_of (both D.rules S.rules D.records S.records) s n
+        ≡ tables_of (both D.rules S.rules D.records S.records) t n) → s ≡ t }
 {}

@@ -1,4 +1,5 @@
 pub mod Lines
+pub mod PlayedLines
 pub mod Proved
 pub mod Refused
 pub mod Sameness

@@ -4,3 +4,5 @@ pub mod Laws
 pub mod Line
 pub mod Listed
 pub mod MoveRefusal
+pub mod RecordRefusal
+pub mod Records

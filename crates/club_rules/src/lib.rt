@@ -1,11 +1,15 @@
-//! What a game of two sides is to the club: its positions, moves, ends and texts.
+//! What a game of two sides is to the club: its positions, moves, ends, texts and records.
 #![tactic(auto)]
 
 pub mod game;
 pub mod names;
+pub mod record_refusals;
+pub mod records;
 pub mod refusals;
 
 pub use game::Rules;
 pub use names::{EndName, GameKind};
+pub use record_refusals::RecordRefusal;
+pub use records::{RecordFormat, RecordReading, RecordedGame, Records};
 pub use refusals::MoveRefusal;
 pub use squares::Memory;

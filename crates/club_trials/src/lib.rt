@@ -12,6 +12,8 @@ mod moments;
 #[cfg(test)]
 mod one_game;
 #[cfg(test)]
+mod recorded_games;
+#[cfg(test)]
 mod refused_moves;
 #[cfg(test)]
 mod score_rows;

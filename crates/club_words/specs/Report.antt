@@ -1,15 +1,20 @@
 -- What an order came to: what is printed, the status of the program, and the sessions that it adds to a club's life.
-use Rattle.std.specs.Prelude.{◌≡◌, ◌⊎◌, ℕ, List, [], ◌∷◌, ◌++◌, map, Some, None, codes, string_bytes, ⊤}
+use Rattle.std.specs.Prelude.{◌≡◌, ◌⊎◌, ℕ, List, [], ◌∷◌, ◌++◌, map, Option, Some, None, Result, Ok, Err, Bool, true, false, codes, string_bytes, ⊤}
+use Rattle.std.specs.declared.alloc.Global.{Global}
+use Rattle.std.specs.declared.vec.Vec.{Vec}
 use Rattle.sqlite.specs.Tree.{Trees}
 use Rattle.store_tables.specs.Contents.{IsEmpty}
 use Rattle.club_core.specs.declared.requests.Who.TheVariants.{Officer}
 use Rattle.club_core.specs.declared.requests.Command.{Command}
+use Rattle.club_core.specs.declared.requests.Command.TheVariants as command
 use Rattle.club_core.specs.declared.answers.Outcome.{Outcome}
 use Rattle.club_core.specs.declared.answers.Outcome.TheVariants as outcome
 use Rattle.club_core.specs.declared.refusals.Refusal.TheVariants.{UnknownEvent, UnknownGame}
 use Rattle.club_core.specs.AnswerText.{outcome_text}
 use Rattle.club_core.specs.State.{Request}
 use Rattle.club_rows.specs.Club.{ClubState}
+use Rattle.store.specs.declared.exported.ExportFault.{ExportFault}
+use Rattle.store.specs.declared.exported.ExportFault.TheVariants as export_fault
 use Rattle.store.specs.declared.fault.OpenFault.{OpenFault}
 use Rattle.store.specs.declared.fault.OpenFault.TheVariants as open_fault
 use Rattle.store.specs.declared.fault.StoreFault.TheVariants as store_fault
@@ -17,9 +22,10 @@ use Rattle.store.specs.FaultText.{open_fault_text, store_fault_text}
 use Rattle.store.specs.Lives.{Session, IsLed, answered_session, cut_session}
 use Rattle.store.specs.Steps.{request}
 use Rattle.store.specs.CrossTable.{AreTableRows}
+use Rattle.store.specs.Exported.{IsExported, IsWrittenSome}
 use Rattle.store.specs.Stored.{AreLegalRows}
 use Rattle.club_words.specs.declared.report.Report.{Report}
-use Rattle.club_words.specs.declared.report.Report.TheVariants.{Ready, Sound, Answered, Listed, Unopened, Stopped, InUse, NotOpened, NoMoment, NoMemory}
+use Rattle.club_words.specs.declared.report.Report.TheVariants.{Ready, Sound, Answered, Listed, Exported, Unwritten, Unopened, Stopped, InUse, NotOpened, NoMoment, Unread, NoMemory}
 use Rattle.club_words.specs.declared.words.Task.{Task}
 use Rattle.club_words.specs.declared.words.Task.TheVariants as task
 
@@ -34,11 +40,14 @@ report_text Ready = codes "ready\n"
 report_text Sound = codes "sound\n"
 report_text (Answered outcome) = outcome_text outcome ++ codes "\n"
 report_text (Listed texts) = lines (map (λ t. string_bytes t) texts.items)
+report_text Exported = []
+report_text Unwritten = codes "store 77 Output\n"
 report_text (Unopened fault) = codes "store " ++ open_fault_text fault ++ codes "\n"
 report_text (Stopped fault) = codes "store " ++ store_fault_text fault ++ codes "\n"
 report_text InUse = codes "store 73 Store\n"
 report_text NotOpened = codes "store 73 Store\n"
 report_text NoMoment = codes "store 76 Input\n"
+report_text Unread = codes "store 76 Input\n"
 report_text NoMemory = codes "store 75 Memory\n"
 
 abbrev pub outcome_status : Outcome → ℕ
@@ -52,12 +61,33 @@ report_status Ready = 0
 report_status Sound = 0
 report_status (Answered outcome) = outcome_status outcome
 report_status (Listed texts) = 0
+report_status Exported = 0
+report_status Unwritten = 3
 report_status (Unopened fault) = 3
 report_status (Stopped fault) = 3
 report_status InUse = 3
 report_status NotOpened = 3
 report_status NoMoment = 3
+report_status Unread = 3
 report_status NoMemory = 3
+
+-- ---- the text of an import
+
+-- the command with that text, if it is an import
+abbrev pub with_text : Vec ℕ Global → Command → Command
+with_text text (command.AddMember c) = command.AddMember c
+with_text text (command.AddEvent c) = command.AddEvent c
+with_text text (command.Seat c) = command.Seat c
+with_text text (command.Import c) = command.Import (record c { text = text })
+with_text text (command.OnGame c) = command.OnGame c
+
+abbrev pub task_with : Vec ℕ Global → Task → Task
+task_with text task.Init = task.Init
+task_with text (task.Request command) = task.Request (with_text text command)
+task_with text (task.Legal game) = task.Legal game
+task_with text (task.Table name) = task.Table name
+task_with text (task.Export game) = task.Export game
+task_with text task.Verify = task.Verify
 
 -- ---- what it adds to the life of a club
 
@@ -76,6 +106,7 @@ abbrev pub task_sessions : Task → ℕ → Report → List Session
 task_sessions task.Init moment report = []
 task_sessions (task.Legal game) moment report = []
 task_sessions (task.Table name) moment report = []
+task_sessions (task.Export game) moment report = []
 task_sessions task.Verify moment report = []
 task_sessions (task.Request command) moment report = request_sessions (given command moment) report
 
@@ -91,6 +122,7 @@ IfRequest task.Init Holds = ⊤
 IfRequest (task.Request command) Holds = Holds command
 IfRequest (task.Legal game) Holds = ⊤
 IfRequest (task.Table name) Holds = ⊤
+IfRequest (task.Export game) Holds = ⊤
 IfRequest task.Verify Holds = ⊤
 
 abbrev pub IfLegal : Task → (ℕ → Type 0) → Type 0
@@ -98,6 +130,7 @@ IfLegal task.Init Holds = ⊤
 IfLegal (task.Request command) Holds = ⊤
 IfLegal (task.Legal game) Holds = Holds game
 IfLegal (task.Table name) Holds = ⊤
+IfLegal (task.Export game) Holds = ⊤
 IfLegal task.Verify Holds = ⊤
 
 abbrev pub IfTable : Task → (List ℕ → Type 0) → Type 0
@@ -105,6 +138,7 @@ IfTable task.Init Holds = ⊤
 IfTable (task.Request command) Holds = ⊤
 IfTable (task.Legal game) Holds = ⊤
 IfTable (task.Table name) Holds = Holds (string_bytes name)
+IfTable (task.Export game) Holds = ⊤
 IfTable task.Verify Holds = ⊤
 
 abbrev pub IfVerify : Task → Type 0 → Type 0
@@ -112,7 +146,16 @@ IfVerify task.Init Holds = ⊤
 IfVerify (task.Request command) Holds = ⊤
 IfVerify (task.Legal game) Holds = ⊤
 IfVerify (task.Table name) Holds = ⊤
+IfVerify (task.Export game) Holds = ⊤
 IfVerify task.Verify Holds = Holds
+
+abbrev pub IfExport : Task → (ℕ → Type 0) → Type 0
+IfExport task.Init Holds = ⊤
+IfExport (task.Request command) Holds = ⊤
+IfExport (task.Legal game) Holds = ⊤
+IfExport (task.Table name) Holds = ⊤
+IfExport (task.Export game) Holds = Holds game
+IfExport task.Verify Holds = ⊤
 
 -- the legal moves of the game are listed, or there is no such game; or a call of the database failed, or memory was refused
 abbrev pub ListsMoves : ClubState → ℕ → Report → Type 0
@@ -130,6 +173,25 @@ ListsTable s name (Answered answer) = (answer ≡ outcome.Refused UnknownEvent) 
 ListsTable s name (Unopened fault) = (fault ≡ open_fault.Store) ⊎ (fault ≡ open_fault.Memory)
 ListsTable s name (Stopped fault) = (fault ≡ store_fault.Store) ⊎ (fault ≡ store_fault.Memory)
 ListsTable s name _ = ⊥
+
+-- what is reported of a record that was written, or not
+abbrev pub export_report : Result Bool ExportFault → Report
+export_report (Ok true) = Exported
+export_report (Ok false) = Answered (outcome.Refused UnknownGame)
+export_report (Err export_fault.Output) = Unwritten
+export_report (Err (export_fault.Club fault)) = Stopped fault
+
+-- the record of the game was written, or there is no such game and nothing was; or the writer or a call of the database
+-- failed, or memory was refused, and a beginning of the record was written
+abbrev pub WritesRecord : ClubState → ℕ → Option (List ℕ) → Option (List ℕ) → Report → Type 0
+WritesRecord s game before now Exported = IsExported s game true before now
+WritesRecord s game before now (Answered answer) = (answer ≡ outcome.Refused UnknownGame) × IsExported s game false before now
+WritesRecord s game before now Unwritten = IsWrittenSome s game before now
+WritesRecord s game before now (Unopened fault) =
+    ((fault ≡ open_fault.Store) ⊎ (fault ≡ open_fault.Memory)) × (now ≡ before)
+WritesRecord s game before now (Stopped fault) =
+    ((fault ≡ store_fault.Store) ⊎ (fault ≡ store_fault.Memory)) × IsWrittenSome s game before now
+WritesRecord s game before now _ = ⊥
 
 -- the file was found sound; or a call of the database failed, or memory was refused
 abbrev pub IsPassed : Report → Type 0

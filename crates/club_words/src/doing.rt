@@ -17,8 +17,8 @@ ghost use Rattle.store.specs.Lives.{IsLed};
 ghost use Rattle.store.specs.Places.{NamesRows};
 ghost use Rattle.store.specs.Stored.{AreLegalRows};
 ghost use Rattle.club_words.specs.declared.words.Task.TheVariants.{Init};
-ghost use Rattle.club_words.specs.Report.{given, Answers, IfRequest, IfLegal, IfTable, IfVerify, IfUnopened};
-ghost use Rattle.club_words.specs.Report.{ListsMoves, ListsTable, IsPassed, IsBegun, request_sessions, task_sessions};
+ghost use Rattle.club_words.specs.Report.{given, Answers, export_report, IfRequest, IfLegal, IfTable, IfExport, IfVerify, IfUnopened};
+ghost use Rattle.club_words.specs.Report.{ListsMoves, ListsTable, WritesRecord, IsPassed, IsBegun, request_sessions, task_sessions};
 
 use crate::report::Report;
 use crate::words::Task;
@@ -26,8 +26,9 @@ use clocks::Moment;
 use club_core::{Command, Outcome, Refusal, Who};
 use sqlite::{Alter, Connection};
 use std::alloc::Global;
+use std::io::Write;
 use store::{
-    adopt, create, holds_exactly, holds_nothing, holds_what_sessions_left,
+    ExportFault, adopt, create, holds_exactly, holds_nothing, holds_what_sessions_left,
     leaves_what_sessions_left,
 };
 
@@ -173,6 +174,49 @@ fn table<S: Alter>(alloc: Global, conn: Connection<S>, event: &str) -> (Report, 
     }
 }
 
+// What is reported of a record that was written, or not.
+fn exported(written: Result<bool, ExportFault>) -> Report
+    ensures { result ≡ export_report written }
+{
+    match written {
+        Ok(true) => Report::Exported,
+        Ok(false) => Report::Answered(Outcome::Refused(Refusal::UnknownGame)),
+        Err(ExportFault::Output) => Report::Unwritten,
+        Err(ExportFault::Club(fault)) => Report::Stopped(fault),
+    }
+}
+
+// Writes the record of a game.
+fn export<S: Alter, W: Write>(
+    alloc: Global,
+    conn: Connection<S>,
+    game: u64,
+    out: &mut W,
+) -> (Report, Connection<S>)
+    requires { conn.in_transaction ≡ false }
+    ensures idle { result.1.in_transaction ≡ false }
+    ensures clean { doubt (state S.Store conn).is_clean ≤ doubt (state S.Store result.1).is_clean }
+    ensures record_of { HasCleanDisk (state S.Store result.1) → Opens (state S.Store conn) →
+        IsLive (state S.Store conn) →
+        (s : ClubState) → IsClub s → Leaves (tables s) (state S.Store conn).committed.trees →
+        WritesRecord s game (W.contents out.old) (W.contents out.new) result.0 }
+    ensures led { HasCleanDisk (state S.Store result.1) → Opens (state S.Store conn) → IsLive (state S.Store conn) →
+        (sessions : _) → IsLed sessions (state S.Store conn).committed.trees →
+        (db : _) → (state S.Store result.1).may_leave db → IsLed sessions db }
+{
+    holds_exactly(&conn);
+    holds_what_sessions_left(&conn);
+    leaves_what_sessions_left(&conn);
+    let mut club = match adopt(alloc, conn) {
+        Ok(club) => club,
+        Err(unopened) => return (Report::Unopened(unopened.fault), unopened.conn),
+    };
+    let written = club.export(alloc, game, out);
+    let conn = club.into_connection();
+    leaves_what_sessions_left(&conn);
+    (exported(written), conn)
+}
+
 // Tests that the rows are those of a club.
 fn verify<S: Alter>(alloc: Global, conn: Connection<S>) -> (Report, Connection<S>)
     requires { conn.in_transaction ≡ false }
@@ -204,14 +248,15 @@ fn verify<S: Alter>(alloc: Global, conn: Connection<S>) -> (Report, Connection<S
 
 /// Does what is asked for over a connection that was just opened, at that moment, and gives the connection back: makes
 /// a club, gives the club that stands there a command of the officer's, lists the legal moves of a game, shows the
-/// cross table of an event, or tests that the rows are those of a club. The answer is the machine's. Sessions that led
+/// cross table of an event, writes the record of a game to `out`, or tests that the rows are those of a club. The answer is the machine's. Sessions that led
 /// to what the opening found lead, with this request as one more, to whatever a stop leaves; where there was no table,
 /// and a club was to be made, none led to it, or there is no table still.
-pub fn act<S: Alter>(
+pub fn act<S: Alter, W: Write>(
     alloc: Global,
     conn: Connection<S>,
     task: &Task,
     moment: Moment,
+    out: &mut W,
 ) -> (Report, Connection<S>)
     requires { conn.in_transaction ≡ false }
     ensures idle { result.1.in_transaction ≡ false }
@@ -229,6 +274,10 @@ pub fn act<S: Alter>(
     ensures table { HasCleanDisk (state S.Store result.1) → Opens (state S.Store conn) → IsLive (state S.Store conn) →
         (s : ClubState) → IsClub s → Leaves (tables s) (state S.Store conn).committed.trees →
         IfTable task.now (λ name. ListsTable s name result.0) }
+    ensures record_of { HasCleanDisk (state S.Store result.1) → Opens (state S.Store conn) →
+        IsLive (state S.Store conn) →
+        (s : ClubState) → IsClub s → Leaves (tables s) (state S.Store conn).committed.trees →
+        IfExport task.now (λ game. WritesRecord s game (W.contents out.old) (W.contents out.new) result.0) }
     ensures passes { HasCleanDisk (state S.Store result.1) → Opens (state S.Store conn) → IsLive (state S.Store conn) →
         (s : ClubState) → IsClub s → Leaves (tables s) (state S.Store conn).committed.trees →
         IfVerify task.now (IsPassed result.0) }
@@ -248,6 +297,7 @@ pub fn act<S: Alter>(
         Task::Request(command) => request(alloc, conn, command, moment),
         Task::Legal(game) => legal(alloc, conn, *game),
         Task::Table(event) => table(alloc, conn, event.as_str()),
+        Task::Export(game) => export(alloc, conn, *game, out),
         Task::Verify => verify(alloc, conn),
     }
 }

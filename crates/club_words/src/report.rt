@@ -32,6 +32,10 @@ pub enum Report {
     Sound,
     /// Lines that were asked for: the legal moves of a game, as they are written, or the cross table of an event.
     Listed(Vec<String>),
+    /// The record of a game was written.
+    Exported,
+    /// The writer of a record failed.
+    Unwritten,
     /// No club was made, or none was found.
     Unopened(OpenFault),
     /// A call on the open club failed.
@@ -42,6 +46,8 @@ pub enum Report {
     NotOpened,
     /// The machine has no clock, or one that is set to no moment that there is.
     NoMoment,
+    /// The record of an import cannot be read.
+    Unread,
     /// The allocator refused before anything was done.
     NoMemory,
 }
@@ -58,11 +64,14 @@ impl Report {
             Report::Answered(Outcome::Repeated(_)) => DONE,
             Report::Answered(Outcome::Refused(_)) => REFUSED,
             Report::Listed(_) => DONE,
+            Report::Exported => DONE,
+            Report::Unwritten => FAULT,
             Report::Unopened(_) => FAULT,
             Report::Stopped(_) => FAULT,
             Report::InUse => FAULT,
             Report::NotOpened => FAULT,
             Report::NoMoment => FAULT,
+            Report::Unread => FAULT,
             Report::NoMemory => FAULT,
         }
     }
@@ -88,11 +97,14 @@ fn write_report(text: &mut String, report: &Report) -> Result<(), AllocError>
         Report::Sound => writeln!(text, "sound"),
         Report::Answered(outcome) => writeln!(text, "{outcome}"),
         Report::Listed(listed) => write_lines(text, listed.as_slice()),
+        Report::Exported => Ok(()),
+        Report::Unwritten => writeln!(text, "store 77 Output"),
         Report::Unopened(fault) => writeln!(text, "store {fault}"),
         Report::Stopped(fault) => writeln!(text, "store {fault}"),
         Report::InUse => writeln!(text, "store 73 Store"),
         Report::NotOpened => writeln!(text, "store 73 Store"),
         Report::NoMoment => writeln!(text, "store 76 Input"),
+        Report::Unread => writeln!(text, "store 76 Input"),
         Report::NoMemory => writeln!(text, "store 75 Memory"),
     }
 }

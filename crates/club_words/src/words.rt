@@ -1,10 +1,13 @@
 //! The program's words, read as one order.
 
+ghost use Rattle.std.specs.Prelude.{◌≡◌};
+ghost use Rattle.club_words.specs.Report.{with_text, task_with};
+
 use clap::error::ErrorKind;
 use clap::{Arg, ArgAction, ArgMatches, value_parser};
 use clocks::Moment;
-use club_core::{AddEvent, AddMember, Command, GameCommand, OnGame, Seat};
-use club_rules::GameKind;
+use club_core::{AddEvent, AddMember, Command, GameCommand, Import, OnGame, Seat};
+use club_rules::{GameKind, RecordFormat};
 use std::alloc::{AllocError, Global};
 
 /// What the program is asked to do.
@@ -18,6 +21,8 @@ pub enum Task {
     Legal(u64),
     /// Show the cross table of the event of a name.
     Table(String),
+    /// Write the record of a game.
+    Export(u64),
     /// Test that the rows of the file are those of a club.
     Verify,
 }
@@ -28,6 +33,52 @@ pub struct Order {
     pub file: String,
     pub now: Option<Moment>,
     pub task: Task,
+    /// Where an import's text is read from: a path, or `-` for the standard input. The task has no text of its own.
+    pub record: Option<String>,
+}
+
+// The command with that text, if it is an import.
+fn with_text(command: Command, text: Vec<u8>) -> Command
+    ensures { result ≡ with_text text command }
+{
+    match command {
+        Command::Import(given) => Command::Import(Import {
+            key: given.key,
+            event: given.event,
+            first: given.first,
+            second: given.second,
+            part: given.part,
+            format: given.format,
+            text,
+        }),
+        other => other,
+    }
+}
+
+impl Order {
+    /// The order with the text that was read for its import; any other order as it is.
+    pub fn with_text(self, text: Vec<u8>) -> Order
+        ensures task { result.task ≡ task_with text self.task }
+        ensures file { result.file ≡ self.file }
+        ensures now { result.now ≡ self.now }
+    {
+        let Order {
+            file,
+            now,
+            task,
+            record,
+        } = self;
+        let task = match task {
+            Task::Request(command) => Task::Request(with_text(command, text)),
+            other => other,
+        };
+        Order {
+            file,
+            now,
+            task,
+            record,
+        }
+    }
 }
 
 /// Words that are no order.
@@ -109,6 +160,44 @@ fn seat_words<'a>(alloc: Global) -> Result<clap::Command<'a>, AllocError> {
         .arg(word(alloc, "SECOND", "The other member"))
 }
 
+// The words of an import, but for the part of the record.
+fn import_words<'a>(
+    alloc: Global,
+    name: &'a str,
+    about: &'a str,
+) -> Result<clap::Command<'a>, AllocError> {
+    clap::Command::new(alloc, name)
+        .about(about)
+        .arg(word(alloc, "KEY", A_NAME))?
+        .arg(word(alloc, "EVENT", "The event's name"))?
+        .arg(word(
+            alloc,
+            "FIRST",
+            "The member who moved first: White in draughts, Black in shogi",
+        ))?
+        .arg(word(alloc, "SECOND", "The other member"))?
+        .arg(word(
+            alloc,
+            "RECORD",
+            "The file of the record, of at most 65536 bytes; '-' is the standard input",
+        ))
+}
+
+// The words of an import of shogi.
+fn import_csa_words<'a>(alloc: Global) -> Result<clap::Command<'a>, AllocError> {
+    let part = Arg::new(alloc, "N")
+        .long("part")
+        .help("Which of the records in the file: 1, if it is not given, for the first")
+        .action(ArgAction::Set)
+        .value_parser(value_parser!(u64));
+    let words = import_words(
+        alloc,
+        "import-csa",
+        "Adds an ended game of an event of shogi from a CSA record, under a key",
+    )?;
+    words.arg(part)
+}
+
 fn move_words<'a>(alloc: Global) -> Result<clap::Command<'a>, AllocError> {
     clap::Command::new(alloc, "move")
         .about("Plays a move for the side whose ply it is")
@@ -128,6 +217,12 @@ fn move_words<'a>(alloc: Global) -> Result<clap::Command<'a>, AllocError> {
 fn legal_words<'a>(alloc: Global) -> Result<clap::Command<'a>, AllocError> {
     clap::Command::new(alloc, "legal")
         .about("Lists the legal moves of a game, a line each; nothing where it has ended")
+        .arg(number(alloc, "GAME", "The game's number, as 'seat' printed it"))
+}
+
+fn export_words<'a>(alloc: Global) -> Result<clap::Command<'a>, AllocError> {
+    clap::Command::new(alloc, "export")
+        .about("Writes a game as a record: draughts in PDN, shogi in CSA")
         .arg(number(alloc, "GAME", "The game's number, as 'seat' printed it"))
 }
 
@@ -167,8 +262,15 @@ fn club_words<'a>(alloc: Global) -> Result<clap::Command<'a>, AllocError> {
         .subcommand(member_words(alloc)?)?
         .subcommand(event_words(alloc)?)?
         .subcommand(seat_words(alloc)?)?
+        .subcommand(import_words(
+            alloc,
+            "import-pdn",
+            "Adds an ended game of an event of draughts from a PDN record, under a key",
+        )?)?
+        .subcommand(import_csa_words(alloc)?)?
         .subcommand(move_words(alloc)?)?
         .subcommand(legal_words(alloc)?)?
+        .subcommand(export_words(alloc)?)?
         .subcommand(table_words(alloc)?)?
         .subcommand(verify)
 }
@@ -210,11 +312,43 @@ fn event_of(alloc: Global, words: &ArgMatches<'_>) -> Result<AddEvent, BadWords>
     })
 }
 
+// The import that the words ask for, without its text.
+fn import_of(
+    alloc: Global,
+    words: &ArgMatches<'_>,
+    format: RecordFormat,
+    part: u64,
+) -> Result<Import, AllocError> {
+    Ok(Import {
+        key: text(alloc, words, "KEY")?,
+        event: text(alloc, words, "EVENT")?,
+        first: text(alloc, words, "FIRST")?,
+        second: text(alloc, words, "SECOND")?,
+        part,
+        format,
+        text: Vec::new(alloc),
+    })
+}
+
+// Where the text of an import is read from.
+fn record_of(
+    alloc: Global,
+    name: &str,
+    words: &ArgMatches<'_>,
+) -> Result<Option<String>, AllocError> {
+    match name {
+        "import-pdn" => Ok(Some(text(alloc, words, "RECORD")?)),
+        "import-csa" => Ok(Some(text(alloc, words, "RECORD")?)),
+        _ => Ok(None),
+    }
+}
+
 // What the words of a subcommand ask for.
 fn task_of(alloc: Global, name: &str, words: &ArgMatches<'_>) -> Result<Task, BadWords> {
     let command = match name {
         "init" => return Ok(Task::Init),
         "legal" => return Ok(Task::Legal(number_of(words, "GAME"))),
+        "export" => return Ok(Task::Export(number_of(words, "GAME"))),
         "table" => return Ok(Task::Table(text(alloc, words, "EVENT")?)),
         "verify" => return Ok(Task::Verify),
         "member" => Command::AddMember(AddMember {
@@ -228,6 +362,11 @@ fn task_of(alloc: Global, name: &str, words: &ArgMatches<'_>) -> Result<Task, Ba
             first: text(alloc, words, "FIRST")?,
             second: text(alloc, words, "SECOND")?,
         }),
+        "import-pdn" => Command::Import(import_of(alloc, words, RecordFormat::Pdn, 1)?),
+        "import-csa" => {
+            let part = words.get_one::<u64>("N").unwrap_or(1);
+            Command::Import(import_of(alloc, words, RecordFormat::Csa, part)?)
+        }
         "move" => Command::OnGame(OnGame {
             game: number_of(words, "GAME"),
             command: GameCommand::Move {
@@ -258,8 +397,8 @@ pub fn read_words(alloc: Global, words: &[&str]) -> Result<Order, BadWords> {
         Ok(matches) => matches,
         Err(error) => return Err(refused(alloc, &error)),
     };
-    let task = match matches.subcommand() {
-        Some((name, words)) => task_of(alloc, name, words)?,
+    let (task, record) = match matches.subcommand() {
+        Some((name, words)) => (task_of(alloc, name, words)?, record_of(alloc, name, words)?),
         None => return Err(unknown(alloc, "")?),
     };
     let now = match matches.get_one::<u64>("SECONDS") {
@@ -270,5 +409,6 @@ pub fn read_words(alloc: Global, words: &[&str]) -> Result<Order, BadWords> {
         file: text(alloc, &matches, "FILE")?,
         now,
         task,
+        record,
     })
 }

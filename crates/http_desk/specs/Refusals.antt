@@ -27,6 +27,7 @@ club_status club.Full = 409
 club_status club.NotInThisGame = 422
 club_status club.BadValue = 422
 club_status (club.Play ply refusal) = 422
+club_status (club.Record refusal) = 422
 
 abbrev pub challenge_number : ChallengeRefusal → ℕ
 challenge_number challenge.UnknownChallenge = 54

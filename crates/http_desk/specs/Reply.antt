@@ -60,6 +60,7 @@ key_lines club.NameTaken = []
 key_lines club.BadValue = []
 key_lines club.Full = []
 key_lines (club.Play ply refusal) = []
+key_lines (club.Record refusal) = []
 
 abbrev pub challenge_lines : ChallengeRefusal → List ℕ
 challenge_lines challenge.UnknownChallenge = []

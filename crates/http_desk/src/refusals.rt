@@ -55,6 +55,7 @@ fn club_status(refusal: ClubRefusal) -> u16
         ClubRefusal::NotInThisGame => 422,
         ClubRefusal::BadValue => 422,
         ClubRefusal::Play { ply: _, refusal: _ } => 422,
+        ClubRefusal::Record(_) => 422,
     }
 }
 

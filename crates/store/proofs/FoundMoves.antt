@@ -36,7 +36,7 @@ use Rattle.store.proofs.PlayedLemmas.{place_at}
 pos_same : (m n : ℕ) → pos m ≡ pos n → m ≡ n
 pos_same m n is = cc
 
-numbers_same : (a b : Row) (m n k j : ℕ) → column a 0 ≡ number m → column b 0 ≡ number n → column a 1 ≡ number k → column b 1 ≡ number j → same_key (0 ∷ 1 ∷ []) a b ≡ true → (m ≡ n) × (k ≡ j)
+pub numbers_same : (a b : Row) (m n k j : ℕ) → column a 0 ≡ number m → column b 0 ≡ number n → column a 1 ≡ number k → column b 1 ≡ number j → same_key (0 ∷ 1 ∷ []) a b ≡ true → (m ≡ n) × (k ≡ j)
 unfolding first_key
 numbers_same a b m n k j p q r t same =
     let h = rw (p, q, r, t) at same in

@@ -28,7 +28,7 @@ use Rattle.club_core.proofs.LegalSteps.{in-place}
 use Rattle.club_rows.specs.Replay.{terms_given}
 use Rattle.club_core.specs.Limits.{last_moment}
 use Rattle.club_core.specs.State as club
-use Rattle.club_core.specs.State.{AnyGame, place, terms_at, key_of, is_key, has_key, keyed_at, keyed_game, game_under, pairing_of, on_game}
+use Rattle.club_core.specs.State.{AnyGame, place, terms_at, key_of, is_key, has_key, at_found, any_under, keyed_at, keyed_game, game_under, pairing_of, on_game}
 use Rattle.club_core.specs.View.{IsSound, Shows, terms_of}
 use Rattle.club_rules.specs.Line.{IsLegalLine}
 use Rattle.club_rows.specs.declared.view.Played.{Played}
@@ -104,6 +104,35 @@ module _ (s : ClubState) (is_club : IsClub s) (key : List ℕ) where
       let those_z = those.sound z has in
       let (n, g, at, is) = numbered_had (game_in s) 1 s.games z those_z.0 in
       tells (1 + n) g is ∙ sym (found_under n g (find_id (has_key key) s.games) at (key_same s (1 + n) g key z is those_z.1) refl)
+
+  any_of : (n : ℕ) (g : ClubGame) (o : Option ℕ) → slice_get s.games n ≡ Some g → key_of g ≡ Some key → find_id (has_key key) s.games ≡ o → at_found s.games o ≡ Some g
+  any_of n g None at keyed is = absurd (true≢false (sym (has_itself key (key_of g) keyed) ∙ find_id-none (has_key key) s.games is n g at))
+  any_of n g (Some id) at keyed is =
+      let (x, stands, passes) = find_id-found (has_key key) s.games id is in
+      let (m, id_is, there) = place_at s.games id x stands in
+      let same : m ≡ n = is_club.game_keys m n x g key there at (key_has key (key_of x) passes) keyed in
+      let id_next : id ≡ 1 + n = omega (arith, id_is, same) in
+      ap (place s.games) id_next ∙ (place_next s.games n ∙ at)
+
+  -- the game of a row that is found for the key stands under it
+  pub under_stored : (found : List Row) (z : Row) → AreThose (1 ∷ []) (Null ∷ Text key ∷ []) (tables s 10) found → Has found z → (id : ℕ) × (g : ClubGame) × (place s.games id ≡ Some g) × (any_under s.games key ≡ Some g) × (game_under s.games key ≡ keyed_game (Some g) id) × (z ≡ game_in s id g)
+  under_stored found z those has =
+      let those_z = those.sound z has in
+      let (n, g, at, is) = numbered_had (game_in s) 1 s.games z those_z.0 in
+      let keyed = key_same s (1 + n) g key z is those_z.1 in
+      let o = find_id (has_key key) s.games in
+      (1 + n, g, place_next s.games n ∙ at, any_of n g o at keyed refl, found_under n g o at keyed refl, is)
+
+  none_any : (o : Option ℕ) → AreThose (1 ∷ []) (Null ∷ Text key ∷ []) (tables s 10) [] → find_id (has_key key) s.games ≡ o → at_found s.games o ≡ None
+  none_any None those is = refl
+  none_any (Some id) those is =
+      let (x, stands, passes) = find_id-found (has_key key) s.games id is in
+      let (m, id_is, there) = place_at s.games id x stands in
+      absurd (those.complete (game_in s (1 + m) x) (numbered_has (game_in s) 1 s.games m x there) (key_alike s (1 + m) x key (key_has key (key_of x) passes)))
+
+  -- where no row is found, no game stands under the key
+  pub none_stored : (found : List Row) → AreThose (1 ∷ []) (Null ∷ Text key ∷ []) (tables s 10) found → found ≡ [] → any_under s.games key ≡ None
+  none_stored found those none = none_any (find_id (has_key key) s.games) (subst (AreThose (1 ∷ []) (Null ∷ Text key ∷ []) (tables s 10)) none those) refl
 
   none_under : (o : Option ℕ) → AreThose (1 ∷ []) (Null ∷ Text key ∷ []) (tables s 10) [] → find_id (has_key key) s.games ≡ o → keyed_at s.games o ≡ None
   none_under None those is = refl

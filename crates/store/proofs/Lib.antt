@@ -1,12 +1,16 @@
 pub mod BlameLemmas
 pub mod ClubLemmas
 pub mod CrossTableLemmas
+pub mod EntryRows
 pub mod FoundLemmas
 pub mod FoundMoves
 pub mod FoundPeople
 pub mod OpeningLemmas
+pub mod ImportedTables
+pub mod ImportLemmas
 pub mod MoveOrderLemmas
 pub mod GameRows
+pub mod KeyLemmas
 pub mod LegalLemmas
 pub mod LifeLemmas
 pub mod NextRows

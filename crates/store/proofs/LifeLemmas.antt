@@ -163,6 +163,15 @@ one_stands s sessions r o now led told legal exactly = record {
   exactly = exactly;
 }
 
+-- the session of one request, as the machine takes it
+abbrev pub taken_session : ClubState → Request → Session
+taken_session s r = record { requests = r ∷ []; returned = if is_accepted (club_step s r) then 1 else 0; is_whole = true }
+
+-- a request leads, as a session of its own, to the state after it
+pub one_leads : (s : ClubState) (sessions : List Session) (r : Request) → Leads opening_state sessions s → Leads opening_state (sessions ++ taken_session s r ∷ []) (club_next s r)
+one_leads s sessions r led =
+    leads_then opening_state s _ sessions (taken_session s r) led (leads_on s (r ∷ []) 1 _ true (one_counted s r))
+
 -- a request that a fault cut off leads to the state before it or to the one after
 pub one_cut : (s : ClubState) (sessions : List Session) (r : Request) (db : Trees) → Leads opening_state sessions s → IsClub s → IsClub (club_next s r)
     → Leaves (tables s) db ⊎ Leaves (tables (club_next s r)) db → IsLed (sessions ++ cut_session r ∷ []) db

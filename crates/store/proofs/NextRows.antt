@@ -15,6 +15,7 @@ use Rattle.club_core.specs.LegalState.{Each, IsLegalIn}
 use Rattle.club_core.specs.State.{AnyGame, draughts, shogi, State, place, kind_at, terms_at, seated_as, with_members, with_events, with_new_game}
 use Rattle.club_core.proofs.Lists.{place-append}
 use Rattle.club_rows.proofs.KindLemmas.{plies_in}
+pub use Rattle.import_rows.proofs.PlacedRows.{entry_rows_at}
 use Rattle.club_rows.specs.Scores.{meetings_in, scores_in}
 use Rattle.club_rows.specs.Tables.{number, game_row, entry_row, entry_rows, move_rows, at_start, with_entry, gathered_from, member_row, event_row, row_of_game, rows_of_moves, rows_of_seen, tables_of}
 use Rattle.club_rows.proofs.ScoreLemmas.{scores_seated}
@@ -54,16 +55,6 @@ module _ {P M E T : Type 0} (rules : GameRules P M E T) (terms : Terms) (id : �
   move_rows_had game z h =
       let (first, (k, second, most)) = entry_rows_had (at_start game) game.entries z h in
       (first, (k, second, omega (arith, most)))
-
-  pub entry_rows_at : (game : Game M) (es : List (Entry M)) (n : ℕ) (z : Row) → slice_get (entry_rows rules terms id game es) n ≡ Some z → column z 1 ≡ number (length game.entries + (1 + n))
-  entry_rows_at game [] n z at = cc
-  entry_rows_at game (e ∷ es) zero z at =
-      let is : entry_row rules terms id game e ≡ z = cc in
-      ap (λ w. column w 1) (sym is)
-  entry_rows_at game (e ∷ es) (suc n) z at =
-      let count : length (game.entries ++ e ∷ []) ≡ length game.entries + 1 = simp length-append in
-      let same : length (game.entries ++ e ∷ []) + (1 + n) ≡ length game.entries + (1 + suc n) = omega (arith, count) in
-      entry_rows_at (with_entry game e) es n z at ∙ ap number same
 
 -- ---- the tables
 

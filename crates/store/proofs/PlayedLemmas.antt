@@ -43,6 +43,7 @@ use Rattle.club_core.proofs.Legals.{AreRules, checked-legal, none-holds}
 use Rattle.club_core.proofs.LegalSteps.{in-place}
 use Rattle.club_core.proofs.Played.{reply-played, moves_of-played, made-played}
 use Rattle.club_rows.specs.Made.{made_row}
+pub use Rattle.import_rows.proofs.RoomLemmas.{budget_most, increment_most, room_for}
 use Rattle.club_rows.specs.Replay.{game_from}
 use Rattle.club_rows.specs.Tables.{game_row, move_rows, entry_row, entry_rows, with_entry, at_start, number, row_of_game, rows_of_moves, rows_of_seen}
 use Rattle.club_rows.proofs.KindLemmas.{Kind}
@@ -71,42 +72,11 @@ use Rattle.store.proofs.NextRows.{AreFew, play_next, change_next}
 use Rattle.store.proofs.OutcomeLemmas.{none_decided, answered_mapped, same_content}
 use Rattle.store.proofs.SameLemmas.{puts_changed}
 
--- ---- how many seconds a player can have
-
-le_true : (a b : ℕ) → nat_le a b ≡ true → a ≤ b
-le_true a b is = grind (arith, nat_tests)
-
-pub budget_most : (b : ℕ) → IsTrue (is_budget b) → b ≤ 31536000
-budget_most b is = grind (arith, nat_tests)
-
-pub increment_most : (n : ℕ) → IsTrue (is_increment n) → n ≤ 2592000
-increment_most n is = le_true n 2592000 is
-
-spend_most : (increment : ℕ) (side : Side) (m : ℕ) (c : Clocks) → ((spend increment side m c).left_first ≤ c.left_first + increment) × ((spend increment side m c).left_second ≤ c.left_second + increment)
-spend_most increment First m c = (omega arith, omega arith)
-spend_most increment Second m c = (omega arith, omega arith)
-
-left_most : (increment : ℕ) (side : Side) (ms : List ℕ) (c : Clocks) → increment ≤ 2592000 → ((spend_all increment side ms c).left_first ≤ c.left_first + 2592000 * length ms) × ((spend_all increment side ms c).left_second ≤ c.left_second + 2592000 * length ms)
-left_most increment side [] c most = (omega arith, omega arith)
-left_most increment side (m ∷ ms) c most =
-    let rest = left_most increment (other side) ms (spend increment side m c) most in
-    let here = spend_most increment side m c in
-    (omega (arith, rest.0, here.0, most), omega (arith, rest.1, here.1, most))
+-- ---- what a command does
 
 left_side : (side : Side) (c : Clocks) (n : ℕ) → c.left_first < n → c.left_second < n → left_of side c < n
 left_side First c n first second = first
 left_side Second c n first second = second
-
--- the seconds of each player fit the tables
-pub room_for : {M : Type 0} (g : Game M) (terms : Terms) → IsTrue (is_budget terms.budget) → IsTrue (is_increment terms.increment) → length g.entries ≤ 601 → ((clocks_of g terms).left_first < 2 ^ 63) × ((clocks_of g terms).left_second < 2 ^ 63)
-room_for g terms budget increment plies =
-    let most : terms.increment ≤ 2592000 = le_true terms.increment 2592000 increment in
-    let starts : terms.budget ≤ 31536000 = budget_most terms.budget budget in
-    let count : length (map (λ e. e.moment) g.entries) ≡ length g.entries = simp length-map in
-    let left = left_most terms.increment First (map (λ e. e.moment) g.entries) (record { left_first = terms.budget; left_second = terms.budget; since = g.start }) most in
-    (omega (arith, left.0, count, plies, starts), omega (arith, left.1, count, plies, starts))
-
--- ---- what a command does
 
 module _ {P M E T : Type 0} (laws : GameRules P M E T) (terms : Terms) (g : Game M) (moment : ℕ) where
   -- a move was played, and this is its answer

@@ -16,6 +16,7 @@ use Rattle.club_rows.specs.Tables.{number, numbered_from, gathered_from}
 use Rattle.store_tables.specs.Content.{same_key, put}
 use Rattle.store_tables.proofs.Laws.{equal_ints, equal_from}
 pub use Rattle.store_tables.proofs.Laws.{same_itself, same_by, put_had, put_kept}
+pub use Rattle.import_rows.proofs.PlacedRows.{same_list, had_at, AreAtPlaces, one_line}
 use Rattle.store.specs.Steps.{HaveSame}
 
 -- ---- keys
@@ -293,39 +294,3 @@ gathered_alike rows others id (x ∷ xs) same =
     let here = same 0 x refl id in
     let rest = gathered_alike rows others (suc id) xs (λ n y at. same (suc n) y at) in
     λ i. here i ++ rest i
-
--- ---- lists whose rows have their places in a column
-
-pub same_list : (xs ys : List Row) → ((n : ℕ) (z : Row) → slice_get xs n ≡ Some z → slice_get ys n ≡ Some z) → ((n : ℕ) (z : Row) → slice_get ys n ≡ Some z → slice_get xs n ≡ Some z) → xs ≡ ys
-same_list [] [] there back = refl
-same_list [] (y ∷ ys) there back = let none : ◌≡◌ {A = Option Row} None (Some y) = back 0 y refl in cc
-same_list (x ∷ xs) [] there back = let none : ◌≡◌ {A = Option Row} None (Some x) = there 0 x refl in cc
-same_list (x ∷ xs) (y ∷ ys) there back =
-    let here : ◌≡◌ {A = Option Row} (Some y) (Some x) = there 0 x refl in
-    let e : x ≡ y = cc in
-    let rest = same_list xs ys (λ n z h. there (suc n) z h) (λ n z h. back (suc n) z h) in
-    λ i. e i ∷ rest i
-
-pub had_at : (xs : List Row) (z : Row) → Has xs z → (n : ℕ) × (slice_get xs n ≡ Some z)
-had_at [] z h = absurd h
-had_at (x ∷ xs) z (inl is) = (0, ap Some (sym is))
-had_at (x ∷ xs) z (inr h) = let (n, at) = had_at xs z h in (suc n, at)
-
--- each row has its place, from 1, in the column
-abbrev pub AreAtPlaces : ℕ → List Row → Type 0
-AreAtPlaces at xs = (n : ℕ) (z : Row) → slice_get xs n ≡ Some z → column z at ≡ number (1 + n)
-
-placed_same : (at : ℕ) (xs ys : List Row) → AreAtPlaces at xs → AreAtPlaces at ys → ((z : Row) → Has xs z → Has ys z) → (n : ℕ) (z : Row) → slice_get xs n ≡ Some z → slice_get ys n ≡ Some z
-placed_same at xs ys places others same n z stands =
-    let (k, there) = had_at ys z (same z (has_got xs n z stands)) in
-    let e : pos (1 + k) ≡ pos (1 + n) = number_same (1 + k) (1 + n) (sym (others k z there) ∙ places n z stands) in
-    let k_is : k ≡ n = omega (arith, pos_same (1 + k) (1 + n) e) in
-    subst (λ j. slice_get ys j ≡ Some z) k_is there
-  where
-    number_same : (a b : ℕ) → number a ≡ number b → pos a ≡ pos b
-    number_same a b is = cc
-
--- the same rows by their places are one list
-pub one_line : (at : ℕ) (xs ys : List Row) → AreAtPlaces at xs → AreAtPlaces at ys → HaveSame xs ys → xs ≡ ys
-one_line at xs ys places others same =
-    same_list xs ys (placed_same at xs ys places others same.there) (placed_same at ys xs others places same.back)

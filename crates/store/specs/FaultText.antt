@@ -2,6 +2,8 @@
 use Rattle.std.specs.Prelude.{List, ℕ, ◌++◌, codes}
 use Rattle.std.specs.Fmt.{signed_decimal}
 use Rattle.store_tables.specs.Names.{table_name}
+use Rattle.store.specs.declared.exported.ExportFault.{ExportFault}
+use Rattle.store.specs.declared.exported.ExportFault.TheVariants as export_fault
 use Rattle.store.specs.declared.fault.OpenFault.{OpenFault}
 use Rattle.store.specs.declared.fault.OpenFault.TheVariants as open_fault
 use Rattle.store.specs.declared.fault.StoreFault.{StoreFault}
@@ -18,3 +20,7 @@ open_fault_text (open_fault.Schema number) = codes "71 Schema " ++ signed_decima
 open_fault_text (open_fault.Damaged table) = codes "72 Damaged " ++ table_name table
 open_fault_text open_fault.Store = codes "73 Store"
 open_fault_text open_fault.Memory = codes "75 Memory"
+
+abbrev pub export_fault_text : ExportFault → List ℕ
+export_fault_text (export_fault.Club fault) = store_fault_text fault
+export_fault_text export_fault.Output = codes "77 Output"

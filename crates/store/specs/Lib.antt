@@ -1,8 +1,11 @@
 pub mod Blames
 pub mod Clubs
 pub mod CrossTable
+pub mod Exported
 pub mod Faults
 pub mod FaultText
+pub mod Importing
+pub mod Keys
 pub mod Lives
 pub mod Places
 pub mod Runs

@@ -18,9 +18,12 @@ ghost use Rattle.club_core.specs.State.{opening_state};
 ghost use Rattle.club_rows.specs.Club.{ClubState, IsClub, tables};
 ghost use Rattle.store.specs.Steps.{request, club_step, club_next};
 
+mod exporting;
+mod keys;
 mod life;
 mod reading;
 mod run;
+mod shut;
 mod standings;
 
 use crate::command::{Decided, decide_request};

@@ -4,11 +4,11 @@ ghost use Rattle.std.specs.Prelude.{◌≡◌, ◌≤◌, ◌<◌, ◌^◌, ℕ,
 ghost use Rattle.std.specs.Option.{option_map};
 ghost use Rattle.sqlite.specs.State.{HasCleanDisk};
 ghost use Rattle.sqlite.specs.Held.{state};
-ghost use Rattle.club_core.specs.Answer.{outcome_of, members_of, event_of, events_of, added_event, keyed_of, pairing_of, command_of, game_command_of};
+ghost use Rattle.club_core.specs.Answer.{outcome_of, members_of, event_of, events_of, added_event, keyed_of, pairing_of, command_of, game_command_of, import_of};
 ghost use Rattle.club_core.specs.Events as core;
 ghost use Rattle.club_core.specs.Members as core_members;
 ghost use Rattle.club_core.specs.State as club;
-ghost use Rattle.club_core.specs.State.{is_accepted, place, game_under, keyed_game, add_member, add_event, on_game};
+ghost use Rattle.club_core.specs.State.{is_accepted, place, game_under, keyed_game, add_member, add_event, import_record, on_game};
 ghost use Rattle.club_core.specs.LegalState.{Each, IsLegalEvent};
 ghost use Rattle.club_rows.specs.Replay.{terms_given};
 ghost use Rattle.club_rows.specs.Tables.{number, numbered_from, member_row, event_row};
@@ -23,13 +23,15 @@ ghost use Rattle.store.specs.Whole.{IsWhole};
 
 use crate::fault::CallFault;
 use crate::game::StoredGame;
-use crate::kinds::{act_in, seat_in};
+use crate::imports::read_known;
+use crate::kinds::{act_in, import_in, seat_in};
 use crate::people::{caller_by, event_with};
 use clocks::Moment;
 use club_core::values::{MOST_EVENTS, MOST_MEMBERS};
 use club_core::{
-    AddEvent, AddMember, Answer, Caller, Command, Event, KeyedGame, Member, OnGame, Outcome,
-    Pairing, Refusal, Seat, Seating, Who, add_event, add_member, refusal_without_game, seat,
+    AddEvent, AddMember, Answer, Caller, Command, Event, Import, KeyedGame, Member, OnGame,
+    Outcome, Pairing, Refusal, Seat, Seating, Who, add_event, add_member, refusal_without_game,
+    seat,
 };
 use club_rows::numbers::{counted, id, moment as moment_of, stored};
 use club_rows::{Terms, kind_number, kind_of};
@@ -295,7 +297,7 @@ fn game_under<S: Alter>(
 }
 
 // The event of this id.
-fn event_at(events: &[Event], event: u32) -> Result<&Event, CallFault>
+pub(crate) fn event_at(events: &[Event], event: u32) -> Result<&Event, CallFault>
     ensures { IfOk result (λ e. place (events_of events.now) event ≡ Some (event_of e.now)) }
 {
     if event == 0 {
@@ -308,7 +310,7 @@ fn event_at(events: &[Event], event: u32) -> Result<&Event, CallFault>
 }
 
 // The seconds that an event gives.
-fn terms_of(event: &Event) -> Terms
+pub(crate) fn terms_of(event: &Event) -> Terms
     ensures { terms_given result ≡ (event_of event.now).terms }
 {
     Terms {
@@ -374,7 +376,7 @@ fn on_seat<S: Alter>(
 }
 
 // A game as its row and that of its event tell it.
-fn read_game<S: Alter>(
+pub(crate) fn read_game<S: Alter>(
     alloc: Global,
     conn: &mut Connection<S>,
     row: GameRecord,
@@ -462,7 +464,10 @@ pub(crate) fn all_members<S: Alter>(
 }
 
 // The events of the club, by id.
-fn all_events<S: Alter>(alloc: Global, conn: &mut Connection<S>) -> Result<Vec<Event>, CallFault>
+pub(crate) fn all_events<S: Alter>(
+    alloc: Global,
+    conn: &mut Connection<S>,
+) -> Result<Vec<Event>, CallFault>
     ensures reads { OnlyReads (state S.Store conn.old) (state S.Store conn.new) }
     ensures kept { HasCleanDisk (state S.Store conn.new) → OnOk result (KeepsContent (state S.Store conn.old)
         (state S.Store conn.new)) }
@@ -472,6 +477,26 @@ fn all_events<S: Alter>(alloc: Global, conn: &mut Connection<S>) -> Result<Vec<E
 {
     let events = events_of(alloc, &list::<EventRow, S>(alloc, conn)?)?;
     Ok(events)
+}
+
+// What an import does.
+fn on_import<S: Alter>(
+    alloc: Global,
+    conn: &mut Connection<S>,
+    caller: Caller,
+    command: &Import,
+    moment: Moment,
+) -> Result<Decided, CallFault>
+    ensures reads { OnlyReads (state S.Store conn.old) (state S.Store conn.new) }
+    ensures kept { HasCleanDisk (state S.Store conn.new) → OnOk result (KeepsContent (state S.Store conn.old)
+        (state S.Store conn.new)) }
+    ensures acts { IfOk result IsWhole }
+    ensures step { HasCleanDisk (state S.Store conn.new) → IfOk result (λ d. (s : ClubState) → IsClub s →
+        IsExactly (tables s) (state S.Store conn.old) →
+        IsDecided s (caller_step s moment caller (import_record (import_of command.now))) d) }
+{
+    let known = read_known(alloc, conn, command.key.as_str())?;
+    import_in(alloc, conn, &known, caller, command, moment)
 }
 
 // What a caller's command does, at the effective moment.
@@ -504,6 +529,7 @@ fn on_command<S: Alter>(
             let events = all_events(alloc, conn)?;
             on_seat(alloc, conn, &members, &events, caller, command, moment)
         }
+        Command::Import(command) => on_import(alloc, conn, caller, command, moment),
         Command::OnGame(command) => on_game(alloc, conn, caller, command, moment),
     }
 }

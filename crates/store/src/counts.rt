@@ -144,7 +144,7 @@ fn score_of<S: Alter>(
 }
 
 // The rows of scores of two players whose game ended so.
-fn scores_with<S: Alter>(
+pub(crate) fn scores_with<S: Alter>(
     alloc: Global,
     conn: &mut Connection<S>,
     event: u32,

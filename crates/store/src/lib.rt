@@ -7,8 +7,10 @@ mod command;
 mod counts;
 mod cross_table;
 mod examine;
+mod exported;
 mod fault;
 mod game;
+mod imports;
 mod kinds;
 pub mod laws;
 mod people;
@@ -19,6 +21,7 @@ mod shown;
 mod viewed;
 
 pub use club::{Club, Run, Unopened, adopt, create, resume};
+pub use exported::ExportFault;
 pub use fault::{OpenFault, StoreFault};
 pub use reopen::{holds_nothing, holds_what_sessions_left, leaves_what_sessions_left};
 pub use store_sql::holds_exactly;

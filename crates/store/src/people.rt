@@ -36,7 +36,7 @@ fn member_in(row: &MemberRow) -> Result<Caller, CallFault>
 }
 
 // The member who has a key, if there is one.
-fn member_with<S: Alter>(
+pub(crate) fn member_with<S: Alter>(
     alloc: Global,
     conn: &mut Connection<S>,
     key: &str,

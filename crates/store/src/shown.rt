@@ -73,7 +73,7 @@ fn ply_of(game: u32, ply: u32) -> MovePly
 }
 
 // The row of a ply, if it was played.
-fn row_of<R: Rules, S: Alter>(
+pub(crate) fn row_of<R: Rules, S: Alter>(
     alloc: Global,
     conn: &mut Connection<S>,
     game: u32,

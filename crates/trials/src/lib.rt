@@ -18,6 +18,8 @@ mod orders;
 #[cfg(test)]
 mod parsed_rows;
 #[cfg(test)]
+mod records;
+#[cfg(test)]
 mod shogi;
 #[cfg(test)]
 mod stops;

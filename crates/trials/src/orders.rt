@@ -16,8 +16,13 @@ struct Printed {
     conn: Connection<MemStore>,
 }
 
-// The order of the words, done over the connection.
-fn done(alloc: Global, words: &str, conn: Connection<MemStore>) -> Result<Printed, Fail>
+// The order of the words, with that text as the record of an import, done over the connection.
+fn done(
+    alloc: Global,
+    words: &str,
+    record: &str,
+    conn: Connection<MemStore>,
+) -> Result<Printed, Fail>
     requires { conn.in_transaction ≡ false }
     ensures { IfOk result (λ printed. printed.conn.in_transaction ≡ false) }
 {
@@ -26,12 +31,15 @@ fn done(alloc: Global, words: &str, conn: Connection<MemStore>) -> Result<Printe
         Ok(order) => order,
         Err(_) => return Err(Fail::new("bad words")),
     };
+    let mut text = Vec::new(alloc);
+    text.extend_from_slice(record.as_bytes())?;
+    let order = order.with_text(text);
     let Some(moment) = order.now else {
         return Err(Fail::new("no moment"));
     };
     let mut out = VecDeque::new(alloc);
     let mut err = VecDeque::new(alloc);
-    let (report, conn) = act(alloc, conn, &order.task, moment);
+    let (report, conn) = act(alloc, conn, &order.task, moment, &mut out);
     let status = print(String::new(alloc), &report, &mut out, &mut err);
     Ok(Printed {
         status,
@@ -42,6 +50,32 @@ fn done(alloc: Global, words: &str, conn: Connection<MemStore>) -> Result<Printe
 }
 
 // Does the order of the words, given at that moment, and compares what is printed.
+fn at_with<R: Abort + AllocGlobal>(
+    rt: &R,
+    conn: Connection<MemStore>,
+    moment: u64,
+    words: &str,
+    record: &str,
+    status: u8,
+    text: &str,
+) -> Result<Connection<MemStore>, Fail>
+    requires { conn.in_transaction ≡ false }
+    ensures { IfOk result (λ conn. conn.in_transaction ≡ false) }
+{
+    let words = format!(in rt.alloc(); "club --now {moment} c.db {words}")?;
+    let printed = done(rt.alloc(), words.as_str(), record, conn)?;
+    let line = format!(in rt.alloc(); "{text}\n")?;
+    let (shown, silent) = if status == DONE {
+        (printed.out, printed.err)
+    } else {
+        (printed.err, printed.out)
+    };
+    assert!(rt; printed.status == status, "{words}");
+    assert!(rt; shown.as_slice() == line.as_bytes(), "{words}");
+    assert!(rt; silent.is_empty(), "{words}");
+    Ok(printed.conn)
+}
+
 fn at<R: Abort + AllocGlobal>(
     rt: &R,
     conn: Connection<MemStore>,
@@ -53,18 +87,8 @@ fn at<R: Abort + AllocGlobal>(
     requires { conn.in_transaction ≡ false }
     ensures { IfOk result (λ conn. conn.in_transaction ≡ false) }
 {
-    let words = format!(in rt.alloc(); "club --now {moment} c.db {words}")?;
-    let printed = done(rt.alloc(), words.as_str(), conn)?;
-    let line = format!(in rt.alloc(); "{text}\n")?;
-    let (shown, silent) = if status == DONE {
-        (printed.out, printed.err)
-    } else {
-        (printed.err, printed.out)
-    };
-    assert!(rt; printed.status == status, "{words}");
-    assert!(rt; shown.as_slice() == line.as_bytes(), "{words}");
-    assert!(rt; silent.is_empty(), "{words}");
-    Ok(printed.conn)
+    let conn = at_with(rt, conn, moment, words, "", status, text)?;
+    Ok(conn)
 }
 
 fn says<R: Abort + AllocGlobal>(
@@ -120,6 +144,9 @@ fn the_first_path(rt: HostRuntime) -> Result<(), Fail> {
         "refused 52 UnknownEvent",
     )?;
     let conn = says(&rt, conn, "verify", DONE, "sound")?;
+    let bare = "[Event \"autumn\"]\n[Date \"1970.01.01\"]\n[White \"anna\"]\n[Black \"bert\"]\n\
+        [Result \"*\"]\n[GameType \"20\"]\n\n*";
+    let conn = says(&rt, conn, "export 1", DONE, bare)?;
     let conn = says(&rt, conn, "move 1 1 32-28", DONE, "accepted ply 1 32-28")?;
     let conn = says(&rt, conn, "move 1 1 32-28", DONE, "repeated ply 1 32-28")?;
     let conn = says(&rt, conn, "move 1 1 32-27", REFUSED, "refused 58 Conflict")?;
@@ -134,6 +161,29 @@ fn the_first_path(rt: HostRuntime) -> Result<(), Fail> {
     let conn = says(&rt, conn, "move 1 3 28x", REFUSED, "refused 20 BadText 3")?;
     let conn = says(&rt, conn, "move 1 3 28:19", DONE, "accepted ply 3 28x19")?;
     let conn = says(&rt, conn, "move 1 3 28x19", DONE, "repeated ply 3 28x19")?;
+    let running = "[Event \"autumn\"]\n[Date \"1970.01.01\"]\n[White \"anna\"]\n[Black \"bert\"]\n\
+        [Result \"*\"]\n[GameType \"20\"]\n\n1. 32-28 19-23\n2. 28x19\n*";
+    let conn = says(&rt, conn, "export 1", DONE, running)?;
+    let conn = says(&rt, conn, "export 2", REFUSED, "refused 53 UnknownGame")?;
+    let lost = "[Result \"0-2\"]\n1. 32-28 19-23\n0-2\n";
+    let old = "import-pdn old1 autumn anna bert -";
+    let conn = at_with(&rt, conn, 1000, old, lost, DONE, "accepted game 2")?;
+    let conn = at_with(&rt, conn, 1000, old, lost, DONE, "repeated game 2")?;
+    let ended = "[Event \"autumn\"]\n[Date \"1970.01.01\"]\n[White \"anna\"]\n[Black \"bert\"]\n\
+        [Result \"0-2\"]\n[GameType \"20\"]\n\n1. 32-28 19-23\n0-2";
+    let conn = says(&rt, conn, "export 2", DONE, ended)?;
+    let turned = "[Result \"2-0\"]\n1. 32-28 19-23\n0-2\n";
+    let other = "import-pdn old2 autumn anna bert -";
+    let conn = at_with(
+        &rt,
+        conn,
+        1000,
+        other,
+        turned,
+        REFUSED,
+        "refused 27 ResultDiffers",
+    )?;
+    let conn = at_with(&rt, conn, 1000, other, "", REFUSED, "refused 20 BadText 0")?;
     let _conn = says(&rt, conn, "init", FAULT, "store 70 Foreign")?;
     Ok(())
 }
@@ -160,6 +210,24 @@ fn words_that_are_no_order(rt: HostRuntime) -> Result<(), Fail> {
     assert!(rt; are_bad(alloc, &["club", "c.db", "event", "e", "chess", "60", "5"])?);
     assert!(rt; !are_bad(alloc, &["club", "c.db", "event", "e", "shogi", "60", "5"])?);
     assert!(rt; are_bad(alloc, &["club", "c.db", "move", "one", "1", "32-28"])?);
+    assert!(rt; are_bad(alloc, &["club", "c.db", "import-pdn", "k", "e", "a", "b"])?);
+    assert!(rt;
+        !are_bad(
+            alloc,
+            &[
+                "club",
+                "c.db",
+                "import-csa",
+                "--part",
+                "0",
+                "k",
+                "e",
+                "a",
+                "b",
+                "-"
+            ]
+        )?
+    );
     assert!(rt;
         are_bad(
             alloc,

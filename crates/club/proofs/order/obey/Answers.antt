@@ -53,3 +53,11 @@ returns-clause-passes g c clean s is_club holds =
     let opened = c.in-Ok.ensures.opened before in
     let here = c.in-Ok.ensures.found before in
     c.act-report.ensures.passes after opened.0 opened.1 s is_club (holds _ (record { holds = here.holds; reads = here.reads }))
+
+pub returns-clause-record_of : goal.returns-clause-record_of
+returns-clause-record_of g c clean s is_club holds =
+    let after = was_clean _ _ c.close.ensures.clean clean in
+    let before = was_clean _ _ c.act-report.ensures.clean after in
+    let opened = c.in-Ok.ensures.opened before in
+    let here = c.in-Ok.ensures.found before in
+    c.act-report.ensures.record_of after opened.0 opened.1 s is_club (holds _ (record { holds = here.holds; reads = here.reads }))

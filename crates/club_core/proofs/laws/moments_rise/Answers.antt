@@ -3,4 +3,4 @@ use Rattle.club_core.proofs.Folds.{next-raises}
 use Rattle.club_core.proofs.laws.moments_rise.Goals as goal
 
 pub returns : goal.returns
-returns g c = next-raises (both g.D.Rules.rules g.S.Rules.rules)
+returns g c = next-raises (both g.D.Rules.rules g.S.Rules.rules g.D.Records.records g.S.Records.records)

@@ -37,3 +37,8 @@ returns-in_ok-events-in-Seat-clause-kept g c clean =
     let read : HasCleanDisk (state g.S.Store c.all_events-in-Seat.new.conn) = omega (arith, c.on_seat.ensures.reads.clean) in
     let listed : HasCleanDisk (state g.S.Store c.all_members-in-Seat.new.conn) = omega (arith, c.all_events-in-Seat.ensures.reads.clean, c.on_seat.ensures.reads.clean) in
     on_ok c.on_seat.result _ _ (λ last schema content k. last schema content (c.in_ok-events-in-Seat.ensures.kept read schema content (c.in_ok-members-in-Seat.ensures.kept listed schema content k))) (c.on_seat.ensures.kept clean)
+
+pub returns-in-Import-clause-step : goal.returns-in-Import-clause-step
+returns-in-Import-clause-step g c clean =
+    IfOk-weaker c.on_import.result _ _ (λ d step s is_club later k.
+    subst (λ x. IsDecided s (caller_step s c.args.moment c.args.caller (command_of x)) d) (sym c.in-Import.is) (step s is_club k)) (c.on_import.ensures.step clean)

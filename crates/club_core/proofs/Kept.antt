@@ -1,0 +1,112 @@
+-- A game that is over stays as it is, whatever requests come.
+use Rattle.std.proofs.Common.{◌≡◌, ℕ, zero, suc, ◌-◌, List, [], ◌∷◌, Option, Some, None, false, refl, ap, sym, ◌∙◌, arith, inl, inr}
+use Rattle.std.specs.Prelude.{IsSome, is_some, max, slice_get}
+use Rattle.squares.specs.declared.sides.Side.{Side}
+use Rattle.club_rules.specs.GameRules.{GameRules}
+use Rattle.club_core.specs.ClubRules.{ClubRules}
+use Rattle.club_core.specs.declared.requests.Caller.{Caller}
+use Rattle.club_core.specs.declared.refusals.Refusal.TheVariants.{NotAllowed}
+use Rattle.club_core.specs.Outcome.{Reply, accepted, by_officer}
+use Rattle.club_core.specs.Members.{member_step}
+use Rattle.club_core.specs.Events.{Terms, event_step, event_kind}
+use Rattle.club_core.specs.Seats.{seat_step}
+use Rattle.club_core.specs.Game.{Game, result_of}
+use Rattle.club_core.specs.Imports.{Import}
+use Rattle.club_core.specs.Step.{GameCommand, move, offer_draw, accept_draw, resign, claim_time, may_give, asked_ply, caller_side, is_over, move_tests, move_refusal, repeat_of, move_at, by_side, game_step}
+use Rattle.club_core.specs.State.{AnyGame, draughts, shogi, State, Command, add_member, add_event, seat, import_record, on_game, Request, state_after, place, terms_at, game_under, any_under, draughts_in, shogi_in, caller_of, with_members, with_events, with_new_game, with_imported, with_game, import_looked_up, import_as, step_game, step_command, step_by, next, fold}
+use Rattle.club_core.proofs.Lists.{get-append, set-got}
+use Rattle.club_core.proofs.Legals.{none-holds}
+use Rattle.club_core.proofs.Later.{unless-accepted, if-accepted, offer-accepts, accept-accepts, resign-accepts, claim-accepts, outcome-later, officer-later}
+use Rattle.club_rules.specs.declared.names.GameKind.{GameKind}
+use Rattle.club_rules.specs.declared.names.GameKind.TheVariants.{Draughts, Shogi}
+
+-- a command is accepted on running games alone
+module _ {P M E T : Type 0} (laws : GameRules P M E T) (terms : Terms) (game : Game M) (moment : ℕ) where
+  side-running : (side : Option Side) (command : GameCommand) (new : Game M) (reply : Reply) → by_side laws terms game moment side command ≡ accepted new reply → is_over laws game ≡ false
+  side-running None command new reply is = cc
+  side-running (Some side) (move ply text) new reply is =
+      (none-holds (move_tests laws terms game moment side ply text) (unless-accepted (repeat_of laws terms game ply (move_at game ply) side text) (move_refusal laws terms game moment side ply text) _ new reply is).1).0
+  side-running (Some side) (offer_draw ply) new reply is = let (draws, fresh, tests, stands, answer) = offer-accepts laws game side ply new reply is in tests.0
+  side-running (Some side) (accept_draw ply) new reply is = let (draws, tests, stands, answer) = accept-accepts laws game side ply new reply is in tests.0
+  side-running (Some side) resign new reply is = let (tests, stands, answer) = resign-accepts laws game side new reply is in tests.0
+  side-running (Some side) claim_time new reply is = let (tests, stands, answer) = claim-accepts laws terms game moment side new reply is in tests.0
+
+  caller-running : (who : Caller) (command : GameCommand) (new : Game M) (reply : Reply) → game_step laws terms game moment who command ≡ accepted new reply → is_over laws game ≡ false
+  caller-running who command new reply is =
+      side-running (caller_side game.first game.second who (asked_ply command)) command new reply
+      (if-accepted (may_give who command) _ NotAllowed new reply is).1
+
+module _ {DP DM DE DT SP SM SE ST : Type 0} (kinds : ClubRules DP DM DE DT SP SM SE ST) where
+  abbrev pub IsOver : AnyGame DM SM → Type 0
+  IsOver (draughts game) = IsSome (result_of kinds.draughts game)
+  IsOver (shogi game) = IsSome (result_of kinds.shogi game)
+
+  -- each game that was over stands where it stood
+  abbrev pub KeepsOver : State DM SM → State DM SM → Type 0
+  KeepsOver s t = (n : ℕ) (g : AnyGame DM SM) → slice_get s.games n ≡ Some g → IsOver g → slice_get t.games n ≡ Some g
+
+  over-refl : (s : State DM SM) → KeepsOver s s
+  over-refl s n g at over = at
+
+  pub over-trans : (s t u : State DM SM) → KeepsOver s t → KeepsOver t u → KeepsOver s u
+  over-trans s t u first second n g at over = second n g (first n g at over) over
+
+  over-added : (s : State DM SM) (moment : ℕ) (new : AnyGame DM SM) → KeepsOver s (with_imported s moment new)
+  over-added s moment new n g at over = get-append s.games _ n g at
+
+  some-same : (x y : AnyGame DM SM) → Some x ≡ Some y → x ≡ y
+  some-same x y is = cc
+
+  over-changed : (s : State DM SM) (moment id : ℕ) (old new : AnyGame DM SM) → place s.games id ≡ Some old → (IsOver old → ⊥) → KeepsOver s (with_game s moment id new)
+  over-changed s moment zero old new at running n g is over = cc
+  over-changed s moment (suc k) old new at running n g is over =
+      elim (set-got s.games (suc k - 1) new n g is) [
+        | inl stays ↦ stays
+        | inr put ↦
+            let before : suc k - 1 ≡ k = omega arith in
+            let e : g ≡ old = some-same g old (sym is ∙ (ap (slice_get s.games) (put.0 ∙ before) ∙ at)) in
+            absurd (running (rw (← e) over))
+      ]
+
+  no-result : {A : Type 0} (o : Option A) → is_some o ≡ false → IsSome o → ⊥
+  no-result None none some = cc
+  no-result (Some x) none some = cc
+
+  game-over : (s : State DM SM) (moment id : ℕ) (who : Caller) (command : GameCommand) (g : Option (AnyGame DM SM)) → place s.games id ≡ g → KeepsOver s (state_after s (step_game kinds s moment id who command g))
+  game-over s moment id who command None at = over-refl s
+  game-over s moment id who command (Some (draughts game)) at =
+      outcome-later (λ t. KeepsOver s t) s (λ new. with_game s moment id (draughts new)) (game_step kinds.draughts (terms_at (place s.events game.event)) game moment who command) (over-refl s)
+      (λ new reply is. over-changed s moment id (draughts game) (draughts new) at (no-result (result_of kinds.draughts game) (caller-running kinds.draughts (terms_at (place s.events game.event)) game moment who command new reply is)))
+  game-over s moment id who command (Some (shogi game)) at =
+      outcome-later (λ t. KeepsOver s t) s (λ new. with_game s moment id (shogi new)) (game_step kinds.shogi (terms_at (place s.events game.event)) game moment who command) (over-refl s)
+      (λ new reply is. over-changed s moment id (shogi game) (shogi new) at (no-result (result_of kinds.shogi game) (caller-running kinds.shogi (terms_at (place s.events game.event)) game moment who command new reply is)))
+
+  import-over : (s : State DM SM) (moment : ℕ) (who : Caller) (given : Import) (kind : GameKind) → KeepsOver s (state_after s (by_officer who (import_as kinds s moment given kind)))
+  import-over s moment who given Draughts =
+      officer-later (λ t. KeepsOver s t) s _ who (import_looked_up kinds.draughts kinds.draughts_records s given (draughts_in (any_under s.games given.key))) (over-refl s)
+      (λ i reply is. over-added s moment _)
+  import-over s moment who given Shogi =
+      officer-later (λ t. KeepsOver s t) s _ who (import_looked_up kinds.shogi kinds.shogi_records s given (shogi_in (any_under s.games given.key))) (over-refl s)
+      (λ i reply is. over-added s moment _)
+
+  command-over : (s : State DM SM) (moment : ℕ) (who : Caller) (command : Command) → KeepsOver s (state_after s (step_command kinds s moment who command))
+  command-over s moment who (add_member name key) =
+      officer-later (λ t. KeepsOver s t) s (with_members s moment) who (member_step s.members name key) (over-refl s) (λ all reply is n g at over. at)
+  command-over s moment who (add_event event) =
+      officer-later (λ t. KeepsOver s t) s (with_events s moment) who (event_step s.events event) (over-refl s) (λ all reply is n g at over. at)
+  command-over s moment who (seat key event first second) =
+      officer-later (λ t. KeepsOver s t) s (with_new_game s moment key) who (seat_step s.members s.events (game_under s.games key) _ key event first second) (over-refl s)
+      (λ pairing reply is. over-added s moment _)
+  command-over s moment who (import_record given) = import-over s moment who given (event_kind s.events given.event)
+  command-over s moment who (on_game id command) = game-over s moment id who command (place s.games id) refl
+
+  by-over : (s : State DM SM) (moment : ℕ) (who : Option Caller) (command : Command) → KeepsOver s (state_after s (step_by kinds s moment who command))
+  by-over s moment None command = over-refl s
+  by-over s moment (Some who) command = command-over s moment who command
+
+  next-over : (s : State DM SM) (r : Request) → KeepsOver s (next kinds s r)
+  next-over s r = by-over s (max r.moment s.last) (caller_of s.members r.who) r.command
+
+  pub fold-over : (s : State DM SM) (rs : List Request) → KeepsOver s (fold kinds s rs)
+  fold-over s [] = over-refl s
+  fold-over s (r ∷ rs) = over-trans s (next kinds s r) (fold kinds (next kinds s r) rs) (next-over s r) (fold-over (next kinds s r) rs)

@@ -1,0 +1,138 @@
+-- What importing a recorded game of an event does.
+use Rattle.std.specs.Prelude.{ℕ, ◌+◌, List, [], ◌∷◌, length, map, Option, Some, None, Bool, true, false, not, is_some, ◌&&◌, nat_le, if◌then◌else◌}
+use Rattle.squares.specs.declared.sides.Score.{Score}
+use Rattle.squares.specs.declared.sides.Score.TheVariants.{FirstWins, Draw, SecondWins}
+use Rattle.club_rules.specs.declared.records.RecordFormat.{RecordFormat}
+use Rattle.club_rules.specs.declared.records.RecordFormat.TheVariants.{Pdn, Csa}
+use Rattle.club_rules.specs.GameRules.{GameRules}
+use Rattle.club_rules.specs.Records as record_is
+use Rattle.club_rules.specs.Records.{Recorded, Reading, GameRecords}
+use Rattle.club_core.specs.declared.rows.OutsideEnd.{OutsideEnd}
+use Rattle.club_core.specs.declared.rows.OutsideEnd.TheVariants.{Recorded as by_record}
+use Rattle.club_core.specs.declared.refusals.Refusal.{Refusal}
+use Rattle.club_core.specs.declared.refusals.Refusal.TheVariants.{UnknownEvent, Conflict, BadValue, Full, Record}
+use Rattle.club_core.specs.Limits.{most_games, most_record_bytes, is_name}
+use Rattle.club_core.specs.Outcome.{Reply, game_seated, Outcome, accepted, refused, first_refusal, unless, unless_repeat}
+use Rattle.club_core.specs.Seats.{Pairing, KeyedGame, are_two, same_seats}
+use Rattle.club_core.specs.Game.{Game, moves_of, result_of}
+
+-- an import: the key of the new game, the names of its event and its players, and a part of a text in a format
+pub record Import : Type 0 where
+  pub key : List ℕ
+  pub event : List ℕ
+  pub first : List ℕ
+  pub second : List ℕ
+  pub part : ℕ
+  pub format : RecordFormat
+  pub text : List ℕ
+
+-- a recorded game of an event between two players
+pub record Imported (M : Type 0) : Type 0 where
+  pub pairing : Pairing
+  pub recorded : Recorded M
+
+abbrev pub same_format : RecordFormat → RecordFormat → Bool
+same_format Pdn Pdn = true
+same_format Csa Csa = true
+same_format Pdn Csa = false
+same_format Csa Pdn = false
+
+abbrev pub same_score : Score → Score → Bool
+same_score FirstWins FirstWins = true
+same_score Draw Draw = true
+same_score SecondWins SecondWins = true
+same_score _ _ = false
+
+abbrev pub has_score : Option Score → Score → Bool
+has_score None score = false
+has_score (Some result) score = same_score result score
+
+-- an end from a record stands where the rules gave none
+abbrev pub recorded_end : {E : Type 0} → Option E → Score → Option OutsideEnd
+recorded_end None score = Some (by_record score)
+recorded_end (Some end) score = None
+
+module _ {P M E T : Type 0} (rules : GameRules P M E T) where
+  abbrev pub same_moves : List M → List M → Bool
+  same_moves [] [] = true
+  same_moves [] (n ∷ ns) = false
+  same_moves (m ∷ ms) [] = false
+  same_moves (m ∷ ms) (n ∷ ns) = rules.same m n && same_moves ms ns
+
+  -- the record's moves were played in the game, and it ended with the record's score
+  abbrev pub is_record_of : Game M → Recorded M → Bool
+  is_record_of game r = has_score (result_of rules game) r.score && same_moves (moves_of game) r.moves
+
+  abbrev pub reads_record_of : Option (Game M) → Reading M → Bool
+  reads_record_of (Some game) (record_is.game r) = is_record_of game r
+  reads_record_of (Some game) record_is.no_part = false
+  reads_record_of (Some game) (record_is.refused refusal) = false
+  reads_record_of None reading = false
+
+  -- the game of a record: it started and was played at one moment, and ended by the rules or else as recorded
+  abbrev pub imported : Option (List ℕ) → Pairing → ℕ → Recorded M → Game M
+  imported key pairing moment r =
+      record {
+        key = key;
+        event = pairing.event;
+        first = pairing.first;
+        second = pairing.second;
+        start = moment;
+        entries = map (λ m. record { made = m; moment = moment }) r.moves;
+        offer = None;
+        outside = recorded_end (rules.judge rules.start r.moves) r.score;
+      }
+
+abbrev pub has_part : {M : Type 0} → Reading M → Bool
+has_part (record_is.game r) = true
+has_part record_is.no_part = false
+has_part (record_is.refused refusal) = true
+
+-- a recorded game of two members that were found is added to the event
+abbrev pub import_game : {M : Type 0} → ℕ → Option ℕ → Option ℕ → ℕ → Recorded M → Outcome (Imported M)
+import_game event (Some one) (Some other) games r =
+    accepted
+    (record { pairing = record { event = event; first = one; second = other }; recorded = r })
+    (game_seated (games + 1))
+import_game event (Some one) None games r = refused BadValue
+import_game event None other games r = refused BadValue
+
+abbrev pub import_between : {M : Type 0} → ℕ → Option ℕ → Option ℕ → ℕ → Reading M → Outcome (Imported M)
+import_between event one other games (record_is.game r) = import_game event one other games r
+import_between event one other games record_is.no_part = refused BadValue
+import_between event one other games (record_is.refused refusal) = refused (Record refusal)
+
+module _ {P M E T : Type 0} (rules : GameRules P M E T) (records : GameRecords M) (given : Import) where
+  -- what the part of the import's text is read as: none where the text is too long or of another format
+  abbrev pub reading_of_import : Reading M
+  reading_of_import =
+      if same_format given.format records.format && nat_le (length given.text) most_record_bytes
+      then records.read given.text given.part
+      else record_is.no_part
+
+  module _ (event : ℕ) (first second : Option ℕ) (under_key : Option KeyedGame) (old : Option (Game M)) (games : ℕ) where
+    -- the game under the key is of the same event and players, and ended as the record says
+    abbrev pub repeat_of_import : Option Reply
+    repeat_of_import = if reads_record_of rules old reading_of_import then same_seats event first second under_key else None
+
+    -- the record is looked at after the names, and not before the club has room for its game
+    abbrev pub import_tests : List (Bool × Refusal)
+    import_tests =
+        (is_some under_key, Conflict)
+        ∷ (not (is_name given.key && are_two first second && has_part reading_of_import), BadValue)
+        ∷ (nat_le most_games games, Full)
+        ∷ []
+
+    abbrev pub import_refusal : Option Refusal
+    import_refusal = first_refusal import_tests
+
+    abbrev pub import_step : Outcome (Imported M)
+    import_step =
+        unless_repeat repeat_of_import
+        (unless import_refusal
+        (import_between event first second games reading_of_import))
+
+  -- by the event and the members that the names stand for, the game under the key and the number of games
+  abbrev pub import_found : Option ℕ → Option ℕ → Option ℕ → Option KeyedGame → Option (Game M) → ℕ → Outcome (Imported M)
+  import_found None first second under_key old games = refused UnknownEvent
+  import_found (Some event) first second under_key old games = import_step event first second under_key old games

@@ -1,0 +1,4 @@
+pub mod CsaLemmas
+pub mod ExportLemmas
+pub mod PdnLemmas
+pub mod Timed

@@ -1,0 +1,11 @@
+use Rattle.std.proofs.lemmas.Result.{on_ok_weaker}
+use Rattle.club_exports.proofs.CsaLemmas.{csa-adds, csa-move}
+use Rattle.club_exports.proofs.shogi.ShogiExports.push_move.Goals as goal
+
+pub returns-clause-written : goal.returns-clause-written
+returns-clause-written g c =
+    on_ok_weaker c.push.result (λ adds. csa-adds _ _ (c.args.made.now, c.args.seconds) _ _ adds) c.push.ensures.written
+
+pub returns-clause-begun : goal.returns-clause-begun
+returns-clause-begun g c =
+    csa-move c.written_moves_begin_games.ensures.moves _ (c.args.made.now, c.args.seconds) _ _ c.push.ensures.begun

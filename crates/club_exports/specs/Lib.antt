@@ -1,0 +1,6 @@
+pub mod Title
+pub mod Written
+pub mod PdnRecords
+pub mod CsaRecords
+pub mod Exported
+pub mod RecordLaws

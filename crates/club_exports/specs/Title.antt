@@ -1,0 +1,36 @@
+-- What a record says of a game beside its moves, and its moves with the seconds that each took.
+use Rattle.std.specs.Prelude.{ℕ, ◌-◌, List, [], ◌∷◌, Option}
+use Rattle.squares.specs.declared.sides.Score.{Score}
+use Rattle.club_core.specs.declared.rows.GameEnd.{GameEnd}
+use Rattle.club_core.specs.Game.{Entry}
+use Rattle.club_exports.specs.declared.heading.Heading.{Heading}
+
+-- the names of the event and of the players, the moment of the start, and the end and the score, or none where the game goes on
+pub record Title (E : Type 0) : Type 0 where
+  pub event : List ℕ
+  pub first : List ℕ
+  pub second : List ℕ
+  pub start : ℕ
+  pub end : Option (GameEnd E)
+  pub result : Option Score
+
+abbrev pub title_of : {E : Type 0} → Heading E → Title E
+title_of h =
+    record {
+      event = h.event.now;
+      first = h.first.now;
+      second = h.second.now;
+      start = h.start;
+      end = h.end;
+      result = h.result;
+    }
+
+-- the moves of entries, each with the seconds since the one before it
+abbrev pub timed : {M : Type 0} → ℕ → List (Entry M) → List (M × ℕ)
+timed since [] = []
+timed since (e ∷ es) = (e.made, e.moment - since) ∷ timed e.moment es
+
+-- the moment of the last entry
+abbrev pub since_after : {M : Type 0} → ℕ → List (Entry M) → ℕ
+since_after since [] = since
+since_after since (e ∷ es) = since_after e.moment es

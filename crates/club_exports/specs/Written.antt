@@ -1,0 +1,35 @@
+-- What a writer holds of a record.
+use Rattle.std.specs.Prelude.{◌≡◌, ℕ, ◌<◌, ◌^◌, List, ◌++◌, length, map, Option, Ok}
+use Rattle.std.specs.Io.KnownBytes.{Appends}
+use Rattle.record_writer.specs.Pieces.{AppendsSome}
+use Rattle.club_rules.specs.GameRules.{GameRules}
+use Rattle.club_rules.specs.Line.{position_after}
+use Rattle.club_exports.specs.Title.{Title}
+
+-- the moves that are written
+abbrev pub made_in : {M : Type 0} → List (M × ℕ) → List M
+made_in plies = map (λ p. p.0) plies
+
+module _ {E M : Type 0} (IsText : Title E → List (M × ℕ) → List ℕ → Type 0) where
+  -- the record was added to what the writer held
+  abbrev pub AddsRecord : Title E → List (M × ℕ) → Option (List ℕ) → Option (List ℕ) → Type 0
+  AddsRecord title plies before now = (text : List ℕ) × IsText title plies text × Appends before now text
+
+  -- a beginning of the record was added
+  abbrev pub BeginsRecord : Title E → List (M × ℕ) → Option (List ℕ) → Option (List ℕ) → Type 0
+  BeginsRecord title plies before now = (text : List ℕ) × IsText title plies text × AppendsSome before now text
+
+  module _ {R : Type 0} (HasWritten : Title E → List (M × ℕ) → Option (List ℕ) → Option (List ℕ) → R → Type 0) where
+    -- what was written begins the record of each game that goes on from it
+    abbrev pub BeginsGames : Type 0
+    BeginsGames =
+        (title : Title E) (plies more : List (M × ℕ)) (before now : Option (List ℕ)) (r : R) → HasWritten title plies before now r →
+        BeginsRecord title (plies ++ more) before now
+
+-- a move that is legal after those that are written may follow them, where these are not too many to count
+abbrev pub MayFollowLegal : {P M E T R : Type 0} → GameRules P M E T →
+    (Title E → List (M × ℕ) → Option (List ℕ) → Option (List ℕ) → R → Type 0) → (R → M → Type 0) → Type 0
+MayFollowLegal {M = M} {E = E} {R = R} rules HasWritten MayFollow =
+    (title : Title E) (plies : List (M × ℕ)) (before now : Option (List ℕ)) (r : R) (made : M) →
+    HasWritten title plies before now r → length plies < 2 ^ 32 →
+    rules.check (position_after rules rules.start (made_in plies)) made ≡ Ok tt → MayFollow r made

@@ -1,0 +1,125 @@
+//! A game that is written entry by entry, by the texts of its moves.
+
+ghost use Rattle.std.specs.Prelude.{◌≡◌, ◌<◌, ◌≤◌, ◌^◌, ℕ, [], ◌∷◌, ◌++◌, List, Option, Some, Ok, IfOk, IfSome, OnOk, length, true};
+ghost use Rattle.club_core.specs.Game.{Entry};
+ghost use Rattle.club_core.specs.Limits.{most_plies};
+ghost use Rattle.club_exports.specs.Title.{Title, title_of, timed};
+ghost use Rattle.club_exports.specs.Written.{BeginsRecord, AddsRecord};
+ghost use Rattle.club_exports.specs.Exported.{IsWritten, IsUnderWay, IsNextText};
+
+use crate::exports::Exports;
+use crate::heading::Heading;
+use clocks::Moment;
+use club_core::values::MOST_PLIES;
+use record_writer::WriteFault;
+use std::alloc::Global;
+use std::io::Write;
+
+/// A game on its way to a writer as a record: so many of its entries are written.
+#[derive(Drop)]
+pub struct Export<R: Exports> {
+    draft: R::Record,
+    position: R::Position,
+    since: Moment,
+    plies: u32,
+}
+
+// The move of a text, where it is that of a legal move.
+fn legal_move<R: Exports>(
+    alloc: Global,
+    position: &R::Position,
+    text: &str,
+) -> Result<Option<R::Move>, WriteFault>
+    ensures legal { IfOk result (λ made. IfSome made (λ m. R.rules.check position.now m ≡ Ok tt)) }
+    ensures read { IfOk result (λ made. (m : R.Move) → R.rules.check position.now m ≡ Ok tt →
+        text.now ≡ R.rules.write_move position.now m → made ≡ Some m) }
+{
+    let made = match R::read_move(alloc, position, text)? {
+        Ok(made) => made,
+        Err(_) => return Ok(None),
+    };
+    match R::check(position, &made) {
+        Ok(()) => Ok(Some(made)),
+        Err(_) => Ok(None),
+    }
+}
+
+impl<R: Exports> Export<R> {
+    /// Writes what stands before the moves.
+    pub fn start<W: Write>(
+        alloc: Global,
+        heading: &Heading<R::End>,
+        writer: &mut W,
+    ) -> Result<Export<R>, WriteFault>
+        ensures written { IfOk result (λ export. IsWritten R.rules R.HasWritten (title_of heading.now) []
+            (W.contents writer.old) (W.contents writer.new) export) }
+        ensures begun { (plies : List (R.Move × ℕ)) →
+            BeginsRecord R.IsText (title_of heading.now) plies (W.contents writer.old) (W.contents writer.new) }
+    {
+        let draft = R::begin_record(alloc, heading, writer)?;
+        Ok(Export {
+            draft,
+            position: R::start(),
+            since: heading.start,
+            plies: 0,
+        })
+    }
+
+    /// Writes the next entry, of which this is the text in the position so far and the moment; false where the text is that
+    /// of no legal move, and nothing was written.
+    pub fn push<W: Write>(
+        &mut self,
+        alloc: Global,
+        writer: &mut W,
+        text: &str,
+        moment: Moment,
+    ) -> Result<bool, WriteFault>
+        requires { IsUnderWay R.rules R.HasWritten (W.contents writer.old) self.old }
+        ensures goes_on { OnOk result (IsUnderWay R.rules R.HasWritten (W.contents writer.new) self.new) }
+        ensures written { IfOk result (λ legal. (title : Title R.End) (entries : List (Entry R.Move))
+            (before : Option (List ℕ)) (made : R.Move) →
+            IsWritten R.rules R.HasWritten title entries before (W.contents writer.old) self.old →
+            IsNextText R.rules entries text.now made → length entries < most_plies →
+            (legal ≡ true) × IsWritten R.rules R.HasWritten title
+            (entries ++ record { made = made; moment = moment } ∷ []) before (W.contents writer.new) self.new) }
+        ensures begun { (title : Title R.End) (entries more : List (Entry R.Move)) (before : Option (List ℕ))
+            (made : R.Move) →
+            IsWritten R.rules R.HasWritten title entries before (W.contents writer.old) self.old →
+            IsNextText R.rules entries text.now made →
+            BeginsRecord R.IsText title (timed title.start (entries ++ record { made = made; moment = moment } ∷ more))
+            before (W.contents writer.new) }
+    {
+        R::begins_games();
+        if self.plies >= MOST_PLIES {
+            return Ok(false);
+        }
+        let made = match legal_move::<R>(alloc, &self.position, text)? {
+            Some(made) => made,
+            None => return Ok(false),
+        };
+        let seconds = moment.seconds().saturating_sub(self.since.seconds());
+        R::push_move(&mut self.draft, writer, &made, seconds)?;
+        self.position = R::play(&self.position, &made);
+        self.since = moment;
+        self.plies += 1;
+        Ok(true)
+    }
+
+    /// Writes the end: what was written is the record of the game.
+    pub fn finish<W: Write>(self, writer: &mut W) -> Result<(), WriteFault>
+        ensures written { OnOk result ((title : Title R.End) (entries : List (Entry R.Move)) (before : Option (List ℕ)) →
+            IsWritten R.rules R.HasWritten title entries before (W.contents writer.old) self →
+            AddsRecord R.IsText title (timed title.start entries) before (W.contents writer.new)) }
+        ensures begun { (title : Title R.End) (entries : List (Entry R.Move)) (before : Option (List ℕ)) →
+            IsWritten R.rules R.HasWritten title entries before (W.contents writer.old) self →
+            BeginsRecord R.IsText title (timed title.start entries) before (W.contents writer.new) }
+    {
+        let Export {
+            draft,
+            position: _,
+            since: _,
+            plies: _,
+        } = self;
+        R::finish_record(draft, writer)
+    }
+}

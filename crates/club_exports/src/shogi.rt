@@ -1,0 +1,98 @@
+//! Records of shogi, in the standard format of the Computer Shogi Association.
+
+ghost use Rattle.std.specs.Prelude.{◌≡◌};
+ghost use Rattle.club_core.specs.declared.rows.GameEnd.TheVariants as by;
+ghost use Rattle.club_exports.specs.Title.{title_of};
+ghost use Rattle.club_exports.specs.CsaRecords.{IsCsaHead, end_told, told_end};
+
+use crate::exports::Exports;
+use crate::heading::Heading;
+use club_core::{GameEnd, OutsideEnd};
+use club_games::Shogi;
+use csa::laws::written_moves_begin_games;
+use csa::{CsaEnd, CsaHead, GameWriter};
+use record_writer::WriteFault;
+use shogi_repetition::SEnd;
+use squares::{SMove, Score};
+use std::alloc::Global;
+use std::io::Write;
+
+// What a record says of an end from outside.
+fn outside_told(end: OutsideEnd) -> CsaEnd
+    ensures { result ≡ told_end (by.Outside end) }
+{
+    match end {
+        OutsideEnd::Resigned => CsaEnd::Resigned,
+        OutsideEnd::Time => CsaEnd::Time,
+        OutsideEnd::Agreed => CsaEnd::Recorded(Score::Draw),
+        OutsideEnd::Recorded(score) => CsaEnd::Recorded(score),
+    }
+}
+
+// What a record says of the end of a game, if it ended.
+fn end_told(end: Option<GameEnd<SEnd>>) -> Option<CsaEnd>
+    ensures { result ≡ end_told end }
+{
+    match end {
+        Some(GameEnd::Rule(end)) => Some(CsaEnd::Rule(end)),
+        Some(GameEnd::Outside(end)) => Some(outside_told(end)),
+        None => None,
+    }
+}
+
+// What stands before the moves.
+fn head_of<'a>(heading: &Heading<'a, SEnd>) -> CsaHead<'a>
+    ensures { IsCsaHead (title_of heading.now) result }
+{
+    CsaHead {
+        event: heading.event,
+        black: heading.first,
+        white: heading.second,
+        start: heading.start,
+        end: end_told(heading.end),
+    }
+}
+
+impl Exports for Shogi {
+    type Record = GameWriter;
+
+    ghost use Rattle.club_exports.specs.CsaRecords.{IsCsaText, HasWrittenCsa};
+    ghost use Rattle.club_exports.specs.RecordLaws.{csa-may_follow};
+    ghost use Rattle.csa.specs.Writer.{MayFollow};
+
+    ghost IsText = { IsCsaText };
+
+    ghost HasWritten = { HasWrittenCsa };
+
+    ghost MayFollow = { MayFollow };
+
+    fn begin_record<W: Write>(
+        alloc: Global,
+        heading: &Heading<SEnd>,
+        writer: &mut W,
+    ) -> Result<GameWriter, WriteFault> {
+        written_moves_begin_games();
+        let head = head_of(heading);
+        GameWriter::start(alloc, &head, writer)
+    }
+
+    fn push_move<W: Write>(
+        draft: &mut GameWriter,
+        writer: &mut W,
+        made: &SMove,
+        seconds: u64,
+    ) -> Result<(), WriteFault> {
+        written_moves_begin_games();
+        draft.push(writer, made, seconds)
+    }
+
+    fn finish_record<W: Write>(draft: GameWriter, writer: &mut W) -> Result<(), WriteFault> {
+        draft.finish(writer)
+    }
+
+    fn begins_games() {
+        written_moves_begin_games();
+    }
+
+    ghost may_follow = { csa-may_follow };
+}

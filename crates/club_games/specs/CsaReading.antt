@@ -1,0 +1,174 @@
+-- The reading of CSA texts as functions: what a text is read as, by the statements of its records.
+use Rattle.std.specs.Prelude.{ℕ, zero, suc, ◌+◌, List, [], ◌∷◌, ◌++◌, length, slice_get, Bool, true, false, Option, Some, None, Result, Ok, Err, if◌then◌else◌}
+use Rattle.std.specs.Option.{option_map}
+use Rattle.std.specs.FinMap as map
+use denote.Enum.Bare.{sameb}
+use Rattle.squares.specs.contracts.shogi.piece.Role as role_of
+use Rattle.squares.specs.declared.sides.Score.{Score}
+use Rattle.squares.specs.declared.shogi.moves.SMove.{SMove}
+use Rattle.squares.specs.declared.shogi.moves.SMove.TheVariants.{Step, Drop}
+use Rattle.squares.specs.declared.shogi.piece.HandKind.{HandKind}
+use Rattle.squares.specs.declared.shogi.piece.HandKind.TheVariants as in_hand
+use Rattle.squares.specs.declared.shogi.piece.Role.{Role}
+use Rattle.squares.specs.declared.shogi.piece.Role.TheVariants as role
+use Rattle.squares.specs.declared.shogi.piece.SPiece.{SPiece}
+use Rattle.squares.specs.Sides.{same_side}
+use Rattle.squares.specs.ShogiOpening.{opening}
+use Rattle.squares.specs.ShogiSets.{ShogiPosition}
+use Rattle.shogi_moves.specs.declared.checking.Illegal.{Illegal}
+use Rattle.shogi_moves.specs.declared.checking.Illegal.TheVariants as illegal
+use Rattle.shogi_moves.specs.Computed.{check_of}
+use Rattle.shogi_moves.specs.Rules.{arrived}
+use Rattle.shogi_repetition.specs.declared.ends.SEnd.{SEnd}
+use Rattle.shogi_repetition.specs.Computed.{end_of}
+use Rattle.shogi_repetition.specs.Line.{last_position}
+use Rattle.csa.specs.declared.faults.CsaFault.{CsaFault}
+use Rattle.csa.specs.declared.faults.CsaFault.TheVariants as fault
+use Rattle.csa.specs.declared.game.CsaGame.{CsaGame}
+use Rattle.csa.specs.declared.lines.Placed.{Placed}
+use Rattle.csa.specs.declared.order.Place.TheVariants as place
+use Rattle.csa.specs.declared.statements.Statement.{Statement}
+use Rattle.csa.specs.declared.statements.Statement.TheVariants as statement
+use Rattle.csa.specs.declared.statements.WrittenMove.{WrittenMove}
+use Rattle.csa.specs.Lines.{text_statements}
+use Rattle.csa.specs.Order.{first_stray}
+use Rattle.csa.specs.Reading.{first_statement, records_of}
+use Rattle.csa.specs.Records.{begins_even, score_in}
+use Rattle.csa.specs.Replays.{written_moves}
+use Rattle.club_rules.specs.declared.records.RecordFormat.TheVariants.{Csa}
+use Rattle.club_rules.specs.declared.record_refusals.RecordRefusal.{RecordRefusal}
+use Rattle.club_rules.specs.declared.record_refusals.RecordRefusal.TheVariants as record_refusal
+use Rattle.club_rules.specs.Records.{Recorded, Reading, GameRecords, game, no_part, refused}
+use Rattle.club_games.specs.Shogi.{refusal_of}
+
+abbrev pub same_role : Role → Role → Bool
+same_role a b = sameb role_of.the_type a b
+
+-- whether a piece that has this code after a step promoted in it
+abbrev pub promotion_of : SPiece → Role → Option Bool
+promotion_of piece code =
+    if same_role code piece.role
+    then Some false
+    else if same_role code (arrived piece true).role then Some true else None
+
+abbrev pub promotion_at : Option SPiece → Role → Option Bool
+promotion_at None code = None
+promotion_at (Some piece) code = promotion_of piece code
+
+-- the kind in a hand whose code this is
+abbrev pub dropped_kind : Role → Option HandKind
+dropped_kind role.Rook = Some in_hand.Rook
+dropped_kind role.Bishop = Some in_hand.Bishop
+dropped_kind role.Gold = Some in_hand.Gold
+dropped_kind role.Silver = Some in_hand.Silver
+dropped_kind role.Knight = Some in_hand.Knight
+dropped_kind role.Lance = Some in_hand.Lance
+dropped_kind role.Pawn = Some in_hand.Pawn
+dropped_kind _ = None
+
+abbrev pub meant_from : ShogiPosition → WrittenMove → Option ℕ → Option SMove
+meant_from p w None = option_map (λ kind. Drop kind w.to) (dropped_kind w.role)
+meant_from p w (Some from) = option_map (λ promote. Step from w.to promote) (promotion_at (map.get p.board from) w.role)
+
+-- the move that a written move means in a position, if it means one
+abbrev pub meant : ShogiPosition → WrittenMove → Option SMove
+meant p w = if same_side w.side p.turn then meant_from p w w.from else None
+
+-- the moves of a record, or its fault
+abbrev pub Replayed : Type 0
+Replayed = Result (List SMove) CsaFault
+
+-- a move that is checked, after which the replay goes on
+abbrev pub go_on : ℕ → Replayed → Result (Unit {0}) Illegal → Replayed
+go_on ply rest (Ok u) = rest
+go_on ply rest (Err cause) = Err (fault.Illegal ply cause)
+
+-- the next move of a replay: a fault where the game has ended, or where the move is none or not legal
+abbrev pub replay_next : List SMove → (SMove → Replayed) → Option SEnd → Option SMove → Replayed
+replay_next ms rest (Some end) m = Err (fault.AfterEnd (length ms + 1))
+replay_next ms rest None None = Err (fault.Illegal (length ms + 1) illegal.NoSuchMove)
+replay_next ms rest None (Some m) = go_on (length ms + 1) (rest m) (check_of (last_position opening ms) m)
+
+-- written moves, played after these
+abbrev pub replayed : List SMove → List WrittenMove → Replayed
+replayed ms [] = Ok ms
+replayed ms (w ∷ ws) =
+    replay_next ms (λ m. replayed (ms ++ m ∷ []) ws) (end_of opening ms) (meant (last_position opening ms) w)
+
+abbrev pub RecordRead : Type 0
+RecordRead = Result (Recorded SMove) CsaFault
+
+abbrev pub with_score : List SMove → Result Score CsaFault → RecordRead
+with_score ms (Ok score) = Ok (record { moves = ms; score = score })
+with_score ms (Err f) = Err f
+
+abbrev pub with_moves : List Placed → Replayed → RecordRead
+with_moves placed (Ok ms) = with_score ms (score_in placed ms (end_of opening ms))
+with_moves placed (Err f) = Err f
+
+-- the game of a record
+abbrev pub record_reading : List Placed → RecordRead
+record_reading placed =
+    if begins_even placed then with_moves placed (replayed [] (written_moves placed)) else Err fault.OtherOpening
+
+abbrev pub RecordsRead : Type 0
+RecordsRead = Result (List (Recorded SMove)) CsaFault
+
+abbrev pub and_more : RecordRead → RecordsRead → RecordsRead
+and_more (Err f) more = Err f
+and_more (Ok g) (Err f) = Err f
+and_more (Ok g) (Ok gs) = Ok (g ∷ gs)
+
+-- the games of records, or the fault of the first that is refused
+abbrev pub records_reading : List (List Placed) → RecordsRead
+records_reading [] = Ok []
+records_reading (placed ∷ records) = and_more (record_reading placed) (records_reading records)
+
+abbrev pub ordered_reading : List Placed → Option ℕ → RecordsRead
+ordered_reading placed (Some line) = Err (fault.BadText line)
+ordered_reading placed None = records_reading (records_of placed)
+
+abbrev pub is_version : Statement → Bool
+is_version statement.Version = true
+is_version _ = false
+
+-- statements begin with a version, and stand in their order
+abbrev pub statements_reading : List Placed → Option Statement → RecordsRead
+statements_reading placed None = Err (fault.BadText 1)
+statements_reading placed (Some first) =
+    if is_version first then ordered_reading placed (first_stray place.Start placed) else Err fault.Version
+
+-- the games of a text, or its fault
+unfoldable pub csa_reading : List ℕ → RecordsRead
+csa_reading text = statements_reading (text_statements text) (first_statement (text_statements text))
+
+-- why the club refuses a text with that fault; memory is no fault of a text
+abbrev pub csa_refusal : CsaFault → RecordRefusal
+csa_refusal fault.Memory = record_refusal.Unfinished Csa
+csa_refusal (fault.BadText line) = record_refusal.BadText Csa line
+csa_refusal fault.Version = record_refusal.Version
+csa_refusal fault.OtherOpening = record_refusal.OtherOpening Csa
+csa_refusal (fault.Illegal ply cause) = record_refusal.Illegal Csa ply (refusal_of cause)
+csa_refusal fault.Unfinished = record_refusal.Unfinished Csa
+csa_refusal (fault.AfterEnd ply) = record_refusal.AfterEnd Csa ply
+csa_refusal fault.ResultDiffers = record_refusal.ResultDiffers Csa
+
+-- the game of a record as the club has it
+abbrev pub game_of : CsaGame → Recorded SMove
+game_of g = record { moves = g.moves.items; score = g.score }
+
+abbrev pub found_game : Option (Recorded SMove) → Reading SMove
+found_game None = no_part
+found_game (Some r) = game r
+
+abbrev pub part_of : ℕ → RecordsRead → Reading SMove
+part_of before (Err f) = refused (csa_refusal f)
+part_of before (Ok games) = found_game (slice_get games before)
+
+-- a part of a text, which counts from 1
+abbrev pub csa_part : List ℕ → ℕ → Reading SMove
+csa_part text zero = no_part
+csa_part text (suc before) = part_of before (csa_reading text)
+
+abbrev pub shogi_records : GameRecords SMove
+shogi_records = record { format = Csa; read = csa_part }

@@ -1,0 +1,67 @@
+-- Whether a text (FEN) stands for the opening of draughts, as a function.
+use Rattle.std.specs.Prelude.{ℕ, zero, suc, List, [], ◌∷◌, ◌++◌, length, Bool, false, Option, Some, None, Ok, Err, if◌then◌else◌}
+use Rattle.squares.specs.declared.sides.Side.{Side}
+use Rattle.squares.specs.Sides.{other}
+use Rattle.squares.specs.DraughtsOpening.{opening}
+use Rattle.squares.specs.DraughtsSamePosition.{same_position}
+use Rattle.pdn.specs.declared.items.Item.{Item}
+use Rattle.pdn.specs.FenItems.{past_byte, ItemReading, read_item, ItemsReading, ends_list}
+use Rattle.pdn.specs.FenForm.{Header, HeaderReading, read_header, RestReading, read_between, past_end, FenReading, FenForm}
+use Rattle.pdn.specs.ReadFen.{repeated, position_of}
+
+-- what follows an item: a comma and the items after it, or the end of the list
+abbrev pub after_item : (List Item → List ℕ → ItemsReading) → List Item → List ℕ → Option (List ℕ) → ItemsReading
+after_item more items rest None = Ok (record { items = items; rest = rest })
+after_item more items rest (Some text) = more items text
+
+abbrev pub with_item : (List Item → List ℕ → ItemsReading) → List Item → ItemReading → ItemsReading
+with_item more before (Err offset) = Err offset
+with_item more before (Ok front) = after_item more (before ++ front.item ∷ []) front.rest (past_byte 44 front.rest)
+
+-- up to so many items, parted by commas
+abbrev pub items_reading : ℕ → ℕ → Side → List Item → List ℕ → ItemsReading
+items_reading zero total side before text = Err 0
+items_reading (suc n) total side before text =
+    with_item (λ items rest. items_reading n total side items rest) before (read_item total side text)
+
+abbrev pub list_reading : ℕ → ℕ → Side → List Item → List ℕ → ItemsReading
+list_reading n total side before text =
+    if ends_list text then Ok (record { items = before; rest = text }) else items_reading n total side before text
+
+abbrev pub ended_reading : Side → List Item → Option ℕ → FenReading
+ended_reading turn items (Some offset) = Err offset
+ended_reading turn items None = Ok (record { turn = turn; items = items })
+
+abbrev pub second_reading : ℕ → Side → ItemsReading → FenReading
+second_reading total turn (Err offset) = Err offset
+second_reading total turn (Ok list) = ended_reading turn list.items (past_end total list.rest)
+
+abbrev pub between_reading : ℕ → ℕ → Header → List Item → RestReading → FenReading
+between_reading n total header items (Err offset) = Err offset
+between_reading n total header items (Ok rest) =
+    second_reading total header.turn (list_reading n total (other header.first) items rest)
+
+abbrev pub first_reading : ℕ → ℕ → Header → ItemsReading → FenReading
+first_reading n total header (Err offset) = Err offset
+first_reading n total header (Ok list) =
+    between_reading n total header list.items (read_between total header.first list.rest)
+
+abbrev pub header_reading : ℕ → ℕ → HeaderReading → FenReading
+header_reading n total (Err offset) = Err offset
+header_reading n total (Ok header) = first_reading n total header (list_reading n total header.first [] header.rest)
+
+-- the form of a text; it has no more items than bytes
+unfoldable pub form_reading : List ℕ → FenReading
+form_reading text = header_reading (length text) (length text) (read_header text)
+
+abbrev pub is_opening_unless : FenForm → Option ℕ → Bool
+is_opening_unless form (Some offset) = false
+is_opening_unless form None = same_position (position_of form) opening
+
+abbrev pub is_opening_form : FenReading → Bool
+is_opening_form (Err offset) = false
+is_opening_form (Ok form) = is_opening_unless form (repeated form.items)
+
+-- whether a text stands for the opening
+abbrev pub is_opening : List ℕ → Bool
+is_opening text = is_opening_form (form_reading text)

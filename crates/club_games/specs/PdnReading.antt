@@ -1,0 +1,125 @@
+-- The reading of PDN texts as a function: what a text is read as, by its tokens.
+use Rattle.std.specs.Prelude.{ℕ, zero, suc, ◌+◌, ◌-◌, ◌==◌, List, [], ◌∷◌, ◌++◌, length, Bool, true, false, Option, Some, None, Result, Ok, Err, codes, if◌then◌else◌}
+use Rattle.squares.specs.declared.sides.Score.{Score}
+use Rattle.squares.specs.declared.draughts.moves.DMove.{DMove}
+use Rattle.squares.specs.DraughtsOpening.{opening}
+use Rattle.draughts_draws.specs.declared.ends.DEnd.{DEnd}
+use Rattle.draughts_draws.specs.Ends.{end_of}
+use Rattle.draughts_draws.specs.Line.{last_position}
+use Rattle.pdn.specs.MoveValue as move_value
+use Rattle.pdn_games.specs.declared.faults.PdnFault.{PdnFault}
+use Rattle.pdn_games.specs.declared.faults.PdnFault.TheVariants as fault
+use Rattle.pdn_games.specs.declared.game.PdnGame.{PdnGame}
+use Rattle.pdn_games.specs.Contents.{first_tag, move_texts, is_other_type}
+use Rattle.pdn_games.specs.Order.{bad_at}
+use Rattle.pdn_games.specs.Reading.{score_in}
+use Rattle.pdn_games.specs.Replaying.{at_ply}
+use Rattle.pdn_games.specs.Tokens.{Token, Placed, Front, ended, skipped, found, stuck, front_at, begins_feed, lets_follow}
+use Rattle.club_rules.specs.declared.records.RecordFormat.TheVariants.{Pdn}
+use Rattle.club_rules.specs.declared.record_refusals.RecordRefusal.{RecordRefusal}
+use Rattle.club_rules.specs.declared.record_refusals.RecordRefusal.TheVariants as record_refusal
+use Rattle.club_rules.specs.Records.{Recorded, Reading, GameRecords, game, no_part, refused}
+use Rattle.club_games.specs.Draughts.{refusal_of}
+use Rattle.club_games.specs.FenReading.{is_opening}
+
+-- tokens, and where they stop, if not at the text's end
+pub record Lexed : Type 0 where
+  pub tokens : List Placed
+  pub stop : Option ℕ
+
+abbrev pub with_token : ℕ → Token → Lexed → Lexed
+with_token at token rest = record { tokens = record { at = at; token = token } ∷ rest.tokens; stop = rest.stop }
+
+abbrev pub after_front : ℕ → (List ℕ → Lexed) → (Token → List ℕ → Lexed) → Front → Lexed
+after_front at skips takes ended = record { tokens = []; stop = None }
+after_front at skips takes stuck = record { tokens = []; stop = Some at }
+after_front at skips takes (skipped rest) = skips rest
+after_front at skips takes (found token rest) = with_token at token (takes token rest)
+
+-- the tokens of a text, which has fewer bytes than so many; the whole text has so many
+abbrev pub lexed : ℕ → ℕ → Bool → Bool → List ℕ → Lexed
+lexed zero total line free text = record { tokens = []; stop = None }
+lexed (suc n) total line free text =
+    after_front (total - length text)
+    (λ rest. lexed n total (begins_feed text) true rest)
+    (λ token rest. lexed n total false (lets_follow token) rest)
+    (front_at line free text)
+
+-- the moves of a text, or its fault
+abbrev pub Replayed : Type 0
+Replayed = Result (List DMove) PdnFault
+
+-- the next move of a replay: a fault where the game has ended, or where its text is refused
+abbrev pub replay_next : List DMove → (DMove → Replayed) → Option DEnd → move_value.Reading → Replayed
+replay_next ms rest (Some end) read = Err (fault.AfterEnd (length ms + 1))
+replay_next ms rest None (Err f) = Err (at_ply (length ms + 1) f)
+replay_next ms rest None (Ok m) = rest m
+
+-- texts of moves, played after these
+abbrev pub replayed : List DMove → List (List ℕ) → Replayed
+replayed ms [] = Ok ms
+replayed ms (text ∷ texts) =
+    replay_next ms (λ m. replayed (ms ++ m ∷ []) texts) (end_of opening ms) (move_value.move_reading (last_position opening ms) text)
+
+abbrev pub GameRead : Type 0
+GameRead = Result (Recorded DMove) PdnFault
+
+abbrev pub with_score : List DMove → Result Score PdnFault → GameRead
+with_score ms (Ok score) = Ok (record { moves = ms; score = score })
+with_score ms (Err f) = Err f
+
+abbrev pub with_moves : List Placed → Replayed → GameRead
+with_moves tokens (Ok ms) = with_score ms (score_in tokens ms)
+with_moves tokens (Err f) = Err f
+
+-- whether a position from which the game begins, if one is given, is the opening
+abbrev pub begins_even : Option (List ℕ) → Bool
+begins_even None = true
+begins_even (Some text) = is_opening text
+
+-- the game of tokens of the form: of this kind of draughts, from the opening
+abbrev pub tokens_reading : List Placed → GameRead
+tokens_reading tokens =
+    if is_other_type tokens
+    then Err fault.OtherType
+    else if begins_even (first_tag (codes "FEN") tokens)
+    then with_moves tokens (replayed [] (move_texts tokens))
+    else Err fault.OtherOpening
+
+abbrev pub formed_reading : List Placed → Option ℕ → GameRead
+formed_reading tokens (Some offset) = Err (fault.BadText offset)
+formed_reading tokens None = tokens_reading tokens
+
+abbrev pub lexed_reading : Lexed → GameRead
+lexed_reading l = formed_reading l.tokens (bad_at l.tokens l.stop)
+
+-- the game of a text, or its fault
+unfoldable pub pdn_reading : List ℕ → GameRead
+pdn_reading text = lexed_reading (lexed (suc (length text)) (length text) true true text)
+
+-- why the club refuses a text with that fault; memory is no fault of a text
+abbrev pub pdn_refusal : PdnFault → RecordRefusal
+pdn_refusal fault.Memory = record_refusal.Unfinished Pdn
+pdn_refusal (fault.BadText offset) = record_refusal.BadText Pdn offset
+pdn_refusal (fault.Ambiguous ply) = record_refusal.Ambiguous ply
+pdn_refusal (fault.Illegal ply cause) = record_refusal.Illegal Pdn ply (refusal_of cause)
+pdn_refusal fault.OtherType = record_refusal.OtherType
+pdn_refusal fault.OtherOpening = record_refusal.OtherOpening Pdn
+pdn_refusal fault.Unfinished = record_refusal.Unfinished Pdn
+pdn_refusal (fault.AfterEnd ply) = record_refusal.AfterEnd Pdn ply
+pdn_refusal fault.ResultDiffers = record_refusal.ResultDiffers Pdn
+
+-- the game of a text as the club has it
+abbrev pub game_of : PdnGame → Recorded DMove
+game_of g = record { moves = g.moves.items; score = g.score }
+
+abbrev pub whole : GameRead → Reading DMove
+whole (Err f) = refused (pdn_refusal f)
+whole (Ok r) = game r
+
+-- a text has one part
+abbrev pub pdn_part : List ℕ → ℕ → Reading DMove
+pdn_part text part = if part == 1 then whole (pdn_reading text) else no_part
+
+abbrev pub draughts_records : GameRecords DMove
+draughts_records = record { format = Pdn; read = pdn_part }

@@ -1,0 +1,74 @@
+//! Records of draughts, in Portable Draughts Notation.
+
+ghost use Rattle.std.specs.Prelude.{◌≡◌, ◌≢◌, IfOk};
+ghost use Rattle.club_rules.specs.Records.{recorded_of, reading_of};
+ghost use Rattle.club_games.specs.PdnReading.{pdn_refusal, game_of};
+
+use crate::draughts::{Draughts, refusal_of};
+use club_rules::{RecordFormat, RecordReading, RecordRefusal, RecordedGame, Records};
+use pdn::laws::fen_forms_are_texts;
+use pdn_games::{PdnFault, PdnGame, read_game};
+use squares::{DMove, Memory};
+use std::alloc::Global;
+
+// Why the club refuses a text with that fault. Memory is no fault of a text.
+fn refusal_of_text(fault: PdnFault) -> Result<RecordRefusal, Memory>
+    ensures value { IfOk result (λ refusal. refusal ≡ pdn_refusal fault) }
+    ensures told { IfOk result (λ refusal. fault ≢ PdnFault.Memory) }
+{
+    match fault {
+        PdnFault::Memory => Err(Memory),
+        PdnFault::BadText(offset) => Ok(RecordRefusal::BadText(RecordFormat::Pdn, offset)),
+        PdnFault::Ambiguous(ply) => Ok(RecordRefusal::Ambiguous { ply }),
+        PdnFault::Illegal { ply, cause } => Ok(RecordRefusal::Illegal {
+            format: RecordFormat::Pdn,
+            ply,
+            cause: refusal_of(cause),
+        }),
+        PdnFault::OtherType => Ok(RecordRefusal::OtherType),
+        PdnFault::OtherOpening => Ok(RecordRefusal::OtherOpening(RecordFormat::Pdn)),
+        PdnFault::Unfinished => Ok(RecordRefusal::Unfinished(RecordFormat::Pdn)),
+        PdnFault::AfterEnd(ply) => Ok(RecordRefusal::AfterEnd {
+            format: RecordFormat::Pdn,
+            ply,
+        }),
+        PdnFault::ResultDiffers => Ok(RecordRefusal::ResultDiffers(RecordFormat::Pdn)),
+    }
+}
+
+// The game of a record as the club has it.
+fn game_of(game: PdnGame) -> RecordedGame<DMove>
+    ensures { recorded_of result ≡ game_of game }
+{
+    RecordedGame {
+        moves: game.moves,
+        score: game.score,
+    }
+}
+
+impl Records for Draughts {
+    ghost use Rattle.club_games.specs.PdnLaws.{draughts-reads_games};
+    ghost use Rattle.club_games.specs.PdnReading.{draughts_records};
+
+    ghost records = { draughts_records };
+
+    fn format() -> RecordFormat {
+        RecordFormat::Pdn
+    }
+
+    fn read_record(alloc: Global, text: &[u8], part: u64) -> Result<RecordReading<DMove>, Memory> {
+        fen_forms_are_texts();
+        if part != 1 {
+            return Ok(RecordReading::NoPart);
+        }
+        match read_game(alloc, text) {
+            Ok(game) => Ok(RecordReading::Game(game_of(game))),
+            Err(fault) => {
+                let refusal = refusal_of_text(fault)?;
+                Ok(RecordReading::Refused(refusal))
+            }
+        }
+    }
+
+    ghost reads_games = { draughts-reads_games };
+}

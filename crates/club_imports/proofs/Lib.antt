@@ -1,0 +1,5 @@
+mod SameMoves
+mod ImportStepLemmas
+mod StandingLemmas
+mod LeftLemmas
+mod RowLemmas

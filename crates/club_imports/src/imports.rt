@@ -1,0 +1,236 @@
+//! What an import does to the club.
+
+ghost use Rattle.std.specs.Prelude.{◌≡◌, ◌≤◌, ◌<◌, ℕ, length, Option, IfOk, IfNone, string_bytes};
+ghost use Rattle.std.specs.Option.{option_map};
+ghost use Rattle.club_rules.specs.Records.{recorded_of, reading_of, IsGameByRules};
+ghost use Rattle.club_core.specs.Answer.{members_of, events_of, keyed_of, import_of};
+ghost use Rattle.club_core.specs.Events.{has_event_name};
+ghost use Rattle.club_core.specs.Game.{Game};
+ghost use Rattle.club_core.specs.Imports.{same_format, has_part, reading_of_import, repeat_of_import, import_refusal, import_game, import_between, import_step, import_found};
+ghost use Rattle.club_core.specs.Limits.{most_members, most_events, most_games};
+ghost use Rattle.club_core.specs.Members.{find_id};
+ghost use Rattle.club_core.specs.Outcome.{by_officer, game_seated};
+ghost use Rattle.club_core.specs.Seats.{has_member_name, KeyedGame};
+ghost use Rattle.club_imports.specs.Importing.{ShowsPlayed, IsByRules, importing_of, AddsByRules};
+
+use crate::played::{PlayedGame, reads_record_of};
+use club_core::seats::{are_two, find_event, find_member, repeated_seat};
+use club_core::values::{MOST_GAMES, MOST_RECORD_BYTES, is_name};
+use club_core::{Caller, Event, Import, KeyedGame, Member, Pairing, Refusal};
+use club_rules::{Memory, RecordFormat, RecordReading, RecordedGame, Records, Rules};
+use std::alloc::Global;
+
+/// A game to be added, under the next id, with what its record says.
+#[derive(Drop)]
+pub struct NewGame<M> {
+    pub game: u32,
+    pub pairing: Pairing,
+    pub recorded: RecordedGame<M>,
+}
+
+/// What an import does: it adds a game, it repeats the import or the game of that id, or it is refused.
+#[derive(Drop)]
+pub enum Importing<M> {
+    Adds(NewGame<M>),
+    Repeated(u32),
+    Refused(Refusal),
+}
+
+fn is_same_format(one: RecordFormat, other: RecordFormat) -> bool
+    ensures { result ≡ same_format one other }
+{
+    one == other
+}
+
+/// The part of the import's text, read. A text that is too long, or of another game's format, has none.
+fn read_import<R: Records>(
+    alloc: Global,
+    command: &Import,
+) -> Result<RecordReading<R::Move>, Memory>
+    ensures read { IfOk result (λ read. reading_of read
+        ≡ reading_of_import R.rules R.records (import_of command.now)) }
+    ensures by_rules { IfOk result (λ read. IsByRules R.rules (reading_of read)) }
+{
+    let text = command.text.as_slice();
+    if !is_same_format(command.format, R::format()) {
+        return Ok(RecordReading::NoPart);
+    }
+    if text.len() > MOST_RECORD_BYTES {
+        return Ok(RecordReading::NoPart);
+    }
+    R::read_record(alloc, text, command.part)
+}
+
+fn has_part<M>(reading: &RecordReading<M>) -> bool
+    ensures { result ≡ has_part (reading_of reading.now) }
+{
+    match reading {
+        RecordReading::NoPart => false,
+        _ => true,
+    }
+}
+
+/// The game under the key, if it is of the same event and players and ended as the record says.
+fn repeat_of_import<R: Records>(
+    command: &Import,
+    reading: &RecordReading<R::Move>,
+    event: u32,
+    first: Option<u32>,
+    second: Option<u32>,
+    under_key: Option<KeyedGame>,
+    played: &Option<PlayedGame<R::Move>>,
+) -> Option<u32>
+    requires { reading_of reading.now ≡ reading_of_import R.rules R.records (import_of command.now) }
+    ensures { (old : Option (Game R.Move)) (games : ℕ) → ShowsPlayed R.rules old played.now →
+        option_map game_seated result ≡ repeat_of_import R.rules R.records (import_of command.now) event first second
+        (option_map keyed_of under_key) old games }
+{
+    if reads_record_of::<R>(played, reading) {
+        return repeated_seat(event, first, second, under_key);
+    }
+    None
+}
+
+/// Why no game is added, before what the record itself is refused for.
+fn refusal_of_import<R: Records>(
+    command: &Import,
+    reading: &RecordReading<R::Move>,
+    first: Option<u32>,
+    second: Option<u32>,
+    under_key: Option<KeyedGame>,
+    games: u32,
+) -> Option<Refusal>
+    requires { reading_of reading.now ≡ reading_of_import R.rules R.records (import_of command.now) }
+    ensures value { (event : ℕ) (old : Option (Game R.Move)) →
+        result ≡ import_refusal R.rules R.records (import_of command.now) event first second
+        (option_map keyed_of under_key) old games }
+    ensures room { IfNone result (games < most_games) }
+{
+    if under_key.is_some() {
+        return Some(Refusal::Conflict);
+    }
+    if !is_name(command.key.as_str()) || !are_two(first, second) || !has_part(reading) {
+        return Some(Refusal::BadValue);
+    }
+    if games >= MOST_GAMES {
+        return Some(Refusal::Full);
+    }
+    None
+}
+
+/// What a record that was read adds to an event, between two players that were found.
+fn import_game<R: Rules>(
+    event: u32,
+    first: Option<u32>,
+    second: Option<u32>,
+    games: u32,
+    recorded: RecordedGame<R::Move>,
+) -> Importing<R::Move>
+    requires room { games < most_games }
+    requires by_rules { IsGameByRules R.rules (recorded_of recorded) }
+    ensures value { importing_of result ≡ import_game event first second games (recorded_of recorded) }
+    ensures by_rules { AddsByRules R.rules result }
+{
+    let first = match first {
+        Some(first) => first,
+        None => return Importing::Refused(Refusal::BadValue),
+    };
+    let second = match second {
+        Some(second) => second,
+        None => return Importing::Refused(Refusal::BadValue),
+    };
+    Importing::Adds(NewGame {
+        game: games + 1,
+        pairing: Pairing {
+            event,
+            first,
+            second,
+        },
+        recorded,
+    })
+}
+
+/// What is read is added, refused, or no record at all.
+fn import_between<R: Rules>(
+    event: u32,
+    first: Option<u32>,
+    second: Option<u32>,
+    games: u32,
+    reading: RecordReading<R::Move>,
+) -> Importing<R::Move>
+    requires room { games < most_games }
+    requires by_rules { IsByRules R.rules (reading_of reading) }
+    ensures value { importing_of result ≡ import_between event first second games (reading_of reading) }
+    ensures by_rules { AddsByRules R.rules result }
+{
+    match reading {
+        RecordReading::Game(recorded) => import_game::<R>(event, first, second, games, recorded),
+        RecordReading::NoPart => Importing::Refused(Refusal::BadValue),
+        RecordReading::Refused(refusal) => Importing::Refused(Refusal::Record(refusal)),
+    }
+}
+
+/// What an import does, once the names were looked up.
+fn import_found<R: Records>(
+    alloc: Global,
+    command: &Import,
+    event: u32,
+    first: Option<u32>,
+    second: Option<u32>,
+    under_key: Option<KeyedGame>,
+    played: &Option<PlayedGame<R::Move>>,
+    games: u32,
+) -> Result<Importing<R::Move>, Memory>
+    ensures value { IfOk result (λ i. (old : Option (Game R.Move)) → ShowsPlayed R.rules old played.now →
+        importing_of i ≡ import_step R.rules R.records (import_of command.now) event first second
+        (option_map keyed_of under_key) old games) }
+    ensures by_rules { IfOk result (λ i. AddsByRules R.rules i) }
+{
+    let reading = read_import::<R>(alloc, command)?;
+    match repeat_of_import::<R>(command, &reading, event, first, second, under_key, played) {
+        Some(game) => return Ok(Importing::Repeated(game)),
+        None => {}
+    }
+    match refusal_of_import::<R>(command, &reading, first, second, under_key, games) {
+        Some(refusal) => return Ok(Importing::Refused(refusal)),
+        None => {}
+    }
+    Ok(import_between::<R>(event, first, second, games, reading))
+}
+
+/// What an import does, by the members and the events in the order of their ids, the game under its key if there is one,
+/// with what was played in it if it is of this kind, and the number of games. The officer alone imports. The new game's
+/// id is the next one, and what is added is a game by the rules. A refusal of the record comes after all others.
+pub fn import<R: Records>(
+    alloc: Global,
+    members: &[Member],
+    events: &[Event],
+    under_key: Option<KeyedGame>,
+    played: &Option<PlayedGame<R::Move>>,
+    games: u32,
+    caller: Caller,
+    command: &Import,
+) -> Result<Importing<R::Move>, Memory>
+    requires members { length members.now ≤ most_members }
+    requires events { length events.now ≤ most_events }
+    ensures value { IfOk result (λ i. (old : Option (Game R.Move)) → ShowsPlayed R.rules old played.now →
+        importing_of i ≡ by_officer caller (import_found R.rules R.records (import_of command.now)
+        (find_id (has_event_name (string_bytes command.now.event)) (events_of events.now))
+        (find_id (has_member_name (string_bytes command.now.first)) (members_of members.now))
+        (find_id (has_member_name (string_bytes command.now.second)) (members_of members.now))
+        (option_map keyed_of under_key) old games)) }
+    ensures by_rules { IfOk result (λ i. AddsByRules R.rules i) }
+{
+    if caller != Caller::Officer {
+        return Ok(Importing::Refused(Refusal::NotAllowed));
+    }
+    let event = match find_event(events, command.event.as_str()) {
+        Some(event) => event,
+        None => return Ok(Importing::Refused(Refusal::UnknownEvent)),
+    };
+    let first = find_member(members, command.first.as_str());
+    let second = find_member(members, command.second.as_str());
+    import_found::<R>(
+        alloc, command, event, first, second, under_key, played, games,
+    )
+}

@@ -1,0 +1,74 @@
+//! Games that were played, beside their records.
+
+ghost use Rattle.std.specs.Prelude.{◌≡◌, Option};
+ghost use Rattle.club_rules.specs.Records.{recorded_of, reading_of};
+ghost use Rattle.club_core.specs.Game.{Game};
+ghost use Rattle.club_core.specs.Imports.{same_score, has_score, same_moves, is_record_of, reads_record_of};
+ghost use Rattle.club_imports.specs.Importing.{IsPlayedOf, ShowsPlayed};
+
+use club_rules::{RecordReading, RecordedGame, Rules};
+use squares::Score;
+
+/// What was played in a game: its moves, and its result, which is none while it is running.
+#[derive(Drop)]
+pub struct PlayedGame<M> {
+    pub moves: Vec<M>,
+    pub result: Option<Score>,
+}
+
+fn is_same_score(one: Score, other: Score) -> bool
+    ensures { result ≡ same_score one other }
+{
+    one == other
+}
+
+fn has_score(ended: Option<Score>, score: Score) -> bool
+    ensures { result ≡ has_score ended score }
+{
+    match ended {
+        None => false,
+        Some(ended) => is_same_score(ended, score),
+    }
+}
+
+/// Whether two lists of moves are one.
+fn are_same<R: Rules>(moves: &[R::Move], others: &[R::Move]) -> bool
+    ensures { result ≡ same_moves R.rules moves.now others.now }
+{
+    if moves.len() != others.len() {
+        return false;
+    }
+    for i in 0..moves.len() {
+        if !R::same(&moves[i], &others[i]) {
+            return false;
+        }
+    }
+    true
+}
+
+/// Whether the record is that of what was played.
+fn is_record_of<R: Rules>(played: &PlayedGame<R::Move>, recorded: &RecordedGame<R::Move>) -> bool
+    ensures { (game : Game R.Move) → IsPlayedOf R.rules game played.now →
+        result ≡ is_record_of R.rules game (recorded_of recorded.now) }
+{
+    has_score(played.result, recorded.score)
+        && are_same::<R>(played.moves.as_slice(), recorded.moves.as_slice())
+}
+
+/// Whether what was read is the record of what was played.
+pub fn reads_record_of<R: Rules>(
+    played: &Option<PlayedGame<R::Move>>,
+    reading: &RecordReading<R::Move>,
+) -> bool
+    ensures { (old : Option (Game R.Move)) → ShowsPlayed R.rules old played.now →
+        result ≡ reads_record_of R.rules old (reading_of reading.now) }
+{
+    match played {
+        None => false,
+        Some(played) => match reading {
+            RecordReading::Game(recorded) => is_record_of::<R>(played, recorded),
+            RecordReading::NoPart => false,
+            RecordReading::Refused(_) => false,
+        },
+    }
+}

@@ -1,0 +1,152 @@
+//! The row of a recorded game.
+
+ghost use Rattle.std.specs.Prelude.{◌≡◌, ◌≤◌, ◌<◌, ◌+◌, ◌^◌, ℕ, length, Some, IfOk, IsTrue};
+ghost use Rattle.squares.specs.declared.sides.Side.TheVariants.{First};
+ghost use Rattle.club_rules.specs.Line.{IsPlayedLine, position_after, line_track};
+ghost use Rattle.club_rules.specs.Records.{recorded_of, IsGameByRules};
+ghost use Rattle.club_core.specs.Answer.{pairing_of};
+ghost use Rattle.club_core.specs.Game.{end_with, left_of, spend, spend_all};
+ghost use Rattle.club_core.specs.Imports.{recorded_end, imported};
+ghost use Rattle.club_core.specs.Limits.{most_plies, is_budget, is_increment};
+ghost use Rattle.club_core.specs.View.{IsRowOf};
+ghost use Rattle.club_imports.specs.OneMoment.{at_moment, clocks_with};
+
+use clocks::Moment;
+use club_core::{GameEnd, GameRow, OutsideEnd, Pairing};
+use club_rules::{Memory, RecordedGame, Rules};
+use squares::{Score, Side};
+use std::alloc::Global;
+
+/// Where a line stands after its moves, and what they left behind.
+#[derive(Drop)]
+struct Standing<R: Rules> {
+    position: R::Position,
+    track: R::Track,
+}
+
+fn standing_after<R: Rules>(moves: &[R::Move]) -> Standing<R>
+    requires line { IsPlayedLine R.rules R.rules.start moves.now }
+    requires few { length moves.now ≤ most_plies }
+    ensures position { result.position ≡ position_after R.rules R.rules.start moves.now }
+    ensures track { result.track ≡ line_track R.rules R.rules.start moves.now }
+{
+    let mut position = R::start();
+    let mut track = R::track_start(&position);
+    for i in 0..moves.len() {
+        let made = &moves[i];
+        let next = R::play(&position, made);
+        track = R::track_next(track, &position, made, &next);
+        position = next;
+    }
+    Standing { position, track }
+}
+
+/// The seconds that both players have left.
+#[derive(Clone, Copy, Debug, PartialEq, Eq)]
+pub struct Left {
+    pub first: u64,
+    pub second: u64,
+}
+
+impl Left {
+    /// That side's.
+    pub fn of(self, side: Side) -> u64
+        ensures { (moment : ℕ) → result ≡ left_of side (clocks_with self.first self.second moment) }
+    {
+        match side {
+            Side::First => self.first,
+            Side::Second => self.second,
+        }
+    }
+
+    /// With an increment more for that side, whose move took no time.
+    pub fn with(self, side: Side, increment: u64) -> Left
+        requires first { self.first + increment < 2 ^ 64 }
+        requires second { self.second + increment < 2 ^ 64 }
+        ensures { (moment : ℕ) → clocks_with result.first result.second moment
+            ≡ spend increment side moment (clocks_with self.first self.second moment) }
+    {
+        match side {
+            Side::First => Left {
+                first: self.first + increment,
+                second: self.second,
+            },
+            Side::Second => Left {
+                first: self.first,
+                second: self.second + increment,
+            },
+        }
+    }
+}
+
+/// The seconds left after so many moves that took none, each adding the increment to its player's.
+fn left_after(budget: u64, increment: u64, plies: usize) -> Left
+    requires budget { IsTrue (is_budget budget) }
+    requires increment { IsTrue (is_increment increment) }
+    requires few { plies ≤ most_plies }
+    ensures { (moment : ℕ) → clocks_with result.first result.second moment
+        ≡ spend_all increment First (at_moment moment plies) (clocks_with budget budget moment) }
+{
+    let mut left = Left {
+        first: budget,
+        second: budget,
+    };
+    let mut side = Side::First;
+    for ply in 0..plies {
+        left = left.with(side, increment);
+        side = side.other();
+    }
+    left
+}
+
+/// How a recorded game ended: by the rules, and else as its record says.
+fn end_of_record<E>(end: Option<E>, score: Score) -> Option<GameEnd<E>>
+    ensures { result ≡ end_with end (recorded_end end score) }
+{
+    match end {
+        Some(end) => Some(GameEnd::Rule(end)),
+        None => Some(GameEnd::Outside(OutsideEnd::Recorded(score))),
+    }
+}
+
+/// The row of a recorded game that is added at that moment, each player having the budget and gaining the increment at
+/// each move.
+pub fn imported_row<R: Rules>(
+    alloc: Global,
+    key: &str,
+    pairing: Pairing,
+    budget: u64,
+    increment: u64,
+    start: Moment,
+    recorded: &RecordedGame<R::Move>,
+) -> Result<GameRow<R::End>, Memory>
+    requires by_rules { IsGameByRules R.rules (recorded_of recorded.now) }
+    requires budget { IsTrue (is_budget budget) }
+    requires increment { IsTrue (is_increment increment) }
+    ensures { IfOk result (IsRowOf R.rules (record { budget = budget; increment = increment })
+        (imported R.rules (Some key.now) (pairing_of pairing) start (recorded_of recorded.now))) }
+{
+    let moves = recorded.moves.as_slice();
+    let standing = standing_after::<R>(moves);
+    let opening = R::start();
+    let end = R::judge(alloc, &opening, moves)?;
+    let left = left_after(budget, increment, moves.len());
+    let key = String::from_str(alloc, key)?;
+    let position = R::write_position(alloc, &standing.position)?;
+    Ok(GameRow {
+        key: Some(key),
+        event: pairing.event,
+        first: pairing.first,
+        second: pairing.second,
+        start,
+        since: start,
+        plies: moves.len() as u32,
+        left_first: left.first,
+        left_second: left.second,
+        track: R::track_numbers(&standing.track),
+        offer: None,
+        end: end_of_record(end, recorded.score),
+        result: Some(recorded.score),
+        position,
+    })
+}

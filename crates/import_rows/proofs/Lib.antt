@@ -1,0 +1,5 @@
+pub mod MoveLemmas
+pub mod PlacedRows
+pub mod RoomLemmas
+pub mod SeenTexts
+pub mod StoredLemmas

@@ -1,0 +1,3 @@
+pub mod AtOnce
+pub mod NewGames
+pub mod Texts

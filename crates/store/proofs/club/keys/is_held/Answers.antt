@@ -1,0 +1,9 @@
+use Rattle.std.proofs.Common.{sym, subst}
+use Rattle.std.specs.Prelude.{◌↔◌, IsTrue}
+use Rattle.store.specs.Keys.{HasKey}
+use Rattle.store.proofs.KeyLemmas.{key_held}
+use Rattle.store.proofs.club.keys.is_held.Goals as goal
+
+pub returns-clause-held : goal.returns-clause-held
+returns-clause-held g c clean s is_club k =
+    subst (λ b. IsTrue b ↔ HasKey s c.args.key.now) (sym c.is_some.ensures) (key_held s c.args.key.now c.in_ok-member.member (c.in_ok-member.ensures.found clean s is_club k))

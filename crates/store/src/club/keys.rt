@@ -1,0 +1,56 @@
+//! Whether a key is a member's. Reading changes nothing.
+
+ghost use Rattle.std.specs.Prelude.{◌≡◌, ◌↔◌, ◌⊎◌, true, false, Err, IfOk, IfErr, IsTrue, OnOk, OnErr};
+ghost use Rattle.sqlite.specs.State.{HasCleanDisk};
+ghost use Rattle.sqlite.specs.Held.{state};
+ghost use Rattle.store_tables.specs.Club.{IsExactly};
+ghost use Rattle.store_tables.specs.Reading.{OnlyReads};
+ghost use Rattle.store_sql.specs.Read.{KeepsContent};
+ghost use Rattle.club_rows.specs.Club.{ClubState, IsClub, tables};
+ghost use Rattle.store.specs.Keys.{HasKey};
+
+use super::Club;
+use crate::fault::{CallFault, StoreFault};
+use crate::people::member_with;
+use sqlite::{Alter, Connection};
+use std::alloc::Global;
+
+// Whether a member has the key.
+fn is_held<S: Alter>(alloc: Global, conn: &mut Connection<S>, key: &str) -> Result<bool, CallFault>
+    ensures reads { OnlyReads (state S.Store conn.old) (state S.Store conn.new) }
+    ensures kept { HasCleanDisk (state S.Store conn.new) → OnOk result (KeepsContent (state S.Store conn.old)
+        (state S.Store conn.new)) }
+    ensures held { HasCleanDisk (state S.Store conn.new) → IfOk result (λ found. (s : ClubState) → IsClub s →
+        IsExactly (tables s) (state S.Store conn.old) → IsTrue found ↔ HasKey s key.now) }
+{
+    let member = member_with(alloc, conn, key)?;
+    Ok(member.is_some())
+}
+
+impl<S: Alter> Club<S> {
+    /// Whether a member has the key. It changes nothing. After a fault every later call is refused with `Reopen`.
+    pub fn has_key(&mut self, alloc: Global, key: &str) -> Result<bool, StoreFault>
+        ensures shut { self.old.needs_reopening ≡ true → (result ≡ Err StoreFault.Reopen) × (self.new ≡ self.old) }
+        ensures goes_on { OnOk result (self.new.needs_reopening ≡ false) }
+        ensures ends { OnErr result (self.new.needs_reopening ≡ true) }
+        ensures named { IfErr result (λ fault. self.old.needs_reopening ≡ false →
+            (fault ≡ StoreFault.Store) ⊎ (fault ≡ StoreFault.Memory)) }
+        ensures reads { self.old.needs_reopening ≡ false →
+            OnlyReads (state S.Store self.old.connection) (state S.Store self.new.connection) }
+        ensures kept { HasCleanDisk (state S.Store self.new.connection) → OnOk result (KeepsContent
+            (state S.Store self.old.connection) (state S.Store self.new.connection)) }
+        ensures held { HasCleanDisk (state S.Store self.new.connection) → IfOk result (λ found. (s : ClubState) →
+            IsClub s → IsExactly (tables s) (state S.Store self.old.connection) → IsTrue found ↔ HasKey s key.now) }
+    {
+        if self.needs_reopening {
+            return Err(StoreFault::Reopen);
+        }
+        match is_held(alloc, &mut self.connection, key) {
+            Ok(found) => Ok(found),
+            Err(fault) => {
+                self.needs_reopening = true;
+                Err(StoreFault::from(fault))
+            }
+        }
+    }
+}
