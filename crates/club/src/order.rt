@@ -35,8 +35,8 @@ fn unopened(error: Error) -> Report
 
 /// Does what is ordered, at that moment, over the files of the order's path, which hold at first what `S` stands for:
 /// opens them, makes a club, gives the club that stands there a command of the officer's, lists a game's moves, shows
-/// the cross table of an event, writes the record of a game to `out` or tests that the rows are a club's, and closes. Gives what it came to, and the files
-/// where they were opened.
+/// the cross table of an event, writes the record of a game to `out` or tests that the rows are a club's, and closes.
+/// Gives what it came to, and the files where they were opened.
 ///
 /// Where sessions led to whatever an opening finds in the files, they lead, with this command as one more, to whatever
 /// an opening finds in them after it, of whatever a stop leaves. Where they were new, and a club was to be made, no
