@@ -13,26 +13,26 @@ use std::alloc::Global;
 use std::io::Write;
 use std::test::Fail;
 
-// The lines of a text, each with a line feed.
-fn text(alloc: Global, lines: &[&str]) -> Result<String, Fail> {
+// The lines of a text, with a `|` between them, each with a line feed.
+fn text(alloc: Global, lines: &str) -> Result<String, Fail> {
     let mut text = String::new(alloc);
-    for line in lines {
+    for line in lines.split('|') {
         text.push_str(line)?;
         text.push_str("\n")?;
     }
     Ok(text)
 }
 
-fn games(alloc: Global, lines: &[&str]) -> Result<Vec<CsaGame>, Fail> {
-    Ok(
-        read_games(alloc, text(alloc, lines)?.as_bytes())
-            .ok()
-            .ok_or("games")?,
-    )
+fn games(alloc: Global, lines: &str) -> Result<Vec<CsaGame>, Fail> {
+    let text = text(alloc, lines)?;
+    Ok(read_games(alloc, text.as_bytes()).ok().ok_or("games")?)
 }
 
-fn fault(alloc: Global, lines: &[&str]) -> Result<Option<CsaFault>, Fail> {
-    Ok(read_games(alloc, text(alloc, lines)?.as_bytes()).err())
+// The fault of a text, as it is told.
+fn fault(alloc: Global, lines: &str) -> Result<String, Fail> {
+    let text = text(alloc, lines)?;
+    let fault = read_games(alloc, text.as_bytes()).err().ok_or("a fault")?;
+    Ok(format!(in alloc; "{fault}")?)
 }
 
 fn square(file: u8, rank: u8) -> Result<Ssq, Fail> {
@@ -41,7 +41,7 @@ fn square(file: u8, rank: u8) -> Result<Ssq, Fail> {
 
 #[test]
 fn a_game_of_one_move_is_read(rt: HostRuntime) -> Result<(), Fail> {
-    let read = games(rt.alloc(), &["V2.2", "PI", "+", "+7776FU,T12", "%TORYO"])?;
+    let read = games(rt.alloc(), "V2.2|PI|+|+7776FU,T12|%TORYO")?;
     assert!(rt; read.len() == 1);
     let game = read.as_slice().first().ok_or("a game")?;
     assert!(rt; game.score == Score::FirstWins);
@@ -54,49 +54,30 @@ fn a_game_of_one_move_is_read(rt: HostRuntime) -> Result<(), Fail> {
     Ok(())
 }
 
+const REFUSED: &str = "40 BadText 4@V2.2|PI|+|+77
+41 Version@V3.0|PI|+|+7776FU,T12|%TORYO
+46 ResultDiffers@V2.2|PI|+|+7776FU,T12|%TSUMI
+44 Unfinished@V2.2|PI|+|+7776FU,T12|%KACHI
+40 BadText 4@V2.2|PI|+|T1|+7776FU|%TORYO
+42 OtherOpening@V2.2|PI82HI|+|%TORYO
+42 OtherOpening@V2.2|PI|-|%TORYO
+40 BadText 8@V2.2|PI|+|%TORYO|/|PI|+|+77
+43 Illegal 1 13@V2.2|PI|+|+7776TO|%TORYO
+43 Illegal 1 13@V2.2|PI|+|+0055OU|%TORYO
+43 Illegal 1 13@V2.2|PI|+|-3334FU|%TORYO
+43 Illegal 1 14@V2.2|PI|+|+0055FU|%TORYO
+44 Unfinished@V2.2|N+a,%TORYO|N-'b/|$EVENT:PI,-|PI|+|+7776FU|T5
+44 Unfinished@V2.2|PI|+|+7776FU|T5|%CHUDAN";
+
 #[test]
 fn texts_are_refused(rt: HostRuntime) -> Result<(), Fail> {
     let alloc = rt.alloc();
-    assert!(rt; fault(alloc, &[])? == Some(CsaFault::BadText { line: 1 }));
-    assert!(rt; fault(alloc, &["V2.2", "PI", "+", "+77"])? == Some(CsaFault::BadText { line: 4 }));
-    assert!(rt;
-        fault(alloc, &["V3.0", "PI", "+", "+7776FU,T12", "%TORYO"])? == Some(CsaFault::Version)
-    );
-    assert!(rt;
-        fault(alloc, &["V2.2", "PI", "+", "+7776FU,T12", "%TSUMI"])?
-            == Some(CsaFault::ResultDiffers)
-    );
-    assert!(rt;
-        fault(alloc, &["V2.2", "PI", "+", "+7776FU,T12", "%KACHI"])? == Some(CsaFault::Unfinished)
-    );
-    assert!(rt;
-        fault(alloc, &["V2.2", "PI", "+", "T1", "+7776FU", "%TORYO"])?
-            == Some(CsaFault::BadText { line: 4 })
-    );
-    assert!(rt; fault(alloc, &["V2.2", "PI82HI", "+", "%TORYO"])? == Some(CsaFault::OtherOpening));
-    assert!(rt; fault(alloc, &["V2.2", "PI", "-", "%TORYO"])? == Some(CsaFault::OtherOpening));
-    assert!(rt;
-        fault(alloc, &["V2.2", "PI", "+", "%TORYO", "/", "PI", "+", "+77"])?
-            == Some(CsaFault::BadText { line: 8 })
-    );
-    let cause = Illegal::NoSuchMove;
-    assert!(rt;
-        fault(alloc, &["V2.2", "PI", "+", "+7776TO", "%TORYO"])?
-            == Some(CsaFault::Illegal { ply: 1, cause })
-    );
-    assert!(rt;
-        fault(alloc, &["V2.2", "PI", "+", "+0055OU", "%TORYO"])?
-            == Some(CsaFault::Illegal { ply: 1, cause })
-    );
-    assert!(rt;
-        fault(alloc, &["V2.2", "PI", "+", "-3334FU", "%TORYO"])?
-            == Some(CsaFault::Illegal { ply: 1, cause })
-    );
-    let cause = Illegal::NotInHand;
-    assert!(rt;
-        fault(alloc, &["V2.2", "PI", "+", "+0055FU", "%TORYO"])?
-            == Some(CsaFault::Illegal { ply: 1, cause })
-    );
+    for case in REFUSED.lines() {
+        let (wanted, lines) = case.split_once('@').ok_or("a case")?;
+        assert!(rt; fault(alloc, lines)?.as_str() == wanted, "{case}");
+    }
+    let nothing = read_games(alloc, &[]).err();
+    assert!(rt; nothing == Some(CsaFault::BadText { line: 1 }));
     Ok(())
 }
 
@@ -146,38 +127,22 @@ fn causes_have_their_numbers(rt: HostRuntime) -> Result<(), Fail> {
     Ok(())
 }
 
+const ROWS: &str = "'a comment\r|V2.2\r|N+anna\r|$EVENT:autumn\r|\
+P1-KY-KE-GI-KI-OU-KI-GI-KE-KY\r|\
+P2 * -HI *  *  *  *  * -KA *\r|\
+P3-FU-FU-FU-FU-FU-FU-FU-FU-FU\r|\
+P4 *  *  *  *  *  *  *  *  * \r|\
+P5 *  *  *  *  *  *  *  *  *   \r|\
+P6 *  *  *  *  *  *  *  *  * \r|\
+P7+FU+FU+FU+FU+FU+FU+FU+FU+FU\r|\
+P8 * +KA *  *  *  *  * +HI * \r|\
+P9+KY+KE+GI+KI+OU+KI+GI+KE+KY\r|\
+P+\r|+\r|+7776FU\r|T3\r|-3334FU,T4\r|+8822UM,T5\r|-3122GI,T6\r|+0055KA\r|%HIKIWAKE\r|/\r|\
+PI,+,%+ILLEGAL_ACTION\r|/\r";
+
 #[test]
 fn openings_are_read_as_rows(rt: HostRuntime) -> Result<(), Fail> {
-    let read = games(
-        rt.alloc(),
-        &[
-            "'a comment\r",
-            "V2.2\r",
-            "N+anna\r",
-            "$EVENT:autumn\r",
-            "P1-KY-KE-GI-KI-OU-KI-GI-KE-KY\r",
-            "P2 * -HI *  *  *  *  * -KA *\r",
-            "P3-FU-FU-FU-FU-FU-FU-FU-FU-FU\r",
-            "P4 *  *  *  *  *  *  *  *  * \r",
-            "P5 *  *  *  *  *  *  *  *  *   \r",
-            "P6 *  *  *  *  *  *  *  *  * \r",
-            "P7+FU+FU+FU+FU+FU+FU+FU+FU+FU\r",
-            "P8 * +KA *  *  *  *  * +HI * \r",
-            "P9+KY+KE+GI+KI+OU+KI+GI+KE+KY\r",
-            "P+\r",
-            "+\r",
-            "+7776FU\r",
-            "T3\r",
-            "-3334FU,T4\r",
-            "+8822UM,T5\r",
-            "-3122GI,T6\r",
-            "+0055KA\r",
-            "%HIKIWAKE\r",
-            "/\r",
-            "PI,+,%+ILLEGAL_ACTION\r",
-            "/\r",
-        ],
-    )?;
+    let read = games(rt.alloc(), ROWS)?;
     assert!(rt; read.len() == 2);
     let game = read.as_slice().first().ok_or("a game")?;
     assert!(rt; game.score == Score::Draw);
@@ -212,21 +177,6 @@ fn a_written_text_is_read_back(rt: HostRuntime) -> Result<(), Fail> {
     let black = step(square(7, 7)?, square(7, 6)?);
     let white = step(square(3, 3)?, square(3, 4)?);
     assert!(rt; game.moves.as_slice() == [black, white].as_slice());
-    let names = [
-        "V2.2",
-        "N+a,%TORYO",
-        "N-'b/",
-        "$EVENT:PI,-",
-        "PI",
-        "+",
-        "+7776FU",
-        "T5",
-    ];
-    assert!(rt; fault(alloc, &names)? == Some(CsaFault::Unfinished));
-    assert!(rt;
-        fault(alloc, &["V2.2", "PI", "+", "+7776FU", "T5", "%CHUDAN"])?
-            == Some(CsaFault::Unfinished)
-    );
     Ok(())
 }
 

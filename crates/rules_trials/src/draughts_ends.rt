@@ -1,224 +1,209 @@
 use crate::long_line;
 use draughts_draws::{Counts, DEnd, Fault, judge};
 use draughts_moves::Illegal;
-use squares::{DMove, DPiece, DPos, DSet, Dsq, Score, Side};
+use pdn::read_fen;
+use squares::{DMove, DPos, DSet, Dsq, Score, Side};
 use std::alloc::{AllocGlobal, Global};
 use std::process::Abort;
 use std::test::Fail;
 
-fn place(position: &mut DPos, side: Side, king: bool, numbers: &[u8]) {
-    for number in numbers {
-        match Dsq::new(*number) {
-            Some(square) => position.put(square, DPiece { side, king }),
-            None => {}
+fn position(alloc: Global, text: &str) -> Result<DPos, Fail> {
+    Ok(read_fen(alloc, text.trim()).ok().ok_or("a position")?)
+}
+
+fn square(number: &str) -> Result<Dsq, Fail> {
+    Ok(Dsq::new(number.parse()?).ok_or("a square")?)
+}
+
+// A move by the numbers of the squares that it leaves and comes to, and of those whose pieces it takes: `47-42`, `28-19-23`.
+fn played(alloc: Global, text: &str) -> Result<DMove, Fail> {
+    let numbers: Vec<&str> = text.split('-').collect(alloc)?;
+    match *numbers.as_slice() {
+        [from, to, ..] => {
+            let mut taken = DSet::new();
+            for number in numbers.as_slice().get(2..).ok_or("two squares")? {
+                taken = taken.with(square(number)?);
+            }
+            Ok(DMove {
+                from: square(from)?,
+                to: square(to)?,
+                taken,
+            })
         }
+        _ => Err(Fail::new("no move")),
     }
 }
 
-fn kings(white: &[u8], black: &[u8]) -> DPos {
-    let mut position = DPos::new(Side::First);
-    place(&mut position, Side::First, true, white);
-    place(&mut position, Side::Second, true, black);
-    position
-}
-
-// Quiet moves by the numbers of the squares that they leave and come to.
-fn quiet(alloc: Global, numbers: &[(u8, u8)]) -> Result<Vec<DMove>, Fail> {
+fn line(alloc: Global, texts: &str) -> Result<Vec<DMove>, Fail> {
     let mut moves = Vec::new(alloc);
-    for (from, to) in numbers {
-        moves.push(DMove {
-            from: Dsq::new(*from).ok_or("no square")?,
-            to: Dsq::new(*to).ok_or("no square")?,
-            taken: DSet::new(),
-        })?;
+    for text in texts.split_whitespace() {
+        moves.push(played(alloc, text)?)?;
     }
     Ok(moves)
 }
 
-fn front(moves: &Vec<DMove>, count: usize) -> &[DMove] {
-    &moves.as_slice()[..count.min(moves.len())]
+fn told_end(end: Option<DEnd>) -> &'static str {
+    match end {
+        None => "goes on",
+        Some(DEnd::NoMove) => "NoMove",
+        Some(DEnd::Repetition) => "Repetition",
+        Some(DEnd::KingMoves) => "KingMoves",
+        Some(DEnd::ThreeToOne) => "ThreeToOne",
+        Some(DEnd::TwoToOne) => "TwoToOne",
+        Some(DEnd::PlyLimit) => "PlyLimit",
+    }
 }
 
-// Plays a line move by move: it goes on up to its last move, which has this end, and no move follows.
-fn ends_so<R: Abort + AllocGlobal>(
-    rt: &R,
-    start: &DPos,
-    moves: &[DMove],
-    end: DEnd,
-) -> Result<(), Fail> {
-    let mut counts = Counts::start(rt.alloc(), start)?;
-    for (i, played) in moves.iter().enumerate() {
-        assert!(rt; counts.end() == None, "after {i} plies");
+fn told_cause(cause: Illegal) -> &'static str {
+    match cause {
+        Illegal::NoSuchMove => "NoSuchMove",
+        Illegal::MustCapture => "MustCapture",
+        Illegal::NotLongest => "NotLongest",
+    }
+}
+
+fn told(alloc: Global, judged: Result<Option<DEnd>, Fault>) -> Result<String, Fail> {
+    Ok(match judged {
+        Ok(end) => format!(in alloc; "{}", told_end(end))?,
+        Err(Fault::AfterEnd { ply }) => format!(in alloc; "AfterEnd {ply}")?,
+        Err(Fault::Illegal { ply, cause }) => format!(in alloc; "{} {ply}", told_cause(cause))?,
+        Err(Fault::Memory) => return Err(Fail::new("memory")),
+    })
+}
+
+// What the line has come to by its counts, which are kept move by move.
+fn counted(alloc: Global, start: &DPos, moves: &[DMove]) -> Result<Option<DEnd>, Fault> {
+    let mut counts = Counts::start(alloc, start)?;
+    for played in moves {
         counts.push(played)?;
     }
-    assert!(rt; counts.end() == Some(end));
-    let last = moves.last().ok_or("a move")?;
-    assert!(rt;
-        counts.push(last)
-            == Err(Fault::AfterEnd {
-                ply: moves.len().saturating_add(1)
-            })
-    );
-    assert!(rt; counts.end() == Some(end));
+    Ok(counts.end())
+}
+
+// Whether the line has come to that, both as a whole and move by move.
+fn comes_to(alloc: Global, start: &DPos, moves: &[DMove], wanted: &str) -> Result<bool, Fail> {
+    let whole = told(alloc, judge(alloc, start, moves))?;
+    let stepwise = told(alloc, counted(alloc, start, moves))?;
+    Ok(whole.as_str() == wanted && stepwise.as_str() == wanted)
+}
+
+// A case: a position, moves, how many of them, and what they come to.
+fn holds(alloc: Global, case: &str) -> Result<bool, Fail> {
+    let parts: Vec<&str> = case.split('|').collect(alloc)?;
+    match *parts.as_slice() {
+        [start, texts, plies, wanted] => {
+            let start = position(alloc, start)?;
+            let mut moves = line(alloc, texts)?;
+            moves.truncate(plies.trim().parse()?);
+            comes_to(alloc, &start, moves.as_slice(), wanted.trim())
+        }
+        _ => Err(Fail::new("no case")),
+    }
+}
+
+fn all_hold<R: Abort + AllocGlobal>(rt: &R, cases: &str) -> Result<(), Fail> {
+    for case in cases.lines() {
+        assert!(rt; holds(rt.alloc(), case)?, "{case}");
+    }
     Ok(())
 }
 
-// From W:WK47:BK4.
+const KINGS: &str = "\
+W:WK47:BK4 | 47-42 4-9 42-47 9-4 47-42 4-9 42-47 9-4 47-42 | 7 | goes on
+W:WK47:BK4 | 47-42 4-9 42-47 9-4 47-42 4-9 42-47 9-4 47-42 | 8 | Repetition
+W:WK47:BK4 | 47-42 4-9 42-47 9-4 47-42 4-9 42-47 9-4 47-42 | 9 | AfterEnd 9
+W:WK47:BK4 | 47-42 4-9 42-38 9-4 38-33 4-9 33-29 9-4 29-24 4-9 | 9 | goes on
+W:WK47:BK4 | 47-42 4-9 42-38 9-4 38-33 4-9 33-29 9-4 29-24 4-9 | 10 | TwoToOne";
+
+// The third time that a position stands, and eleven positions of king against king.
 #[test]
-fn the_third_time_is_a_draw(rt: HostRuntime) -> Result<(), Fail> {
-    let start = kings(&[47], &[4]);
-    let numbers = [
-        (47, 42),
-        (4, 9),
-        (42, 47),
-        (9, 4),
-        (47, 42),
-        (4, 9),
-        (42, 47),
-        (9, 4),
-        (47, 42),
-    ];
-    let moves = quiet(rt.alloc(), numbers.as_slice())?;
-    assert!(rt; judge(rt.alloc(), &start, front(&moves, 7)) == Ok(None));
-    assert!(rt; judge(rt.alloc(), &start, front(&moves, 8)) == Ok(Some(DEnd::Repetition)));
-    assert!(rt; judge(rt.alloc(), &start, moves.as_slice()) == Err(Fault::AfterEnd { ply: 9 }));
-    ends_so(&rt, &start, front(&moves, 8), DEnd::Repetition)
+fn two_kings_come_to_a_draw(rt: HostRuntime) -> Result<(), Fail> {
+    all_hold(&rt, KINGS)
 }
 
-// From W:WK47:BK4.
-#[test]
-fn eleven_positions_of_king_against_king_are_a_draw(rt: HostRuntime) -> Result<(), Fail> {
-    let start = kings(&[47], &[4]);
-    let numbers = [
-        (47, 42),
-        (4, 9),
-        (42, 38),
-        (9, 4),
-        (38, 33),
-        (4, 9),
-        (33, 29),
-        (9, 4),
-        (29, 24),
-        (4, 9),
-    ];
-    let moves = quiet(rt.alloc(), numbers.as_slice())?;
-    assert!(rt; judge(rt.alloc(), &start, front(&moves, 9)) == Ok(None));
-    assert!(rt; judge(rt.alloc(), &start, moves.as_slice()) == Ok(Some(DEnd::TwoToOne)));
-    ends_so(&rt, &start, moves.as_slice(), DEnd::TwoToOne)
-}
+// There is no move after the end, be it legal or not, and the end of the first position counts.
+const NO_MOVES: &str = "\
+W:W11:B7,8 | 11-13-7-8 11-13-7-8 | 1 | NoMove
+W:W11:B7,8 | 11-13-7-8 11-13-7-8 | 2 | AfterEnd 2
+B:W13:B | 11-13-7-8 | 0 | NoMove
+B:W13:B | 11-13-7-8 | 1 | AfterEnd 1";
 
-// W:W11:B7,8 and the capture 11x13, which leaves B:W13:B.
 #[test]
 fn a_side_without_a_move_has_lost(rt: HostRuntime) -> Result<(), Fail> {
-    let mut start = DPos::new(Side::First);
-    place(&mut start, Side::First, false, &[11]);
-    place(&mut start, Side::Second, false, &[7, 8]);
-    let seven = Dsq::new(7).ok_or("no square")?;
-    let eight = Dsq::new(8).ok_or("no square")?;
-    let played = DMove {
-        from: Dsq::new(11).ok_or("no square")?,
-        to: Dsq::new(13).ok_or("no square")?,
-        taken: DSet::new().with(seven).with(eight),
-    };
-    assert!(rt; judge(rt.alloc(), &start, &[played]) == Ok(Some(DEnd::NoMove)));
-    assert!(rt; DEnd::NoMove.outcome(Side::Second) == Score::FirstWins);
-    assert!(rt; DEnd::NoMove.outcome(Side::First) == Score::SecondWins);
-    assert!(rt; DEnd::Repetition.outcome(Side::Second) == Score::Draw);
-    // There is no move after the end, be it legal or not, and the end of the first position counts.
-    assert!(rt; judge(rt.alloc(), &start, &[played, played]) == Err(Fault::AfterEnd { ply: 2 }));
-    let mut ended = DPos::new(Side::Second);
-    place(&mut ended, Side::First, false, &[13]);
-    assert!(rt; judge(rt.alloc(), &ended, &[]) == Ok(Some(DEnd::NoMove)));
-    assert!(rt; judge(rt.alloc(), &ended, &[played]) == Err(Fault::AfterEnd { ply: 1 }));
-    ends_so(&rt, &start, &[played], DEnd::NoMove)
+    all_hold(&rt, NO_MOVES)
 }
+
+const ILLEGAL: &str = "\
+W:W31-50:B1-20 | 32-28 19-23 33-29 | 2 | goes on
+W:W31-50:B1-20 | 32-28 19-23 33-29 | 3 | MustCapture 3
+W:W31-50:B1-20 | 32-28 19-23 28-19-23 | 3 | goes on
+W:W31-50:B1-20 | 19-23 | 1 | NoSuchMove 1";
 
 #[test]
 fn an_illegal_move_has_its_ply_and_its_cause(rt: HostRuntime) -> Result<(), Fail> {
-    let start = DPos::opening();
-    let moves = quiet(rt.alloc(), &[(32, 28), (19, 23), (33, 29)])?;
-    assert!(rt; judge(rt.alloc(), &start, front(&moves, 2)) == Ok(None));
-    assert!(rt;
-        judge(rt.alloc(), &start, moves.as_slice())
-            == Err(Fault::Illegal {
-                ply: 3,
-                cause: Illegal::MustCapture
-            })
-    );
-    let again = quiet(rt.alloc(), &[(19, 23)])?;
-    assert!(rt;
-        judge(rt.alloc(), &start, again.as_slice())
-            == Err(Fault::Illegal {
-                ply: 1,
-                cause: Illegal::NoSuchMove
-            })
-    );
-    // A move that is refused changes nothing: the third ply can still be played.
-    let mut counts = Counts::start(rt.alloc(), &start)?;
-    for played in front(&moves, 2) {
-        counts.push(played)?;
-    }
-    let refused = moves.last().ok_or("three moves")?;
-    let fault = Fault::Illegal {
-        ply: 3,
-        cause: Illegal::MustCapture,
-    };
-    assert!(rt; counts.push(refused) == Err(fault));
-    let capture = DMove {
-        from: Dsq::new(28).ok_or("no square")?,
-        to: Dsq::new(19).ok_or("no square")?,
-        taken: DSet::new().with(Dsq::new(23).ok_or("no square")?),
-    };
-    assert!(rt; counts.push(&capture) == Ok(()));
+    all_hold(&rt, ILLEGAL)
+}
+
+// A move that is refused changes nothing: another can be played at that ply.
+#[test]
+fn a_refused_move_is_not_counted(rt: HostRuntime) -> Result<(), Fail> {
+    let alloc = rt.alloc();
+    let mut counts = Counts::start(alloc, &DPos::opening())?;
+    counts.push(&played(alloc, "32-28")?)?;
+    counts.push(&played(alloc, "19-23")?)?;
+    assert!(rt; counts.push(&played(alloc, "33-29")?).is_err());
+    assert!(rt; counts.push(&played(alloc, "28-19-23")?).is_ok());
     assert!(rt; counts.end() == None);
     Ok(())
 }
 
-// Kings go from edge to edge, where nothing can be taken. Of each four moves of White, three are
-// by the king of square 47 and one by that of 48. So a position comes again after sixteen moves of
-// each side, and not before.
-fn round_trips(alloc: Global, count: usize) -> Result<Vec<DMove>, Fail> {
-    let often = [(47, 36), (36, 4), (4, 15), (15, 47)];
-    let seldom = [(48, 26), (26, 3), (3, 25), (25, 48)];
-    let black = [(49, 16), (16, 2), (2, 35), (35, 49)];
-    let mut numbers = Vec::new(alloc);
-    for i in 0..count {
-        if i % 4 == 3 {
-            numbers.push(seldom[(i / 4) % 4])?;
-        } else {
-            numbers.push(often[(i - i / 4) % 4])?;
-        }
-        numbers.push(black[i % 4])?;
-    }
-    quiet(alloc, numbers.as_slice())
+// Kings go from edge to edge, where nothing can be taken. Of each four moves of White, three are by the king of square 47 and
+// one by that of 48. So a position comes again after sixteen moves of each side, and not before.
+const ROUND_TRIPS: &str =
+    "47-36 49-16 36-4 16-2 4-15 2-35 48-26 35-49 15-47 49-16 47-36 16-2 36-4 2-35 26-3 35-49 \
+    4-15 49-16 15-47 16-2 47-36 2-35 3-25 35-49 36-4 49-16 4-15 16-2 15-47 2-35 25-48 35-49 \
+    47-36 49-16 36-4 16-2 4-15 2-35 48-26 35-49 15-47 49-16 47-36 16-2 36-4 2-35 26-3 35-49 4-15 49-16";
+
+// Whether the first so many plies of the round trips come to that.
+fn trips_come_to(alloc: Global, start: &str, plies: usize, wanted: &str) -> Result<bool, Fail> {
+    let mut moves = line(alloc, ROUND_TRIPS)?;
+    moves.truncate(plies);
+    comes_to(alloc, &position(alloc, start)?, moves.as_slice(), wanted)
 }
 
 #[test]
-fn three_pieces_have_thirty_two_plies(rt: HostRuntime) -> Result<(), Fail> {
-    let start = kings(&[46, 47, 48], &[49]);
-    let moves = round_trips(rt.alloc(), 16)?;
-    assert!(rt; judge(rt.alloc(), &start, front(&moves, 31)) == Ok(None));
-    assert!(rt; judge(rt.alloc(), &start, moves.as_slice()) == Ok(Some(DEnd::ThreeToOne)));
-    ends_so(&rt, &start, moves.as_slice(), DEnd::ThreeToOne)
-}
-
-#[test]
-fn fifty_plies_of_kings_are_a_draw(rt: HostRuntime) -> Result<(), Fail> {
-    let start = kings(&[5, 46, 47, 48], &[49]);
-    let moves = round_trips(rt.alloc(), 25)?;
-    assert!(rt; judge(rt.alloc(), &start, front(&moves, 49)) == Ok(None));
-    assert!(rt; judge(rt.alloc(), &start, moves.as_slice()) == Ok(Some(DEnd::KingMoves)));
-    ends_so(&rt, &start, moves.as_slice(), DEnd::KingMoves)
+fn kings_have_a_number_of_plies(rt: HostRuntime) -> Result<(), Fail> {
+    let alloc = rt.alloc();
+    let three = "W:WK46,K47,K48:BK49";
+    assert!(rt; trips_come_to(alloc, three, 31, "goes on")?);
+    assert!(rt; trips_come_to(alloc, three, 32, "ThreeToOne")?);
+    let four = "W:WK5,K46,K47,K48:BK49";
+    assert!(rt; trips_come_to(alloc, four, 49, "goes on")?);
+    assert!(rt; trips_come_to(alloc, four, 50, "KingMoves")?);
+    Ok(())
 }
 
 #[test]
 fn six_hundred_plies_are_a_draw(rt: HostRuntime) -> Result<(), Fail> {
-    let mut start = kings(&[36, 45], &[6, 15]);
-    place(&mut start, Side::First, false, &[46, 47, 48, 49, 50]);
-    place(&mut start, Side::Second, false, &[1, 2, 3, 4, 5]);
-    let moves = long_line::moves(rt.alloc())?;
+    let alloc = rt.alloc();
+    let start = position(alloc, "W:WK36,K45,46,47,48,49,50:B1,2,3,4,5,K6,K15")?;
+    let mut moves = long_line::moves(alloc)?;
     assert!(rt; moves.len() == 600);
-    ends_so(&rt, &start, moves.as_slice(), DEnd::PlyLimit)
+    assert!(rt; comes_to(alloc, &start, moves.as_slice(), "PlyLimit")?);
+    moves.truncate(599);
+    assert!(rt; comes_to(alloc, &start, moves.as_slice(), "goes on")?);
+    Ok(())
+}
+
+fn scores(end: DEnd, turn: Side, wanted: Score) -> bool {
+    end.outcome(turn) == wanted
+}
+
+#[test]
+fn ends_have_their_scores(rt: HostRuntime) {
+    assert!(rt; scores(DEnd::NoMove, Side::Second, Score::FirstWins));
+    assert!(rt; scores(DEnd::NoMove, Side::First, Score::SecondWins));
+    assert!(rt; scores(DEnd::Repetition, Side::Second, Score::Draw));
 }
 
 #[test]
@@ -227,14 +212,10 @@ fn faults_are_told(rt: HostRuntime) -> Result<(), Fail> {
         ply: 3,
         cause: Illegal::MustCapture,
     };
-    assert!(rt;
-        format!(in rt.alloc();
-            "{illegal}, {}, {}",
-            Fault::AfterEnd { ply: 9 },
-            Fault::Memory
-        )?
-        .as_str()
-            == "ply 3: a piece must be taken, ply 9: the game has ended, out of memory"
-    );
+    let after = Fault::AfterEnd { ply: 9 };
+    let memory = Fault::Memory;
+    let text = format!(in rt.alloc(); "{illegal}, {after}, {memory}")?;
+    let wanted = "ply 3: a piece must be taken, ply 9: the game has ended, out of memory";
+    assert!(rt; text.as_str() == wanted);
     Ok(())
 }

@@ -39,110 +39,113 @@ fn a_cut_text_is_no_game(rt: HostRuntime) -> Result<(), Fail> {
     Ok(())
 }
 
+// Cases, each with a `|` after it: the offset of the least fault, and the text.
+const BAD_TEXTS: &str = "0@|\
+0@ \t\r\n{all} $1 (passed) !? ;over|\
+2@  ]|\
+0@{|\
+1@ {1-1|\
+4@1-1 {|\
+0@$|\
+0@$ 1|\
+4@1-1 $|\
+0@(|\
+1@ ( (1) |\
+3@1. ((2) 1-1|\
+0@({) 1-1|\
+4@1-1 1-1|\
+4@1-1 1.|\
+3@1. [Event \"a\"] *|\
+5@32-28[Event \"a\"]|\
+5@32-28. *|\
+5@32-285 *|\
+5@32-28x5 *|\
+5@28x19x *|\
+5@28x19-10 *|\
+0@328-5 *|\
+0@51-46 *|\
+0@1 32-28 *|\
+4@1.. 32 *|\
+3@1-0x|\
+3@2-0-|\
+0@1/2 *|\
+1@*1|\
+0@[Event] *|\
+0@[Event \"a] *|\
+0@[Event \"a\\\"] *|\
+1@ [Event\n\"a\"] *|\
+0@[ \"a\"] *|\
+7@[A \"b\"]%no\n*|\
+0@a%b *|\
+1@ % *\n*";
+
 // What has not the form is refused at the least offset.
 #[test]
 fn a_bad_text_says_where(rt: HostRuntime) -> Result<(), Fail> {
-    let texts = [
-        ("", 0),
-        (" \t\r\n{all} $1 (passed) !? ;over", 0),
-        ("  ]", 2),
-        ("{", 0),
-        (" {1-1", 1),
-        ("1-1 {", 4),
-        ("$", 0),
-        ("$ 1", 0),
-        ("1-1 $", 4),
-        ("(", 0),
-        (" ( (1) ", 1),
-        ("1. ((2) 1-1", 3),
-        ("({) 1-1", 0),
-        ("1-1 1-1", 4),
-        ("1-1 1.", 4),
-        ("1. [Event \"a\"] *", 3),
-        ("32-28[Event \"a\"]", 5),
-        ("32-28. *", 5),
-        ("32-285 *", 5),
-        ("32-28x5 *", 5),
-        ("28x19x *", 5),
-        ("28x19-10 *", 5),
-        ("328-5 *", 0),
-        ("51-46 *", 0),
-        ("1 32-28 *", 0),
-        ("1.. 32 *", 4),
-        ("1-0x", 3),
-        ("2-0-", 3),
-        ("1/2 *", 0),
-        ("*1", 1),
-        ("[Event] *", 0),
-        ("[Event \"a] *", 0),
-        ("[Event \"a\\\"] *", 0),
-        (" [Event\n\"a\"] *", 1),
-        ("[ \"a\"] *", 0),
-        ("[A \"b\"]%no\n*", 7),
-        ("a%b *", 0),
-        (" % *\n*", 1),
-    ];
-    for (text, offset) in texts {
-        let read = fault(rt.alloc(), text);
-        assert!(rt; read == Some(PdnFault::BadText(offset)), "{text}");
-    }
-    Ok(())
-}
-
-#[test]
-fn texts_are_refused_in_order(rt: HostRuntime) -> Result<(), Fail> {
-    let illegal = |ply, cause| PdnFault::Illegal { ply, cause };
-    let texts = [
-        ("32-28", PdnFault::Unfinished),
-        ("32-28 *", PdnFault::Unfinished),
-        ("*{} \n%", PdnFault::Unfinished),
-        ("[Result \"2-0\"] 32-28 *", PdnFault::Unfinished),
-        ("[GameType \"21\"] 32-27 32-27 *", PdnFault::OtherType),
-        ("[GameType \"20a\"] *", PdnFault::OtherType),
-        ("[GameType \"\"] [FEN \"a\"] *", PdnFault::OtherType),
-        ("[FEN \"\"] 32-32 *", PdnFault::OtherOpening),
-        ("[FEN \"W:W31-50:B1-19\"] 32-32 *", PdnFault::OtherOpening),
-        ("[FEN \"B:W31-50:B1-20\"] *", PdnFault::OtherOpening),
-        ("32-27 32-27 *", illegal(2, Illegal::NoSuchMove)),
-        ("32x28 *", illegal(1, Illegal::NoSuchMove)),
-        (
-            "1. 32-28 19-23 2. 37-32 *",
-            illegal(3, Illegal::MustCapture),
-        ),
-        ("[Result \"2-0\"] 32-28 0-2", PdnFault::ResultDiffers),
-        ("[Result \"1/2-1/2\"] 32-28 0-2", PdnFault::ResultDiffers),
-    ];
-    for (text, wanted) in texts {
+    for case in BAD_TEXTS.split('|') {
+        let (offset, text) = case.split_once('@').ok_or("a case")?;
+        let wanted = PdnFault::BadText(offset.parse()?);
         assert!(rt; fault(rt.alloc(), text) == Some(wanted), "{text}");
     }
     Ok(())
 }
 
+// Cases, each with a `|` after it: why the text is refused, and the text.
+const REFUSED: &str = "25 Unfinished@32-28|\
+25 Unfinished@32-28 *|\
+25 Unfinished@*{} \n%|\
+25 Unfinished@[Result \"2-0\"] 32-28 *|\
+23 OtherType@[GameType \"21\"] 32-27 32-27 *|\
+23 OtherType@[GameType \"20a\"] *|\
+23 OtherType@[GameType \"\"] [FEN \"a\"] *|\
+24 OtherOpening@[FEN \"\"] 32-32 *|\
+24 OtherOpening@[FEN \"W:W31-50:B1-19\"] 32-32 *|\
+24 OtherOpening@[FEN \"B:W31-50:B1-20\"] *|\
+22 Illegal 2 10@32-27 32-27 *|\
+22 Illegal 1 10@32x28 *|\
+22 Illegal 3 11@1. 32-28 19-23 2. 37-32 *|\
+27 ResultDiffers@[Result \"2-0\"] 32-28 0-2|\
+27 ResultDiffers@[Result \"1/2-1/2\"] 32-28 0-2";
+
+#[test]
+fn texts_are_refused_in_order(rt: HostRuntime) -> Result<(), Fail> {
+    for case in REFUSED.split('|') {
+        let (wanted, text) = case.split_once('@').ok_or("a case")?;
+        let found = fault(rt.alloc(), text).ok_or("a fault")?;
+        assert!(rt;
+            format!(in rt.alloc(); "{found}")?.as_str() == wanted,
+            "{text}"
+        );
+    }
+    Ok(())
+}
+
+// Cases, each with a `|` after it: the plies, the score, and the text.
+const READ: &str = "0 1-1@1-1|\
+0 2-0@[Result \"*\"] 2-0|\
+0 2-0@[Result \"0-0\"] 1-0|\
+0 1-1@[Result \"1-1\"][Result \"2-0\"]1/2-1/2|\
+0 0-2@[GameType \"20,W,10,10,N2,0\"] 0-1|\
+0 0-2@[FEN \"W:B1-20:W31-50.\"] 0-2|\
+3 0-2@[Event \"a\\\"b\\\\\"]99....32-28!? 7.19-23{x}28x19 0-2|\
+2 2-0@032-028 (1. 3 ( {)} ) ) 19-023 2-0|\
+2 2-0@[ A  \"]\" ]\n%no\n32-28;19-24\n19-23\r\n%1-1\r\n2-0";
+
+fn told_score(score: Score) -> &'static str {
+    match score {
+        Score::FirstWins => "2-0",
+        Score::Draw => "1-1",
+        Score::SecondWins => "0-2",
+    }
+}
+
 #[test]
 fn texts_are_read(rt: HostRuntime) -> Result<(), Fail> {
-    let texts = [
-        ("1-1", 0, Score::Draw),
-        ("[Result \"*\"] 2-0", 0, Score::FirstWins),
-        ("[Result \"0-0\"] 1-0", 0, Score::FirstWins),
-        ("[Result \"1-1\"][Result \"2-0\"]1/2-1/2", 0, Score::Draw),
-        ("[GameType \"20,W,10,10,N2,0\"] 0-1", 0, Score::SecondWins),
-        ("[FEN \"W:B1-20:W31-50.\"] 0-2", 0, Score::SecondWins),
-        (
-            "[Event \"a\\\"b\\\\\"]99....32-28!? 7.19-23{x}28x19 0-2",
-            3,
-            Score::SecondWins,
-        ),
-        ("032-028 (1. 3 ( {)} ) ) 19-023 2-0", 2, Score::FirstWins),
-        (
-            "[ A  \"]\" ]\n%no\n32-28;19-24\n19-23\r\n%1-1\r\n2-0",
-            2,
-            Score::FirstWins,
-        ),
-    ];
-    for (text, plies, score) in texts {
+    for case in READ.split('|') {
+        let (wanted, text) = case.split_once('@').ok_or("a case")?;
         let read = game(rt.alloc(), text)?;
-        assert!(rt; read.moves.len() == plies, "{text}");
-        assert!(rt; read.score == score, "{text}");
+        let found = format!(in rt.alloc(); "{} {}", read.moves.len(), told_score(read.score))?;
+        assert!(rt; found.as_str() == wanted, "{text}");
     }
     Ok(())
 }

@@ -77,34 +77,34 @@ fn positions_are_read(rt: HostRuntime) -> Result<(), Fail> {
     Ok(())
 }
 
-// The offset is the length of the longest beginning that begins a position's text, or that of the
-// second item that gives a square.
+// Cases, each with a `|` after it: an offset and a text. The offset is the length of the longest beginning that begins a
+// position's text, or that of the second item that gives a square.
+const BAD_POSITIONS: &str = "0@|\
+0@w:W:B|\
+1@W;W:B|\
+2@W:|\
+2@W:31|\
+5@W:W31|\
+6@W:W31:W1|\
+8@W:W31:B1 |\
+9@W:W31:B1..|\
+4@W:W51:B1|\
+4@W:WK|\
+5@W:WK1-5:B|\
+5@W:W1,:B|\
+7@W:W31-30:B|\
+6@W:W31-2:B|\
+8@W:W31-05:B|\
+6@W:W31,31:B1|\
+7@W:W31:B1-31|\
+11@W:W31,31:B0";
+
 #[test]
 fn a_bad_position_says_where(rt: HostRuntime) -> Result<(), Fail> {
-    let texts = [
-        ("", 0),
-        ("w:W:B", 0),
-        ("W;W:B", 1),
-        ("W:", 2),
-        ("W:31", 2),
-        ("W:W31", 5),
-        ("W:W31:W1", 6),
-        ("W:W31:B1 ", 8),
-        ("W:W31:B1..", 9),
-        ("W:W51:B1", 4),
-        ("W:WK", 4),
-        ("W:WK1-5:B", 5),
-        ("W:W1,:B", 5),
-        ("W:W31-30:B", 7),
-        ("W:W31-2:B", 6),
-        ("W:W31-05:B", 8),
-        ("W:W31,31:B1", 6),
-        ("W:W31:B1-31", 7),
-        ("W:W31,31:B0", 11),
-    ];
-    for (text, offset) in texts {
+    for case in BAD_POSITIONS.split('|') {
+        let (offset, text) = case.split_once('@').ok_or("a case")?;
         let read = read_fen(rt.alloc(), text);
-        assert!(rt; read == Err(FenFault::BadText(offset)), "{text}");
+        assert!(rt; read == Err(FenFault::BadText(offset.parse()?)), "{text}");
     }
     Ok(())
 }
@@ -157,29 +157,30 @@ fn refused_texts_have_their_causes(rt: HostRuntime) -> Result<(), Fail> {
     Ok(())
 }
 
-// The offset of a bad text is the length of its longest beginning that begins a move's text.
+// The same for texts of moves.
+const BAD_MOVES: &str = "0@|\
+1@51-46|\
+1@005-10|\
+1@0-5|\
+2@32|\
+2@32 -28|\
+3@32-|\
+4@32-0|\
+5@32-28 |\
+5@32-28x17|\
+3@28x|\
+6@28x19x|\
+5@28x19-10|\
+7@28x19:60|\
+3@28xx19";
+
 #[test]
 fn a_bad_text_says_where(rt: HostRuntime) -> Result<(), Fail> {
-    let texts = [
-        ("", 0),
-        ("51-46", 1),
-        ("005-10", 1),
-        ("0-5", 1),
-        ("32", 2),
-        ("32 -28", 2),
-        ("32-", 3),
-        ("32-0", 4),
-        ("32-28 ", 5),
-        ("32-28x17", 5),
-        ("28x", 3),
-        ("28x19x", 6),
-        ("28x19-10", 5),
-        ("28x19:60", 7),
-        ("28xx19", 3),
-    ];
-    for (text, offset) in texts {
+    for case in BAD_MOVES.split('|') {
+        let (offset, text) = case.split_once('@').ok_or("a case")?;
         assert!(rt;
-            read_move(rt.alloc(), &DPos::opening(), text) == Err(MoveFault::BadText(offset)),
+            read_move(rt.alloc(), &DPos::opening(), text)
+                == Err(MoveFault::BadText(offset.parse()?)),
             "{text}"
         );
     }

@@ -1,5 +1,6 @@
 use sfen::{SfenFault, read};
 use squares::{HandKind, Role, SPiece, SPos, Side, Ssq};
+use std::process::Abort;
 use std::test::Fail;
 
 // The position of a text, and its number.
@@ -109,53 +110,71 @@ fn gaps_may_stand_side_by_side(rt: HostRuntime) -> Result<(), Fail> {
     Ok(())
 }
 
-#[test]
-fn sets_come_before_kings(rt: HostRuntime) {
-    let many = Some(SfenFault::TooManyPieces);
-    assert!(rt; fault("k8/9/9/9/9/9/9/9/K8 b 19P 1") == many);
-    assert!(rt; fault("9/9/9/9/9/9/9/9/9 b 19P 1") == many);
-    assert!(rt; fault("k8/9/9/9/9/9/9/9/K8 b 99P99P99P99p 1") == many);
-    assert!(rt; fault("k8/R8/+R8/9/9/9/9/9/K8 b r 1") == many);
-    let kings = Some(SfenFault::Kings);
-    assert!(rt; fault("9/9/9/9/9/9/9/9/K8 b - 1") == kings);
-    assert!(rt; fault("k8/9/9/9/9/9/9/9/KK7 b 18P 1") == kings);
+// Whether the text is refused for what is named first: an offset, or that there are too many pieces or other than two kings.
+fn is_refused(case: &str) -> Result<bool, Fail> {
+    let (cause, text) = case.split_once('@').ok_or("a case")?;
+    let wanted = match cause {
+        "many" => SfenFault::TooManyPieces,
+        "kings" => SfenFault::Kings,
+        offset => SfenFault::BadText(offset.parse()?),
+    };
+    Ok(fault(text) == Some(wanted))
 }
 
-#[test]
-fn a_board_has_nine_ranks_of_nine(rt: HostRuntime) {
-    assert!(rt; fault("") == Some(SfenFault::BadText(0)));
-    assert!(rt; fault("k8/9") == Some(SfenFault::BadText(4)));
-    assert!(rt; fault("k9") == Some(SfenFault::BadText(1)));
-    assert!(rt; fault("k8k") == Some(SfenFault::BadText(2)));
-    assert!(rt; fault("k7/") == Some(SfenFault::BadText(2)));
-    assert!(rt; fault("0k8") == Some(SfenFault::BadText(0)));
-    assert!(rt; fault("9/9/9/9/9/9/9/9/9/") == Some(SfenFault::BadText(17)));
-    assert!(rt; fault("9/9/9/9/9/9/9/9 b") == Some(SfenFault::BadText(15)));
-    assert!(rt; fault("+G8/9") == Some(SfenFault::BadText(1)));
-    assert!(rt; fault("+K8/9") == Some(SfenFault::BadText(1)));
-    assert!(rt; fault("++P8") == Some(SfenFault::BadText(1)));
+fn all_are_refused<R: Abort + AllocGlobal>(rt: &R, cases: &str) -> Result<(), Fail> {
+    for case in cases.lines() {
+        assert!(rt; is_refused(case)?, "{case}");
+    }
+    Ok(())
 }
 
-#[test]
-fn hands_have_counts_and_letters(rt: HostRuntime) {
-    assert!(rt; fault("k8/9/9/9/9/9/9/9/K8 x") == Some(SfenFault::BadText(20)));
-    assert!(rt; fault("k8/9/9/9/9/9/9/9/K8 b ") == Some(SfenFault::BadText(22)));
-    assert!(rt; fault("k8/9/9/9/9/9/9/9/K8 b  1") == Some(SfenFault::BadText(22)));
-    assert!(rt; fault("k8/9/9/9/9/9/9/9/K8 b K 1") == Some(SfenFault::BadText(22)));
-    assert!(rt; fault("k8/9/9/9/9/9/9/9/K8 b +P 1") == Some(SfenFault::BadText(22)));
-    assert!(rt; fault("k8/9/9/9/9/9/9/9/K8 b 0P 1") == Some(SfenFault::BadText(23)));
-    assert!(rt; fault("k8/9/9/9/9/9/9/9/K8 b 00P 1") == Some(SfenFault::BadText(23)));
-    assert!(rt; fault("k8/9/9/9/9/9/9/9/K8 b 100P 1") == Some(SfenFault::BadText(24)));
-    assert!(rt; fault("k8/9/9/9/9/9/9/9/K8 b -P 1") == Some(SfenFault::BadText(23)));
-}
+const SETS_AND_KINGS: &str = "many@k8/9/9/9/9/9/9/9/K8 b 19P 1
+many@9/9/9/9/9/9/9/9/9 b 19P 1
+many@k8/9/9/9/9/9/9/9/K8 b 99P99P99P99p 1
+many@k8/R8/+R8/9/9/9/9/9/K8 b r 1
+kings@9/9/9/9/9/9/9/9/K8 b - 1
+kings@k8/9/9/9/9/9/9/9/KK7 b 18P 1";
 
 #[test]
-fn numbers_have_four_digits_at_most(rt: HostRuntime) {
-    assert!(rt; fault("k8/9/9/9/9/9/9/9/K8 b - ") == Some(SfenFault::BadText(24)));
-    assert!(rt; fault("k8/9/9/9/9/9/9/9/K8 b - 0") == Some(SfenFault::BadText(24)));
-    assert!(rt; fault("k8/9/9/9/9/9/9/9/K8 b - 01") == Some(SfenFault::BadText(24)));
-    assert!(rt; fault("k8/9/9/9/9/9/9/9/K8 b - 10000") == Some(SfenFault::BadText(28)));
-    assert!(rt; fault("k8/9/9/9/9/9/9/9/K8 b P 1 ") == Some(SfenFault::BadText(25)));
+fn sets_come_before_kings(rt: HostRuntime) -> Result<(), Fail> {
+    all_are_refused(&rt, SETS_AND_KINGS)
+}
+
+const BOARDS: &str = "0@
+4@k8/9
+1@k9
+2@k8k
+2@k7/
+0@0k8
+17@9/9/9/9/9/9/9/9/9/
+15@9/9/9/9/9/9/9/9 b
+1@+G8/9
+1@+K8/9
+1@++P8";
+
+#[test]
+fn a_board_has_nine_ranks_of_nine(rt: HostRuntime) -> Result<(), Fail> {
+    all_are_refused(&rt, BOARDS)
+}
+
+const HANDS_AND_NUMBERS: &str = "20@k8/9/9/9/9/9/9/9/K8 x
+22@k8/9/9/9/9/9/9/9/K8 b \n\
+22@k8/9/9/9/9/9/9/9/K8 b  1
+22@k8/9/9/9/9/9/9/9/K8 b K 1
+22@k8/9/9/9/9/9/9/9/K8 b +P 1
+23@k8/9/9/9/9/9/9/9/K8 b 0P 1
+23@k8/9/9/9/9/9/9/9/K8 b 00P 1
+24@k8/9/9/9/9/9/9/9/K8 b 100P 1
+23@k8/9/9/9/9/9/9/9/K8 b -P 1
+24@k8/9/9/9/9/9/9/9/K8 b - \n\
+24@k8/9/9/9/9/9/9/9/K8 b - 0
+24@k8/9/9/9/9/9/9/9/K8 b - 01
+28@k8/9/9/9/9/9/9/9/K8 b - 10000
+25@k8/9/9/9/9/9/9/9/K8 b P 1 ";
+
+#[test]
+fn hands_and_numbers_have_a_form(rt: HostRuntime) -> Result<(), Fail> {
+    all_are_refused(&rt, HANDS_AND_NUMBERS)
 }
 
 #[test]

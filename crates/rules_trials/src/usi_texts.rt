@@ -57,33 +57,35 @@ fn illegal_moves_are_read(rt: HostRuntime) -> Result<(), Fail> {
     Ok(())
 }
 
-// The offset is the length of the longest beginning that begins a move's text.
+// An offset and a text: the length of the longest beginning that begins a move's text.
+const BAD_MOVES: &str = "0@
+1@7
+2@7g
+3@7g7
+0@0g
+1@7j
+4@7g7f-
+5@7g7f++
+1@P
+2@P*
+3@P*5
+0@K*5e
+4@P*5e+
+0@+7g7f
+0@p*5e
+1@P5e
+2@7g*5e
+1@7*5e
+0@７g7f";
+
 #[test]
-fn a_bad_move_says_where(rt: HostRuntime) {
-    let texts = [
-        ("", 0),
-        ("7", 1),
-        ("7g", 2),
-        ("7g7", 3),
-        ("0g", 0),
-        ("7j", 1),
-        ("7g7f-", 4),
-        ("7g7f++", 5),
-        ("P", 1),
-        ("P*", 2),
-        ("P*5", 3),
-        ("K*5e", 0),
-        ("P*5e+", 4),
-        ("+7g7f", 0),
-        ("p*5e", 0),
-        ("P5e", 1),
-        ("7g*5e", 2),
-        ("7*5e", 1),
-        ("７g7f", 0),
-    ];
-    for (text, offset) in texts {
-        assert!(rt; read_usi(text) == Err(SfenFault::BadText(offset)), "{text}");
+fn a_bad_move_says_where(rt: HostRuntime) -> Result<(), Fail> {
+    for case in BAD_MOVES.lines() {
+        let (offset, text) = case.split_once('@').ok_or("a case")?;
+        let wanted = SfenFault::BadText(offset.parse()?);
+        assert!(rt; read_usi(text) == Err(wanted), "{text}");
     }
+    Ok(())
 }
 
 #[test]
