@@ -1,8 +1,8 @@
 -- Counts that add up.
-use Rattle.std.proofs.Common.{◌≡◌, ℕ, ◌+◌, refl, sym, ap, ◌∙◌, List, [], ◌∷◌, ◌++◌, length, zero, suc, ◌-◌, ◌<◌, ◌≤◌, take, get_or, subst, arith}
+use Rattle.std.proofs.Common.{◌≡◌, ℕ, ◌+◌, refl, sym, ap, ◌∙◌, List, [], ◌∷◌, ◌++◌, append_assoc, append-nil, length, zero, suc, ◌-◌, ◌<◌, ◌≤◌, take, get_or, subst, arith}
 use Rattle.std.proofs.lemmas.List.{take_more, take_all}
 use Rattle.std.specs.declared.cmp.Ordering.{Ordering}
-use Rattle.perft.specs.Lines.{AddUp, AreTheMoves, HasLines}
+use Rattle.perft.specs.Lines.{AddUp, AreTheMoves, HasLines, count_line, AreLines}
 
 -- one more move with its count
 pub AddUp-more : {M : Type 0} (counted : M → ℕ → Type 0) (moves : List M) (m : M) (total count : ℕ) → AddUp counted moves total → counted m count → AddUp counted (moves ++ m ∷ []) (total + count)
@@ -42,3 +42,29 @@ AddUp-next counted moves i m total count within is sums one =
 -- all of them
 pub AddUp-all : {M : Type 0} (counted : M → ℕ → Type 0) (moves : List M) (i total : ℕ) → length moves ≤ i → AddUp counted (take i moves) total → AddUp counted moves total
 AddUp-all counted moves i total all sums = subst (λ ms. AddUp counted ms total) (take_all i moves all) sums
+
+-- one more move with its line
+pub AreLines-more : {M : Type 0} (writes : M → List ℕ → Type 0) (counted : M → ℕ → Type 0) (moves : List M) (m : M) (text name : List ℕ) (total count : ℕ) → AreLines writes counted moves text total → writes m name → counted m count → AreLines writes counted (moves ++ m ∷ []) (text ++ count_line name count) (total + count)
+AreLines-more writes counted [] m text name total count (nothing, none) written one =
+    (name, [], count, 0, written, one, (refl, refl), ap (λ t. t ++ count_line name count) nothing ∙ sym (append-nil (count_line name count)), omega (arith, none))
+AreLines-more writes counted (x ∷ xs) m text name total count (front, more, first, rest, is, here, others, text_is, sums) written one = (
+  front,
+  more ++ count_line name count,
+  first,
+  rest + count,
+  is,
+  here,
+  AreLines-more writes counted xs m more name rest count others written one,
+  ap (λ t. t ++ count_line name count) text_is ∙ append_assoc (count_line front first) more (count_line name count),
+  omega (arith, sums),
+)
+
+-- the next of the moves, with its line
+pub AreLines-next : {M : Type 0} (writes : M → List ℕ → Type 0) (counted : M → ℕ → Type 0) (moves : List M) (i : ℕ) (m : M) (text name : List ℕ) (total count : ℕ) → i < length moves → m ≡ get_or moves i m → AreLines writes counted (take i moves) text total → writes m name → counted m count → AreLines writes counted (take (i + 1) moves) (text ++ count_line name count) (total + count)
+AreLines-next writes counted moves i m text name total count within is lines written one =
+    subst (λ ms. AreLines writes counted ms (text ++ count_line name count) (total + count)) (sym (take_more moves i m within ∙ ap (λ x. take i moves ++ x ∷ []) (sym is)))
+    (AreLines-more writes counted (take i moves) m text name total count lines written one)
+
+-- all of them
+pub AreLines-all : {M : Type 0} (writes : M → List ℕ → Type 0) (counted : M → ℕ → Type 0) (moves : List M) (i : ℕ) (text : List ℕ) (total : ℕ) → length moves ≤ i → AreLines writes counted (take i moves) text total → AreLines writes counted moves text total
+AreLines-all writes counted moves i text total all lines = subst (λ ms. AreLines writes counted ms text total) (take_all i moves all) lines

@@ -1,6 +1,7 @@
 -- How many lines of legal moves a position has, for any game: by which moves are legal, in which order they are listed, and
 -- what a move leaves.
-use Rattle.std.specs.Prelude.{◌≡◌, ◌↔◌, ℕ, ◌+◌, zero, suc, List, [], ◌∷◌, Contains}
+use Rattle.std.specs.Prelude.{◌≡◌, ◌↔◌, ℕ, ◌+◌, ◌-◌, ◌++◌, zero, suc, List, [], ◌∷◌, Option, Contains, codes, decimal}
+use Rattle.std.specs.Io.KnownBytes.{Appends}
 use Rattle.std.specs.List.Sorted.{IsStrictlySortedBy}
 use Rattle.std.specs.declared.cmp.Ordering.{Ordering}
 
@@ -18,3 +19,29 @@ AddUp counted (m ∷ moves) total = (count : ℕ) × (rest : ℕ) × counted m c
 abbrev pub HasLines : {P M : Type 0} → (P → M → Type 0) → (M → M → Ordering) → (P → M → P) → ℕ → P → ℕ → Type 0
 HasLines legal order play zero p count = count ≡ 1
 HasLines {M = M} legal order play (suc depth) p count = (moves : List M) × AreTheMoves legal order p moves × AddUp (λ m lines. HasLines legal order play depth (play p m) lines) moves count
+
+-- ---- what is printed
+
+-- a move's text and the number of its lines
+abbrev pub count_line : List ℕ → ℕ → List ℕ
+count_line name count = name ++ (codes " " ++ (decimal count ++ codes "\n"))
+
+abbrev pub total_line : ℕ → List ℕ
+total_line total = codes "total " ++ (decimal total ++ codes "\n")
+
+-- a line for each of the moves with its count, and these counts add up to the total
+abbrev pub AreLines : {M : Type 0} → (M → List ℕ → Type 0) → (M → ℕ → Type 0) → List M → List ℕ → ℕ → Type 0
+AreLines writes counted [] text total = (text ≡ []) × (total ≡ 0)
+AreLines writes counted (m ∷ moves) text total =
+    (name : List ℕ) × (more : List ℕ) × (count : ℕ) × (rest : ℕ)
+    × writes m name × counted m count × AreLines writes counted moves more rest
+    × (text ≡ count_line name count ++ more) × (total ≡ count + rest)
+
+-- the legal moves in their order, a line each with the number of lines that begin with it, and the total
+pub record IsPrinted {P M : Type 0} (legal : P → M → Type 0) (order : M → M → Ordering) (play : P → M → P) (writes : P → M → List ℕ → Type 0) (depth : ℕ) (p : P) (before after : Option (List ℕ)) : Type 0 where
+  pub moves : List M
+  pub are_moves : AreTheMoves legal order p moves
+  pub lines : List ℕ
+  pub total : ℕ
+  pub are_lines : AreLines (λ m. writes p m) (λ m count. HasLines legal order play (depth - 1) (play p m) count) moves lines total
+  pub printed : Appends before after (lines ++ total_line total)

@@ -1,7 +1,8 @@
 //! Counting lines of legal moves.
 
-ghost use Rattle.std.specs.Prelude.{◌≡◌, ◌+◌, IfOk};
-ghost use Rattle.perft.specs.Lines.{HasLines};
+ghost use Rattle.std.specs.Prelude.{◌≡◌, ◌+◌, IfOk, OnOk};
+ghost use Rattle.std.specs.Io.KnownBytes.{Appends};
+ghost use Rattle.perft.specs.Lines.{HasLines, IsPrinted, count_line, total_line};
 
 use crate::fault::Fault;
 use crate::game::Game;
@@ -38,14 +39,35 @@ pub fn leaves<G: Game>(alloc: Global, position: &G::Position, depth: u32) -> Res
     Ok(count)
 }
 
+// Prints a move's text and the number of its lines.
+fn print_count<W: Write>(alloc: Global, text: &str, count: u64, out: &mut W) -> Result<(), Fault>
+    ensures { OnOk result (Appends (W.contents out.old) (W.contents out.new) (count_line text.now count)) }
+{
+    let line = format!(in alloc; "{text} {count}\n")?;
+    out.write_all(line.as_bytes())?;
+    Ok(())
+}
+
+// Prints the number of all lines.
+fn print_total<W: Write>(alloc: Global, total: u64, out: &mut W) -> Result<(), Fault>
+    ensures { OnOk result (Appends (W.contents out.old) (W.contents out.new) (total_line total)) }
+{
+    let line = format!(in alloc; "total {total}\n")?;
+    out.write_all(line.as_bytes())?;
+    Ok(())
+}
+
 /// Prints the number of lines under each legal move, in the order of the list of legal moves, and then in all. The depth
-/// counts that move.
+/// counts that move, and is at least 1.
 pub fn print_counts<G: Game, W: Write>(
     alloc: Global,
     position: &G::Position,
     depth: u32,
     out: &mut W,
-) -> Result<(), Fault> {
+) -> Result<(), Fault>
+    ensures { OnOk result
+        (IsPrinted G.Legal G.order G.after G.Writes depth position.now (W.contents out.old) (W.contents out.new)) }
+{
     let moves = G::legal(alloc, position)?;
     let mut total: u64 = 0;
     for played in &moves {
@@ -53,8 +75,7 @@ pub fn print_counts<G: Game, W: Write>(
         let next = G::play(position, played);
         let count = leaves::<G>(alloc, &next, depth.saturating_sub(1))?;
         total = plus(total, count)?;
-        writeln!(out, "{text} {count}")?;
+        print_count(alloc, text.as_str(), count, out)?;
     }
-    writeln!(out, "total {total}")?;
-    Ok(())
+    print_total(alloc, total, out)
 }

@@ -1,6 +1,7 @@
 //! Why lines are not counted.
 
 use squares::Memory;
+use std::alloc::AllocError;
 
 /// Why lines are not counted, or the counts not printed to their end.
 #[derive(Clone, Copy, Debug, PartialEq, Eq)]
@@ -15,6 +16,12 @@ pub enum Fault {
 
 impl From<Memory> for Fault {
     fn from(_refused: Memory) -> Fault {
+        Fault::Memory
+    }
+}
+
+impl From<AllocError> for Fault {
+    fn from(_refused: AllocError) -> Fault {
         Fault::Memory
     }
 }
