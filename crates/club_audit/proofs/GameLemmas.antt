@@ -21,7 +21,7 @@ use Rattle.club_core.specs.LegalState.{Each, IsGameOf}
 use Rattle.club_core.specs.State.{draughts, shogi, place, kind_at, terms_at}
 use Rattle.club_core.specs.View.{IsRowOf, Shows, clocks_in, terms_of}
 use Rattle.club_core.proofs.LegalSteps.{in-place}
-use Rattle.store_tables.specs.Cells.{event_cells}
+use Rattle.store_tables.specs.Cells.{event_cells, move_cells}
 use Rattle.store_tables.specs.declared.rows.EventRow.{EventRow}
 use Rattle.store_tables.specs.declared.rows.GameRecord.{GameRecord}
 use Rattle.store_tables.specs.declared.rows.MemberRow.{MemberRow}
@@ -29,10 +29,11 @@ use Rattle.store_tables.specs.declared.rows.MoveRow.{MoveRow}
 use Rattle.store_tables.specs.declared.rows.Rows.{Rows}
 use Rattle.store_tables.specs.Cells.{member_cells}
 use Rattle.club_audit.specs.Audit.{AreMembers, AreEvents, GivesTerms, HasPeople, NamesEvent, IsWithin, EndsBy, HaveGame, IsGameAt}
-use Rattle.club_rows.specs.Club.{ClubGame, ClubState}
+use Rattle.club_rows.specs.Club.{ClubGame, ClubState, both_games}
 use Rattle.club_rows.specs.Replay.{terms_with}
 use Rattle.club_rows.specs.Shown.{AreRowsOf}
-use Rattle.club_rows.specs.Tables.{event_row, member_row, kind_number, game_row, move_rows}
+use Rattle.club_rows.specs.Tables.{event_row, member_row, kind_number, game_row, move_rows, rows_of_seen}
+use Rattle.club_rows.specs.Seen.{seen_rows}
 use Rattle.club_rows.proofs.KindLemmas.{Kind, event_in, in_draughts, in_shogi, kinds-alike}
 use Rattle.club_audit.proofs.PeopleLemmas.{EventParts, event-parts}
 use Rattle.club_audit.proofs.PlacedLemmas.{numbered-at, numbered-back, numbered-length}
@@ -312,12 +313,34 @@ module _ (s : ClubState) (rows : Rows) (people : HasPeople s rows) (index : ℕ)
     any-event (draughts g) is = (is.legal.event, is.legal.in_event, (named-parts in_draughts g is event first second e named).game_is)
     any-event (shogi g) is = (is.legal.event, is.legal.in_event, (named-parts in_shogi g is event first second e named).game_is)
 
-    -- in an event of this kind the rows of the game are those of a game of this kind
+    -- in an event of this kind the game is of this kind
+    pub game-in : {P M E T : Type 0} {rules : GameRules P M E T} {kind : GameKind} (k : Kind rules kind) → (g : ClubGame) → IsGameAt s (index + 1) row moves g → HasKind e kind → (game : Game M) × (g ≡ k.into game)
+    game-in {kind = kind} k g is has_kind =
+        let (known, at, game_is) = any-event g is in
+        k.back s g is.legal (ap kind_at at ∙ kinds-alike known.game kind (same-pos _ _ (sym game_is ∙ has_kind)))
+
+    -- and its rows are those of a game of this kind
     pub rows-in : {P M E T : Type 0} {rules : GameRules P M E T} {kind : GameKind} → Kind rules kind → (g : ClubGame) → IsGameAt s (index + 1) row moves g → (budget increment : ℕ) → GivesTerms e budget increment → HasKind e kind → index < 5000
         → (game : Game M) × AreRowsOf rules (terms_with budget increment) (index + 1) row moves game × EndsBy rules (terms_with budget increment) s.last game
-    rows-in {kind = kind} k g is budget increment gives has_kind low =
-        let (known, at, game_is) = any-event g is in
-        let kind_is : kind_at (place s.events (event_in g)) ≡ kind = ap kind_at at ∙ kinds-alike known.game kind (same-pos _ _ (sym game_is ∙ has_kind)) in
-        let (game, same) = k.back s g is.legal kind_is in
+    rows-in k g is budget increment gives has_kind low =
+        let (game, same) = game-in k g is has_kind in
         let one = subst (IsGameAt s (index + 1) row moves) same is in
         (game, rows-of k game one event first second e named budget increment gives low, in-time k game one event first second e named budget increment gives)
+
+    -- its moves are few, and its positions have their rows
+    pub seen-in : {P M E T : Type 0} {rules : GameRules P M E T} {kind : GameKind} → Kind rules kind → (g : ClubGame) → IsGameAt s (index + 1) row moves g → HasKind e kind
+        → (terms : Terms) × (game : Game M) × (length game.entries ≤ 600) × (map move_cells moves ≡ move_rows rules terms (index + 1) game) × (rows_of_seen both_games (index + 1) g ≡ seen_rows rules (index + 1) game)
+    seen-in k g is has_kind =
+        let (game, same) = game-in k g is has_kind in
+        let one = subst (IsGameAt s (index + 1) row moves) same is in (
+          terms_at (place s.events game.event),
+          game,
+          (of-game k game one).legal.plies,
+          one.moves_are ∙ k.moves s.events (index + 1) game,
+          ap (rows_of_seen both_games (index + 1)) same ∙ k.seen (index + 1) game,
+        )
+
+  -- the row has the game's id
+  pub any-id : (g : ClubGame) → IsGameAt s (index + 1) row moves g → row.id ≡ pos (index + 1)
+  any-id (draughts g) is = (told-at in_draughts g is).numbers.id
+  any-id (shogi g) is = (told-at in_shogi g is).numbers.id

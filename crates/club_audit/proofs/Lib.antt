@@ -1,7 +1,6 @@
 pub mod AuditLemmas
 pub mod GameLemmas
 pub mod KeyLemmas
-pub mod MarkLemmas
 pub mod MatchLemmas
 pub mod PeopleLemmas
 pub mod PlacedLemmas

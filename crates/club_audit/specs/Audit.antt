@@ -1,25 +1,28 @@
 -- What the rows of single tables are tested for: the members, the events and the games of a legal club.
-use Rattle.std.specs.Prelude.{◌≡◌, ◌≢◌, ◌+◌, ◌<◌, ◌≤◌, ℕ, pos, List, map, length, Some, IsTrue, string_bytes}
+use Rattle.std.specs.Prelude.{◌≡◌, ◌≢◌, ◌+◌, ◌<◌, ◌≤◌, ℕ, pos, List, [], map, length, Some, IsTrue, string_bytes}
+use Rattle.std.specs.Option.{option_map}
 use Rattle.club_rules.specs.GameRules.{GameRules}
 use Rattle.club_core.specs.declared.rows.GameEnd.TheVariants.{Outside}
 use Rattle.club_core.specs.declared.rows.GameView.{GameView}
 use Rattle.club_core.specs.declared.rows.OutsideEnd.TheVariants.{Time}
-use Rattle.club_core.specs.Limits.{last_moment, most_members, most_events, is_budget, is_increment}
+use Rattle.club_core.specs.Limits.{last_moment, most_members, most_events, most_games, is_budget, is_increment}
 use Rattle.club_core.specs.Members.{Member}
 use Rattle.club_core.specs.Events.{Event, Terms}
 use Rattle.club_core.specs.Game.{Game, clocks_of, left_of, turn_of}
-use Rattle.club_core.specs.LegalState.{Each, AreApart, IsLegalMember, IsLegalEvent, IsLegalIn}
+use Rattle.club_core.specs.LegalState.{Each, AreApart, AreApartIfAny, IsLegalMember, IsLegalEvent, IsLegalIn}
 use Rattle.club_core.specs.State.{place}
 use Rattle.club_core.specs.View.{clocks_in}
-use Rattle.store_tables.specs.Cells.{member_cells, event_cells, move_cells, game_cells}
+use Rattle.store_tables.specs.Cells.{member_cells, event_cells, move_cells, game_cells, seen_cells}
 use Rattle.store_tables.specs.declared.rows.MemberRow.{MemberRow}
 use Rattle.store_tables.specs.declared.rows.EventRow.{EventRow}
 use Rattle.store_tables.specs.declared.rows.MoveRow.{MoveRow}
 use Rattle.store_tables.specs.declared.rows.GameRecord.{GameRecord}
 use Rattle.store_tables.specs.declared.rows.Rows.{Rows}
+use Rattle.store_tables.specs.declared.rows.SeenRow.{SeenRow}
 use Rattle.club_rows.specs.Club.{ClubState, ClubGame, both_games}
+use Rattle.club_rows.specs.EachOnce.{AreEachOnce}
 use Rattle.club_rows.specs.Shown.{AreRowsOf}
-use Rattle.club_rows.specs.Tables.{member_row, event_row, numbered_from, gathered_from, row_of_game, rows_of_moves}
+use Rattle.club_rows.specs.Tables.{member_row, event_row, numbered_from, row_of_game, rows_of_moves, rows_of_seen}
 
 -- ---- members
 
@@ -114,8 +117,18 @@ pub record IsGameAt (s : ClubState) (id : ℕ) (row : GameRecord) (moves : List 
   pub row_is : game_cells row ≡ row_of_game both_games s.events id game
   pub moves_are : map move_cells moves ≡ rows_of_moves both_games s.events id game
 
--- the rows are those of these games of the club
-pub record AreGames (s : ClubState) (games : List ClubGame) (rows : List GameRecord) (moves : List MoveRow) : Type 0 where
-  pub rows_are : map game_cells rows ≡ numbered_from (row_of_game both_games s.events) 1 games
-  pub moves_are : map move_cells moves ≡ gathered_from (rows_of_moves both_games s.events) 1 games
-  pub legal : Each (IsLegalIn both_games s) games
+-- the rows are all those of this game of the club, which has this id: of its positions each once, in whatever order
+pub record AreAllOf (s : ClubState) (id : ℕ) (row : GameRecord) (moves : List MoveRow) (seen : List SeenRow) (game : ClubGame) : Type 0 where
+  pub at : IsGameAt s id row moves game
+  pub seen_are : AreEachOnce (map seen_cells seen) (rows_of_seen both_games id game)
+
+-- ---- a club but for the moves and the positions of its games
+
+-- The rows are those of the members and events of a legal club, and no challenge; there are no more games than a club may have,
+-- and no two with one key.
+pub record HaveRegister (rows : Rows) : Type 0 where
+  pub state : ClubState
+  pub people : HasPeople state rows
+  pub challenges : rows.challenges.items ≡ []
+  pub few : length rows.games.items ≤ most_games
+  pub keys : AreApartIfAny (λ r. option_map (λ s. string_bytes s) r.key) rows.games.items

@@ -1,57 +1,34 @@
-//! Whether the rows of all tables are those of a legal club.
+//! Whether the rows of a club are those of a legal one: those that are read whole, and those of each game.
 
-ghost use Rattle.std.specs.Prelude.{◌≡◌, ◌≢◌, ◌+◌, ◌++◌, ◌<◌, ◌≤◌, ◌^◌, ℕ, List, pos, true, false, None, Some, IfOk, length, IfSome, slice_get, string_bytes};
+ghost use Rattle.std.specs.Prelude.{◌≡◌, ◌+◌, ◌<◌, ◌≤◌, ◌^◌, ℕ, pos, true, false, None, IfOk, map, IfSome, string_bytes};
 ghost use Rattle.std.specs.Option.{option_map};
 ghost use Rattle.club_core.specs.Game.{Game, left_of};
-ghost use Rattle.club_core.specs.LegalState.{Each, AreApartIfAny};
+ghost use Rattle.club_core.specs.LegalState.{AreApartIfAny};
 ghost use Rattle.club_core.specs.Limits.{most_games};
 ghost use Rattle.club_core.specs.View.{clocks_in};
-ghost use Rattle.club_audit.specs.Audit.{HasPeople, NamesEvent, IsWithin, EndsBy, HaveGame, IsGameAt, AreGames};
-ghost use Rattle.club_rows.specs.Club.{ClubGame, ClubState, IsClub, IsStoredAs};
+ghost use Rattle.club_audit.specs.Audit.{HasPeople, NamesEvent, IsWithin, EndsBy, HaveGame, HaveRegister, IsGameAt, AreAllOf};
+ghost use Rattle.store_tables.specs.Cells.{seen_cells};
+ghost use Rattle.club_rows.specs.Club.{both_games, ClubGame, ClubState};
+ghost use Rattle.club_rows.specs.EachOnce.{AreEachOnce};
+ghost use Rattle.club_rows.specs.Tables.{rows_of_seen};
 ghost use Rattle.club_rows.specs.Replay.{terms_given};
 ghost use Rattle.club_rows.specs.Shown.{AreRowsOf};
 
-use crate::marks::seen_are;
 use crate::people::{are_events, are_members, is_place, terms_of};
-use crate::standings::scores_are;
+use crate::seen_audit::are_seen;
 use clocks::Moment;
 use club_core::values::MOST_GAMES;
 use club_core::{GameEnd, GameView, OutsideEnd};
 use club_games::{Draughts, Shogi};
 use club_rows::kinds::kind_of;
-use club_rows::numbers::moment;
+use club_rows::numbers::{id, moment};
 use club_rows::replay::Terms;
 use club_rows::view::{Shown, view_of};
 use club_rules::{GameKind, Memory, Rules};
 use squares::Side;
 use std::alloc::Global;
 use std::collections::HashSet;
-use store_tables::{EventRow, GameRecord, MoveRow, Rows, Table};
-
-// Whether the row is of a move of the game.
-fn is_of(row: &MoveRow, game: &GameRecord) -> bool
-    ensures sound { result ≡ true → row.now.game ≡ game.now.id }
-    ensures complete { row.now.game ≡ game.now.id → result ≡ true }
-{
-    row.game == game.id
-}
-
-// The moves that a list begins with and that are this game's, and the rest.
-pub(crate) fn split_at_game<'a>(
-    moves: &'a [MoveRow],
-    game: &GameRecord,
-) -> (&'a [MoveRow], &'a [MoveRow])
-    ensures whole { moves.now ≡ result.0.now ++ result.1.now }
-    ensures own { Each (λ r. r.game ≡ game.now.id) result.0.now }
-    ensures others { (r : MoveRow) → slice_get result.1.now 0 ≡ Some r → r.game ≢ game.now.id }
-{
-    for (place, row) in moves.iter().enumerate() {
-        if !is_of(row, game) {
-            return moves.split_at(place);
-        }
-    }
-    moves.split_at(moves.len())
-}
+use store_tables::{EventRow, GameRecord, MoveRow, Rows, SeenRow, Table};
 
 // The seconds that the side to move has left.
 fn left_to_mover<R: Rules>(view: &GameView<R>) -> u64
@@ -170,27 +147,88 @@ fn wrong_by_game(
     }
 }
 
-// The first wrong table by the rows of the games.
-fn wrong_by_games(alloc: Global, rows: &Rows, last: Moment) -> Result<Option<Table>, Memory>
-    requires { rows.now.meta.last ≡ pos last }
-    ensures sound { IfOk result (λ wrong. wrong ≡ None → (s : ClubState) → HasPeople s rows.now →
-        (games : List ClubGame) × AreGames s games rows.now.games.items rows.now.moves.items) }
-    ensures complete { IfOk result (λ wrong. (s : ClubState) → HasPeople s rows.now → (games : List ClubGame) →
-        AreGames s games rows.now.games.items rows.now.moves.items → length games ≤ most_games → wrong ≡ None) }
+// Whether the rows are those of the positions of the game, each once, by the kind of its event.
+fn are_seen_in(
+    alloc: Global,
+    rows: &Rows,
+    game: &GameRecord,
+    moves: &[MoveRow],
+    seen: &[SeenRow],
+) -> Result<bool, Memory>
+    ensures sound { IfOk result (λ are. are ≡ true → (s : ClubState) → HasPeople s rows.now → (index : ℕ) (g : ClubGame) →
+        IsGameAt s (index + 1) game.now moves.now g →
+        AreEachOnce (map seen_cells seen.now) (rows_of_seen both_games (index + 1) g)) }
+    ensures complete { IfOk result (λ are. (s : ClubState) → HasPeople s rows.now → (index : ℕ) → index < most_games →
+        (g : ClubGame) → IsGameAt s (index + 1) game.now moves.now g →
+        AreEachOnce (map seen_cells seen.now) (rows_of_seen both_games (index + 1) g) → are ≡ true) }
 {
-    let mut rest = rows.moves.as_slice();
-    for (place, game) in rows.games.iter().enumerate() {
-        let (moves, others) = split_at_game(rest, game);
-        match wrong_by_game(alloc, rows, place, game, moves, last)? {
-            Some(table) => return Ok(Some(table)),
-            None => {}
-        }
-        rest = others;
+    let number = match id(game.id) {
+        Some(number) => number,
+        None => return Ok(false),
+    };
+    let event = match event_of(rows, game) {
+        Some(event) => event,
+        None => return Ok(false),
+    };
+    match kind_of(event.game) {
+        Some(GameKind::Draughts) => are_seen::<Draughts>(alloc, number, moves, seen),
+        Some(GameKind::Shogi) => are_seen::<Shogi>(alloc, number, moves, seen),
+        None => Ok(false),
     }
-    if rest.len() > 0 {
-        return Ok(Some(Table::Moves));
+}
+
+/// The first wrong table by all rows of the game at this place, from 0, up to the last moment; none where they are those
+/// of a legal game of the club. The rows of its moves stand by plies, those of its positions in any order.
+pub fn wrong_game(
+    alloc: Global,
+    rows: &Rows,
+    place: usize,
+    game: &GameRecord,
+    moves: &[MoveRow],
+    seen: &[SeenRow],
+    last: Moment,
+) -> Result<Option<Table>, Memory>
+    requires room { place + 1 < 2 ^ 64 }
+    requires last { rows.now.meta.last ≡ pos last }
+    ensures sound { IfOk result (λ wrong. wrong ≡ None → (s : ClubState) → HasPeople s rows.now →
+        (g : ClubGame) × AreAllOf s (place + 1) game.now moves.now seen.now g) }
+    ensures complete { IfOk result (λ wrong. (s : ClubState) → HasPeople s rows.now → place < most_games →
+        (g : ClubGame) → AreAllOf s (place + 1) game.now moves.now seen.now g → wrong ≡ None) }
+{
+    match wrong_by_game(alloc, rows, place, game, moves, last)? {
+        Some(table) => return Ok(Some(table)),
+        None => {}
+    }
+    if !are_seen_in(alloc, rows, game, moves, seen)? {
+        return Ok(Some(Table::Seen));
     }
     Ok(None)
+}
+
+/// The first wrong table, but for the moves, the positions and the scores of the games.
+pub fn wrong_register(alloc: Global, rows: &Rows) -> Result<Option<Table>, Memory>
+    ensures sound { IfOk result (λ wrong. wrong ≡ None → HaveRegister rows.now) }
+    ensures complete { IfOk result (λ wrong. HaveRegister rows.now → wrong ≡ None) }
+{
+    if !are_members(&rows.members) {
+        return Ok(Some(Table::Members));
+    }
+    if !are_events(&rows.events) {
+        return Ok(Some(Table::Events));
+    }
+    if rows.challenges.len() > 0 {
+        return Ok(Some(Table::Challenges));
+    }
+    if rows.games.len() > MOST_GAMES as usize {
+        return Ok(Some(Table::Games));
+    }
+    if share_key(alloc, &rows.games)? {
+        return Ok(Some(Table::Games));
+    }
+    match moment(rows.meta.last) {
+        Some(_) => Ok(None),
+        None => Ok(Some(Table::Meta)),
+    }
 }
 
 // Whether two games have one key.
@@ -210,42 +248,4 @@ fn share_key(alloc: Global, games: &[GameRecord]) -> Result<bool, Memory>
         }
     }
     Ok(false)
-}
-
-/// A table with rows that no legal club has, if there is one; none where the rows of all tables are those of a legal
-/// club.
-pub fn wrong_table(alloc: Global, rows: &Rows) -> Result<Option<Table>, Memory>
-    ensures sound { IfOk result (λ wrong. wrong ≡ None → (s : ClubState) × IsClub s × IsStoredAs s rows.now) }
-    ensures complete { IfOk result (λ wrong. (s : ClubState) → IsClub s → IsStoredAs s rows.now → wrong ≡ None) }
-{
-    if !are_members(&rows.members) {
-        return Ok(Some(Table::Members));
-    }
-    if !are_events(&rows.events) {
-        return Ok(Some(Table::Events));
-    }
-    if rows.challenges.len() > 0 {
-        return Ok(Some(Table::Challenges));
-    }
-    let last = match moment(rows.meta.last) {
-        Some(last) => last,
-        None => return Ok(Some(Table::Meta)),
-    };
-    if rows.games.len() > MOST_GAMES as usize {
-        return Ok(Some(Table::Games));
-    }
-    if share_key(alloc, &rows.games)? {
-        return Ok(Some(Table::Games));
-    }
-    match wrong_by_games(alloc, rows, last)? {
-        Some(table) => return Ok(Some(table)),
-        None => {}
-    }
-    if !seen_are(alloc, rows)? {
-        return Ok(Some(Table::Seen));
-    }
-    if !scores_are(alloc, &rows.games, &rows.scores)? {
-        return Ok(Some(Table::Scores));
-    }
-    Ok(None)
 }

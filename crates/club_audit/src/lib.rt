@@ -3,12 +3,11 @@
 
 pub mod audit;
 mod game_audit;
-mod marks;
 mod people;
 mod seen_audit;
 mod standings;
 
-pub use audit::wrong_table;
+pub use audit::{wrong_game, wrong_register};
 pub use game_audit::audit_game;
 pub use people::terms_of;
 pub use seen_audit::are_seen;

@@ -10,11 +10,11 @@ use std::test::Fail;
 fn follow<R: Rules>(
     alloc: Global,
     start: R::Position,
-    texts: &[&str],
+    texts: &str,
 ) -> Result<(R::Position, R::Track), Fail> {
     let mut track = R::track_start(&start);
     let mut position = start;
-    for text in texts {
+    for text in texts.split_whitespace() {
         let read = R::read_move(alloc, &position, text)?;
         let made = read.ok().ok_or("a move's text")?;
         match R::check(&position, &made) {
@@ -81,7 +81,7 @@ fn positions_of_draughts_are_written_and_read(rt: HostRuntime) -> Result<(), Fai
     let text = Draughts::write_position(rt.alloc(), &start)?;
     assert!(rt; text.as_str() == DRAUGHTS_START);
     assert!(rt; Draughts::read_position(rt.alloc(), text.as_str())? == Some(start));
-    let (after, _) = follow::<Draughts>(rt.alloc(), start, &["32-28"])?;
+    let (after, _) = follow::<Draughts>(rt.alloc(), start, "32-28")?;
     assert!(rt; Draughts::turn(&after) == Side::Second);
     assert!(rt; Draughts::read_position(rt.alloc(), text.as_str())? != Some(after));
     assert!(rt; Draughts::read_position(rt.alloc(), "W:W51:B1")? == None);
@@ -97,7 +97,7 @@ fn moves_of_draughts_are_read_and_refused(rt: HostRuntime) -> Result<(), Fail> {
     let bad = Some(MoveRefusal::BadText(GameKind::Draughts, 1));
     assert!(rt; refusal::<Draughts>(rt.alloc(), &start, "51-46")? == bad);
     // White's man on 28 can take the one on 23, so nothing else may be played.
-    let (last, _) = follow::<Draughts>(rt.alloc(), start, &["32-28", "19-23"])?;
+    let (last, _) = follow::<Draughts>(rt.alloc(), start, "32-28 19-23")?;
     let must = Some(MoveRefusal::MustCapture);
     assert!(rt; refusal::<Draughts>(rt.alloc(), &last, "33-29")? == must);
     assert!(rt; is_written::<Draughts>(rt.alloc(), &last, "28x19")?);
@@ -119,10 +119,8 @@ fn captures_of_draughts_may_be_ambiguous(rt: HostRuntime) -> Result<(), Fail> {
 fn tracks_of_draughts_tell_ends(rt: HostRuntime) -> Result<(), Fail> {
     let start = position::<Draughts>(rt.alloc(), "W:WK47:BK4")?;
     assert!(rt; end_at_once::<Draughts>(rt.alloc(), &start)? == None);
-    let texts = [
-        "47-42", "4-9", "42-47", "9-4", "47-42", "4-9", "42-47", "9-4",
-    ];
-    let (last, track) = follow::<Draughts>(rt.alloc(), start, &texts)?;
+    let texts = "47-42 4-9 42-47 9-4 47-42 4-9 42-47 9-4";
+    let (last, track) = follow::<Draughts>(rt.alloc(), start, texts)?;
     assert!(rt; Draughts::track_numbers(&track) == (8, 9));
     let end = Draughts::track_end(track, &last, 8, 3, 0);
     assert!(rt; end == Some(DEnd::Repetition));
@@ -147,7 +145,7 @@ fn positions_of_shogi_are_written_and_read(rt: HostRuntime) -> Result<(), Fail> 
     let text = Shogi::write_position(rt.alloc(), &start)?;
     assert!(rt; text.as_str() == SHOGI_START);
     assert!(rt; Shogi::read_position(rt.alloc(), text.as_str())? == Some(start));
-    let (after, _) = follow::<Shogi>(rt.alloc(), Shogi::start(), &["7g7f"])?;
+    let (after, _) = follow::<Shogi>(rt.alloc(), Shogi::start(), "7g7f")?;
     let text = Shogi::write_position(rt.alloc(), &after)?;
     assert!(rt; text.as_str() == "lnsgkgsnl/1r5b1/ppppppppp/9/9/2P6/PP1PPPPPP/1B5R1/LNSGKGSNL w -");
     assert!(rt; Shogi::read_position(rt.alloc(), "k8/9 b -")? == None);
@@ -172,11 +170,8 @@ fn moves_of_shogi_are_read_and_refused(rt: HostRuntime) -> Result<(), Fail> {
 fn tracks_of_shogi_tell_repetitions(rt: HostRuntime) -> Result<(), Fail> {
     let start = Shogi::start();
     assert!(rt; end_at_once::<Shogi>(rt.alloc(), &start)? == None);
-    let texts = [
-        "2h3h", "8b7b", "3h2h", "7b8b", "2h3h", "8b7b", "3h2h", "7b8b", "2h3h", "8b7b", "3h2h",
-        "7b8b",
-    ];
-    let (last, track) = follow::<Shogi>(rt.alloc(), start, &texts)?;
+    let texts = "2h3h 8b7b 3h2h 7b8b 2h3h 8b7b 3h2h 7b8b 2h3h 8b7b 3h2h 7b8b";
+    let (last, track) = follow::<Shogi>(rt.alloc(), start, texts)?;
     let end = Shogi::track_end(track, &last, 12, 4, 0);
     assert!(rt; end == Some(SEnd::Fourfold));
     assert!(rt; Shogi::track_end(track, &last, 12, 3, 0) == None);
@@ -189,11 +184,8 @@ fn tracks_of_shogi_tell_repetitions(rt: HostRuntime) -> Result<(), Fail> {
 #[test]
 fn tracks_of_shogi_tell_perpetual_check(rt: HostRuntime) -> Result<(), Fail> {
     let start = position::<Shogi>(rt.alloc(), "7k1/9/9/9/9/9/9/9/K7R b -")?;
-    let texts = [
-        "1i2i", "2a1a", "2i1i", "1a2a", "1i2i", "2a1a", "2i1i", "1a2a", "1i2i", "2a1a", "2i1i",
-        "1a2a",
-    ];
-    let (last, track) = follow::<Shogi>(rt.alloc(), start, &texts)?;
+    let texts = "1i2i 2a1a 2i1i 1a2a 1i2i 2a1a 2i1i 1a2a 1i2i 2a1a 2i1i 1a2a";
+    let (last, track) = follow::<Shogi>(rt.alloc(), start, texts)?;
     assert!(rt; Shogi::track_numbers(&track) == (6, 0));
     let perpetual = SEnd::PerpetualCheck(Side::First);
     let end = Shogi::track_end(Shogi::track_of(6, 0), &last, 12, 4, 0);

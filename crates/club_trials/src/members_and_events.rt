@@ -44,33 +44,28 @@ fn repeated_id_of(outcome: Outcome) -> Option<u32> {
     }
 }
 
-fn refusal_of(outcome: Outcome) -> Option<Refusal> {
-    match outcome {
-        Outcome::Refused(refusal) => Some(refusal),
-        _ => None,
-    }
+/// What adding a member to a club with anna alone comes to.
+fn comes_to(alloc: Global, by: Caller, name: &str, key: &str) -> Result<String, Fail> {
+    let members = [member(alloc, "anna", "keyanna1")?];
+    let outcome = add_member(&members, by, &new_member(alloc, name, key)?);
+    Ok(format!(in alloc; "{outcome}")?)
 }
 
 #[test]
 fn members_are_added_once(rt: HostRuntime) -> Result<(), Fail> {
-    let anna = member(rt.alloc(), "anna", "keyanna1")?;
-    let members = [anna];
-    let bert = new_member(rt.alloc(), "bert", "keybert2")?;
-    let again = new_member(rt.alloc(), "anna", "keyanna1")?;
-    let other_key = new_member(rt.alloc(), "anna", "keyanna2")?;
-    let short_key = new_member(rt.alloc(), "cara", "key")?;
-    assert!(rt; id_of(add_member(&members, Caller::Officer, &bert)) == Some(2));
-    assert!(rt; repeated_id_of(add_member(&members, Caller::Officer, &again)) == Some(1));
-    assert!(rt;
-        refusal_of(add_member(&members, Caller::Officer, &other_key)) == Some(Refusal::NameTaken)
-    );
-    assert!(rt;
-        refusal_of(add_member(&members, Caller::Officer, &short_key)) == Some(Refusal::BadValue)
-    );
-    assert!(rt;
-        refusal_of(add_member(&members, Caller::Member(1), &bert)) == Some(Refusal::NotAllowed)
-    );
-    let key = Who::Key(text(rt.alloc(), "keyanna1")?);
+    let (alloc, officer) = (rt.alloc(), Caller::Officer);
+    let added = comes_to(alloc, officer, "bert", "keybert2")?;
+    assert!(rt; added.as_str() == "accepted member 2");
+    let again = comes_to(alloc, officer, "anna", "keyanna1")?;
+    assert!(rt; again.as_str() == "repeated member 1");
+    let other_key = comes_to(alloc, officer, "anna", "keyanna2")?;
+    assert!(rt; other_key.as_str() == "refused 64 NameTaken");
+    let short_key = comes_to(alloc, officer, "cara", "key")?;
+    assert!(rt; short_key.as_str() == "refused 65 BadValue");
+    let by_member = comes_to(alloc, Caller::Member(1), "bert", "keybert2")?;
+    assert!(rt; by_member.as_str() == "refused 51 NotAllowed");
+    let members = [member(alloc, "anna", "keyanna1")?];
+    let key = Who::Key(text(alloc, "keyanna1")?);
     assert!(rt; identify(&members, &key) == Some(Caller::Member(1)));
     assert!(rt; identify(&members, &Who::Officer) == Some(Caller::Officer));
     Ok(())

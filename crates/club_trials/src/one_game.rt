@@ -1,13 +1,14 @@
 //! The autumn game by its rows: a budget of 60 seconds, an increment of 5, seated at 1000 between the members 1 and 2.
 
-ghost use Rattle.std.specs.Prelude.{IfOk};
+ghost use Rattle.std.specs.Prelude.{◌<◌, IfOk};
 ghost use Rattle.club_core.specs.View.{IsSound};
 ghost use Rattle.club_games.specs.Draughts.{draughts};
 
 use clocks::Moment;
-use club_audit::wrong_table;
-use club_core::{Answer, Caller, Decision, GameCommand, GameView, Moved, decide};
+use club_audit::{wrong_game, wrong_register};
+use club_core::{Answer, Caller, Decision, GameCommand, GameView, decide};
 use club_games::Draughts;
+use club_rows::numbers::moment;
 use club_rows::{PlyRows, Shown, Terms, ask_rows, move_row, record_of, view_of};
 use std::alloc::Global;
 use std::test::Fail;
@@ -59,7 +60,7 @@ pub(crate) fn row(
 }
 
 /// The row of 32-28, played with the last second.
-fn first_move(alloc: Global) -> Result<MoveRow, Fail> {
+pub(crate) fn first_move(alloc: Global) -> Result<MoveRow, Fail> {
     Ok(MoveRow {
         game: 1,
         ply: 1,
@@ -110,20 +111,35 @@ fn decided(
     Ok(decide(alloc, view, Caller::Officer, &command, later)?)
 }
 
-/// The number of a refusal and its name.
-fn refusal(alloc: Global, decision: Decision<Draughts>) -> Result<String, Fail> {
+/// What a decision on a move comes to: the seconds that Second has left, a repeat with what it shows, or a refusal.
+fn told(alloc: Global, decision: Decision<Draughts>) -> Result<String, Fail> {
     match decision {
+        Decision::Accepted {
+            row,
+            made: _,
+            answer: _,
+        } => Ok(format!(in alloc; "accepted {}", row.left_second)?),
+        Decision::Repeated(Answer::Moved(moved)) => {
+            let (text, position) = (moved.text.as_str(), moved.position.as_str());
+            Ok(format!(in alloc; "repeated {text} {} {position}", moved.left)?)
+        }
+        Decision::Repeated(_) => Err(Fail::new("another repeat")),
         Decision::Refused(refusal) => Ok(format!(in alloc; "{refusal}")?),
-        _ => Ok(text(alloc, "not refused")?),
     }
 }
 
-/// What was played, where the decision is a repeat.
-fn repeated(decision: Decision<Draughts>) -> Option<Moved> {
-    match decision {
-        Decision::Repeated(Answer::Moved(moved)) => Some(moved),
-        _ => None,
-    }
+/// What a move of the officer's comes to in the game after its first move, asked of a ply whose rows these are.
+fn comes_to(
+    alloc: Global,
+    rows: PlyRows,
+    ply: u64,
+    letters: &str,
+    seconds: u64,
+) -> Result<String, Fail> {
+    let game = row(alloc, 1, 1060, AFTER_32_28)?;
+    let moves = [first_move(alloc)?];
+    let view = shown(alloc, &game, &moves, ply, &rows)?;
+    told(alloc, decided(alloc, &view, ply, letters, seconds)?)
 }
 
 #[test]
@@ -159,49 +175,45 @@ fn the_first_move_makes_its_rows(rt: HostRuntime) -> Result<(), Fail> {
 #[test]
 fn the_last_second_is_in_time(rt: HostRuntime) -> Result<(), Fail> {
     let alloc = rt.alloc();
-    let game = row(alloc, 1, 1060, AFTER_32_28)?;
-    let moves = [first_move(alloc)?];
-    let view = shown(
+    let late = comes_to(
         alloc,
-        &game,
-        &moves,
+        rows(None, Some(first_move(alloc)?)),
         2,
-        &rows(None, Some(first_move(alloc)?)),
+        "19-23",
+        1122,
     )?;
-    let late = decided(alloc, &view, 2, "19-23", 1122)?;
-    assert!(rt; refusal(alloc, late)?.as_str() == "60 OutOfTime");
-    let left = match decided(alloc, &view, 2, "19-23", 1120)? {
-        Decision::Accepted {
-            row,
-            made: _,
-            answer: _,
-        } => row.left_second,
-        _ => return Err(Fail::new("not accepted")),
-    };
-    assert!(rt; left == 5);
+    assert!(rt; late.as_str() == "60 OutOfTime");
+    let in_time = comes_to(
+        alloc,
+        rows(None, Some(first_move(alloc)?)),
+        2,
+        "19-23",
+        1120,
+    )?;
+    assert!(rt; in_time.as_str() == "accepted 5");
     Ok(())
 }
 
 #[test]
 fn a_ply_that_was_played_is_repeated(rt: HostRuntime) -> Result<(), Fail> {
     let alloc = rt.alloc();
-    let game = row(alloc, 1, 1060, AFTER_32_28)?;
-    let moves = [first_move(alloc)?];
-    let view = shown(
+    let again = comes_to(
         alloc,
-        &game,
-        &moves,
+        rows(Some(first_move(alloc)?), None),
         1,
-        &rows(Some(first_move(alloc)?), None),
+        "032-28",
+        5000,
     )?;
-    let Some(moved) = repeated(decided(alloc, &view, 1, "032-28", 5000)?) else {
-        return Err(Fail::new("not repeated"));
-    };
-    assert!(rt; moved.left == 5);
-    assert!(rt; moved.text.as_str() == "32-28");
-    assert!(rt; moved.position.as_str() == AFTER_32_28);
-    let other = decided(alloc, &view, 1, "33-28", 5000)?;
-    assert!(rt; refusal(alloc, other)?.as_str() == "58 Conflict");
+    let wanted = format!(in alloc; "repeated 32-28 5 {AFTER_32_28}")?;
+    assert!(rt; again.as_str() == wanted.as_str());
+    let other = comes_to(
+        alloc,
+        rows(Some(first_move(alloc)?), None),
+        1,
+        "33-28",
+        5000,
+    )?;
+    assert!(rt; other.as_str() == "58 Conflict");
     Ok(())
 }
 
@@ -220,7 +232,7 @@ pub(crate) fn stood_once(
     })
 }
 
-/// The rows of a club with the game after its first move.
+/// The rows of a club with the game after its first move, but for those of the game's moves and positions.
 pub(crate) fn club(alloc: Global, game: GameRecord, last: i64) -> Result<Rows, Fail> {
     let anna = MemberRow {
         id: 1,
@@ -243,13 +255,7 @@ pub(crate) fn club(alloc: Global, game: GameRecord, last: i64) -> Result<Rows, F
         members: vec![in alloc; anna, bert]?,
         events: vec![in alloc; autumn]?,
         challenges: Vec::new(alloc),
-        moves: vec![in alloc; first_move(alloc)?]?,
         games: vec![in alloc; game]?,
-        seen: vec![in alloc;
-            stood_once(alloc, 1, START, 0)?,
-            stood_once(alloc, 1, AFTER_32_28, 1)?,
-        ]?,
-        scores: Vec::new(alloc),
         meta: MetaRow {
             id: 1,
             schema: 1,
@@ -258,23 +264,54 @@ pub(crate) fn club(alloc: Global, game: GameRecord, last: i64) -> Result<Rows, F
     })
 }
 
+/// The first wrong table by these rows of the game at a place, from 0.
+pub(crate) fn wrong_at(
+    alloc: Global,
+    rows: &Rows,
+    place: usize,
+    moves: &[MoveRow],
+    seen: &[SeenRow],
+) -> Result<Option<Table>, Fail>
+    requires { place < 2 }
+{
+    let Some(last) = moment(rows.meta.last) else {
+        return Err(Fail::new("no moment"));
+    };
+    let Some(game) = rows.games.as_slice().get(place) else {
+        return Err(Fail::new("no game"));
+    };
+    Ok(wrong_game(alloc, rows, place, game, moves, seen, last)?)
+}
+
+/// The first wrong table of the club with this game, of whose moves this is the first, and with the positions after 32-28.
+fn wrong(
+    alloc: Global,
+    game: GameRecord,
+    last: i64,
+    played: MoveRow,
+) -> Result<Option<Table>, Fail> {
+    let seen = [
+        stood_once(alloc, 1, START, 0)?,
+        stood_once(alloc, 1, AFTER_32_28, 1)?,
+    ];
+    wrong_at(alloc, &club(alloc, game, last)?, 0, &[played], &seen)
+}
+
 #[test]
-fn the_wrong_table_is_named(rt: HostRuntime) -> Result<(), Fail> {
+fn the_wrong_table_of_a_game_is_named(rt: HostRuntime) -> Result<(), Fail> {
     let alloc = rt.alloc();
-    let good = club(alloc, row(alloc, 1, 1060, AFTER_32_28)?, 1060)?;
-    assert!(rt; wrong_table(alloc, &good)? == None);
-    let early = club(alloc, row(alloc, 1, 1060, AFTER_32_28)?, 1059)?;
-    assert!(rt; wrong_table(alloc, &early)? == Some(Table::Meta));
-    let behind = club(alloc, row(alloc, 0, 1000, START)?, 1060)?;
-    assert!(rt; wrong_table(alloc, &behind)? == Some(Table::Games));
-    let mut illegal = club(alloc, row(alloc, 1, 1060, AFTER_32_28)?, 1060)?;
-    illegal.moves = vec![in alloc;
-        MoveRow {
-            text: text(alloc, "32-27")?,
-            ..first_move(alloc)?
-        },
-    ]?;
-    assert!(rt; wrong_table(alloc, &illegal)? == Some(Table::Moves));
+    let good = row(alloc, 1, 1060, AFTER_32_28)?;
+    assert!(rt; wrong(alloc, good, 1060, first_move(alloc)?)? == None);
+    let early = row(alloc, 1, 1060, AFTER_32_28)?;
+    assert!(rt; wrong(alloc, early, 1059, first_move(alloc)?)? == Some(Table::Meta));
+    let behind = row(alloc, 0, 1000, START)?;
+    assert!(rt; wrong(alloc, behind, 1060, first_move(alloc)?)? == Some(Table::Games));
+    let illegal = MoveRow {
+        text: text(alloc, "32-27")?,
+        ..first_move(alloc)?
+    };
+    let game = row(alloc, 1, 1060, AFTER_32_28)?;
+    assert!(rt; wrong(alloc, game, 1060, illegal)? == Some(Table::Moves));
     Ok(())
 }
 
@@ -291,17 +328,15 @@ fn member(alloc: Global, id: i64, name: &str, key: &str) -> Result<MemberRow, Fa
 fn rows_that_do_not_fit_together_are_named(rt: HostRuntime) -> Result<(), Fail> {
     let alloc = rt.alloc();
     let mut namesakes = club(alloc, row(alloc, 1, 1060, AFTER_32_28)?, 1060)?;
+    assert!(rt; wrong_register(alloc, &namesakes)? == None);
     namesakes.members = vec![in alloc;
         member(alloc, 1, "anna", "keyanna1")?,
         member(alloc, 2, "anna", "keybert2")?,
     ]?;
-    assert!(rt; wrong_table(alloc, &namesakes)? == Some(Table::Members));
+    assert!(rt; wrong_register(alloc, &namesakes)? == Some(Table::Members));
     let mut alone = club(alloc, row(alloc, 1, 1060, AFTER_32_28)?, 1060)?;
     alone.members = vec![in alloc; member(alloc, 1, "anna", "keyanna1")?]?;
-    assert!(rt; wrong_table(alloc, &alone)? == Some(Table::Games));
-    let mut left_over = club(alloc, row(alloc, 1, 1060, AFTER_32_28)?, 1060)?;
-    left_over.games = Vec::new(alloc);
-    assert!(rt; wrong_table(alloc, &left_over)? == Some(Table::Moves));
+    assert!(rt; wrong_at(alloc, &alone, 0, &[first_move(alloc)?], &[])? == Some(Table::Games));
     Ok(())
 }
 
@@ -315,7 +350,7 @@ fn a_key_names_one_game(rt: HostRuntime) -> Result<(), Fail> {
         ..row(alloc, 0, 1000, START)?
     };
     two.games = vec![in alloc; first, second]?;
-    assert!(rt; wrong_table(alloc, &two)? == Some(Table::Games));
+    assert!(rt; wrong_register(alloc, &two)? == Some(Table::Games));
     let first = row(alloc, 1, 1060, AFTER_32_28)?;
     let other = GameRecord {
         id: 2,
@@ -323,7 +358,7 @@ fn a_key_names_one_game(rt: HostRuntime) -> Result<(), Fail> {
         ..row(alloc, 0, 1000, START)?
     };
     two.games = vec![in alloc; first, other]?;
-    two.seen.push(stood_once(alloc, 2, START, 0)?)?;
-    assert!(rt; wrong_table(alloc, &two)? == None);
+    assert!(rt; wrong_register(alloc, &two)? == None);
+    assert!(rt; wrong_at(alloc, &two, 1, &[], &[stood_once(alloc, 2, START, 0)?])? == None);
     Ok(())
 }

@@ -1,12 +1,12 @@
 //! What anna and bert, the members 1 and 2, score in event 1: bert wins the first game, as Second; the next is drawn.
 
-use crate::one_game::{AFTER_32_28, club, row as game_row, text};
-use club_audit::{scores_are, wrong_table};
+use crate::one_game::{AFTER_32_28, row as game_row, text};
+use club_audit::scores_are;
 use club_rows::{ScorePair, score_after};
 use squares::Score;
 use std::alloc::Global;
 use std::test::Fail;
-use store_tables::{GameRecord, ScoreRow, Table};
+use store_tables::{GameRecord, ScoreRow};
 
 /// A row of event 1: points, wins, draws and losses of a member against an opponent.
 fn row(member: i64, opponent: i64, sums: (i64, i64, i64, i64)) -> ScoreRow {
@@ -117,11 +117,12 @@ fn an_ended_game_wants_its_scores(rt: HostRuntime) -> Result<(), Fail> {
         result: Some(text(alloc, "2-0")?),
         ..game_row(alloc, 1, 1060, AFTER_32_28)?
     };
-    let mut rows = club(alloc, resigned, 1060)?;
-    assert!(rt; wrong_table(alloc, &rows)? == Some(Table::Scores));
-    rows.scores = vec![in alloc; row(1, 2, (2, 1, 0, 0)), row(2, 1, (0, 0, 0, 1))]?;
-    assert!(rt; wrong_table(alloc, &rows)? == None);
-    rows.scores = vec![in alloc; row(1, 2, (0, 0, 0, 1)), row(2, 1, (2, 1, 0, 0))]?;
-    assert!(rt; wrong_table(alloc, &rows)? == Some(Table::Scores));
+    let games = [resigned];
+    let won = || row(1, 2, (2, 1, 0, 0));
+    let lost = || row(2, 1, (0, 0, 0, 1));
+    assert!(rt; !scores_are(alloc, &games, &[])?);
+    assert!(rt; scores_are(alloc, &games, &[won(), lost()])?);
+    let turned = [row(1, 2, (0, 0, 0, 1)), row(2, 1, (2, 1, 0, 0))];
+    assert!(rt; !scores_are(alloc, &games, &turned)?);
     Ok(())
 }

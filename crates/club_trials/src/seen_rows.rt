@@ -129,32 +129,33 @@ fn a_king_goes_back(rt: HostRuntime) -> Result<(), Fail> {
     Ok(())
 }
 
+/// Whether these are the rows of the positions of game 1 after these moves.
+fn are_those(alloc: Global, moves: &[MoveRow], rows: &[SeenRow]) -> Result<bool, Fail> {
+    Ok(are_seen::<Shogi>(alloc, 1, moves, rows)?)
+}
+
+/// The rows of the four positions, of which the opening stood first after that ply.
+fn four(alloc: Global, openings_ply: i64) -> Result<Vec<SeenRow>, Fail> {
+    Ok(vec![in alloc;
+        row(alloc, AFTER_8B7B, 3, 2)?,
+        row(alloc, AFTER_3H2H, 3, 3)?,
+        row(alloc, OPENING, 4, openings_ply)?,
+        row(alloc, AFTER_2H3H, 3, 1)?,
+    ]?)
+}
+
 #[test]
 fn rows_of_positions_are_compared(rt: HostRuntime) -> Result<(), Fail> {
     let alloc = rt.alloc();
     let game = moves(alloc, 12)?;
-    let good = vec![in alloc;
-        row(alloc, AFTER_8B7B, 3, 2)?,
-        row(alloc, AFTER_3H2H, 3, 3)?,
-        row(alloc, OPENING, 4, 0)?,
-        row(alloc, AFTER_2H3H, 3, 1)?,
-    ]?;
-    assert!(rt; are_seen::<Shogi>(alloc, 1, &game, &good)?);
+    let good = four(alloc, 0)?;
+    assert!(rt; are_those(alloc, &game, &good)?);
     assert!(rt; !are_seen::<Shogi>(alloc, 2, &game, &good)?);
-    let late = vec![in alloc;
-        row(alloc, AFTER_8B7B, 3, 2)?,
-        row(alloc, AFTER_3H2H, 3, 3)?,
-        row(alloc, OPENING, 4, 12)?,
-        row(alloc, AFTER_2H3H, 3, 1)?,
-    ]?;
-    assert!(rt; !are_seen::<Shogi>(alloc, 1, &game, &late)?);
-    let twice = vec![in alloc;
-        row(alloc, AFTER_8B7B, 3, 2)?,
-        row(alloc, AFTER_3H2H, 3, 3)?,
-        row(alloc, OPENING, 4, 0)?,
-        row(alloc, OPENING, 4, 0)?,
-    ]?;
-    assert!(rt; !are_seen::<Shogi>(alloc, 1, &game, &twice)?);
+    assert!(rt; !are_those(alloc, &game, &four(alloc, 12)?)?);
+    let mut twice = four(alloc, 0)?;
+    twice.pop();
+    twice.push(row(alloc, OPENING, 4, 0)?)?;
+    assert!(rt; !are_those(alloc, &game, &twice)?);
     Ok(())
 }
 
@@ -162,15 +163,14 @@ fn rows_of_positions_are_compared(rt: HostRuntime) -> Result<(), Fail> {
 fn a_row_that_is_missing_is_missed(rt: HostRuntime) -> Result<(), Fail> {
     let alloc = rt.alloc();
     let start = vec![in alloc; row(alloc, OPENING, 1, 0)?]?;
-    assert!(rt; are_seen::<Shogi>(alloc, 1, &[], &start)?);
-    assert!(rt; !are_seen::<Shogi>(alloc, 1, &moves(alloc, 1)?, &start)?);
-    assert!(rt; !are_seen::<Shogi>(alloc, 1, &[], &[])?);
+    assert!(rt; are_those(alloc, &[], &start)?);
+    assert!(rt; !are_those(alloc, &moves(alloc, 1)?, &start)?);
+    assert!(rt; !are_those(alloc, &[], &[])?);
     Ok(())
 }
 
-#[test]
-fn all_rows_of_a_game_are_audited(rt: HostRuntime) -> Result<(), Fail> {
-    let alloc = rt.alloc();
+/// The wrong table of the game after four plies, by these rows of its moves and of its positions.
+fn wrong(alloc: Global, moves: &[MoveRow], rows: &[SeenRow]) -> Result<Option<Table>, Fail> {
     let event = EventRow {
         id: 1,
         name: text(alloc, "winter")?,
@@ -197,17 +197,23 @@ fn all_rows_of_a_game_are_audited(rt: HostRuntime) -> Result<(), Fail> {
         track_a: 0,
         track_b: 0,
     };
-    let played = moves(alloc, 4)?;
     let last = Moment::new(1000).ok_or("in range")?;
+    Ok(audit_game(alloc, &event, &game, moves, rows, last)?)
+}
+
+#[test]
+fn all_rows_of_a_game_are_audited(rt: HostRuntime) -> Result<(), Fail> {
+    let alloc = rt.alloc();
+    let played = moves(alloc, 4)?;
     let mut rows = vec![in alloc;
         row(alloc, OPENING, 2, 0)?,
         row(alloc, AFTER_2H3H, 1, 1)?,
         row(alloc, AFTER_3H2H, 1, 3)?,
         row(alloc, AFTER_8B7B, 1, 2)?,
     ]?;
-    assert!(rt; audit_game(alloc, &event, &game, &played, &rows, last)? == None);
+    assert!(rt; wrong(alloc, &played, &rows)? == None);
     rows.pop();
-    assert!(rt; audit_game(alloc, &event, &game, &played, &rows, last)? == Some(Table::Seen));
-    assert!(rt; audit_game(alloc, &event, &game, &[], &rows, last)? == Some(Table::Games));
+    assert!(rt; wrong(alloc, &played, &rows)? == Some(Table::Seen));
+    assert!(rt; wrong(alloc, &[], &rows)? == Some(Table::Games));
     Ok(())
 }

@@ -1,5 +1,5 @@
 -- From what was read of a table to what a fault says of it, and to the content.
-use Rattle.std.proofs.Common.{◌≡◌, ℕ, List, [], ◌∷◌, All, inl, inr, refl, subst, sym, ap, ◌∙◌, Some, pos, get_or, slice_get, map}
+use Rattle.std.proofs.Common.{◌≡◌, ℕ, List, [], ◌∷◌, inl, inr, refl, subst, sym, ap, ◌∙◌, Some, pos, get_or, slice_get, map}
 use Rattle.std.specs.List.{AllByRecursion}
 use Rattle.std.specs.List.Sorted.{IsPermutation, IsSorted}
 use Rattle.sqlite.specs.Order.{Row, column}
@@ -14,14 +14,12 @@ use Rattle.store_tables.specs.declared.rows.MetaRow.{MetaRow}
 use Rattle.sqlite_rules.specs.Lists.{Has}
 use Rattle.store_tables.specs.Content.{Keeps, AreApart, cells}
 use Rattle.store_tables.specs.Contents.{Content, Stores}
-use Rattle.store_tables.specs.Club.{Holds, IsOpened, IsExactly, Leaves}
+use Rattle.store_tables.specs.Club.{Holds}
 use Rattle.store_tables.specs.Reading.{Tells, AreIds, by_columns}
-use Rattle.store_tables.specs.Reading.{KeepsMay}
 use Rattle.sqlite_trees.specs.View.{is_int}
 use Rattle.std.specs.Prelude.{IsTrue, ℤ}
-use Rattle.store_tables.specs.Rows.{content_of, AreInOrder, HaveIds}
+use Rattle.store_tables.specs.Rows.{HaveIds}
 use Rattle.store_tables.specs.declared.rows.Rows.{Rows}
-use Rattle.store_tables.proofs.Laws.{leaves_of}
 use Rattle.store_tables.specs.Tables.{club_schema, meta, members, events, games}
 use Rattle.store_tables.proofs.Laws.{one_shown, ids_of, apart_of}
 use Rattle.store_tables.specs.declared.names.Table.{Table}
@@ -30,7 +28,7 @@ use Rattle.store_sql.specs.declared.fault.ReadFault.{ReadFault}
 use Rattle.store_sql.specs.Read.{Blames as BlamesRead}
 use Rattle.store.specs.Faults.{told}
 use Rattle.store.specs.declared.fault.OpenFault.TheVariants.{Schema}
-use Rattle.store.specs.Blames.{IsOneMeta, HasTypes, Faults, Blames, NamesTable, NamesSchema, AreRead}
+use Rattle.store.specs.Blames.{IsOneMeta, HasTypes, Blames, NamesTable, NamesSchema, AreRead}
 use Rattle.store_sql.specs.Read.{IsReadAs}
 
 -- a fault of a table, as it is told
@@ -97,36 +95,6 @@ names_schema found old new read id other = (
 )
 
 -- ---- all tables
-
-pub read_holds : (rows : Rows) (old new : State) → IsOpened old → AreRead rows old new → Holds old.now (content_of rows)
-read_holds rows old new opened it = record {
-  schema = opened.schema;
-  sound = opened.sound;
-  tables = (record { rows = it.meta.keeps; apart = it.meta.apart }, (record { rows = it.members.keeps; apart = it.members.apart }, (record { rows = it.events.keeps; apart = it.events.apart }, (record { rows = it.challenges.keeps; apart = it.challenges.apart }, (record { rows = it.moves.keeps; apart = it.moves.apart }, (record { rows = it.games.keeps; apart = it.games.apart }, (record { rows = it.seen.keeps; apart = it.seen.apart }, (record { rows = it.scores.keeps; apart = it.scores.apart }, tt))))))));
-}
-
-pub read_exactly : (rows : Rows) (old new : State) → IsOpened old → AreRead rows old new → KeepsMay old new → IsExactly (content_of rows) new
-read_exactly rows old new opened it may =
-    let same = it.meta.same.0 in
-    let holds = read_holds rows old new opened it in
-    record {
-      is_open = same.is_open;
-      idle = same.mode ∙ opened.idle;
-      now = subst (λ (d : Database). Holds d (content_of rows)) (sym same.now_is) holds;
-      committed = same.committed_is ∙ opened.committed ∙ sym same.now_is;
-      may_leave = λ db left. subst (Leaves (content_of rows)) (sym (opened.settled db (may db left) ∙ ap (λ (d : Database). d.trees) opened.committed)) (leaves_of club_schema old.now (content_of rows) holds);
-    }
-
-pub read_order : (rows : Rows) (old new : State) → AreRead rows old new → AreInOrder rows
-read_order rows old new it = record {
-  members = it.members.sorted;
-  events = it.events.sorted;
-  challenges = it.challenges.sorted;
-  moves = it.moves.sorted;
-  games = it.games.sorted;
-  seen = it.seen.sorted;
-  scores = it.scores.sorted;
-}
 
 -- the one row of `meta` that is shown was read
 pub read_one : (slice rows : List Row) (row : Row) (id : ℤ) (old new : State) → slice ≡ rows → slice ≡ row ∷ [] → column row 0 ≡ Int id → Tells (meta 0) 1 rows old new → IsReadAs (meta 0) 1 (row ∷ []) old new

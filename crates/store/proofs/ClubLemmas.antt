@@ -1,38 +1,32 @@
 -- From the rows that were read to the club that is stored so, and back.
-use Rattle.std.proofs.Common.{◌≡◌, ◌⊎◌, ℕ, ℤ, zero, suc, pos, ◌+◌, ◌<◌, ◌==◌, cond, Bool, true, false, List, [], ◌∷◌, length, map, refl, ap, sym, subst, ◌∙◌, arith, get_or, inl, inr}
-use Rattle.std.proofs.lemmas.Bool.{eqb-true}
+use Rattle.std.proofs.Common.{◌≡◌, ◌⊎◌, ℕ, ℤ, zero, suc, pos, ◌+◌, ◌<◌, ◌==◌, List, [], ◌∷◌, length, map, refl, ap, ◌∙◌, arith, get_or, inl, inr}
 use Rattle.sqlite_value.specs.declared.value.Value.TheVariants.{Int}
 use Rattle.sqlite.specs.Effect.{Database}
 use Rattle.sqlite.specs.Order.{Row, column}
 use Rattle.sqlite.specs.State.{State}
 use Rattle.sqlite.specs.Table.{Table as Definition}
-use Rattle.sqlite.specs.Tree.{Trees}
 use Rattle.sqlite_rules.specs.Lists.{Has}
-use Rattle.squares.specs.declared.draughts.moves.DMove.{DMove}
 use Rattle.club_core.specs.Events.{Event}
-use Rattle.club_core.specs.State.{AnyGame, draughts, shogi}
-use Rattle.store_tables.specs.Cells.{meta_cells, member_cells, event_cells, challenge_cells, move_cells, game_cells, seen_cells, score_cells}
+use Rattle.club_core.specs.State.{draughts, shogi}
+use Rattle.store_tables.specs.Cells.{meta_cells, member_cells, event_cells, challenge_cells, game_cells}
 use Rattle.store_tables.specs.Content.{Keeps}
-use Rattle.store_tables.specs.Contents.{Content}
 use Rattle.store_tables.specs.Club.{Holds}
 use Rattle.store_tables.specs.Reading.{AreIds}
-use Rattle.store_tables.specs.Rows.{content_of, HaveIds}
-use Rattle.store_tables.specs.Tables.{meta, members, events, challenges, games, seen, scores}
+use Rattle.store_tables.specs.Rows.{HaveIds}
+use Rattle.store_tables.specs.Tables.{meta, members, events, challenges, games}
 use Rattle.store_tables.specs.declared.names.Table.{Table}
 use Rattle.store_tables.specs.declared.names.Table.TheVariants.{Members, Events, Challenges, Moves, Games, Seen, Scores, Meta}
 use Rattle.store_tables.specs.declared.rows.Rows.{Rows}
 use Rattle.store_tables.proofs.Laws.{in_order, one_list, places_rise}
-use Rattle.club_rows.specs.Club.{ClubGame, both_games, ClubState, IsClub, IsStoredAs}
+use Rattle.club_rows.specs.Club.{ClubGame, both_games, ClubState, IsClub}
 use Rattle.club_rows.specs.Tables.{member_row, event_row, numbered_from, row_of_game, tables_of}
 use Rattle.club_rows.proofs.TextLemmas.{members-typed, events-typed, moves-typed, games-typed}
 use Rattle.store.proofs.FoundLemmas.{moved}
-use Rattle.store.proofs.MoveOrderLemmas.{moves_are}
-use Rattle.store.proofs.OnceLemmas.{seen_are, scores_are}
 use Rattle.club_rows.proofs.ScoreLemmas.{scores_typed}
 use Rattle.club_rows.proofs.SeenLemmas.{seen-typed}
 use Rattle.store.specs.Blames.{AreRead, HasTypes, NamesTable, NamesSchema}
 use Rattle.store_sql.specs.Read.{IsReadAs}
-use Rattle.store.specs.Places.{ArePlaces, HasPlaces, NamesRows}
+use Rattle.store.specs.Places.{ArePlaces, HasPlaces, IsRegisterOf, NamesRows}
 use Rattle.store_sql.specs.Read.{BeginWithPlaces}
 use Rattle.store.specs.declared.fault.OpenFault.{OpenFault}
 use Rattle.store.specs.declared.fault.OpenFault.TheVariants.{Store, Memory}
@@ -69,16 +63,16 @@ same-int : (a b : ℤ) → Int a ≡ Int b → a ≡ b
 same-int a b is = cc
 
 -- the ids of a club's rows are places
-pub stored_places : (s : ClubState) (rows : Rows) → IsStoredAs s rows → (t : Table) → HasPlaces t rows
-stored_places s rows stored Members = ids_are member_cells member_row (λ r. r.id) (λ r n x is. same-int _ _ (ap (λ c. column c 0) is)) rows.members.items s.members stored.members
-stored_places s rows stored Events = ids_are event_cells event_row (λ r. r.id) (λ r n x is. same-int _ _ (ap (λ c. column c 0) is)) rows.events.items s.events stored.events
-stored_places s rows stored Games =
+pub register_places : (s : ClubState) (rows : Rows) → IsRegisterOf s rows → (t : Table) → HasPlaces t rows
+register_places s rows stored Members = ids_are member_cells member_row (λ r. r.id) (λ r n x is. same-int _ _ (ap (λ c. column c 0) is)) rows.members.items s.members stored.members
+register_places s rows stored Events = ids_are event_cells event_row (λ r. r.id) (λ r n x is. same-int _ _ (ap (λ c. column c 0) is)) rows.events.items s.events stored.events
+register_places s rows stored Games =
     ids_are game_cells (row_of_game both_games s.events) (λ r. r.id) (λ r n x is. same-int _ _ (ap (λ c. column c 0) is ∙ row_id s.events n x)) rows.games.items s.games stored.games
-stored_places s rows stored Challenges = tt
-stored_places s rows stored Moves = tt
-stored_places s rows stored Seen = tt
-stored_places s rows stored Scores = tt
-stored_places s rows stored Meta = tt
+register_places s rows stored Challenges = tt
+register_places s rows stored Moves = tt
+register_places s rows stored Seen = tt
+register_places s rows stored Scores = tt
+register_places s rows stored Meta = tt
 
 -- rows that are numbered from 1 begin with their places
 numbered_begin : {A : Type 0} (row : ℕ → A → Row) → ((n : ℕ) (x : A) → column (row n x) 0 ≡ Int (pos n)) → (n : ℕ) (xs : List A) (k : ℕ) → k < length (numbered_from row n xs) → column (get_or (numbered_from row n xs) k []) 0 ≡ Int (pos (n + k))
@@ -129,8 +123,8 @@ one_last : (last moment : ℤ) (schema : ℤ) (id : ℤ) → Has ((Int (pos 1) �
 one_last last moment schema id (inl is) = cc
 one_last last moment schema id (inr none) = absurd none
 
--- the rows that were read of a legal club are those that it is stored as
-pub club_read : (s : ClubState) → IsClub s → (rows : Rows) (old new : State) → Holds old.now (tables_of both_games s) → AreRead rows old new → HaveIds rows → IsStoredAs s rows
+-- the rows that were read of a legal club are its own
+pub club_read : (s : ClubState) → IsClub s → (rows : Rows) (old new : State) → Holds old.now (tables_of both_games s) → AreRead rows old new → HaveIds rows → IsRegisterOf s rows
 club_read s club rows old new holds read ids =
     let made = tables_of both_games s in
     let db = old.now.trees in
@@ -140,8 +134,5 @@ club_read s club rows old new holds read ids =
       members = ids_read (members 1) (map member_cells rows.members.items) (made 1) old new read.members ids.members t.1.0.rows (begin_places member_row (λ n x. refl) s.members);
       events = ids_read (events 4) (map event_cells rows.events.items) (made 4) old new read.events ids.events t.1.1.0.rows (begin_places event_row (λ n x. refl) s.events);
       challenges = none_read challenge_cells rows.challenges.items (moved (challenges 6) db (map challenge_cells rows.challenges.items) (made 6) read.challenges.keeps t.1.1.1.0.rows);
-      moves = moves_are s club (map move_cells rows.moves.items) old new holds read.moves;
       games = ids_read (games 10) (map game_cells rows.games.items) (made 10) old new read.games ids.games t.1.1.1.1.1.0.rows (begin_places (row_of_game both_games s.events) (row_id s.events) s.games);
-      seen = seen_are s club (map seen_cells rows.seen.items) old new holds read.seen;
-      scores = scores_are s club (map score_cells rows.scores.items) old new holds read.scores;
     }

@@ -16,10 +16,14 @@ pub mod LifeLemmas
 pub mod NextRows
 pub mod OnceLemmas
 pub mod OutcomeLemmas
+pub mod ExaminedLemmas
+pub mod GroupRows
+pub mod PastLemmas
 pub mod PlaceLemmas
 pub mod PlayedLemmas
 pub mod PutSame
 pub mod ReadRows
+pub mod RegisterLemmas
 pub mod RunLemmas
 pub mod SameLemmas
 pub mod ViewedLemmas

@@ -46,16 +46,16 @@ use Rattle.store_sql.specs.Read.{IsReadAs}
 
 -- ---- the order by game and ply
 
-abbrev by : Row → Row → Ordering
+abbrev pub by : Row → Row → Ordering
 by = by_columns 2
 
-by_total : IsTotalOrder by
+pub by_total : IsTotalOrder by
 by_total = key_cmp_total (rising 2) 0
 
-abbrev Before : Row → Row → Type 0
+abbrev pub Before : Row → Row → Type 0
 Before a b = by a b ≡ Less
 
-abbrev Apart : Row → Row → Type 0
+abbrev pub Apart : Row → Row → Type 0
 Apart a b = by a b ≢ Equal
 
 never_itself : (a : Row) → ¬ Before a a
@@ -64,7 +64,7 @@ never_itself a less = let e = sym (tied_itself by_total a) ∙ less in cc
 never_both : (a b : Row) → Before a b → ¬ Before b a
 never_both a b less more = never_itself a (by_total.trans a b a less more)
 
-apart_back : (a b : Row) → Apart a b → Apart b a
+pub apart_back : (a b : Row) → Apart a b → Apart b a
 apart_back a b apart same = apart (tied_back by_total b a same)
 
 less_of : (x y : Row) → is_lt (by y x) ≡ false → Apart x y → Before x y
@@ -76,7 +76,7 @@ less_of x y least apart = go (by x y) refl
     go Greater e = absurd (true≢false (sym (ap is_lt (by_total.antisymm y x ∙ ap ordering_reverse e)) ∙ least))
 
 -- sorted rows, no two of which tie, rise
-rises : (rows : List Row) → IsSorted by rows → IsAscending Apart rows → IsAscending Before rows
+pub rises : (rows : List Row) → IsSorted by rows → IsAscending Apart rows → IsAscending Before rows
 rises [] sorted apart = tt
 rises (x ∷ []) sorted apart = (tt, tt)
 rises (x ∷ y ∷ rows) sorted apart =
@@ -98,7 +98,7 @@ in_rest : (x y z : Row) (xs ys : List Row) → x ≡ y → IsAscending Before (x
 in_rest x y z xs ys same up h (inl e) = absurd (never_itself x (subst (Before x) (e ∙ sym same) (all_has (Before x) xs z up.0 h)))
 in_rest x y z xs ys same up h (inr k) = k
 
-one_rising : (xs ys : List Row) → IsAscending Before xs → IsAscending Before ys → ((z : Row) → Has xs z → Has ys z) → ((z : Row) → Has ys z → Has xs z) → xs ≡ ys
+pub one_rising : (xs ys : List Row) → IsAscending Before xs → IsAscending Before ys → ((z : Row) → Has xs z → Has ys z) → ((z : Row) → Has ys z → Has xs z) → xs ≡ ys
 one_rising [] [] up over to from = refl
 one_rising [] (y ∷ ys) up over to from = absurd (from y (inl refl))
 one_rising (x ∷ xs) [] up over to from = absurd (to x (inl refl))
@@ -115,7 +115,7 @@ int_less p q low = let less : ltb p q ≡ true = (Decides-ltb p q).1 low in rw l
 value_less : (a b : Value) (p q : ℕ) → a ≡ Int (pos p) → b ≡ Int (pos q) → p < q → value_cmp a b ≡ Less
 value_less a b p q one two low = (λ i. value_cmp (one i) (two i)) ∙ (value_cmp-Int (pos p) (pos q) ∙ int_less p q low)
 
-value_same : (a b : Value) (p : ℕ) → a ≡ Int (pos p) → b ≡ Int (pos p) → value_cmp a b ≡ Equal
+pub value_same : (a b : Value) (p : ℕ) → a ≡ Int (pos p) → b ≡ Int (pos p) → value_cmp a b ≡ Equal
 value_same a b p one two = (λ i. value_cmp (one i) (two i)) ∙ tied_itself value_cmp_total (Int (pos p))
 
 before_game : (a b : Row) (g h : ℕ) → column a 0 ≡ Int (pos g) → column b 0 ≡ Int (pos h) → g < h → Before a b
@@ -160,7 +160,7 @@ module _ (events : List Event) where
   abbrev rows_of : ℕ → ClubGame → List Row
   rows_of = rows_of_moves both_games events
 
-  game_rise : (id : ℕ) (any : ClubGame) → IsAscending Before (rows_of id any)
+  pub game_rise : (id : ℕ) (any : ClubGame) → IsAscending Before (rows_of id any)
   game_rise id (draughts g) = entries_rise both_games.draughts (terms_at (place events g.event)) id (record g { entries = [] }) g.entries
   game_rise id (shogi g) = entries_rise both_games.shogi (terms_at (place events g.event)) id (record g { entries = [] }) g.entries
 
@@ -261,20 +261,6 @@ module _ (trees : Trees) (sound : IsSound club_schema trees) (apart : AreApart (
       let ply : equal Binary (column s 2) (column r 2) ≡ true = same_of (column s 2) (column r 2) two.1 one.1 both.1 in
       other (one_rowid (1 ∷ 2 ∷ []) (trees 8) apart no_clash r s h k (agree_of s r game ply))
 
-  -- what is shown of the table, each row once and in order, rises
-  shown_rise : (rows : List Row) → IsPermutation (map (cells (moves 8)) (trees 8)) rows → IsSorted by rows → IsAscending Before rows
-  shown_rise rows once sorted =
-      rises rows sorted
-      (pairs_turned Apart apart_back (map (cells (moves 8)) (trees 8)) rows once
-      (ascending-map Apart (cells (moves 8)) (trees 8) (turned (trees 8) keys_apart (trees 8) (λ r h. h) apart.apart)))
-
--- the moves that were read are those of the club, in their order
-pub moves_are : (s : ClubState) → IsClub s → (rows : List Row) (old new : State) → Holds old.now (tables_of both_games s) → IsReadAs (moves 8) 2 rows old new → rows ≡ tables_of both_games s 8
-moves_are s club rows old new holds read =
-    let made = tables_of both_games s 8 in
-    let stored : Stores (moves 8) old.now.trees (tables_of both_games s) = holds.tables.1.1.1.1.0 in
-    let sound = subst (λ schema. IsSound schema old.now.trees) holds.schema holds.sound in
-    let ints : (r : Row) → Has (old.now.trees 8) r → IsInt (column r 1) × IsInt (column r 2) = λ r h. let typed = all_has IsMove made (cells (moves 8) r) (moves-typed s club) (stored.rows.only r h) in (typed.game, typed.ply) in
-    one_rising rows made (shown_rise old.now.trees sound read.apart ints rows read.once read.sorted) (games_rise s.events 1 s.games)
-    (λ z h. let r = read.keeps.stored z h in subst (Has made) r.2 (stored.rows.only r.0 r.1))
-    (λ z h. let r = stored.rows.stored z h in subst (Has rows) r.2 (read.keeps.only r.0 r.1))
+  -- no two rows that are shown have one key
+  pub stored_apart : IsAscending Apart (map (cells (moves 8)) (trees 8))
+  stored_apart = ascending-map Apart (cells (moves 8)) (trees 8) (turned (trees 8) keys_apart (trees 8) (λ r h. h) apart.apart)

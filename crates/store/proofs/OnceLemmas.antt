@@ -1,11 +1,10 @@
 -- The rows of positions and of scores that were read are those of the club, each once.
-use Rattle.std.proofs.Common.{◌≡◌, ◌≢◌, ℕ, zero, suc, ◌&&◌, true, false, List, [], ◌∷◌, map, Some, refl, ap, sym, subst, ◌∙◌, pos, Equal}
+use Rattle.std.proofs.Common.{◌≡◌, ◌≢◌, ℕ, zero, suc, ◌&&◌, true, false, List, [], ◌∷◌, map, Some, refl, ap, sym, subst, ◌∙◌, Equal}
 use Rattle.std.specs.Prelude.{slice_get}
 use Rattle.std.specs.Cmp.{tied_itself}
 use Rattle.std.specs.List.{AllByRecursion}
 use Rattle.std.specs.List.Sorted.{IsPermutation}
 use Rattle.sqlite_value.specs.declared.value.Value.{Value}
-use Rattle.sqlite_value.specs.declared.value.Value.TheVariants.{Int}
 use Rattle.sqlite_value.specs.Keys.{first_key, plain}
 use Rattle.sqlite_value.specs.Order.{value_cmp}
 use Rattle.sqlite_value.proofs.OrderLemmas.{value_cmp_total}
@@ -23,34 +22,30 @@ use Rattle.sqlite_trees.specs.Tree.{IsAscending, rowid}
 use Rattle.sqlite_trees.proofs.ListLemmas.{all_both, ascending-map}
 use Rattle.sqlite_rules.specs.Lists.{Has}
 use Rattle.sqlite_rules.proofs.ListLemmas.{all_has, has_got}
-use Rattle.store_tables.specs.Cells.{IsText, IsSeen, IsScore, meta_cells, member_cells, event_cells, challenge_cells, move_cells, game_cells, seen_cells, score_cells}
+use Rattle.store_tables.specs.Cells.{IsText, IsSeen, IsScore}
 use Rattle.store_tables.specs.Content.{AreApart, Keeps, cells}
 use Rattle.store_tables.specs.Contents.{Stores}
 use Rattle.store_tables.specs.Club.{Holds}
-use Rattle.store_tables.specs.Rows.{content_of}
 use Rattle.store_tables.specs.Tables.{club_schema, seen, scores}
-use Rattle.store_tables.specs.declared.rows.Rows.{Rows}
-use Rattle.store_tables.proofs.Laws.{pairs_turned, equal_from, same_by}
+use Rattle.store_tables.proofs.Laws.{pairs_turned, equal_from}
 use Rattle.club_rows.specs.Club.{both_games, ClubState, IsClub}
 use Rattle.club_rows.specs.EachOnce.{AreEachOnce}
 use Rattle.club_rows.specs.Tables.{tables_of}
-use Rattle.club_rows.proofs.SeenLemmas.{seen-typed}
 use Rattle.club_rows.proofs.ScoreLemmas.{scores_typed}
 use Rattle.store_sql.specs.Read.{IsReadAs}
-use Rattle.store.specs.Steps.{HaveSame, AreSame}
 use Rattle.store.proofs.FoundLemmas.{moved}
 use Rattle.store.proofs.MoveOrderLemmas.{and_first, not_true, one_rowid, turned}
 
 -- ---- rows that differ, each at one place
 
-abbrev Differ : Row → Row → Type 0
+abbrev pub Differ : Row → Row → Type 0
 Differ a b = a ≢ b
 
-differ_back : (a b : Row) → Differ a b → Differ b a
+pub differ_back : (a b : Row) → Differ a b → Differ b a
 differ_back a b apart is = apart (sym is)
 
 -- where no two of the rows are the same, each is at one place
-at_once : (rows : List Row) → IsAscending Differ rows → (i j : ℕ) (row : Row) → slice_get rows i ≡ Some row → slice_get rows j ≡ Some row → i ≡ j
+pub at_once : (rows : List Row) → IsAscending Differ rows → (i j : ℕ) (row : Row) → slice_get rows i ≡ Some row → slice_get rows j ≡ Some row → i ≡ j
 at_once [] up i j row at also = cc
 at_once (x ∷ rows) up zero zero row at also = refl
 at_once (x ∷ rows) up zero (suc j) row at also = let is : x ≡ row = cc in absurd (all_has (Differ x) rows row up.0 (has_got rows j row also) is)
@@ -74,7 +69,7 @@ alike_agree (p ∷ key) a b alike =
     λ i. value_alike (column a p) (column b p) alike.0.0 alike.0.1 i && alike_agree key a b alike.1 i
 
 -- The table has no NULL in its key, which its cells show, and no two rows with one key.
-record HasKey (table : Definition) (key : List ℕ) (rows : List Row) : Type 0 where
+pub record HasKey (table : Definition) (key : List ℕ) (rows : List Row) : Type 0 where
   pub filled : (r : Row) → Has rows r → AllByRecursion (λ p. is_null (column r p) ≡ false) key
   pub shown : (r s : Row) → cells table r ≡ cells table s → AllByRecursion (λ p. column r p ≡ column s p) key
   pub unique : (r : Row) → Has rows r → clashes plain key rows r ≡ false
@@ -86,12 +81,16 @@ cells_differ table key rows apart keyed r s h k other is =
     let alike : AreAlike key s r = all_both _ _ _ (λ p none same. (none, same)) key (keyed.filled s k) (keyed.shown s r (sym is)) in
     other (one_rowid key rows apart keyed.unique r s h k (alike_agree key s r alike))
 
+-- no two rows that are shown are the same
+pub stored_differ : (table : Definition) (key : List ℕ) (stored : List Row) → AreApart stored → HasKey table key stored → IsAscending Differ (map (cells table) stored)
+stored_differ table key stored apart keyed = ascending-map Differ (cells table) stored (turned stored (cells_differ table key stored apart keyed) stored (λ r h. h) apart.apart)
+
 -- what is shown of the table is shown once
 shown_once : (table : Definition) (key : List ℕ) (stored rows : List Row) → AreApart stored → HasKey table key stored
     → IsPermutation (map (cells table) stored) rows → IsAscending Differ rows
 shown_once table key stored rows apart keyed once =
     pairs_turned Differ differ_back (map (cells table) stored) rows once
-    (ascending-map Differ (cells table) stored (turned stored (cells_differ table key stored apart keyed) stored (λ r h. h) apart.apart))
+    (stored_differ table key stored apart keyed)
 
 -- Rows that were read of a table are those that it has, each once, in whatever order.
 each_once : (table : Definition) (width : ℕ) (key : List ℕ) (rows made : List Row) (old new : State)
@@ -109,7 +108,7 @@ int_there v (n, is) = ap is_null is
 text_there : (v : Value) → IsText v → is_null v ≡ false
 text_there v (t, is, fits) = ap is_null is
 
-seen_key : (trees : Trees) → IsSound club_schema trees → ((r : Row) → Has (trees 12) r → IsSeen (cells (seen 12) r)) → HasKey (seen 12) (1 ∷ 2 ∷ []) (trees 12)
+pub seen_key : (trees : Trees) → IsSound club_schema trees → ((r : Row) → Has (trees 12) r → IsSeen (cells (seen 12) r)) → HasKey (seen 12) (1 ∷ 2 ∷ []) (trees 12)
 seen_key trees sound typed = record {
   filled = λ r h. let is = typed r h in (int_there _ is.game, (text_there _ is.position, tt));
   shown = λ r s is. (ap (λ c. column c 0) is, (ap (λ c. column c 1) is, tt));
@@ -123,15 +122,6 @@ score_key trees sound typed = record {
   unique = λ r h. not_true _ (and_first _ (all_has _ (trees 14) r (sound.obeys.rules Unique).1.1.1.1.1.1.1.0 h));
 }
 
--- the rows of positions that were read are those of the club, each once
-pub seen_are : (s : ClubState) → IsClub s → (rows : List Row) (old new : State) → Holds old.now (tables_of both_games s) → IsReadAs (seen 12) 2 rows old new → AreEachOnce rows (tables_of both_games s 12)
-seen_are s club rows old new holds read =
-    let made = tables_of both_games s 12 in
-    let stored : Stores (seen 12) old.now.trees (tables_of both_games s) = holds.tables.1.1.1.1.1.1.0 in
-    let sound = subst (λ schema. IsSound schema old.now.trees) holds.schema holds.sound in
-    let keyed = seen_key old.now.trees sound (λ r h. all_has IsSeen made (cells (seen 12) r) (seen-typed s club) (stored.rows.only r h)) in
-    each_once (seen 12) 2 (1 ∷ 2 ∷ []) rows made old new keyed stored.rows read
-
 -- the rows of scores that were read are those of the club, each once
 pub scores_are : (s : ClubState) → IsClub s → (rows : List Row) (old new : State) → Holds old.now (tables_of both_games s) → IsReadAs (scores 14) 3 rows old new → AreEachOnce rows (tables_of both_games s 14)
 scores_are s club rows old new holds read =
@@ -140,16 +130,3 @@ scores_are s club rows old new holds read =
     let sound = subst (λ schema. IsSound schema old.now.trees) holds.schema holds.sound in
     let keyed = score_key old.now.trees sound (λ r h. all_has IsScore made (cells (scores 14) r) (scores_typed both_games s.games) (stored.rows.only r h)) in
     each_once (scores 14) 3 (1 ∷ 2 ∷ 3 ∷ []) rows made old new keyed stored.rows read
-
--- ---- the rows of a club as its content
-
--- Rows that are those of the club's tables, of positions and scores in whatever order, are a content with the same rows.
-pub club_content_same : (s : ClubState) (rows : Rows) → rows.meta.id ≡ pos 1 → rows.meta.schema ≡ pos 1 → rows.meta.last ≡ pos s.last
-    → map member_cells rows.members.items ≡ tables_of both_games s 1 → map event_cells rows.events.items ≡ tables_of both_games s 4
-    → rows.challenges.items ≡ []
-    → map move_cells rows.moves.items ≡ tables_of both_games s 8 → map game_cells rows.games.items ≡ tables_of both_games s 10
-    → HaveSame (map seen_cells rows.seen.items) (tables_of both_games s 12) → HaveSame (map score_cells rows.scores.items) (tables_of both_games s 14)
-    → AreSame (content_of rows) (tables_of both_games s)
-club_content_same s rows id schema last are_members are_events are_challenges are_moves are_games are_seen are_scores =
-    let are_meta : ◌≡◌ {A = List Row} (meta_cells rows.meta ∷ []) (tables_of both_games s 0) = λ i. (Int (id i) ∷ Int (schema i) ∷ Int (last i) ∷ []) ∷ [] in
-    (same_by _ _ are_meta, (same_by _ _ are_members, (same_by _ _ are_events, (same_by _ _ (ap (map challenge_cells) are_challenges), (same_by _ _ are_moves, (same_by _ _ are_games, (are_seen, (are_scores, tt))))))))

@@ -7,13 +7,13 @@ use Rattle.sqlite.specs.Effect.{Database}
 use Rattle.sqlite.specs.State.{State}
 use Rattle.sqlite.specs.declared.types.Value.TheVariants.{Int}
 use Rattle.sqlite_rules.specs.Lists.{Has}
-use Rattle.store_tables.specs.Cells.{meta_cells, member_cells, event_cells, challenge_cells, move_cells, game_cells, seen_cells, score_cells}
+use Rattle.store_tables.specs.Cells.{meta_cells, member_cells, event_cells, challenge_cells, game_cells}
 use Rattle.store_tables.specs.Cells.{IsMember, IsEvent, IsChallenge, IsMove, IsGame, IsSeen, IsScore}
 use Rattle.store_tables.specs.Content.{Keeps, AreApart}
 use Rattle.store_tables.specs.Contents.{Content}
 use Rattle.store_tables.specs.Club.{Holds}
 use Rattle.store_sql.specs.Read.{IsReadAs}
-use Rattle.store_tables.specs.Tables.{meta, members, events, challenges, moves, games, seen, scores}
+use Rattle.store_tables.specs.Tables.{meta, members, events, challenges, games}
 use Rattle.store_tables.specs.declared.rows.Rows.{Rows}
 use Rattle.store_tables.specs.declared.names.Table.{Table}
 use Rattle.store_tables.specs.declared.names.Table.TheVariants.{Members, Events, Challenges, Moves, Games, Seen, Scores, Meta}
@@ -22,16 +22,13 @@ use Rattle.store.specs.declared.fault.OpenFault.TheVariants.{Schema, Damaged, St
 
 -- ---- what is read
 
--- Each table has its rows, and the schema is number 1.
+-- Each table but those of moves, positions and scores has its rows, and the schema is number 1.
 pub record AreRead (rows : Rows) (old new : State) : Type 0 where
   pub meta : IsReadAs (meta 0) 1 (meta_cells rows.meta ∷ []) old new
   pub members : IsReadAs (members 1) 1 (map member_cells rows.members.items) old new
   pub events : IsReadAs (events 4) 1 (map event_cells rows.events.items) old new
   pub challenges : IsReadAs (challenges 6) 2 (map challenge_cells rows.challenges.items) old new
-  pub moves : IsReadAs (moves 8) 2 (map move_cells rows.moves.items) old new
   pub games : IsReadAs (games 10) 1 (map game_cells rows.games.items) old new
-  pub seen : IsReadAs (seen 12) 2 (map seen_cells rows.seen.items) old new
-  pub scores : IsReadAs (scores 14) 3 (map score_cells rows.scores.items) old new
   pub id : rows.meta.id ≡ pos 1
   pub schema : rows.meta.schema ≡ pos 1
 

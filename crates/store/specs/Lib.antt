@@ -1,6 +1,7 @@
 pub mod Blames
 pub mod Clubs
 pub mod CrossTable
+pub mod Examined
 pub mod Exported
 pub mod Faults
 pub mod FaultText

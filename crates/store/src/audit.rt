@@ -1,7 +1,7 @@
 //! Which table of a club is wrong.
 
 ghost use Rattle.std.specs.Prelude.{◌≡◌, ◌≢◌, ◌+◌, ◌^◌, ◌<◌, ℤ, pos, true, false, None, IfSome, IfErr, OnOk, map};
-ghost use Rattle.club_rows.specs.Club.{IsClub, IsStoredAs};
+ghost use Rattle.club_audit.specs.Audit.{HaveRegister};
 ghost use Rattle.store.specs.Places.{ArePlaces, HasPlaces, BlamesRows};
 
 use crate::fault::OpenFault;
@@ -82,16 +82,17 @@ fn misplaced(rows: &Rows) -> Option<Table>
     None
 }
 
-/// Tests that the rows are those of a legal club.
+/// Tests that the rows are those of a legal club, but for the moves, the positions and the scores of its games.
 pub(crate) fn audit(alloc: Global, rows: &Rows) -> Result<(), OpenFault>
-    ensures club { OnOk result ((s : _) × IsClub s × IsStoredAs s rows.now) }
+    ensures register { OnOk result (HaveRegister rows.now) }
+    ensures places { OnOk result (ArePlaces (map (λ r. r.id) rows.now.games.items)) }
     ensures fault { IfErr result (BlamesRows rows.now) }
 {
     match misplaced(rows) {
         Some(table) => return Err(OpenFault::Damaged(table)),
         None => {}
     }
-    match club_audit::wrong_table(alloc, rows) {
+    match club_audit::wrong_register(alloc, rows) {
         Ok(Some(table)) => Err(OpenFault::Damaged(table)),
         Ok(None) => Ok(()),
         Err(_) => Err(OpenFault::Memory),

@@ -10,6 +10,7 @@ mod examine;
 mod exported;
 mod fault;
 mod game;
+mod games;
 mod imports;
 mod kinds;
 pub mod laws;

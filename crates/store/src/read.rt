@@ -3,9 +3,9 @@
 ghost use Rattle.std.specs.Prelude.{◌≡◌, ◌⊎◌, pos, None, IfSome, IfOk, IfErr, OnOk, [], ◌∷◌, map};
 ghost use Rattle.sqlite.specs.State.{HasCleanDisk, IsUnchanged};
 ghost use Rattle.sqlite.specs.Held.{state};
-ghost use Rattle.store_tables.specs.Cells.{meta_cells, member_cells, event_cells, challenge_cells, move_cells, game_cells, seen_cells, score_cells};
+ghost use Rattle.store_tables.specs.Cells.{meta_cells, member_cells, event_cells, challenge_cells};
 ghost use Rattle.store_tables.specs.Reading.{IsNoInput, OnlyReads};
-ghost use Rattle.store_tables.specs.Tables.{club_schema, meta, members, events, challenges, moves, games, seen, scores};
+ghost use Rattle.store_tables.specs.Tables.{club_schema, meta, members, events, challenges};
 ghost use Rattle.store_tables.specs.Club.{Holds};
 ghost use Rattle.store.specs.Blames.{IsOneMeta, HasTypes, Blames, NamesTable, NamesSchema, AreRead};
 ghost use Rattle.store.specs.Faults.{told};
@@ -14,7 +14,7 @@ ghost use Rattle.store_sql.specs.Read.{IsReadAs};
 use crate::fault::OpenFault;
 use sqlite::{Alter, Connection, Error, Row};
 use std::alloc::Global;
-use store_sql::{ReadFault, Select, is_refused, read_all, show_all};
+use store_sql::{ReadFault, Select, check_columns, is_refused, read_all, show_all};
 use store_tables::{
     ChallengeRow, EventRow, GameRecord, MemberRow, MetaRow, MoveRow, Rows, ScoreRow, SeenRow,
     Table, TableRow, Unread,
@@ -34,7 +34,7 @@ pub(crate) fn fault_of(error: Error) -> OpenFault
 }
 
 /// Why the rows of this table were not read.
-fn fault_in(table: Table, fault: ReadFault) -> OpenFault
+pub(crate) fn fault_in(table: Table, fault: ReadFault) -> OpenFault
     ensures { result ≡ told table fault }
 {
     match fault {
@@ -46,7 +46,7 @@ fn fault_in(table: Table, fault: ReadFault) -> OpenFault
 }
 
 /// All rows of a table, which a fault names so.
-fn read<T: Select, S: Alter>(
+pub(crate) fn read<T: Select, S: Alter>(
     alloc: Global,
     conn: &mut Connection<S>,
     table: Table,
@@ -139,54 +139,6 @@ fn read_people<S: Alter>(
     Ok((members, events, challenges))
 }
 
-/// The moves and the games.
-fn read_play<S: Alter>(
-    alloc: Global,
-    conn: &mut Connection<S>,
-) -> Result<(Vec<MoveRow>, Vec<GameRecord>), OpenFault>
-    ensures reads { OnlyReads (state S.Store conn.old) (state S.Store conn.new) }
-    ensures rows { HasCleanDisk (state S.Store conn.new) → IfOk result (λ found.
-        (state S.Store conn.old).now.schema ≡ club_schema → IsReadAs (moves 8) 2 (map move_cells found.0.items)
-        (state S.Store conn.old) (state S.Store conn.new) × IsReadAs (games 10) 1 (map game_cells found.1.items)
-        (state S.Store conn.old) (state S.Store conn.new)) }
-    ensures blames { HasCleanDisk (state S.Store conn.new) → IfErr result (λ e.
-        (state S.Store conn.old).now.schema ≡ club_schema → NamesTable (state S.Store conn.old).now e) }
-{
-    let moves = match read::<MoveRow, S>(alloc, conn, Table::Moves) {
-        Ok(moves) => moves,
-        Err(fault) => return Err(fault),
-    };
-    let games = match read::<GameRecord, S>(alloc, conn, Table::Games) {
-        Ok(games) => games,
-        Err(fault) => return Err(fault),
-    };
-    Ok((moves, games))
-}
-
-/// The positions that stood, and the scores.
-fn read_counts<S: Alter>(
-    alloc: Global,
-    conn: &mut Connection<S>,
-) -> Result<(Vec<SeenRow>, Vec<ScoreRow>), OpenFault>
-    ensures reads { OnlyReads (state S.Store conn.old) (state S.Store conn.new) }
-    ensures rows { HasCleanDisk (state S.Store conn.new) → IfOk result (λ found.
-        (state S.Store conn.old).now.schema ≡ club_schema → IsReadAs (seen 12) 2 (map seen_cells found.0.items)
-        (state S.Store conn.old) (state S.Store conn.new) × IsReadAs (scores 14) 3 (map score_cells found.1.items)
-        (state S.Store conn.old) (state S.Store conn.new)) }
-    ensures blames { HasCleanDisk (state S.Store conn.new) → IfErr result (λ e.
-        (state S.Store conn.old).now.schema ≡ club_schema → NamesTable (state S.Store conn.old).now e) }
-{
-    let seen = match read::<SeenRow, S>(alloc, conn, Table::Seen) {
-        Ok(seen) => seen,
-        Err(fault) => return Err(fault),
-    };
-    let scores = match read::<ScoreRow, S>(alloc, conn, Table::Scores) {
-        Ok(scores) => scores,
-        Err(fault) => return Err(fault),
-    };
-    Ok((seen, scores))
-}
-
 fn other_schema(found: &MetaRow) -> OpenFault
     ensures { result ≡ OpenFault.Schema found.now.schema }
 {
@@ -222,7 +174,45 @@ fn read_current<S: Alter>(conn: &mut Connection<S>) -> Result<Option<MetaRow>, O
     }
 }
 
-/// All rows of a club with schema 1, and nothing changed.
+/// Tests that a table stands, of which no row is read yet.
+fn check_table<T: Select, S: Alter>(conn: &mut Connection<S>, table: Table) -> Result<(), OpenFault>
+    ensures reads { OnlyReads (state S.Store conn.old) (state S.Store conn.new) }
+    ensures same { HasCleanDisk (state S.Store conn.new) →
+        OnOk result ((state S.Store conn.old).now.schema ≡ club_schema → IsUnchanged (state S.Store conn.old)
+        (state S.Store conn.new)) }
+    ensures blames { HasCleanDisk (state S.Store conn.new) → IfErr result (λ e.
+        (state S.Store conn.old).now.schema ≡ club_schema → e ≡ OpenFault.Store) }
+{
+    match check_columns::<T, S>(conn) {
+        Ok(()) => Ok(()),
+        Err(fault) => Err(fault_in(table, fault)),
+    }
+}
+
+/// Tests that the tables stand whose rows are read after those of the games.
+fn check_play<S: Alter>(conn: &mut Connection<S>) -> Result<(), OpenFault>
+    ensures reads { OnlyReads (state S.Store conn.old) (state S.Store conn.new) }
+    ensures same { HasCleanDisk (state S.Store conn.new) →
+        OnOk result ((state S.Store conn.old).now.schema ≡ club_schema → IsUnchanged (state S.Store conn.old)
+        (state S.Store conn.new)) }
+    ensures blames { HasCleanDisk (state S.Store conn.new) → IfErr result (λ e.
+        (state S.Store conn.old).now.schema ≡ club_schema → e ≡ OpenFault.Store) }
+{
+    match check_table::<MoveRow, S>(conn, Table::Moves) {
+        Ok(()) => {}
+        Err(fault) => return Err(fault),
+    }
+    match check_table::<SeenRow, S>(conn, Table::Seen) {
+        Ok(()) => {}
+        Err(fault) => return Err(fault),
+    }
+    match check_table::<ScoreRow, S>(conn, Table::Scores) {
+        Ok(()) => Ok(()),
+        Err(fault) => Err(fault),
+    }
+}
+
+/// All rows of a club with schema 1 but those of moves, positions and scores, and nothing changed.
 pub(crate) fn read_rows<S: Alter>(
     alloc: Global,
     conn: &mut Connection<S>,
@@ -239,16 +229,16 @@ pub(crate) fn read_rows<S: Alter>(
         Ok(meta) => meta,
         Err(fault) => return Err(fault),
     };
+    match check_play(conn) {
+        Ok(()) => {}
+        Err(fault) => return Err(fault),
+    }
     let (members, events, challenges) = match read_people(alloc, conn) {
         Ok(people) => people,
         Err(fault) => return Err(fault),
     };
-    let (moves, games) = match read_play(alloc, conn) {
-        Ok(play) => play,
-        Err(fault) => return Err(fault),
-    };
-    let (seen, scores) = match read_counts(alloc, conn) {
-        Ok(counts) => counts,
+    let games = match read::<GameRecord, S>(alloc, conn, Table::Games) {
+        Ok(games) => games,
         Err(fault) => return Err(fault),
     };
     let Some(meta) = meta else {
@@ -259,9 +249,6 @@ pub(crate) fn read_rows<S: Alter>(
         members,
         events,
         challenges,
-        moves,
         games,
-        seen,
-        scores,
     })
 }

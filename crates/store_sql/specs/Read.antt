@@ -1,5 +1,5 @@
 -- What reading a table tells of what a connection holds, and what a fault says of its rows.
-use Rattle.std.specs.Prelude.{◌≡◌, ◌⊎◌, ℕ, ◌+◌, ◌<◌, pos, List, [], map, length, get_or}
+use Rattle.std.specs.Prelude.{◌≡◌, ◌⊎◌, ℕ, ℤ, ◌+◌, ◌<◌, pos, List, [], ◌∷◌, map, filter, length, get_or}
 use Rattle.std.specs.List.{AllByRecursion}
 use Rattle.std.specs.List.Sorted.{IsSorted, IsPermutation}
 use Rattle.sqlite.specs.Order.{Row, column}
@@ -7,8 +7,9 @@ use Rattle.sqlite.specs.Schema.{Schema}
 use Rattle.sqlite.specs.Table.{Table}
 use Rattle.sqlite.specs.State.{State, IsUnchanged}
 use Rattle.sqlite.specs.declared.types.Value.TheVariants.{Int}
-use Rattle.store_tables.specs.Content.{Keeps, AreApart, cells}
+use Rattle.store_tables.specs.Content.{Keeps, AreApart, cells, same_key}
 use Rattle.store_tables.specs.Contents.{Content, IsExactly}
+use Rattle.store_tables.specs.Queries.{by_others}
 use Rattle.store_tables.specs.Reading.{by_columns}
 use Rattle.store_sql.specs.declared.fault.ReadFault.{ReadFault}
 use Rattle.store_sql.specs.declared.fault.ReadFault.TheVariants.{Mistyped, Store, Memory}
@@ -19,6 +20,23 @@ pub record IsReadAs (table : Table) (width : ℕ) (rows : List Row) (old new : S
   pub once : IsPermutation (map (cells table) (old.now.trees table.tree)) rows
   pub apart : AreApart (old.now.trees table.tree)
   pub sorted : IsSorted (by_columns width) rows
+  pub same : IsUnchanged old new
+
+-- The table has rowids of its own for this many rows, and the connection is as it was.
+pub record AreCounted (tree count : ℕ) (old new : State) : Type 0 where
+  pub apart : AreApart (old.now.trees tree)
+  pub number : count ≡ length (old.now.trees tree)
+  pub same : IsUnchanged old new
+
+-- those of the rows that begin with this number
+abbrev pub beginning_with : ℤ → List Row → List Row
+beginning_with n rows = filter (λ x. same_key (0 ∷ []) x (Int n ∷ [])) rows
+
+-- These are the rows of the table that begin with this number, each of them once, in the order of the rest of its key, and
+-- the connection is as it was.
+pub record AreReadOf (table : Table) (width : ℕ) (n : ℤ) (rows : List Row) (old new : State) : Type 0 where
+  pub once : IsPermutation (beginning_with n (map (cells table) (old.now.trees table.tree))) rows
+  pub sorted : IsSorted (by_others width) rows
   pub same : IsUnchanged old new
 
 -- A call failed, memory was refused, or some row of the table has not the types of its columns.

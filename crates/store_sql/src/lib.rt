@@ -17,7 +17,9 @@ pub use keys::{
     SeenPosition, find,
 };
 pub use make::create_tables;
-pub use read::{count, find_by_first, list, read_all, show_all};
+pub use read::{
+    check_columns, check_rowids, count, find_by_first, list, read_all, read_by_first, show_all,
+};
 pub use reopen::holds_exactly;
 pub use texts::Select;
 pub use upsert::{Put, put_all};

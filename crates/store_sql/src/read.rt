@@ -2,7 +2,7 @@
 
 ghost use Rattle.std.specs.Prelude.{◌≡◌, ◌⊎◌, IsTrue, IfOk, IfErr, OnOk, All, [], ◌∷◌, map, length};
 ghost use Rattle.std.specs.List.Sorted.{IsSorted};
-ghost use Rattle.sqlite.specs.State.{HasCleanDisk};
+ghost use Rattle.sqlite.specs.State.{HasCleanDisk, IsUnchanged};
 ghost use Rattle.sqlite.specs.Held.{state};
 ghost use Rattle.sqlite.specs.declared.types.Value.TheVariants.{Int};
 ghost use Rattle.store_tables.specs.Contents.{AreThose};
@@ -10,7 +10,7 @@ ghost use Rattle.store_tables.specs.Club.{IsExactly};
 ghost use Rattle.store_tables.specs.Queries.{by_others};
 ghost use Rattle.store_tables.specs.Reading.{AreIds, by_columns, IsNoInput, OnlyReads, Tells, TellsIds};
 ghost use Rattle.store_tables.specs.Tables.{club_schema};
-ghost use Rattle.store_sql.specs.Read.{IsReadAs, Blames, BeginWithPlaces, KeepsContent};
+ghost use Rattle.store_sql.specs.Read.{AreCounted, AreReadOf, IsReadAs, Blames, BeginWithPlaces, KeepsContent};
 
 use crate::fault::{CallFault, ReadFault, is_refused};
 use crate::texts::Select;
@@ -40,6 +40,9 @@ fn show_ids<T: Select, S: Alter>(conn: &mut Connection<S>) -> Result<Vec<Row>, E
         TellsIds T.table.tree rows.items (state S.Store conn.old) (state S.Store conn.new)) }
     ensures known { HasCleanDisk (state S.Store conn.new) → IfErr result (λ e.
         (state S.Store conn.old).now.schema ≡ club_schema → IsNoInput e) }
+    ensures number { HasCleanDisk (state S.Store conn.new) → IfOk result (λ rows.
+        (state S.Store conn.old).now.schema ≡ club_schema →
+        length rows.items ≡ length ((state S.Store conn.old).now.trees T.table.tree)) }
     ensures count { HasCleanDisk (state S.Store conn.new) → IfOk result (λ rows. IsTrue T.has_id → (content : _) →
         IsExactly content (state S.Store conn.old) →
         BeginWithPlaces (content T.table.tree) → length rows.items ≡ length (content T.table.tree)) }
@@ -58,6 +61,11 @@ fn show_by_first<T: Select, S: Alter>(
     ensures rows { HasCleanDisk (state S.Store conn.new) → IfOk result (λ rows. (content : _) → IsExactly content
         (state S.Store conn.old) →
         AreThose (0 ∷ []) (Int first.now ∷ []) (content T.table.tree) rows.items × IsSorted (by_others T.width) rows.items) }
+    ensures told { HasCleanDisk (state S.Store conn.new) → IfOk result (λ rows.
+        (state S.Store conn.old).now.schema ≡ club_schema →
+        AreReadOf T.table T.width first.now rows.items (state S.Store conn.old) (state S.Store conn.new)) }
+    ensures known { HasCleanDisk (state S.Store conn.new) → IfErr result (λ e.
+        (state S.Store conn.old).now.schema ≡ club_schema → IsNoInput e) }
     ensures kept { HasCleanDisk (state S.Store conn.new) → OnOk result (KeepsContent (state S.Store conn.old)
         (state S.Store conn.new)) }
 {
@@ -120,6 +128,44 @@ fn identified(alloc: Global, shown: &[Row]) -> Result<(), ReadFault>
     }
 }
 
+/// Tests the rowids of a table, and tells how many rows it has: of a database that is looked at for the first time.
+pub fn check_rowids<T: Select, S: Alter>(
+    alloc: Global,
+    conn: &mut Connection<S>,
+) -> Result<usize, ReadFault>
+    ensures reads { OnlyReads (state S.Store conn.old) (state S.Store conn.new) }
+    ensures counted { HasCleanDisk (state S.Store conn.new) → IfOk result (λ count.
+        (state S.Store conn.old).now.schema ≡ club_schema →
+        AreCounted T.table.tree count (state S.Store conn.old) (state S.Store conn.new)) }
+    ensures blames { HasCleanDisk (state S.Store conn.new) → IfErr result (λ e.
+        (state S.Store conn.old).now.schema ≡ club_schema →
+        Blames T.table T.IsTyped (state S.Store conn.old) e) }
+{
+    let ids = match show_ids::<T, S>(conn) {
+        Ok(ids) => ids,
+        Err(error) => return Err(failed(error)),
+    };
+    match identified(alloc, &ids) {
+        Ok(()) => Ok(ids.len()),
+        Err(fault) => Err(fault),
+    }
+}
+
+/// Tests that a table stands with all of its columns, whatever its rows: of a database that is looked at for the first time.
+pub fn check_columns<T: Select, S: Alter>(conn: &mut Connection<S>) -> Result<(), ReadFault>
+    ensures reads { OnlyReads (state S.Store conn.old) (state S.Store conn.new) }
+    ensures same { HasCleanDisk (state S.Store conn.new) → OnOk result (
+        (state S.Store conn.old).now.schema ≡ club_schema →
+        IsUnchanged (state S.Store conn.old) (state S.Store conn.new)) }
+    ensures blames { HasCleanDisk (state S.Store conn.new) → IfErr result (λ e.
+        (state S.Store conn.old).now.schema ≡ club_schema → e ≡ ReadFault.Store) }
+{
+    match show_by_first::<T, S>(conn, &0) {
+        Ok(_) => Ok(()),
+        Err(error) => Err(failed(error)),
+    }
+}
+
 /// All rows of a table, in the order of its key, with its rowids tested: of a database that is looked at for the first time.
 pub fn read_all<T: Select, S: Alter>(
     alloc: Global,
@@ -133,18 +179,37 @@ pub fn read_all<T: Select, S: Alter>(
         (state S.Store conn.old).now.schema ≡ club_schema →
         Blames T.table T.IsTyped (state S.Store conn.old) e) }
 {
-    let ids = match show_ids::<T, S>(conn) {
-        Ok(ids) => ids,
-        Err(error) => return Err(failed(error)),
-    };
+    match check_rowids::<T, S>(alloc, conn) {
+        Ok(_) => {}
+        Err(fault) => return Err(fault),
+    }
     let shown = match show_all::<T, S>(conn) {
         Ok(shown) => shown,
         Err(error) => return Err(failed(error)),
     };
-    match identified(alloc, &ids) {
-        Ok(()) => typed(alloc, &shown),
-        Err(fault) => Err(fault),
-    }
+    typed(alloc, &shown)
+}
+
+/// The rows of a table whose first column is a given number, in the order of the rest of their key: of a database that is
+/// looked at for the first time.
+pub fn read_by_first<T: Select, S: Alter>(
+    alloc: Global,
+    conn: &mut Connection<S>,
+    first: &i64,
+) -> Result<Vec<T>, ReadFault>
+    ensures reads { OnlyReads (state S.Store conn.old) (state S.Store conn.new) }
+    ensures rows { HasCleanDisk (state S.Store conn.new) → IfOk result (λ found.
+        (state S.Store conn.old).now.schema ≡ club_schema →
+        AreReadOf T.table T.width first.now (map T.cells found.items) (state S.Store conn.old) (state S.Store conn.new)) }
+    ensures blames { HasCleanDisk (state S.Store conn.new) → IfErr result (λ e.
+        (state S.Store conn.old).now.schema ≡ club_schema →
+        Blames T.table T.IsTyped (state S.Store conn.old) e) }
+{
+    let shown = match show_by_first::<T, S>(conn, first) {
+        Ok(shown) => shown,
+        Err(error) => return Err(failed(error)),
+    };
+    typed(alloc, &shown)
 }
 
 /// All rows of a table, in the order of its key.

@@ -123,17 +123,15 @@ pub struct ScoreRow {
     pub losses: i64,
 }
 
-/// All rows of a club, those of each table in the order of its key.
+/// The rows of a club but for the moves, the positions and the scores of its games: those of each table in the order of
+/// its key.
 #[derive(Debug, PartialEq, Drop)]
 pub struct Rows {
     pub meta: MetaRow,
     pub members: Vec<MemberRow>,
     pub events: Vec<EventRow>,
     pub challenges: Vec<ChallengeRow>,
-    pub moves: Vec<MoveRow>,
     pub games: Vec<GameRecord>,
-    pub seen: Vec<SeenRow>,
-    pub scores: Vec<ScoreRow>,
 }
 
 /// Rows to put, each in place of the row of its table with its key.

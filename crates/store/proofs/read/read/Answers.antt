@@ -1,5 +1,4 @@
 use Rattle.sqlite.specs.Held.{state}
-use Rattle.std.proofs.Common.{rules}
 use Rattle.store.proofs.BlameLemmas.{blames_told}
 use Rattle.store.proofs.read.read.Goals as goal
 

@@ -7,12 +7,12 @@ use Rattle.store_tables.specs.Tables.{club_schema}
 use Rattle.store_sql.proofs.SelectLemmas.{blame_types}
 use Rattle.store_sql.proofs.read.read_all.Goals as goal
 
-pub returns-in-Ok-identified-clause-blames : goal.returns-in-Ok-identified-clause-blames
-returns-in-Ok-identified-clause-blames g c clean =
+pub returns-clause-blames : goal.returns-clause-blames
+returns-clause-blames g c clean =
     let old = state g.S.Store c.args.conn.now in
-    let mid = state g.S.Store c.show_ids.new.conn in
+    let mid = state g.S.Store c.check_rowids.new.conn in
     let early : HasCleanDisk mid = omega (arith, c.show_all.ensures.reads.clean) in
     IfErr-weaker c.typed.result _ _ (λ e faults has.
-    let same : mid.now ≡ old.now = (c.in-Ok.ensures.ids early has).same.0.now_is in
+    let same : mid.now ≡ old.now = (c.in-Ok.ensures.counted early has).same.0.now_is in
     let still : mid.now.schema ≡ club_schema = ap (λ (d : Database). d.schema) same ∙ has in
     blame_types g.T.Select.table g.T.TableRow.IsTyped old mid _ c.in-Ok-show_all.shown.items e (search rules) same (c.in-Ok-show_all.ensures.rows clean still).keeps faults) c.typed.ensures.blames

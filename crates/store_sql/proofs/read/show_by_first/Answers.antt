@@ -7,6 +7,7 @@ use Rattle.store_tables.specs.Queries.{IsSelect}
 use Rattle.store_tables.specs.Tables.{club_schema}
 use Rattle.store_tables.specs.Reading.{OnlyReads}
 use Rattle.store_tables.proofs.Laws.{only_reads}
+use Rattle.store_sql.proofs.GroupLemmas.{group_told, group_known, ids_number}
 use Rattle.store_sql.proofs.SelectLemmas.{all_told, all_known, ids_told, ids_known, some_found, counted, select_keeps}
 use Rattle.store_sql.proofs.read.show_by_first.Goals as goal
 
@@ -28,3 +29,13 @@ pub returns-clause-rows : goal.returns-clause-rows
 returns-clause-rows g c clean =
     let text : c.by_first.result.now ≡ g.T.Select.by_first_text = search rules in
     IfOk-weaker c.query_all.result _ _ (λ rows shown content k. some_found club_schema g.T.Select.table g.T.Select.width g.T.Select.all_text g.T.Select.ids_text g.T.Select.by_first_text g.met.T.Select.read c.by_first.result.now _ (state g.S.Store c.args.conn.now) (state g.S.Store c.query_all.new.self) text c.args.first.now (search rules) c.query_all.ensures.survives clean rows.items shown content k) (c.query_all.ensures.ok clean)
+
+pub returns-clause-told : goal.returns-clause-told
+returns-clause-told g c clean =
+    let text : c.by_first.result.now ≡ g.T.Select.by_first_text = search rules in
+    IfOk-weaker c.query_all.result _ _ (λ rows shown has. group_told club_schema g.T.Select.table g.T.Select.width g.T.Select.all_text g.T.Select.ids_text g.T.Select.by_first_text g.met.T.Select.read c.by_first.result.now _ (state g.S.Store c.args.conn.now) (state g.S.Store c.query_all.new.self) text c.args.first.now (search rules) rows.items shown has) (c.query_all.ensures.ok clean)
+
+pub returns-clause-known : goal.returns-clause-known
+returns-clause-known g c clean =
+    let text : c.by_first.result.now ≡ g.T.Select.by_first_text = search rules in
+    IfErr-weaker c.query_all.result _ _ (λ e failed has. group_known club_schema g.T.Select.table g.T.Select.width g.T.Select.all_text g.T.Select.ids_text g.T.Select.by_first_text g.met.T.Select.read c.by_first.result.now _ (state g.S.Store c.args.conn.now) (state g.S.Store c.query_all.new.self) text c.args.first.now (search rules) e failed has) (c.query_all.ensures.err clean)

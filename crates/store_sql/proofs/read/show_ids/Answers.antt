@@ -7,6 +7,7 @@ use Rattle.store_tables.specs.Queries.{IsSelect}
 use Rattle.store_tables.specs.Tables.{club_schema}
 use Rattle.store_tables.specs.Reading.{OnlyReads}
 use Rattle.store_tables.proofs.Laws.{only_reads}
+use Rattle.store_sql.proofs.GroupLemmas.{group_told, group_known, ids_number}
 use Rattle.store_sql.proofs.SelectLemmas.{all_told, all_known, ids_told, ids_known, some_found, counted, select_keeps}
 use Rattle.store_sql.proofs.read.show_ids.Goals as goal
 
@@ -38,3 +39,8 @@ pub returns-clause-count : goal.returns-clause-count
 returns-clause-count g c clean =
     let text : c.ids.result.now ≡ g.T.Select.ids_text = search rules in
     IfOk-weaker c.query_all.result _ _ (λ rows shown id content k places. counted club_schema g.T.Select.table g.T.Select.width g.T.Select.all_text g.T.Select.ids_text g.T.Select.by_first_text g.met.T.Select.read c.ids.result.now [] (state g.S.Store c.args.conn.now) (state g.S.Store c.query_all.new.self) text refl (g.met.T.Select.numbered id).1 rows.items shown content k places) (c.query_all.ensures.ok clean)
+
+pub returns-clause-number : goal.returns-clause-number
+returns-clause-number g c clean =
+    let text : c.ids.result.now ≡ g.T.Select.ids_text = search rules in
+    IfOk-weaker c.query_all.result _ _ (λ rows shown has. ids_number club_schema g.T.Select.table g.T.Select.width g.T.Select.all_text g.T.Select.ids_text g.T.Select.by_first_text g.met.T.Select.read c.ids.result.now [] (state g.S.Store c.args.conn.now) (state g.S.Store c.query_all.new.self) text refl rows.items shown has) (c.query_all.ensures.ok clean)
