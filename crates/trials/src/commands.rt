@@ -2,92 +2,13 @@
 
 ghost use Rattle.std.specs.Prelude.{◌≡◌, false};
 
+use crate::scripts::{request, told};
 use crate::tables::{Tables, stored};
-use clocks::Moment;
-use club_core::{AddEvent, AddMember, Command, GameCommand, OnGame, Outcome, Seat, Who};
-use club_rules::GameKind;
 use sqlite::{Connection, MemStore};
 use std::alloc::Global;
 use std::process::Abort;
 use std::test::Fail;
 use store::{Club, adopt, create};
-
-fn text(alloc: Global, letters: &str) -> Result<String, Fail> {
-    Ok(String::from_str(alloc, letters)?)
-}
-
-/// Who gives a command: the officer, or one who shows this key.
-#[derive(Clone, Copy)]
-pub(crate) enum By<'a> {
-    Officer,
-    Key(&'a str),
-}
-
-/// A command, by its values.
-#[derive(Clone, Copy)]
-pub(crate) enum Given<'a> {
-    Member(&'a str, &'a str),
-    Event(&'a str, GameKind, u64, u64),
-    Seat(&'a str, &'a str, &'a str, &'a str),
-    Move(u64, u64, &'a str),
-    OfferDraw(u64, u64),
-    AcceptDraw(u64, u64),
-    Resign(u64),
-    ClaimTime(u64),
-}
-
-fn on_game(game: u64, command: GameCommand) -> Command {
-    Command::OnGame(OnGame { game, command })
-}
-
-impl By<'_> {
-    pub(crate) fn who(self, alloc: Global) -> Result<Who, Fail> {
-        Ok(match self {
-            By::Officer => Who::Officer,
-            By::Key(key) => Who::Key(text(alloc, key)?),
-        })
-    }
-}
-
-impl Given<'_> {
-    pub(crate) fn command(self, alloc: Global) -> Result<Command, Fail> {
-        Ok(match self {
-            Given::Member(name, key) => Command::AddMember(AddMember {
-                name: text(alloc, name)?,
-                key: text(alloc, key)?,
-            }),
-            Given::Event(name, game, budget, increment) => Command::AddEvent(AddEvent {
-                name: text(alloc, name)?,
-                game,
-                budget,
-                increment,
-            }),
-            Given::Seat(key, event, first, second) => Command::Seat(Seat {
-                key: text(alloc, key)?,
-                event: text(alloc, event)?,
-                first: text(alloc, first)?,
-                second: text(alloc, second)?,
-            }),
-            Given::Move(game, ply, letters) => {
-                let text = text(alloc, letters)?;
-                on_game(game, GameCommand::Move { ply, text })
-            }
-            Given::OfferDraw(game, ply) => on_game(game, GameCommand::OfferDraw { ply }),
-            Given::AcceptDraw(game, ply) => on_game(game, GameCommand::AcceptDraw { ply }),
-            Given::Resign(game) => on_game(game, GameCommand::Resign),
-            Given::ClaimTime(game) => on_game(game, GameCommand::ClaimTime),
-        })
-    }
-}
-
-// The outcome in a word, a refusal with its number and name.
-fn told(alloc: Global, outcome: &Outcome) -> Result<String, Fail> {
-    Ok(match outcome {
-        Outcome::Accepted(_) => text(alloc, "accepted")?,
-        Outcome::Repeated(_) => text(alloc, "repeated")?,
-        Outcome::Refused(refusal) => format!(in alloc; "{refusal}")?,
-    })
-}
 
 fn adopted(alloc: Global, conn: Connection<MemStore>) -> Result<Club<MemStore>, Fail>
     requires { conn.in_transaction ≡ false }
@@ -107,21 +28,18 @@ fn reopened(alloc: Global, club: Club<MemStore>) -> Result<(Club<MemStore>, Tabl
     Ok((adopted(alloc, conn)?, before, after))
 }
 
-// Gives the command at the moment, which must come to that.
+// Gives the request of the line, which must come to what stands after `=`.
 pub(crate) fn give<R: Abort + AllocGlobal>(
     rt: &R,
     club: Club<MemStore>,
-    seconds: u64,
-    by: By<'_>,
-    given: Given<'_>,
-    wanted: &str,
+    line: &str,
 ) -> Result<Club<MemStore>, Fail> {
     let alloc = rt.alloc();
-    let who = by.who(alloc)?;
-    let moment = Moment::new(seconds).ok_or("a moment")?;
+    let (asked, wanted) = line.split_once('=').ok_or("an outcome")?;
+    let asked = request(alloc, asked)?;
     let mut club = club;
-    let outcome = club.apply(alloc, &who, &given.command(alloc)?, moment)?;
-    assert!(rt; told(alloc, &outcome)?.as_str() == wanted);
+    let outcome = club.apply(alloc, &asked.who, &asked.command, asked.moment)?;
+    assert!(rt; told(alloc, &outcome)?.as_str() == wanted.trim(), "{line}");
     Ok(club)
 }
 
@@ -132,29 +50,29 @@ fn stays<R: Abort + AllocGlobal>(rt: &R, club: Club<MemStore>) -> Result<Club<Me
     Ok(club)
 }
 
-// Serves the commands in turn, each to a club that was just taken.
+// Serves the lines in turn, each to a club that was just taken.
 fn serve_all<R: Abort + AllocGlobal>(
     rt: &R,
     club: Club<MemStore>,
-    script: &[(u64, By<'_>, Given<'_>, &str)],
+    script: &str,
 ) -> Result<Club<MemStore>, Fail> {
     let mut club = club;
-    for (seconds, by, given, wanted) in script {
-        club = give(rt, club, *seconds, *by, *given, wanted)?;
+    for line in script.lines() {
+        club = give(rt, club, line)?;
         club = stays(rt, club)?;
     }
     Ok(club)
 }
 
-/// Serves the commands in turn to one club, which is then given up and taken again.
+/// Serves the lines in turn to one club, which is then given up and taken again.
 pub(crate) fn serve_at_once<R: Abort + AllocGlobal>(
     rt: &R,
     club: Club<MemStore>,
-    script: &[(u64, By<'_>, Given<'_>, &str)],
+    script: &str,
 ) -> Result<Club<MemStore>, Fail> {
     let mut club = club;
-    for (seconds, by, given, wanted) in script {
-        club = give(rt, club, *seconds, *by, *given, wanted)?;
+    for line in script.lines() {
+        club = give(rt, club, line)?;
     }
     stays(rt, club)
 }
@@ -166,223 +84,86 @@ pub(crate) fn opened(alloc: Global) -> Result<Club<MemStore>, Fail> {
     }
 }
 
-/// A club with a game of this kind, of a day for each player, after these moves, which are legal.
+/// A club with a game, named so, of a day for each player, after these moves, which are legal.
 pub(crate) fn played<R: Abort + AllocGlobal>(
     rt: &R,
-    game: GameKind,
+    game: &str,
     moves: &str,
 ) -> Result<Club<MemStore>, Fail> {
-    let mut club = serve_at_once(
-        rt,
-        opened(rt.alloc())?,
-        &[
-            (
-                900,
-                By::Officer,
-                Given::Member("anna", "keyanna1"),
-                "accepted",
-            ),
-            (
-                900,
-                By::Officer,
-                Given::Member("bert", "keybert2"),
-                "accepted",
-            ),
-            (
-                900,
-                By::Officer,
-                Given::Event("autumn", game, 86_400, 0),
-                "accepted",
-            ),
-            (
-                900,
-                By::Officer,
-                Given::Seat("g1", "autumn", "anna", "bert"),
-                "accepted",
-            ),
-        ],
+    let alloc = rt.alloc();
+    let seated = format!(in alloc;
+        "900 officer member anna keyanna1 = accepted\n\
+        900 officer member bert keybert2 = accepted\n\
+        900 officer event autumn {game} 86400 0 = accepted\n\
+        900 officer seat g1 autumn anna bert = accepted"
     )?;
+    let mut club = serve_at_once(rt, opened(alloc)?, seated.as_str())?;
     let mut ply = 0_u64;
     for text in moves.split_whitespace() {
         ply = ply.saturating_add(1);
-        club = give(
-            rt,
-            club,
-            1000,
-            By::Officer,
-            Given::Move(1, ply, text),
-            "accepted",
-        )?;
+        let line = format!(in alloc; "1000 officer move 1 {ply} {text} = accepted")?;
+        club = give(rt, club, line.as_str())?;
     }
     Ok(club)
 }
 
-const ANNA: By<'static> = By::Key("keyanna1");
-
-const BERT: By<'static> = By::Key("keybert2");
+const PEOPLE_AND_EVENTS: &str = "900 keyanna1 member anna keyanna1 = 50 UnknownKey
+900 officer member anna keyanna1 = accepted
+900 officer member anna keyanna1 = repeated
+900 officer member anna keyanna9 = 64 NameTaken
+900 officer member bert keyanna1 = 64 NameTaken
+900 officer member bert short = 65 BadValue
+900 officer member '' keybert2 = 65 BadValue
+900 keyanna1 member bert keybert2 = 51 NotAllowed
+900 officer member bert keybert2 = accepted
+900 officer event autumn draughts 0 5 = 65 BadValue
+900 officer event autumn draughts 60 2592001 = 65 BadValue
+900 officer event x+y draughts 60 5 = 65 BadValue
+900 officer event autumn draughts 60 5 = accepted
+900 officer event autumn draughts 60 5 = repeated
+900 officer event autumn draughts 61 5 = 64 NameTaken
+900 keybert2 event spring draughts 60 5 = 51 NotAllowed";
 
 // Who may do what, and values that are none.
 #[test]
 fn people_and_events(rt: HostRuntime) -> Result<(), Fail> {
-    let officer = By::Officer;
-    let club = serve_all(
-        &rt,
-        opened(rt.alloc())?,
-        &[
-            (
-                900,
-                ANNA,
-                Given::Member("anna", "keyanna1"),
-                "50 UnknownKey",
-            ),
-            (900, officer, Given::Member("anna", "keyanna1"), "accepted"),
-            (900, officer, Given::Member("anna", "keyanna1"), "repeated"),
-            (
-                900,
-                officer,
-                Given::Member("anna", "keyanna9"),
-                "64 NameTaken",
-            ),
-            (
-                900,
-                officer,
-                Given::Member("bert", "keyanna1"),
-                "64 NameTaken",
-            ),
-            (900, officer, Given::Member("bert", "short"), "65 BadValue"),
-            (900, officer, Given::Member("", "keybert2"), "65 BadValue"),
-            (
-                900,
-                ANNA,
-                Given::Member("bert", "keybert2"),
-                "51 NotAllowed",
-            ),
-            (900, officer, Given::Member("bert", "keybert2"), "accepted"),
-            (
-                900,
-                officer,
-                Given::Event("autumn", GameKind::Draughts, 0, 5),
-                "65 BadValue",
-            ),
-            (
-                900,
-                officer,
-                Given::Event("autumn", GameKind::Draughts, 60, 2_592_001),
-                "65 BadValue",
-            ),
-            (
-                900,
-                officer,
-                Given::Event("x y", GameKind::Draughts, 60, 5),
-                "65 BadValue",
-            ),
-            (
-                900,
-                officer,
-                Given::Event("autumn", GameKind::Draughts, 60, 5),
-                "accepted",
-            ),
-            (
-                900,
-                officer,
-                Given::Event("autumn", GameKind::Draughts, 60, 5),
-                "repeated",
-            ),
-            (
-                900,
-                officer,
-                Given::Event("autumn", GameKind::Draughts, 61, 5),
-                "64 NameTaken",
-            ),
-            (
-                900,
-                BERT,
-                Given::Event("spring", GameKind::Draughts, 60, 5),
-                "51 NotAllowed",
-            ),
-        ],
-    )?;
+    let club = serve_all(&rt, opened(rt.alloc())?, PEOPLE_AND_EVENTS)?;
     let _conn = club.into_connection();
     Ok(())
 }
 
+const A_GAME: &str = "900 officer member anna keyanna1 = accepted
+900 officer member bert keybert2 = accepted
+900 officer member cara keycara3 = accepted
+900 officer event autumn draughts 60 5 = accepted
+900 officer seat g1 winter anna bert = 52 UnknownEvent
+900 officer seat g1 autumn anna anna = 65 BadValue
+900 officer seat g1 autumn anna dora = 65 BadValue
+900 officer move 1 1 32-28 = 53 UnknownGame
+1000 officer seat g1 autumn anna bert = accepted
+1001 officer seat g1 autumn anna bert = repeated
+1001 officer seat g1 autumn bert anna = 58 Conflict
+1060 keycara3 move 1 1 32-28 = 55 NotAPlayer
+1060 keyanna1 move 1 0 32-28 = 57 WrongPly
+1060 keyanna1 move 1 2 32-28 = 57 WrongPly
+1060 keybert2 move 1 1 32-28 = 59 NotYourTurn
+1060 keyanna1 move 1 1 32-27x = 20 BadText 5
+1060 keyanna1 move 1 1 32-37 = 10 NoSuchMove
+1061 keyanna1 move 1 1 32-28 = 60 OutOfTime
+1060 keyanna1 move 1 1 32-28 = accepted
+2000 keyanna1 move 1 1 032-028 = repeated
+2000 officer move 1 1 32-28 = repeated
+2000 keyanna1 move 1 1 33-28 = 58 Conflict
+2000 keybert2 move 1 1 32-28 = 58 Conflict
+1121 keybert2 move 1 2 19-23 = 60 OutOfTime
+1120 keybert2 move 1 2 19-23 = accepted
+1125 keyanna1 move 1 3 33-29 = 11 MustCapture
+1126 keyanna1 move 1 3 33-29 = 60 OutOfTime";
+
 // A game between two members: who moves, in which order, in what time.
 #[test]
 fn a_game_and_its_moves(rt: HostRuntime) -> Result<(), Fail> {
-    let officer = By::Officer;
-    let club = serve_all(
-        &rt,
-        opened(rt.alloc())?,
-        &[
-            (900, officer, Given::Member("anna", "keyanna1"), "accepted"),
-            (900, officer, Given::Member("bert", "keybert2"), "accepted"),
-            (900, officer, Given::Member("cara", "keycara3"), "accepted"),
-            (
-                900,
-                officer,
-                Given::Event("autumn", GameKind::Draughts, 60, 5),
-                "accepted",
-            ),
-            (
-                900,
-                officer,
-                Given::Seat("g1", "winter", "anna", "bert"),
-                "52 UnknownEvent",
-            ),
-            (
-                900,
-                officer,
-                Given::Seat("g1", "autumn", "anna", "anna"),
-                "65 BadValue",
-            ),
-            (
-                900,
-                officer,
-                Given::Seat("g1", "autumn", "anna", "dora"),
-                "65 BadValue",
-            ),
-            (900, officer, Given::Move(1, 1, "32-28"), "53 UnknownGame"),
-            (
-                1000,
-                officer,
-                Given::Seat("g1", "autumn", "anna", "bert"),
-                "accepted",
-            ),
-            (
-                1001,
-                officer,
-                Given::Seat("g1", "autumn", "anna", "bert"),
-                "repeated",
-            ),
-            (
-                1001,
-                officer,
-                Given::Seat("g1", "autumn", "bert", "anna"),
-                "58 Conflict",
-            ),
-            (
-                1060,
-                By::Key("keycara3"),
-                Given::Move(1, 1, "32-28"),
-                "55 NotAPlayer",
-            ),
-            (1060, ANNA, Given::Move(1, 0, "32-28"), "57 WrongPly"),
-            (1060, ANNA, Given::Move(1, 2, "32-28"), "57 WrongPly"),
-            (1060, BERT, Given::Move(1, 1, "32-28"), "59 NotYourTurn"),
-            (1060, ANNA, Given::Move(1, 1, "32-27x"), "20 BadText 5"),
-            (1060, ANNA, Given::Move(1, 1, "32-37"), "10 NoSuchMove"),
-            (1061, ANNA, Given::Move(1, 1, "32-28"), "60 OutOfTime"),
-            (1060, ANNA, Given::Move(1, 1, "32-28"), "accepted"),
-            (2000, ANNA, Given::Move(1, 1, "032-028"), "repeated"),
-            (2000, officer, Given::Move(1, 1, "32-28"), "repeated"),
-            (2000, ANNA, Given::Move(1, 1, "33-28"), "58 Conflict"),
-            (2000, BERT, Given::Move(1, 1, "32-28"), "58 Conflict"),
-            (1121, BERT, Given::Move(1, 2, "19-23"), "60 OutOfTime"),
-            (1120, BERT, Given::Move(1, 2, "19-23"), "accepted"),
-            (1125, ANNA, Given::Move(1, 3, "33-29"), "11 MustCapture"),
-            (1126, ANNA, Given::Move(1, 3, "33-29"), "60 OutOfTime"),
-        ],
-    )?;
+    let club = serve_all(&rt, opened(rt.alloc())?, A_GAME)?;
     let _conn = club.into_connection();
     Ok(())
 }

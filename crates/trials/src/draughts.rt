@@ -1,122 +1,54 @@
 //! Games of draughts with captures, each move with what it must come to. What is legal where, and how it is written, was
 //! worked out apart from these crates, by the rules.
 
-use crate::commands::{By, Given, played, serve_at_once};
-use club_rules::GameKind;
+use crate::commands::{played, serve_at_once};
+use crate::tables::lines_of;
 use std::test::Fail;
+
+const CAPTURES: &str = "1000 officer move 1 10 0013-19 = 20 BadText 1
+1000 officer move 1 10 023-28 = accepted
+1000 officer move 1 11 31-26 = 11 MustCapture
+1000 officer move 1 11 22x31 = 10 NoSuchMove
+1000 officer move 1 11 032x23 = accepted
+1000 officer move 1 11 32:23 = repeated
+1000 officer move 1 11 22x33 = 58 Conflict";
 
 // A capture is compulsory; of two captures of one piece each either may be played.
 #[test]
 fn captures_are_compulsory(rt: HostRuntime) -> Result<(), Fail> {
     let moves = "34-30 19-23 31-27 20-25 40-34 17-22 37-31 22-28 33x22";
-    let club = serve_at_once(
-        &rt,
-        played(&rt, GameKind::Draughts, moves)?,
-        &[
-            (
-                1000,
-                By::Officer,
-                Given::Move(1, 10, "0013-19"),
-                "20 BadText 1",
-            ),
-            (1000, By::Officer, Given::Move(1, 10, "023-28"), "accepted"),
-            (
-                1000,
-                By::Officer,
-                Given::Move(1, 11, "31-26"),
-                "11 MustCapture",
-            ),
-            (
-                1000,
-                By::Officer,
-                Given::Move(1, 11, "22x31"),
-                "10 NoSuchMove",
-            ),
-            (1000, By::Officer, Given::Move(1, 11, "032x23"), "accepted"),
-            (1000, By::Officer, Given::Move(1, 11, "32:23"), "repeated"),
-            (
-                1000,
-                By::Officer,
-                Given::Move(1, 11, "22x33"),
-                "58 Conflict",
-            ),
-        ],
-    )?;
+    let club = serve_at_once(&rt, played(&rt, "draughts", moves)?, CAPTURES)?;
     let _conn = club.into_connection();
     Ok(())
 }
 
+const LONGEST: &str = "1000 officer move 1 4 21x32 = 12 NotLongest
+1000 officer move 1 4 18-23 = 11 MustCapture
+1000 officer move 1 4 21x31 = 10 NoSuchMove
+1000 officer move 1 4 21x32x23 = accepted";
+
 // A capture of one piece is refused where two can be taken; a text may name the squares on the way.
 #[test]
 fn the_longest_capture_is_played(rt: HostRuntime) -> Result<(), Fail> {
-    let club = serve_at_once(
-        &rt,
-        played(&rt, GameKind::Draughts, "32-28 17-21 31-27")?,
-        &[
-            (
-                1000,
-                By::Officer,
-                Given::Move(1, 4, "21x32"),
-                "12 NotLongest",
-            ),
-            (
-                1000,
-                By::Officer,
-                Given::Move(1, 4, "18-23"),
-                "11 MustCapture",
-            ),
-            (
-                1000,
-                By::Officer,
-                Given::Move(1, 4, "21x31"),
-                "10 NoSuchMove",
-            ),
-            (1000, By::Officer, Given::Move(1, 4, "21x32x23"), "accepted"),
-        ],
-    )?;
-    let mut conn = club.into_connection();
-    let text: String = conn
-        .query_row("SELECT text FROM moves WHERE ply = 4", &[])?
-        .get(0)?;
-    assert!(rt; text.as_str() == "21x23");
+    let club = serve_at_once(&rt, played(&rt, "draughts", "32-28 17-21 31-27")?, LONGEST)?;
+    let found = lines_of(rt.alloc(), club, "SELECT text FROM moves WHERE ply = 4")?;
+    assert!(rt; found.as_str() == "21x23;");
     Ok(())
 }
 
 const AMBIGUOUS: &str =
     "34-29 19-24 32-27 14-19 38-32 9-14 39-34 17-21 43-38 12-17 48-43 3-9 44-39 21-26 27-22 17x28 32x3 19-23 29x18 13x22 34-30 24-29 33x24 20x29 39-34 14-19";
 
+const TWO_WAYS: &str = "1000 officer move 1 27 3x17 = 21 Ambiguous 27
+1000 officer move 1 27 3x14x28x17 = accepted
+1000 officer move 1 27 3x20x33x17 = 58 Conflict";
+
 // A king on 3 comes to 17 by two captures of as many pieces.
 #[test]
 fn a_short_text_may_be_ambiguous(rt: HostRuntime) -> Result<(), Fail> {
-    let club = serve_at_once(
-        &rt,
-        played(&rt, GameKind::Draughts, AMBIGUOUS)?,
-        &[
-            (
-                1000,
-                By::Officer,
-                Given::Move(1, 27, "3x17"),
-                "21 Ambiguous 27",
-            ),
-            (
-                1000,
-                By::Officer,
-                Given::Move(1, 27, "3x14x28x17"),
-                "accepted",
-            ),
-            (
-                1000,
-                By::Officer,
-                Given::Move(1, 27, "3x20x33x17"),
-                "58 Conflict",
-            ),
-        ],
-    )?;
-    let mut conn = club.into_connection();
-    let text: String = conn
-        .query_row("SELECT text FROM moves WHERE ply = 27", &[])?
-        .get(0)?;
-    assert!(rt; text.as_str() == "3x14x28x17");
+    let club = serve_at_once(&rt, played(&rt, "draughts", AMBIGUOUS)?, TWO_WAYS)?;
+    let found = lines_of(rt.alloc(), club, "SELECT text FROM moves WHERE ply = 27")?;
+    assert!(rt; found.as_str() == "3x14x28x17;");
     Ok(())
 }
 
@@ -128,21 +60,14 @@ const REPETITION: &str =
 fn a_repetition_ends_a_game(rt: HostRuntime) -> Result<(), Fail> {
     let club = serve_at_once(
         &rt,
-        played(&rt, GameKind::Draughts, REPETITION)?,
-        &[(
-            1000,
-            By::Officer,
-            Given::Move(1, 41, "23-12"),
-            "56 GameOver",
-        )],
+        played(&rt, "draughts", REPETITION)?,
+        "1000 officer move 1 41 23-12 = 56 GameOver",
     )?;
-    let mut conn = club.into_connection();
-    let row = conn.query_row("SELECT plies, end, result FROM games", &[])?;
-    let plies: i64 = row.get(0)?;
-    let end: String = row.get(1)?;
-    let result: String = row.get(2)?;
-    assert!(rt; plies == 40);
-    assert!(rt; end.as_str() == "Repetition");
-    assert!(rt; result.as_str() == "1-1");
+    let found = lines_of(
+        rt.alloc(),
+        club,
+        "SELECT plies || ' ' || end || ' ' || result FROM games",
+    )?;
+    assert!(rt; found.as_str() == "40 Repetition 1-1;");
     Ok(())
 }

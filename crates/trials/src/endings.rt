@@ -1,41 +1,22 @@
 //! Offers of a draw, resignations and claims of time, each with what it must come to.
 
-use crate::commands::{By, Given, give, opened, serve_at_once};
-use crate::tables::stored;
-use club_rules::GameKind;
+use crate::commands::{opened, serve_at_once};
+use crate::tables::lines_of;
 use sqlite::MemStore;
 use std::process::Abort;
 use std::test::Fail;
 use store::Club;
 
-const ANNA: By<'static> = By::Key("keyanna1");
-
-const BERT: By<'static> = By::Key("keybert2");
-
-/// A club with a game of this kind, of a minute for each player, that anna plays first and bert second from 1000 on.
-fn seated<R: Abort + AllocGlobal>(rt: &R, game: GameKind) -> Result<Club<MemStore>, Fail> {
-    let officer = By::Officer;
-    serve_at_once(
-        rt,
-        opened(rt.alloc())?,
-        &[
-            (1000, officer, Given::Member("anna", "keyanna1"), "accepted"),
-            (1000, officer, Given::Member("bert", "keybert2"), "accepted"),
-            (1000, officer, Given::Member("cara", "keycara3"), "accepted"),
-            (
-                1000,
-                officer,
-                Given::Event("spring", game, 60, 0),
-                "accepted",
-            ),
-            (
-                1000,
-                officer,
-                Given::Seat("g1", "spring", "anna", "bert"),
-                "accepted",
-            ),
-        ],
-    )
+/// A club with a game, named so, of a minute for each player, that anna plays first and bert second from 1000 on.
+fn seated<R: Abort + AllocGlobal>(rt: &R, game: &str) -> Result<Club<MemStore>, Fail> {
+    let script = format!(in rt.alloc();
+        "1000 officer member anna keyanna1 = accepted\n\
+        1000 officer member bert keybert2 = accepted\n\
+        1000 officer member cara keycara3 = accepted\n\
+        1000 officer event spring {game} 60 0 = accepted\n\
+        1000 officer seat g1 spring anna bert = accepted"
+    )?;
+    serve_at_once(rt, opened(rt.alloc())?, script.as_str())
 }
 
 fn is_line(lines: &[String], index: usize, text: &str) -> bool {
@@ -52,89 +33,64 @@ fn are_lines_of_a_draw(lines: &[String]) -> bool {
         && is_line(lines, 2, bert)
 }
 
+const A_DRAW: &str = "1000 keybert2 resign 1 = 59 NotYourTurn
+1060 keybert2 claim 1 = 61 TimeLeft
+1000 keybert2 accept 1 1 = 62 NoOffer
+1000 keyanna1 offer 1 2 = 57 WrongPly
+1000 keycara3 resign 1 = 55 NotAPlayer
+1000 officer resign 1 = 51 NotAllowed
+1000 officer claim 9 = 51 NotAllowed
+1000 keyanna1 claim 9 = 53 UnknownGame
+1000 keyanna1 offer 1 1 = accepted
+1000 keyanna1 accept 1 1 = 62 NoOffer
+1000 keybert2 offer 1 1 = 58 Conflict
+1000 keybert2 accept 1 1 = accepted
+1000 keybert2 accept 1 1 = repeated
+1000 keyanna1 offer 1 1 = repeated
+1000 keyanna1 accept 1 1 = 56 GameOver
+1061 keybert2 claim 1 = 56 GameOver";
+
+// The side and the ply of the offer that stands, and how the game ended.
+const OFFER_AND_END: &str =
+    "SELECT coalesce(offer_side, '-') || ' ' || coalesce(offer_ply, '-') || ' ' || end || ' ' || result FROM games";
+
 #[test]
 fn a_draw_is_offered_and_agreed(rt: HostRuntime) -> Result<(), Fail> {
-    let mut club = serve_at_once(
-        &rt,
-        seated(&rt, GameKind::Draughts)?,
-        &[
-            (1000, BERT, Given::Resign(1), "59 NotYourTurn"),
-            (1060, BERT, Given::ClaimTime(1), "61 TimeLeft"),
-            (1000, BERT, Given::AcceptDraw(1, 1), "62 NoOffer"),
-            (1000, ANNA, Given::OfferDraw(1, 2), "57 WrongPly"),
-            (1000, By::Key("keycara3"), Given::Resign(1), "55 NotAPlayer"),
-            (1000, By::Officer, Given::Resign(1), "51 NotAllowed"),
-            (1000, By::Officer, Given::ClaimTime(9), "51 NotAllowed"),
-            (1000, ANNA, Given::ClaimTime(9), "53 UnknownGame"),
-            (1000, ANNA, Given::OfferDraw(1, 1), "accepted"),
-            (1000, ANNA, Given::AcceptDraw(1, 1), "62 NoOffer"),
-            (1000, BERT, Given::OfferDraw(1, 1), "58 Conflict"),
-            (1000, BERT, Given::AcceptDraw(1, 1), "accepted"),
-            (1000, BERT, Given::AcceptDraw(1, 1), "repeated"),
-            (1000, ANNA, Given::OfferDraw(1, 1), "repeated"),
-            (1000, ANNA, Given::AcceptDraw(1, 1), "56 GameOver"),
-            (1061, BERT, Given::ClaimTime(1), "56 GameOver"),
-        ],
-    )?;
+    let mut club = serve_at_once(&rt, seated(&rt, "draughts")?, A_DRAW)?;
     let table = club.table_rows(rt.alloc(), "spring")?;
     assert!(rt; table.is_some_and(|lines| are_lines_of_a_draw(&lines)));
     assert!(rt; club.table_rows(rt.alloc(), "autumn")?.is_none());
-    let mut conn = club.into_connection();
-    let tables = stored(rt.alloc(), &mut conn)?;
-    let game = tables.games.as_slice().first().ok_or("a game")?;
-    assert!(rt; game.offer_side == Some(0));
-    assert!(rt; game.offer_ply == Some(1));
-    assert!(rt; game.end.as_ref().ok_or("an end")?.as_str() == "Agreed");
-    assert!(rt; game.result.as_ref().ok_or("a result")?.as_str() == "1-1");
+    assert!(rt; lines_of(rt.alloc(), club, OFFER_AND_END)?.as_str() == "0 1 Agreed 1-1;");
     Ok(())
 }
+
+const AN_OFFER: &str = "1000 keybert2 offer 1 1 = accepted
+1000 keyanna1 move 1 1 32-28 = accepted
+1000 keybert2 offer 1 1 = 57 WrongPly
+1000 keyanna1 accept 1 1 = 57 WrongPly
+1000 keyanna1 accept 1 2 = 62 NoOffer
+1000 keybert2 resign 1 = accepted
+1000 keybert2 resign 1 = repeated
+1000 keyanna1 resign 1 = 56 GameOver";
 
 #[test]
 fn an_offer_stands_until_the_next_move(rt: HostRuntime) -> Result<(), Fail> {
-    let club = serve_at_once(
-        &rt,
-        seated(&rt, GameKind::Draughts)?,
-        &[
-            (1000, BERT, Given::OfferDraw(1, 1), "accepted"),
-            (1000, ANNA, Given::Move(1, 1, "32-28"), "accepted"),
-            (1000, BERT, Given::OfferDraw(1, 1), "57 WrongPly"),
-            (1000, ANNA, Given::AcceptDraw(1, 1), "57 WrongPly"),
-            (1000, ANNA, Given::AcceptDraw(1, 2), "62 NoOffer"),
-            (1000, BERT, Given::Resign(1), "accepted"),
-            (1000, BERT, Given::Resign(1), "repeated"),
-            (1000, ANNA, Given::Resign(1), "56 GameOver"),
-        ],
-    )?;
-    let mut conn = club.into_connection();
-    let tables = stored(rt.alloc(), &mut conn)?;
-    let game = tables.games.as_slice().first().ok_or("a game")?;
-    assert!(rt; game.offer_side == None);
-    assert!(rt; game.end.as_ref().ok_or("an end")?.as_str() == "Resigned");
-    assert!(rt; game.result.as_ref().ok_or("a result")?.as_str() == "2-0");
+    let club = serve_at_once(&rt, seated(&rt, "draughts")?, AN_OFFER)?;
+    assert!(rt; lines_of(rt.alloc(), club, OFFER_AND_END)?.as_str() == "- - Resigned 2-0;");
     Ok(())
 }
 
+const A_CLAIM: &str = "1060 keybert2 claim 1 = 61 TimeLeft
+1061 keyanna1 claim 1 = 59 NotYourTurn
+1000 keyanna1 offer 1 1 = 63 NotInThisGame
+1061 keybert2 claim 1 = accepted
+1061 keybert2 claim 1 = repeated
+1061 keyanna1 claim 1 = 56 GameOver";
+
 #[test]
 fn time_is_claimed_a_second_late(rt: HostRuntime) -> Result<(), Fail> {
-    let club = seated(&rt, GameKind::Shogi)?;
-    let club = give(&rt, club, 1060, BERT, Given::ClaimTime(1), "61 TimeLeft")?;
-    let club = give(&rt, club, 1061, ANNA, Given::ClaimTime(1), "59 NotYourTurn")?;
-    let club = give(
-        &rt,
-        club,
-        1000,
-        ANNA,
-        Given::OfferDraw(1, 1),
-        "63 NotInThisGame",
-    )?;
-    let club = give(&rt, club, 1061, BERT, Given::ClaimTime(1), "accepted")?;
-    let club = give(&rt, club, 1061, BERT, Given::ClaimTime(1), "repeated")?;
-    let club = give(&rt, club, 1061, ANNA, Given::ClaimTime(1), "56 GameOver")?;
-    let mut conn = club.into_connection();
-    let tables = stored(rt.alloc(), &mut conn)?;
-    let game = tables.games.as_slice().first().ok_or("a game")?;
-    assert!(rt; game.since == 1000);
-    assert!(rt; game.end.as_ref().ok_or("an end")?.as_str() == "Time");
-    assert!(rt; game.result.as_ref().ok_or("a result")?.as_str() == "0-2");
+    let club = serve_at_once(&rt, seated(&rt, "shogi")?, A_CLAIM)?;
+    let ended = "SELECT since || ' ' || end || ' ' || result FROM games";
+    assert!(rt; lines_of(rt.alloc(), club, ended)?.as_str() == "1000 Time 0-2;");
     Ok(())
 }

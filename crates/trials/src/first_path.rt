@@ -1,11 +1,10 @@
 //! The tables after the first commands of a club, against rows that are written out by hand.
 
+use crate::commands::{opened, serve_at_once};
 use crate::tables::{Tables, stored};
-use clocks::Moment;
-use club_core::{AddEvent, AddMember, Command, GameCommand, OnGame, Outcome, Seat, Who};
-use club_rules::GameKind;
 use sqlite::{Connection, MemStore};
 use std::alloc::Global;
+use std::process::Abort;
 use std::test::Fail;
 use store::{Club, OpenFault, ViewedGame, create};
 use store_tables::{EventRow, GameRecord, MemberRow, MetaRow, MoveRow, SeenRow};
@@ -23,59 +22,16 @@ fn text(alloc: Global, letters: &str) -> Result<String, Fail> {
     Ok(String::from_str(alloc, letters)?)
 }
 
-fn accepted(
-    alloc: Global,
-    club: &mut Club<MemStore>,
-    command: Command,
-    seconds: u64,
-) -> Result<(), Fail> {
-    let moment = Moment::new(seconds).ok_or("a moment")?;
-    match club.apply(alloc, &Who::Officer, &command, moment)? {
-        Outcome::Accepted(_) => Ok(()),
-        _ => Err(Fail::new("not accepted")),
-    }
-}
-
-fn member(alloc: Global, name: &str, key: &str) -> Result<Command, Fail> {
-    Ok(Command::AddMember(AddMember {
-        name: text(alloc, name)?,
-        key: text(alloc, key)?,
-    }))
-}
-
-fn a_move(alloc: Global, ply: u64, letters: &str) -> Result<Command, Fail> {
-    let text = text(alloc, letters)?;
-    Ok(Command::OnGame(OnGame {
-        game: 1,
-        command: GameCommand::Move { ply, text },
-    }))
-}
+const PLAYED: &str = "900 officer member anna keyanna1 = accepted
+900 officer member bert keybert2 = accepted
+900 officer event autumn draughts 60 5 = accepted
+1000 officer seat g1 autumn anna bert = accepted
+1060 officer move 1 1 32-28 = accepted
+1120 officer move 1 2 19-23 = accepted";
 
 /// Two members and an event of 60 seconds and 5 more for each move, a game seated at 1000, and its first two moves.
-fn played(alloc: Global) -> Result<Club<MemStore>, Fail> {
-    let mut club = match create(alloc, Connection::open_in_memory(alloc)?) {
-        Ok(club) => club,
-        Err(unopened) => return Err(Fail::from(unopened.fault)),
-    };
-    accepted(alloc, &mut club, member(alloc, "anna", "keyanna1")?, 900)?;
-    accepted(alloc, &mut club, member(alloc, "bert", "keybert2")?, 900)?;
-    let autumn = Command::AddEvent(AddEvent {
-        name: text(alloc, "autumn")?,
-        game: GameKind::Draughts,
-        budget: 60,
-        increment: 5,
-    });
-    accepted(alloc, &mut club, autumn, 900)?;
-    let game = Command::Seat(Seat {
-        key: text(alloc, "g1")?,
-        event: text(alloc, "autumn")?,
-        first: text(alloc, "anna")?,
-        second: text(alloc, "bert")?,
-    });
-    accepted(alloc, &mut club, game, 1000)?;
-    accepted(alloc, &mut club, a_move(alloc, 1, "32-28")?, 1060)?;
-    accepted(alloc, &mut club, a_move(alloc, 2, "19-23")?, 1120)?;
-    Ok(club)
+fn played<R: Abort + AllocGlobal>(rt: &R) -> Result<Club<MemStore>, Fail> {
+    serve_at_once(rt, opened(rt.alloc())?, PLAYED)
 }
 
 // The two members, by hand.
@@ -186,7 +142,7 @@ fn line_of(alloc: Global, viewed: &ViewedGame) -> Result<String, Fail> {
 #[test]
 fn a_game_is_shown(rt: HostRuntime) -> Result<(), Fail> {
     let alloc = rt.alloc();
-    let mut club = played(alloc)?;
+    let mut club = played(&rt)?;
     assert!(rt; club.view_game(alloc, 2)?.is_none());
     let viewed = club.view_game(alloc, 1)?.ok_or("a game")?;
     let wanted = format!(in alloc; "autumn anna bert 2 5 5 32-28 19-23 {AFTER_19_23}")?;
@@ -200,7 +156,7 @@ fn a_game_is_shown(rt: HostRuntime) -> Result<(), Fail> {
 #[test]
 fn the_rows_of_each_table(rt: HostRuntime) -> Result<(), Fail> {
     let alloc = rt.alloc();
-    let mut conn = played(alloc)?.into_connection();
+    let mut conn = played(&rt)?.into_connection();
     let wanted = Tables {
         meta: vec![in alloc;
             MetaRow {
@@ -229,40 +185,32 @@ fn the_rows_of_each_table(rt: HostRuntime) -> Result<(), Fail> {
     Ok(())
 }
 
-// Where one of a club's tables stands, no club is made, and that table alone stands after it.
+/// Whether no club is made where this table of a club stands, and the table stands alone after it.
+fn is_no_place(alloc: Global, table: &str) -> Result<bool, Fail> {
+    let mut conn = Connection::open_in_memory(alloc)?;
+    let made = format!(in alloc; "CREATE TABLE {table} (x INTEGER)")?;
+    conn.execute_batch(made.as_str())?;
+    let put = format!(in alloc; "INSERT INTO {table} VALUES (7)")?;
+    conn.execute(put.as_str(), &[])?;
+    if !conn.is_autocommit() {
+        return Err(Fail::new("a transaction stands"));
+    }
+    let Err(unopened) = create(alloc, conn) else {
+        return Ok(false);
+    };
+    let mut conn = unopened.conn;
+    let shown = format!(in alloc; "SELECT x FROM {table}")?;
+    let found: i64 = conn.query_row(shown.as_str(), &[])?.get(0)?;
+    let alone = conn.query_all("SELECT last FROM meta", &[]).is_err()
+        && conn.query_all("SELECT points FROM scores", &[]).is_err();
+    Ok(unopened.fault == OpenFault::Foreign && found == 7 && alone)
+}
+
 #[test]
 fn no_club_is_made_beside_one_of_its_tables(rt: HostRuntime) -> Result<(), Fail> {
-    let alloc = rt.alloc();
-    for table in [
-        "meta",
-        "members",
-        "events",
-        "challenges",
-        "moves",
-        "games",
-        "seen",
-        "scores",
-    ] {
-        let mut conn = Connection::open_in_memory(alloc)?;
-        let made = format!(in alloc; "CREATE TABLE {table} (x INTEGER)")?;
-        conn.execute_batch(made.as_str())?;
-        let put = format!(in alloc; "INSERT INTO {table} VALUES (7)")?;
-        conn.execute(put.as_str(), &[])?;
-        if !conn.is_autocommit() {
-            return Err(Fail::new("a transaction stands"));
-        }
-        match create(alloc, conn) {
-            Ok(_) => return Err(Fail::new("a club was made")),
-            Err(unopened) => {
-                assert!(rt; unopened.fault == OpenFault::Foreign, "{table}");
-                let mut conn = unopened.conn;
-                let shown = format!(in alloc; "SELECT x FROM {table}")?;
-                let found: i64 = conn.query_row(shown.as_str(), &[])?.get(0)?;
-                assert!(rt; found == 7, "{table}");
-                assert!(rt; conn.query_all("SELECT last FROM meta", &[]).is_err());
-                assert!(rt; conn.query_all("SELECT points FROM scores", &[]).is_err());
-            }
-        }
+    let tables = "meta members events challenges moves games seen scores";
+    for table in tables.split_whitespace() {
+        assert!(rt; is_no_place(rt.alloc(), table)?, "{table}");
     }
     Ok(())
 }

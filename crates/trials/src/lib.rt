@@ -20,6 +20,10 @@ mod parsed_rows;
 #[cfg(test)]
 mod records;
 #[cfg(test)]
+mod scripts;
+#[cfg(test)]
+mod served;
+#[cfg(test)]
 mod shogi;
 #[cfg(test)]
 mod stops;

@@ -170,9 +170,9 @@ fn holding(alloc: Global, changes: &Changes) -> Result<Connection<MemStore>, Fai
     Ok(conn)
 }
 
-/// The fault of a club's database after this statement.
-fn fault_after(alloc: Global, sql: &str) -> Result<Option<OpenFault>, Fail> {
-    let mut conn = holding(alloc, &whole_day(alloc)?)?;
+/// The fault of a club's database with these rows after this statement.
+fn fault_with(alloc: Global, changes: &Changes, sql: &str) -> Result<Option<OpenFault>, Fail> {
+    let mut conn = holding(alloc, changes)?;
     conn.execute(sql, &[])?;
     if !conn.is_autocommit() {
         return Ok(None);
@@ -181,6 +181,11 @@ fn fault_after(alloc: Global, sql: &str) -> Result<Option<OpenFault>, Fail> {
         Ok(_) => Ok(None),
         Err(unopened) => Ok(Some(unopened.fault)),
     }
+}
+
+/// The number that a statement finds.
+fn number(conn: &mut Connection<MemStore>, sql: &str) -> Result<i64, Fail> {
+    Ok(conn.query_row(sql, &[])?.get(0)?)
 }
 
 #[test]
@@ -201,15 +206,10 @@ fn a_row_is_put_for_the_one_with_its_key(rt: HostRuntime) -> Result<(), Fail> {
     assert!(rt; key.is_some_and(|key| key.as_str() == "final"));
     assert!(rt; side == None);
     assert!(rt; ply == None);
-    for (sql, want) in [
-        ("SELECT game FROM challenges", 1),
-        ("SELECT count FROM seen", 1),
-        ("SELECT opponent FROM scores", 2),
-        ("SELECT last FROM meta", 160),
-    ] {
-        let found: i64 = conn.query_row(sql, &[])?.get(0)?;
-        assert!(rt; found == want, "{sql}");
-    }
+    assert!(rt; number(&mut conn, "SELECT game FROM challenges")? == 1);
+    assert!(rt; number(&mut conn, "SELECT count FROM seen")? == 1);
+    assert!(rt; number(&mut conn, "SELECT opponent FROM scores")? == 2);
+    assert!(rt; number(&mut conn, "SELECT last FROM meta")? == 160);
     Ok(())
 }
 
@@ -237,77 +237,99 @@ fn a_club_is_not_made_twice(rt: HostRuntime) -> Result<(), Fail> {
     Ok(())
 }
 
+/// The fault of a club's database with these rows after this statement, as it is told.
+fn told_after(alloc: Global, changes: &Changes, sql: &str) -> Result<String, Fail> {
+    match fault_with(alloc, changes, sql)? {
+        Some(fault) => Ok(format!(in alloc; "{fault}")?),
+        None => Ok(format!(in alloc; "sound")?),
+    }
+}
+
+// Statements, each after what an opening says of the file after it.
+const DAMAGES: &str = "72 Damaged members@UPDATE members SET id = 3 WHERE id = 2
+72 Damaged members@UPDATE members SET key = 'short' WHERE id = 1
+72 Damaged events@UPDATE events SET budget = 0
+72 Damaged games@UPDATE games SET id = 2
+72 Damaged games@UPDATE games SET left1 = 539
+72 Damaged games@UPDATE games SET second = 1
+72 Damaged moves@UPDATE moves SET text = '33-28'
+72 Damaged moves@UPDATE moves SET left = 539
+72 Damaged moves@UPDATE moves SET game = 2
+72 Damaged seen@UPDATE seen SET count = 2 WHERE first_ply = 1
+72 Damaged seen@DELETE FROM seen
+72 Damaged seen@INSERT INTO seen (game, position, count, first_ply) VALUES (2, 'x', 1, 0)
+72 Damaged meta@UPDATE meta SET last = 159
+72 Damaged scores@INSERT INTO scores (event, member, opponent, points, wins, draws, losses) VALUES (1, 1, 2, 0, 0, 0, 0)
+72 Damaged meta@UPDATE meta SET id = 2
+72 Damaged meta@INSERT INTO meta (id, schema, last) VALUES (2, 1, 0)
+71 Schema 9@UPDATE meta SET schema = 9
+70 Foreign@DROP TABLE scores
+sound@CREATE TABLE other (x INTEGER)";
+
 #[test]
 fn wrong_tables_are_named(rt: HostRuntime) -> Result<(), Fail> {
-    for (sql, fault) in [
-        (
-            "UPDATE members SET id = 3 WHERE id = 2",
-            OpenFault::Damaged(Table::Members),
-        ),
-        (
-            "UPDATE members SET key = 'short' WHERE id = 1",
-            OpenFault::Damaged(Table::Members),
-        ),
-        (
-            "UPDATE events SET budget = 0",
-            OpenFault::Damaged(Table::Events),
-        ),
-        ("UPDATE games SET id = 2", OpenFault::Damaged(Table::Games)),
-        (
-            "UPDATE games SET left1 = 539",
-            OpenFault::Damaged(Table::Games),
-        ),
-        (
-            "UPDATE games SET second = 1",
-            OpenFault::Damaged(Table::Games),
-        ),
-        (
-            "UPDATE moves SET text = '33-28'",
-            OpenFault::Damaged(Table::Moves),
-        ),
-        (
-            "UPDATE moves SET left = 539",
-            OpenFault::Damaged(Table::Moves),
-        ),
-        (
-            "UPDATE seen SET count = 2 WHERE first_ply = 1",
-            OpenFault::Damaged(Table::Seen),
-        ),
-        ("DELETE FROM seen", OpenFault::Damaged(Table::Seen)),
-        (
-            "UPDATE meta SET last = 159",
-            OpenFault::Damaged(Table::Meta),
-        ),
-        (
-            "INSERT INTO scores (event, member, opponent, points, wins, draws, losses) VALUES (1, 1, 2, 0, 0, 0, 0)",
-            OpenFault::Damaged(Table::Scores),
-        ),
-        ("UPDATE meta SET id = 2", OpenFault::Damaged(Table::Meta)),
-        (
-            "INSERT INTO meta (id, schema, last) VALUES (2, 1, 0)",
-            OpenFault::Damaged(Table::Meta),
-        ),
-        ("UPDATE meta SET schema = 9", OpenFault::Schema(9)),
-        ("DROP TABLE scores", OpenFault::Foreign),
-    ] {
-        assert!(rt; fault_after(rt.alloc(), sql)? == Some(fault), "{sql}");
+    let changes = whole_day(rt.alloc())?;
+    for case in DAMAGES.lines() {
+        let (wanted, sql) = case.split_once('@').ok_or("a statement")?;
+        assert!(rt;
+            told_after(rt.alloc(), &changes, sql)?.as_str() == wanted,
+            "{case}"
+        );
     }
-    assert!(rt; fault_after(rt.alloc(), "CREATE TABLE other (x INTEGER)")?.is_none());
     Ok(())
+}
+
+/// A move of a game that there is not.
+fn move_of_no_game(alloc: Global) -> Result<MoveRow, Error> {
+    Ok(MoveRow {
+        game: 2,
+        ply: 1,
+        text: text(alloc, "32-28")?,
+        moment: 160,
+        left: 540,
+        position: text(alloc, AFTER_32_28)?,
+    })
+}
+
+// The same where a move of no game stands, too.
+const SEVERAL_DAMAGES: &str = "72 Damaged moves@UPDATE games SET left1 = 539
+72 Damaged moves@UPDATE seen SET count = 2
+72 Damaged moves@UPDATE meta SET last = 159
+72 Damaged events@UPDATE events SET budget = 0";
+
+#[test]
+fn the_first_of_several_wrong_tables_is_named(rt: HostRuntime) -> Result<(), Fail> {
+    let mut changes = whole_day(rt.alloc())?;
+    changes.moves.push(move_of_no_game(rt.alloc())?)?;
+    for case in SEVERAL_DAMAGES.lines() {
+        let (wanted, sql) = case.split_once('@').ok_or("a statement")?;
+        assert!(rt;
+            told_after(rt.alloc(), &changes, sql)?.as_str() == wanted,
+            "{case}"
+        );
+    }
+    Ok(())
+}
+
+fn is_told(alloc: Global, fault: OpenFault, wanted: &str) -> Result<bool, Fail> {
+    Ok(format!(in alloc; "{fault}")?.as_str() == wanted)
 }
 
 #[test]
 fn faults_show_their_numbers(rt: HostRuntime) -> Result<(), Fail> {
-    for (fault, want) in [
-        (OpenFault::Foreign, "70 Foreign"),
-        (OpenFault::Schema(9), "71 Schema 9"),
-        (OpenFault::Damaged(Table::Members), "72 Damaged members"),
-        (OpenFault::Store, "73 Store"),
-        (OpenFault::Memory, "75 Memory"),
-    ] {
-        assert!(rt; format!(in rt.alloc(); "{fault}")?.as_str() == want);
-    }
-    assert!(rt; format!(in rt.alloc(); "{}", StoreFault::Reopen)?.as_str() == "74 Reopen");
+    let alloc = rt.alloc();
+    assert!(rt; is_told(alloc, OpenFault::Foreign, "70 Foreign")?);
+    assert!(rt; is_told(alloc, OpenFault::Schema(9), "71 Schema 9")?);
+    assert!(rt;
+        is_told(
+            alloc,
+            OpenFault::Damaged(Table::Members),
+            "72 Damaged members"
+        )?
+    );
+    assert!(rt; is_told(alloc, OpenFault::Store, "73 Store")?);
+    assert!(rt; is_told(alloc, OpenFault::Memory, "75 Memory")?);
+    assert!(rt; format!(in alloc; "{}", StoreFault::Reopen)?.as_str() == "74 Reopen");
     Ok(())
 }
 

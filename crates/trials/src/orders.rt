@@ -1,6 +1,4 @@
-ghost use Rattle.std.specs.Prelude.{◌≡◌, false, IfOk};
-
-use club_words::{BadWords, DONE, FAULT, REFUSED, act, print, read_words};
+use club_words::{BadWords, DONE, Words, act, print, read_words};
 use sqlite::{Connection, MemStore};
 use std::alloc::Global;
 use std::collections::VecDeque;
@@ -22,14 +20,14 @@ fn done(
     words: &str,
     record: &str,
     conn: Connection<MemStore>,
-) -> Result<Printed, Fail>
-    requires { conn.in_transaction ≡ false }
-    ensures { IfOk result (λ printed. printed.conn.in_transaction ≡ false) }
-{
+) -> Result<Printed, Fail> {
+    if !conn.is_autocommit() {
+        return Err(Fail::new("a transaction stands"));
+    }
     let words: Vec<&str> = words.split_whitespace().collect(alloc)?;
     let order = match read_words(alloc, words.as_slice()) {
-        Ok(order) => order,
-        Err(_) => return Err(Fail::new("bad words")),
+        Ok(Words::Order(order)) => order,
+        _ => return Err(Fail::new("bad words")),
     };
     let mut text = Vec::new(alloc);
     text.extend_from_slice(record.as_bytes())?;
@@ -49,292 +47,159 @@ fn done(
     })
 }
 
-// Does the order of the words, given at that moment, and compares what is printed.
-fn at_with<R: Abort + AllocGlobal>(
+// Does the order of a line, `SECONDS WORDS = STATUS TEXT`, where `|` stands between the lines of the text, with that record
+// as what standard input holds, and compares what is printed.
+fn says<R: Abort + AllocGlobal>(
     rt: &R,
     conn: Connection<MemStore>,
-    moment: u64,
-    words: &str,
     record: &str,
-    status: u8,
-    text: &str,
-) -> Result<Connection<MemStore>, Fail>
-    requires { conn.in_transaction ≡ false }
-    ensures { IfOk result (λ conn. conn.in_transaction ≡ false) }
-{
-    let words = format!(in rt.alloc(); "club --now {moment} c.db {words}")?;
+    line: &str,
+) -> Result<Connection<MemStore>, Fail> {
+    let (words, wanted) = line.split_once('=').ok_or("what is printed")?;
+    let (status, text) = wanted.trim().split_once(' ').ok_or("a status")?;
+    let words = format!(in rt.alloc(); "club --now {words}")?;
     let printed = done(rt.alloc(), words.as_str(), record, conn)?;
-    let line = format!(in rt.alloc(); "{text}\n")?;
+    let status: u8 = status.parse()?;
     let (shown, silent) = if status == DONE {
         (printed.out, printed.err)
     } else {
         (printed.err, printed.out)
     };
-    assert!(rt; printed.status == status, "{words}");
-    assert!(rt; shown.as_slice() == line.as_bytes(), "{words}");
-    assert!(rt; silent.is_empty(), "{words}");
+    assert!(rt; printed.status == status, "{line}");
+    assert!(rt; is_shown(rt.alloc(), &shown, text)?, "{line}");
+    assert!(rt; silent.is_empty(), "{line}");
     Ok(printed.conn)
 }
 
-fn at<R: Abort + AllocGlobal>(
+// Whether the bytes are those lines, each with its line feed.
+fn is_shown(alloc: Global, shown: &[u8], text: &str) -> Result<bool, Fail> {
+    let mut lines = String::new(alloc);
+    for line in text.split('|') {
+        lines.push_str(line)?;
+        lines.push_str("\n")?;
+    }
+    Ok(shown == lines.as_bytes())
+}
+
+// Does the orders of the lines, each of which has that record.
+fn says_all<R: Abort + AllocGlobal>(
     rt: &R,
     conn: Connection<MemStore>,
-    moment: u64,
-    words: &str,
-    status: u8,
-    text: &str,
-) -> Result<Connection<MemStore>, Fail>
-    requires { conn.in_transaction ≡ false }
-    ensures { IfOk result (λ conn. conn.in_transaction ≡ false) }
-{
-    let conn = at_with(rt, conn, moment, words, "", status, text)?;
+    record: &str,
+    script: &str,
+) -> Result<Connection<MemStore>, Fail> {
+    let mut conn = conn;
+    for line in script.lines() {
+        conn = says(rt, conn, record, line)?;
+    }
     Ok(conn)
 }
 
-fn says<R: Abort + AllocGlobal>(
-    rt: &R,
-    conn: Connection<MemStore>,
-    words: &str,
-    status: u8,
-    text: &str,
-) -> Result<Connection<MemStore>, Fail>
-    requires { conn.in_transaction ≡ false }
-    ensures { IfOk result (λ conn. conn.in_transaction ≡ false) }
-{
-    let conn = at(rt, conn, 1000, words, status, text)?;
-    Ok(conn)
-}
+const FIRST_PATH: &str = "1000 c.db member anna keyanna1 = 3 store 70 Foreign
+1000 c.db verify = 3 store 70 Foreign
+1000 c.db init = 0 ready
+1000 c.db member anna keyanna1 = 0 accepted member 1
+1000 c.db member bert keybert2 = 0 accepted member 2
+1000 c.db event autumn draughts 60 5 = 0 accepted event 1
+1000 c.db seat g1 autumn anna bert = 0 accepted game 1
+1000 c.db legal 1 = 0 31-26|31-27|32-27|32-28|33-28|33-29|34-29|34-30|35-30
+1000 c.db legal 2 = 1 refused 53 UnknownGame
+1000 c.db table autumn = 0 Event autumn
+1000 c.db table winter = 1 refused 52 UnknownEvent
+1000 c.db verify = 0 sound
+1000 c.db export 1 = 0 [Event \"autumn\"]|[Date \"1970.01.01\"]|[White \"anna\"]|[Black \"bert\"]|[Result \"*\"]|[GameType \"20\"]||*
+1000 c.db move 1 1 32-28 = 0 accepted ply 1 32-28
+1000 c.db move 1 1 32-28 = 0 repeated ply 1 32-28
+1000 c.db move 1 1 32-27 = 1 refused 58 Conflict
+1000 c.db move 1 2 19-23 = 0 accepted ply 2 19-23
+1000 c.db move 1 3 33-29 = 1 refused 11 MustCapture
+1000 c.db move 1 3 28x = 1 refused 20 BadText 3
+1000 c.db move 1 3 28:19 = 0 accepted ply 3 28x19
+1000 c.db move 1 3 28x19 = 0 repeated ply 3 28x19
+1000 c.db export 2 = 1 refused 53 UnknownGame";
+
+const RUNNING: &str =
+    "1000 c.db export 1 = 0 [Event \"autumn\"]|[Date \"1970.01.01\"]|[White \"anna\"]|[Black \"bert\"]|\
+    [Result \"*\"]|[GameType \"20\"]||1. 32-28 19-23|2. 28x19|*";
+
+const IMPORTS: &str = "1000 c.db import-pdn old1 autumn anna bert - = 0 accepted game 2
+1000 c.db import-pdn old1 autumn anna bert - = 0 repeated game 2";
+
+const ENDED: &str =
+    "1000 c.db export 2 = 0 [Event \"autumn\"]|[Date \"1970.01.01\"]|[White \"anna\"]|[Black \"bert\"]|\
+    [Result \"0-2\"]|[GameType \"20\"]||1. 32-28 19-23|0-2";
 
 #[test]
 fn the_first_path(rt: HostRuntime) -> Result<(), Fail> {
     let conn = Connection::open_in_memory(rt.alloc())?;
-    let conn = says(&rt, conn, "member anna keyanna1", FAULT, "store 70 Foreign")?;
-    let conn = says(&rt, conn, "verify", FAULT, "store 70 Foreign")?;
-    let conn = says(&rt, conn, "init", DONE, "ready")?;
-    let conn = says(&rt, conn, "member anna keyanna1", DONE, "accepted member 1")?;
-    let conn = says(&rt, conn, "member bert keybert2", DONE, "accepted member 2")?;
-    let conn = says(
-        &rt,
-        conn,
-        "event autumn draughts 60 5",
-        DONE,
-        "accepted event 1",
-    )?;
-    let conn = says(
-        &rt,
-        conn,
-        "seat g1 autumn anna bert",
-        DONE,
-        "accepted game 1",
-    )?;
-    let conn = says(
-        &rt,
-        conn,
-        "legal 1",
-        DONE,
-        "31-26\n31-27\n32-27\n32-28\n33-28\n33-29\n34-29\n34-30\n35-30",
-    )?;
-    let conn = says(&rt, conn, "legal 2", REFUSED, "refused 53 UnknownGame")?;
-    let conn = says(&rt, conn, "table autumn", DONE, "Event autumn")?;
-    let conn = says(
-        &rt,
-        conn,
-        "table winter",
-        REFUSED,
-        "refused 52 UnknownEvent",
-    )?;
-    let conn = says(&rt, conn, "verify", DONE, "sound")?;
-    let bare = "[Event \"autumn\"]\n[Date \"1970.01.01\"]\n[White \"anna\"]\n[Black \"bert\"]\n\
-        [Result \"*\"]\n[GameType \"20\"]\n\n*";
-    let conn = says(&rt, conn, "export 1", DONE, bare)?;
-    let conn = says(&rt, conn, "move 1 1 32-28", DONE, "accepted ply 1 32-28")?;
-    let conn = says(&rt, conn, "move 1 1 32-28", DONE, "repeated ply 1 32-28")?;
-    let conn = says(&rt, conn, "move 1 1 32-27", REFUSED, "refused 58 Conflict")?;
-    let conn = says(&rt, conn, "move 1 2 19-23", DONE, "accepted ply 2 19-23")?;
-    let conn = says(
-        &rt,
-        conn,
-        "move 1 3 33-29",
-        REFUSED,
-        "refused 11 MustCapture",
-    )?;
-    let conn = says(&rt, conn, "move 1 3 28x", REFUSED, "refused 20 BadText 3")?;
-    let conn = says(&rt, conn, "move 1 3 28:19", DONE, "accepted ply 3 28x19")?;
-    let conn = says(&rt, conn, "move 1 3 28x19", DONE, "repeated ply 3 28x19")?;
-    let running = "[Event \"autumn\"]\n[Date \"1970.01.01\"]\n[White \"anna\"]\n[Black \"bert\"]\n\
-        [Result \"*\"]\n[GameType \"20\"]\n\n1. 32-28 19-23\n2. 28x19\n*";
-    let conn = says(&rt, conn, "export 1", DONE, running)?;
-    let conn = says(&rt, conn, "export 2", REFUSED, "refused 53 UnknownGame")?;
+    let conn = says_all(&rt, conn, "", FIRST_PATH)?;
+    let conn = says(&rt, conn, "", RUNNING)?;
     let lost = "[Result \"0-2\"]\n1. 32-28 19-23\n0-2\n";
-    let old = "import-pdn old1 autumn anna bert -";
-    let conn = at_with(&rt, conn, 1000, old, lost, DONE, "accepted game 2")?;
-    let conn = at_with(&rt, conn, 1000, old, lost, DONE, "repeated game 2")?;
-    let ended = "[Event \"autumn\"]\n[Date \"1970.01.01\"]\n[White \"anna\"]\n[Black \"bert\"]\n\
-        [Result \"0-2\"]\n[GameType \"20\"]\n\n1. 32-28 19-23\n0-2";
-    let conn = says(&rt, conn, "export 2", DONE, ended)?;
+    let conn = says_all(&rt, conn, lost, IMPORTS)?;
+    let conn = says(&rt, conn, "", ENDED)?;
     let turned = "[Result \"2-0\"]\n1. 32-28 19-23\n0-2\n";
-    let other = "import-pdn old2 autumn anna bert -";
-    let conn = at_with(
-        &rt,
-        conn,
-        1000,
-        other,
-        turned,
-        REFUSED,
-        "refused 27 ResultDiffers",
-    )?;
-    let conn = at_with(&rt, conn, 1000, other, "", REFUSED, "refused 20 BadText 0")?;
-    let _conn = says(&rt, conn, "init", FAULT, "store 70 Foreign")?;
+    let differs = "1000 c.db import-pdn old2 autumn anna bert - = 1 refused 27 ResultDiffers";
+    let conn = says(&rt, conn, turned, differs)?;
+    let empty = "1000 c.db import-pdn old2 autumn anna bert - = 1 refused 20 BadText 0";
+    let conn = says(&rt, conn, "", empty)?;
+    let _conn = says(&rt, conn, "", "1000 c.db init = 3 store 70 Foreign")?;
     Ok(())
 }
 
-// Whether the words are refused by the parser, which then says something of them.
-fn are_bad(alloc: Global, words: &[&str]) -> Result<bool, Fail> {
-    match read_words(alloc, words) {
+// Whether the words of a line are refused by the parser, which then says something of them.
+fn are_bad(alloc: Global, line: &str) -> Result<bool, Fail> {
+    let words: Vec<&str> = line.split_whitespace().collect(alloc)?;
+    match read_words(alloc, words.as_slice()) {
         Ok(_) => Ok(false),
         Err(BadWords::Text(text)) => Ok(!text.as_str().is_empty()),
         Err(BadWords::Memory) => Err(Fail::new("memory")),
     }
 }
 
+const BAD_WORDS: &str = "club
+club --help
+club c.db sit
+club c.db table
+club --now 253402300800 c.db init
+club --now 1 c.db init more
+club c.db event e chess 60 5
+club c.db move one 1 32-28
+club c.db import-pdn k e a b
+club c.db move 1 18446744073709551616 32-28";
+
+const GOOD_WORDS: &str = "club --now 253402300799 c.db init
+club c.db event e shogi 60 5
+club c.db import-csa --part 0 k e a b -
+club c.db move 1 18446744073709551615 32-28";
+
 #[test]
 fn words_that_are_no_order(rt: HostRuntime) -> Result<(), Fail> {
-    let alloc = rt.alloc();
-    assert!(rt; are_bad(alloc, &["club"])?);
-    assert!(rt; are_bad(alloc, &["club", "--help"])?);
-    assert!(rt; are_bad(alloc, &["club", "c.db", "sit"])?);
-    assert!(rt; are_bad(alloc, &["club", "c.db", "table"])?);
-    assert!(rt; are_bad(alloc, &["club", "--now", "253402300800", "c.db", "init"])?);
-    assert!(rt; !are_bad(alloc, &["club", "--now", "253402300799", "c.db", "init"])?);
-    assert!(rt; are_bad(alloc, &["club", "--now", "1", "c.db", "init", "more"])?);
-    assert!(rt; are_bad(alloc, &["club", "c.db", "event", "e", "chess", "60", "5"])?);
-    assert!(rt; !are_bad(alloc, &["club", "c.db", "event", "e", "shogi", "60", "5"])?);
-    assert!(rt; are_bad(alloc, &["club", "c.db", "move", "one", "1", "32-28"])?);
-    assert!(rt; are_bad(alloc, &["club", "c.db", "import-pdn", "k", "e", "a", "b"])?);
-    assert!(rt;
-        !are_bad(
-            alloc,
-            &[
-                "club",
-                "c.db",
-                "import-csa",
-                "--part",
-                "0",
-                "k",
-                "e",
-                "a",
-                "b",
-                "-"
-            ]
-        )?
-    );
-    assert!(rt;
-        are_bad(
-            alloc,
-            &["club", "c.db", "move", "1", "18446744073709551616", "32-28"]
-        )?
-    );
-    assert!(rt;
-        !are_bad(
-            alloc,
-            &["club", "c.db", "move", "1", "18446744073709551615", "32-28"]
-        )?
-    );
+    for line in BAD_WORDS.lines() {
+        assert!(rt; are_bad(rt.alloc(), line)?, "{line}");
+    }
+    for line in GOOD_WORDS.lines() {
+        assert!(rt; !are_bad(rt.alloc(), line)?, "{line}");
+    }
     Ok(())
 }
+
+const CLOCKS: &str = "1000 c.db init = 0 ready
+1000 c.db member anna keyanna1 = 0 accepted member 1
+1000 c.db member bert keybert2 = 0 accepted member 2
+1000 c.db event autumn draughts 60 5 = 0 accepted event 1
+1000 c.db seat g1 autumn anna bert = 0 accepted game 1
+1060 c.db move 1 1 32-28 = 0 accepted ply 1 32-28
+1122 c.db move 1 2 19-23 = 1 refused 60 OutOfTime
+1120 c.db move 1 2 19-23 = 0 accepted ply 2 19-23
+5000 c.db move 1 1 32-28 = 0 repeated ply 1 32-28
+5000 c.db move 1 1 33-28 = 1 refused 58 Conflict
+900 c.db move 1 1 32-28 = 0 repeated ply 1 32-28
+1126 c.db move 1 3 33-29 = 1 refused 60 OutOfTime";
 
 // A moment earlier than that of the last accepted command counts as that one; a game ends for nobody by waiting.
 #[test]
 fn clocks_and_moments(rt: HostRuntime) -> Result<(), Fail> {
     let conn = Connection::open_in_memory(rt.alloc())?;
-    let conn = at(&rt, conn, 1000, "init", DONE, "ready")?;
-    let conn = at(
-        &rt,
-        conn,
-        1000,
-        "member anna keyanna1",
-        DONE,
-        "accepted member 1",
-    )?;
-    let conn = at(
-        &rt,
-        conn,
-        1000,
-        "member bert keybert2",
-        DONE,
-        "accepted member 2",
-    )?;
-    let conn = at(
-        &rt,
-        conn,
-        1000,
-        "event autumn draughts 60 5",
-        DONE,
-        "accepted event 1",
-    )?;
-    let conn = at(
-        &rt,
-        conn,
-        1000,
-        "seat g1 autumn anna bert",
-        DONE,
-        "accepted game 1",
-    )?;
-    let conn = at(
-        &rt,
-        conn,
-        1060,
-        "move 1 1 32-28",
-        DONE,
-        "accepted ply 1 32-28",
-    )?;
-    let conn = at(
-        &rt,
-        conn,
-        1122,
-        "move 1 2 19-23",
-        REFUSED,
-        "refused 60 OutOfTime",
-    )?;
-    let conn = at(
-        &rt,
-        conn,
-        1120,
-        "move 1 2 19-23",
-        DONE,
-        "accepted ply 2 19-23",
-    )?;
-    let conn = at(
-        &rt,
-        conn,
-        5000,
-        "move 1 1 32-28",
-        DONE,
-        "repeated ply 1 32-28",
-    )?;
-    let conn = at(
-        &rt,
-        conn,
-        5000,
-        "move 1 1 33-28",
-        REFUSED,
-        "refused 58 Conflict",
-    )?;
-    let conn = at(
-        &rt,
-        conn,
-        900,
-        "move 1 1 32-28",
-        DONE,
-        "repeated ply 1 32-28",
-    )?;
-    let _conn = at(
-        &rt,
-        conn,
-        1126,
-        "move 1 3 33-29",
-        REFUSED,
-        "refused 60 OutOfTime",
-    )?;
+    let _conn = says_all(&rt, conn, "", CLOCKS)?;
     Ok(())
 }

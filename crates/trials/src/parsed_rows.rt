@@ -31,19 +31,17 @@ fn rows_are_parsed(rt: HostRuntime) -> Result<(), Fail> {
     Ok(())
 }
 
+/// Whether the ids of these rows rise.
+fn do_rise(alloc: Global, sql: &str) -> Result<bool, Fail> {
+    let rows = shown(alloc, sql)?;
+    Ok(check_ids(alloc, &rows) == Ok(()))
+}
+
 #[test]
 fn ids_rise(rt: HostRuntime) -> Result<(), Fail> {
-    for (sql, apart) in [
-        ("SELECT rowid FROM t ORDER BY rowid", true),
-        ("SELECT a FROM t ORDER BY a", false),
-        ("SELECT b FROM t ORDER BY b", false),
-    ] {
-        let rows = shown(rt.alloc(), sql)?;
-        let found = check_ids(rt.alloc(), &rows);
-        assert!(rt;
-            found == if apart { Ok(()) } else { Err(Unread::Mistyped) },
-            "{sql}"
-        );
-    }
+    let alloc = rt.alloc();
+    assert!(rt; do_rise(alloc, "SELECT rowid FROM t ORDER BY rowid")?);
+    assert!(rt; !do_rise(alloc, "SELECT a FROM t ORDER BY a")?);
+    assert!(rt; !do_rise(alloc, "SELECT b FROM t ORDER BY b")?);
     Ok(())
 }

@@ -1,7 +1,6 @@
 //! Games of the club as records, written out by hand, and writers that get full on the way.
 
-use crate::commands::{By, Given, opened, serve_at_once};
-use club_rules::GameKind;
+use crate::commands::{opened, serve_at_once};
 use sqlite::MemStore;
 use std::alloc::Global;
 use std::collections::VecDeque;
@@ -9,40 +8,21 @@ use std::process::Abort;
 use std::test::Fail;
 use store::{Club, ExportFault};
 
-const ANNA: By<'static> = By::Key("keyanna1");
-
-const BERT: By<'static> = By::Key("keybert2");
-
 const RUNNING: &str =
     "V2.2\nN+anna\nN-bert\n$EVENT:fuji\n$START_TIME:1970/01/01 00:16:40\nPI\n+\n+7776FU\nT5\n%CHUDAN\n";
 
 const RESIGNED: &str =
     "V2.2\nN+anna\nN-bert\n$EVENT:fuji\n$START_TIME:1970/01/01 00:16:40\nPI\n+\n+7776FU\nT5\n%TORYO\n";
 
+const FUJI: &str = "1000 officer member anna keyanna1 = accepted
+1000 officer member bert keybert2 = accepted
+1000 officer event fuji shogi 86400 0 = accepted
+1000 officer seat g1 fuji anna bert = accepted
+1005 keyanna1 move 1 1 7g7f = accepted";
+
 // A club with a game of shogi that anna plays first from 1000 on, in which she has made one move.
 fn fuji<R: Abort + AllocGlobal>(rt: &R) -> Result<Club<MemStore>, Fail> {
-    let officer = By::Officer;
-    serve_at_once(
-        rt,
-        opened(rt.alloc())?,
-        &[
-            (1000, officer, Given::Member("anna", "keyanna1"), "accepted"),
-            (1000, officer, Given::Member("bert", "keybert2"), "accepted"),
-            (
-                1000,
-                officer,
-                Given::Event("fuji", GameKind::Shogi, 86_400, 0),
-                "accepted",
-            ),
-            (
-                1000,
-                officer,
-                Given::Seat("g1", "fuji", "anna", "bert"),
-                "accepted",
-            ),
-            (1005, ANNA, Given::Move(1, 1, "7g7f"), "accepted"),
-        ],
-    )
+    serve_at_once(rt, opened(rt.alloc())?, FUJI)
 }
 
 // The record of the first game, whole.
@@ -76,8 +56,7 @@ fn a_game_that_goes_on_and_ends(rt: HostRuntime) -> Result<(), Fail> {
     let alloc = rt.alloc();
     let mut club = fuji(&rt)?;
     assert!(rt; record(alloc, &mut club)?.as_slice() == RUNNING.as_bytes());
-    let resigns = [(1010, BERT, Given::Resign(1), "accepted")];
-    let mut club = serve_at_once(&rt, club, resigns.as_slice())?;
+    let mut club = serve_at_once(&rt, club, "1010 keybert2 resign 1 = accepted")?;
     assert!(rt; record(alloc, &mut club)?.as_slice() == RESIGNED.as_bytes());
     let mut out = VecDeque::new(alloc);
     assert!(rt; club.export(alloc, 2, &mut out).is_ok_and(|found| !found));

@@ -1,8 +1,7 @@
 //! Games of shogi, each move with what it must come to, and the rows that they make, written out by hand.
 
-use crate::commands::{By, Given, played, serve_at_once};
-use crate::tables::stored;
-use club_rules::GameKind;
+use crate::commands::{played, serve_at_once};
+use crate::tables::{lines_of, stored};
 use std::alloc::Global;
 use std::test::Fail;
 use store_tables::{EventRow, GameRecord, MoveRow};
@@ -100,23 +99,15 @@ fn autumn(alloc: Global) -> Result<EventRow, Fail> {
     })
 }
 
+const AFTER_THE_DROP: &str = "1000 officer move 1 5 B*5e = repeated
+1000 officer move 1 6 P*5d = 14 NotInHand
+1000 officer move 1 6 3d3f = 13 NoSuchMove";
+
 #[test]
 fn a_promotion_and_a_drop_make_their_rows(rt: HostRuntime) -> Result<(), Fail> {
     let alloc = rt.alloc();
-    let club = serve_at_once(
-        &rt,
-        played(&rt, GameKind::Shogi, "7g7f 3c3d 8h2b+ 3a2b B*5e")?,
-        &[
-            (1000, By::Officer, Given::Move(1, 5, "B*5e"), "repeated"),
-            (1000, By::Officer, Given::Move(1, 6, "P*5d"), "14 NotInHand"),
-            (
-                1000,
-                By::Officer,
-                Given::Move(1, 6, "3d3f"),
-                "13 NoSuchMove",
-            ),
-        ],
-    )?;
+    let club = played(&rt, "shogi", "7g7f 3c3d 8h2b+ 3a2b B*5e")?;
+    let club = serve_at_once(&rt, club, AFTER_THE_DROP)?;
     let mut conn = club.into_connection();
     let tables = stored(alloc, &mut conn)?;
     let events = vec![in alloc; autumn(alloc)?]?;
@@ -135,76 +126,43 @@ const ROUNDS: &str = "2h3h 8b7b 3h2h 7b8b 2h3h 8b7b 3h2h 7b8b 2h3h 8b7b 3h2h 7b8
 fn a_fourfold_repetition_ends_a_game(rt: HostRuntime) -> Result<(), Fail> {
     let club = serve_at_once(
         &rt,
-        played(&rt, GameKind::Shogi, ROUNDS)?,
-        &[(1000, By::Officer, Given::Move(1, 13, "2h3h"), "56 GameOver")],
+        played(&rt, "shogi", ROUNDS)?,
+        "1000 officer move 1 13 2h3h = 56 GameOver",
     )?;
-    let mut conn = club.into_connection();
-    let row = conn.query_row("SELECT plies, end, result FROM games", &[])?;
-    let plies: i64 = row.get(0)?;
-    let end: String = row.get(1)?;
-    let result: String = row.get(2)?;
-    assert!(rt; plies == 12);
-    assert!(rt; end.as_str() == "Fourfold");
-    assert!(rt; result.as_str() == "1-1");
+    let ended = "SELECT plies || ' ' || end || ' ' || result FROM games";
+    assert!(rt; lines_of(rt.alloc(), club, ended)?.as_str() == "12 Fourfold 1-1;");
     Ok(())
 }
 
 // First's second move checks the king: the bishop promotes at 3c, and nothing stands at 4b.
 #[test]
 fn checks_in_a_row_are_the_track_of_a_game(rt: HostRuntime) -> Result<(), Fail> {
-    let club = played(&rt, GameKind::Shogi, "7g7f 3c3d 8h3c+")?;
     let club = serve_at_once(
         &rt,
-        club,
-        &[(1000, By::Officer, Given::Move(1, 3, "8h3c+"), "repeated")],
+        played(&rt, "shogi", "7g7f 3c3d 8h3c+")?,
+        "1000 officer move 1 3 8h3c+ = repeated",
     )?;
-    let mut conn = club.into_connection();
-    let row = conn.query_row("SELECT plies, track_a, track_b FROM games", &[])?;
-    let plies: i64 = row.get(0)?;
-    let checks: i64 = row.get(1)?;
-    let other_checks: i64 = row.get(2)?;
-    assert!(rt; plies == 3);
-    assert!(rt; checks == 1);
-    assert!(rt; other_checks == 0);
+    let track = "SELECT plies || ' ' || track_a || ' ' || track_b FROM games";
+    assert!(rt; lines_of(rt.alloc(), club, track)?.as_str() == "3 1 0;");
     Ok(())
 }
 
-// The start and the three positions of a round: how often each stood, and after which ply first.
+// The start and the three positions of a round: after which ply each stood first, and how often.
 #[test]
 fn positions_that_return_are_counted(rt: HostRuntime) -> Result<(), Fail> {
-    let club = played(&rt, GameKind::Shogi, ROUNDS)?;
-    let mut conn = club.into_connection();
-    assert!(rt; conn.query_all("SELECT count FROM seen", &[])?.len() == 4);
-    for (sql, want) in [
-        ("SELECT count FROM seen WHERE first_ply = 0", 4_i64),
-        ("SELECT count FROM seen WHERE first_ply = 1", 3),
-        ("SELECT count FROM seen WHERE first_ply = 2", 3),
-        ("SELECT count FROM seen WHERE first_ply = 3", 3),
-    ] {
-        let found: i64 = conn.query_row(sql, &[])?.get(0)?;
-        assert!(rt; found == want, "{sql}");
-    }
+    let club = played(&rt, "shogi", ROUNDS)?;
+    let counts = "SELECT first_ply || ' ' || count FROM seen ORDER BY first_ply";
+    assert!(rt; lines_of(rt.alloc(), club, counts)?.as_str() == "0 4;1 3;2 3;3 3;");
     Ok(())
 }
 
 // A draw by repetition: one point and one draw for each of the two.
 #[test]
 fn a_draw_is_scored_for_both(rt: HostRuntime) -> Result<(), Fail> {
-    let club = played(&rt, GameKind::Shogi, ROUNDS)?;
-    let mut conn = club.into_connection();
-    assert!(rt; conn.query_all("SELECT points FROM scores", &[])?.len() == 2);
-    for (sql, want) in [
-        ("SELECT points FROM scores WHERE member = 1", 1_i64),
-        ("SELECT wins FROM scores WHERE member = 1", 0),
-        ("SELECT draws FROM scores WHERE member = 1", 1),
-        ("SELECT losses FROM scores WHERE member = 1", 0),
-        ("SELECT points FROM scores WHERE member = 2", 1),
-        ("SELECT wins FROM scores WHERE member = 2", 0),
-        ("SELECT draws FROM scores WHERE member = 2", 1),
-        ("SELECT losses FROM scores WHERE member = 2", 0),
-    ] {
-        let found: i64 = conn.query_row(sql, &[])?.get(0)?;
-        assert!(rt; found == want, "{sql}");
-    }
+    let club = played(&rt, "shogi", ROUNDS)?;
+    let scores =
+        "SELECT event || ' ' || member || ' ' || opponent || ' ' || points || ' ' || wins || ' ' || draws \
+        || ' ' || losses FROM scores ORDER BY member";
+    assert!(rt; lines_of(rt.alloc(), club, scores)?.as_str() == "1 1 2 1 0 1 0;1 2 1 1 0 1 0;");
     Ok(())
 }

@@ -2,11 +2,9 @@
 
 ghost use Rattle.std.specs.Prelude.{◌≡◌, false, IfOk};
 
-use crate::commands::{By, Given};
+use crate::scripts::request;
 use crate::tables::{Tables, stored};
-use clocks::Moment;
 use club_core::Outcome;
-use club_rules::GameKind;
 use sqlite::{Connection, FileStore, Files, Options};
 use sqlite_disk::{Crash, Disk, Fuse, Memory};
 use std::alloc::Global;
@@ -117,24 +115,20 @@ fn closed(club: Club<Stopping>) -> Files<Fuse<Memory>> {
     club.into_connection().into_store().close()
 }
 
-/// A request: when it comes, who gives it, and what it asks for.
-type Asked<'a> = (u64, By<'a>, Given<'a>);
-
 fn given(
     alloc: Global,
     club: &mut Club<Stopping>,
-    asked: Asked<'_>,
+    line: &str,
 ) -> Result<Result<Outcome, StoreFault>, Fail> {
-    let (seconds, by, command) = asked;
-    let moment = Moment::new(seconds).ok_or("a moment")?;
-    Ok(club.apply(alloc, &by.who(alloc)?, &command.command(alloc)?, moment))
+    let asked = request(alloc, line)?;
+    Ok(club.apply(alloc, &asked.who, &asked.command, asked.moment))
 }
 
-/// A club's requests, all accepted, and one more, which is stopped.
+/// A club's requests, a line each and all accepted, and one more, which is stopped.
 #[derive(Clone, Copy)]
 struct Trial<'a> {
-    before: &'a [Asked<'a>],
-    stopped: Asked<'a>,
+    before: &'a str,
+    stopped: &'a str,
 }
 
 /// The files of the club before the request that is stopped.
@@ -149,8 +143,8 @@ fn begun(alloc: Global, trial: Trial<'_>) -> Result<Image, Fail> {
         Ok(club) => club,
         Err(unopened) => return Err(Fail::from(unopened.fault)),
     };
-    for asked in trial.before {
-        match given(alloc, &mut club, *asked)?? {
+    for line in trial.before.lines() {
+        match given(alloc, &mut club, line)?? {
             Outcome::Accepted(_) => {}
             _ => return Err(Fail::new("not accepted before the stop")),
         }
@@ -176,8 +170,8 @@ fn found(
 }
 
 /// Whether a request after the fault is refused until the files are opened again.
-fn is_shut(alloc: Global, club: &mut Club<Stopping>, asked: Asked<'_>) -> Result<bool, Fail> {
-    Ok(given(alloc, club, asked)?.err() == Some(StoreFault::Reopen))
+fn is_shut(alloc: Global, club: &mut Club<Stopping>, line: &str) -> Result<bool, Fail> {
+    Ok(given(alloc, club, line)?.err() == Some(StoreFault::Reopen))
 }
 
 /// Whether the request was answered, and the files that the stop left.
@@ -273,32 +267,18 @@ fn whole_or_none<R: Abort + AllocGlobal>(rt: &R, trial: Trial<'_>) -> Result<(),
     Ok(())
 }
 
-const ANNA: By<'static> = By::Key("keyanna1");
-
-const BERT: By<'static> = By::Key("keybert2");
-
 #[test]
 fn a_stopped_move_is_whole_or_none(rt: HostRuntime) -> Result<(), Fail> {
     whole_or_none(
         &rt,
         Trial {
-            before: &[
-                (1000, By::Officer, Given::Member("anna", "keyanna1")),
-                (1000, By::Officer, Given::Member("bert", "keybert2")),
-                (
-                    1000,
-                    By::Officer,
-                    Given::Event("autumn", GameKind::Draughts, 60, 5),
-                ),
-                (
-                    1000,
-                    By::Officer,
-                    Given::Seat("g1", "autumn", "anna", "bert"),
-                ),
-                (1000, By::Officer, Given::Move(1, 1, "32-28")),
-                (1000, By::Officer, Given::Move(1, 2, "20-25")),
-            ],
-            stopped: (1000, By::Officer, Given::Move(1, 3, "31-26")),
+            before: "1000 officer member anna keyanna1
+1000 officer member bert keybert2
+1000 officer event autumn draughts 60 5
+1000 officer seat g1 autumn anna bert
+1000 officer move 1 1 32-28
+1000 officer move 1 2 20-25",
+            stopped: "1000 officer move 1 3 31-26",
         },
     )
 }
@@ -308,21 +288,11 @@ fn a_stopped_offer_is_whole_or_none(rt: HostRuntime) -> Result<(), Fail> {
     whole_or_none(
         &rt,
         Trial {
-            before: &[
-                (1000, By::Officer, Given::Member("anna", "keyanna1")),
-                (1000, By::Officer, Given::Member("bert", "keybert2")),
-                (
-                    1000,
-                    By::Officer,
-                    Given::Event("autumn", GameKind::Draughts, 60, 5),
-                ),
-                (
-                    1000,
-                    By::Officer,
-                    Given::Seat("g1", "autumn", "anna", "bert"),
-                ),
-            ],
-            stopped: (1010, ANNA, Given::OfferDraw(1, 1)),
+            before: "1000 officer member anna keyanna1
+1000 officer member bert keybert2
+1000 officer event autumn draughts 60 5
+1000 officer seat g1 autumn anna bert",
+            stopped: "1010 keyanna1 offer 1 1",
         },
     )
 }
@@ -332,22 +302,12 @@ fn a_stopped_agreement_is_whole_or_none(rt: HostRuntime) -> Result<(), Fail> {
     whole_or_none(
         &rt,
         Trial {
-            before: &[
-                (1000, By::Officer, Given::Member("anna", "keyanna1")),
-                (1000, By::Officer, Given::Member("bert", "keybert2")),
-                (
-                    1000,
-                    By::Officer,
-                    Given::Event("autumn", GameKind::Draughts, 60, 5),
-                ),
-                (
-                    1000,
-                    By::Officer,
-                    Given::Seat("g1", "autumn", "anna", "bert"),
-                ),
-                (1010, ANNA, Given::OfferDraw(1, 1)),
-            ],
-            stopped: (1020, BERT, Given::AcceptDraw(1, 1)),
+            before: "1000 officer member anna keyanna1
+1000 officer member bert keybert2
+1000 officer event autumn draughts 60 5
+1000 officer seat g1 autumn anna bert
+1010 keyanna1 offer 1 1",
+            stopped: "1020 keybert2 accept 1 1",
         },
     )
 }
@@ -357,18 +317,12 @@ fn a_stopped_resignation_is_whole_or_none(rt: HostRuntime) -> Result<(), Fail> {
     whole_or_none(
         &rt,
         Trial {
-            before: &[
-                (1000, By::Officer, Given::Member("anna", "keyanna1")),
-                (1000, By::Officer, Given::Member("bert", "keybert2")),
-                (
-                    1000,
-                    By::Officer,
-                    Given::Event("fuji", GameKind::Shogi, 60, 5),
-                ),
-                (1000, By::Officer, Given::Seat("s1", "fuji", "anna", "bert")),
-                (1005, ANNA, Given::Move(1, 1, "7g7f")),
-            ],
-            stopped: (1010, BERT, Given::Resign(1)),
+            before: "1000 officer member anna keyanna1
+1000 officer member bert keybert2
+1000 officer event fuji shogi 60 5
+1000 officer seat s1 fuji anna bert
+1005 keyanna1 move 1 1 7g7f",
+            stopped: "1010 keybert2 resign 1",
         },
     )
 }
@@ -378,17 +332,11 @@ fn a_stopped_claim_of_time_is_whole_or_none(rt: HostRuntime) -> Result<(), Fail>
     whole_or_none(
         &rt,
         Trial {
-            before: &[
-                (1000, By::Officer, Given::Member("anna", "keyanna1")),
-                (1000, By::Officer, Given::Member("bert", "keybert2")),
-                (
-                    1000,
-                    By::Officer,
-                    Given::Event("fuji", GameKind::Shogi, 60, 5),
-                ),
-                (1000, By::Officer, Given::Seat("s1", "fuji", "anna", "bert")),
-            ],
-            stopped: (1061, BERT, Given::ClaimTime(1)),
+            before: "1000 officer member anna keyanna1
+1000 officer member bert keybert2
+1000 officer event fuji shogi 60 5
+1000 officer seat s1 fuji anna bert",
+            stopped: "1061 keybert2 claim 1",
         },
     )
 }

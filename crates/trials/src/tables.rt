@@ -2,9 +2,10 @@
 
 ghost use Rattle.std.specs.Prelude.{◌≡◌, false};
 
-use sqlite::{Alter, Connection};
+use sqlite::{Alter, Connection, MemStore};
 use std::alloc::Global;
 use std::test::Fail;
+use store::Club;
 use store_tables::{
     EventRow, GameRecord, MemberRow, MetaRow, MoveRow, ScoreRow, SeenRow, TableRow, parse_all,
 };
@@ -84,4 +85,16 @@ pub fn stored<S: Alter>(alloc: Global, conn: &mut Connection<S>) -> Result<Table
         scores,
         challenges,
     })
+}
+
+/// The texts of the first column that a statement finds in a club's tables, each with a `;` after it.
+pub(crate) fn lines_of(alloc: Global, club: Club<MemStore>, sql: &str) -> Result<String, Fail> {
+    let mut conn = club.into_connection();
+    let mut lines = String::new(alloc);
+    for row in &conn.query_all(sql, &[])? {
+        let line: String = row.get(0)?;
+        lines.push_str(line.as_str())?;
+        lines.push_str(";")?;
+    }
+    Ok(lines)
 }

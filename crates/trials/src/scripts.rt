@@ -1,0 +1,94 @@
+//! Requests as lines of text, `SECONDS WHO COMMAND`, where WHO is `officer` or a member's key; in a script each line ends
+//! with what the request must come to, as `1000 officer move 1 1 32-28 = accepted`.
+
+use clocks::Moment;
+use club_core::{AddEvent, AddMember, Command, GameCommand, OnGame, Outcome, Request, Seat, Who};
+use club_rules::GameKind;
+use std::alloc::Global;
+use std::test::Fail;
+
+// The word, where `''` stands for none.
+fn text(alloc: Global, word: &str) -> Result<String, Fail> {
+    let letters = if word == "''" { "" } else { word };
+    Ok(String::from_str(alloc, letters)?)
+}
+
+fn who(alloc: Global, word: &str) -> Result<Who, Fail> {
+    Ok(match word {
+        "officer" => Who::Officer,
+        key => Who::Key(text(alloc, key)?),
+    })
+}
+
+fn game_kind(word: &str) -> Result<GameKind, Fail> {
+    match word {
+        "draughts" => Ok(GameKind::Draughts),
+        "shogi" => Ok(GameKind::Shogi),
+        _ => Err(Fail::new("no such game")),
+    }
+}
+
+fn on_game(game: &str, command: GameCommand) -> Result<Command, Fail> {
+    Ok(Command::OnGame(OnGame {
+        game: game.parse()?,
+        command,
+    }))
+}
+
+fn game_command(alloc: Global, words: &[&str]) -> Result<Command, Fail> {
+    match *words {
+        ["move", game, ply, letters] => {
+            let (ply, text) = (ply.parse()?, text(alloc, letters)?);
+            on_game(game, GameCommand::Move { ply, text })
+        }
+        ["offer", game, ply] => on_game(game, GameCommand::OfferDraw { ply: ply.parse()? }),
+        ["accept", game, ply] => on_game(game, GameCommand::AcceptDraw { ply: ply.parse()? }),
+        ["resign", game] => on_game(game, GameCommand::Resign),
+        ["claim", game] => on_game(game, GameCommand::ClaimTime),
+        _ => Err(Fail::new("no such command")),
+    }
+}
+
+fn command(alloc: Global, words: &[&str]) -> Result<Command, Fail> {
+    match *words {
+        ["member", name, key] => Ok(Command::AddMember(AddMember {
+            name: text(alloc, name)?,
+            key: text(alloc, key)?,
+        })),
+        ["event", name, game, budget, increment] => Ok(Command::AddEvent(AddEvent {
+            name: text(alloc, name)?,
+            game: game_kind(game)?,
+            budget: budget.parse()?,
+            increment: increment.parse()?,
+        })),
+        ["seat", key, event, first, second] => Ok(Command::Seat(Seat {
+            key: text(alloc, key)?,
+            event: text(alloc, event)?,
+            first: text(alloc, first)?,
+            second: text(alloc, second)?,
+        })),
+        _ => game_command(alloc, words),
+    }
+}
+
+/// The request of a line.
+pub(crate) fn request(alloc: Global, line: &str) -> Result<Request, Fail> {
+    let words: Vec<&str> = line.split_whitespace().collect(alloc)?;
+    match *words.as_slice() {
+        [seconds, by, ..] => Ok(Request {
+            who: who(alloc, by)?,
+            command: command(alloc, words.as_slice().get(2..).ok_or("a command")?)?,
+            moment: Moment::new(seconds.parse()?).ok_or("a moment")?,
+        }),
+        _ => Err(Fail::new("no request")),
+    }
+}
+
+/// The outcome in a word, a refusal with its number and name.
+pub(crate) fn told(alloc: Global, outcome: &Outcome) -> Result<String, Fail> {
+    Ok(match outcome {
+        Outcome::Accepted(_) => String::from_str(alloc, "accepted")?,
+        Outcome::Repeated(_) => String::from_str(alloc, "repeated")?,
+        Outcome::Refused(refusal) => format!(in alloc; "{refusal}")?,
+    })
+}
