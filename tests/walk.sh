@@ -51,6 +51,7 @@ at() { says "$1" "$2" --now 1000 c.db "${@:3}"; }
 at 3 'store 70 Foreign' member anna keyanna1
 at 3 'store 70 Foreign' verify
 at 0 'ready' init
+verdict 'only the owner reads the files' '600 600' "$(stat -c %a c.db c.db-wal | tr '\n' ' ' | sed 's/ $//')"
 at 0 'accepted member 1' member anna keyanna1
 at 0 'repeated member 1' member anna keyanna1
 at 0 'accepted member 2' member bert keybert2

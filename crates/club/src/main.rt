@@ -1,18 +1,27 @@
 //! The program `club`: an officer's words over one file.
 #![tactic(auto)]
 
+mod desk;
+mod log_lines;
 mod order;
+mod port;
+mod times;
 
-use clocks::Moment;
-use club_words::{BAD_WORDS, BadWords, Order, Report, print, read_words};
+use club_words::{
+    BAD_WORDS, BadWords, DONE, Order, Report, Service, Task, Words, print, read_words,
+};
+use desk::serve;
 use order::obey;
+use port::Callers;
 use sqlite_disk::Wary;
 use std::alloc::AllocError;
-use std::fs::File;
+use std::fs::{File, OpenOptions};
 use std::io::{ErrorKind, Read};
+use std::os::unix::fs::OpenOptionsExt;
 use std::process::ExitCode;
 use std::thread::sleep;
-use std::time::{Duration, SystemTime, UNIX_EPOCH};
+use std::time::Duration;
+use times::clock;
 
 // How often a file that is in use is asked for, and how long the program waits before it asks again: five seconds in all.
 const TURNS: u8 = 50;
@@ -24,18 +33,6 @@ const RECORD_BYTES: u64 = 65_537;
 
 // The room that is set aside for the line that is printed.
 const LINE_BYTES: usize = 256;
-
-// The moment of the machine's clock.
-fn clock(rt: &HostRuntime) -> Option<Moment> {
-    let now = match SystemTime::now(rt) {
-        Ok(now) => now,
-        Err(_) => return None,
-    };
-    match now.duration_since(UNIX_EPOCH) {
-        Ok(since) => Moment::new(since.as_secs()),
-        Err(_) => None,
-    }
-}
 
 // The program's words, the first being its own name.
 fn given_words(rt: &HostRuntime) -> Result<Vec<String>, BadWords> {
@@ -83,10 +80,30 @@ fn record_in(rt: &HostRuntime, order: &Order) -> Result<Option<Vec<u8>>, Report>
     }
 }
 
-// What the words order.
-fn order_of(rt: &HostRuntime, words: &[String]) -> Result<Order, BadWords> {
+// What the words say.
+fn said(rt: &HostRuntime, words: &[String]) -> Result<Words, BadWords> {
     let words = texts(rt, words)?;
     read_words(rt.alloc(), words.as_slice())
+}
+
+// What a new file of a club allows: its owner reads and writes it, and nobody else, as keys of members will stand in it.
+const OWNER_ALONE: u32 = 0o600;
+
+// Makes a file for its owner alone, where there is none.
+fn make_private(rt: &HostRuntime, path: &str) {
+    let _made = OpenOptions::new()
+        .write(true)
+        .create_new(true)
+        .mode(OWNER_ALONE)
+        .open(rt, path);
+}
+
+// Makes the two files of a club so. Where that fails, the opening says why.
+fn make_files(rt: &HostRuntime, file: &str) {
+    make_private(rt, file);
+    if let Ok(log) = format!(in rt.alloc(); "{file}-wal") {
+        make_private(rt, log.as_str());
+    }
 }
 
 // Does what is ordered over the file, as soon as no other program uses it.
@@ -94,6 +111,7 @@ fn obey_in_turn(rt: &HostRuntime, order: &Order) -> Report {
     let Some(moment) = order.now.or(clock(rt)) else {
         return Report::NoMoment;
     };
+    make_files(rt, order.file.as_str());
     let mut out = rt.stdout();
     for _ in 0..TURNS {
         match obey(rt, order, moment, Wary, &mut out) {
@@ -113,10 +131,53 @@ fn run(rt: &HostRuntime, order: &Order) -> u8 {
     print(line, &report, &mut rt.stdout(), &mut rt.stderr())
 }
 
-// Says why nothing was done.
-fn print_fault(rt: &HostRuntime, report: &Report) -> u8 {
-    let line = String::new(rt.alloc());
-    print(line, report, &mut rt.stdout(), &mut rt.stderr())
+// Prints what was come to.
+fn print_report(rt: &HostRuntime, report: &Report) -> u8 {
+    match String::with_capacity(rt.alloc(), LINE_BYTES) {
+        Ok(line) => print(line, report, &mut rt.stdout(), &mut rt.stderr()),
+        Err(_) => print(
+            String::new(rt.alloc()),
+            &Report::NoMemory,
+            &mut rt.stdout(),
+            &mut rt.stderr(),
+        ),
+    }
+}
+
+// Listens on the port of a service, says so, and serves those who come.
+fn listen(rt: &HostRuntime, service: &Service) -> u8 {
+    let mut callers = match Callers::listen(rt, service) {
+        Ok(callers) => callers,
+        Err(_) => return print_report(rt, &Report::Unbound),
+    };
+    let status = print_report(rt, &Report::Listening(service.port));
+    if status == DONE {
+        serve(rt, service, &mut callers)
+    } else {
+        status
+    }
+}
+
+// The order to test the file of a service.
+fn test_of(rt: &HostRuntime, service: &Service) -> Result<Order, AllocError> {
+    Ok(Order {
+        file: service.file.clone()?,
+        now: service.now,
+        task: Task::Verify,
+        record: None,
+    })
+}
+
+// Serves over a file, if it is a club's.
+fn run_service(rt: &HostRuntime, service: &Service) -> u8 {
+    let order = match test_of(rt, service) {
+        Ok(order) => order,
+        Err(_) => return print_report(rt, &Report::NoMemory),
+    };
+    match obey_in_turn(rt, &order) {
+        Report::Sound => listen(rt, service),
+        report => print_report(rt, &report),
+    }
 }
 
 // Says why the words are no order.
@@ -126,7 +187,7 @@ fn refuse_words(rt: &HostRuntime, bad: BadWords) -> u8 {
             let _ = rt.eprint(text);
             BAD_WORDS
         }
-        BadWords::Memory => print_fault(rt, &Report::NoMemory),
+        BadWords::Memory => print_report(rt, &Report::NoMemory),
     }
 }
 
@@ -135,7 +196,7 @@ fn run_with_record(rt: &HostRuntime, order: Order) -> u8 {
     match record_in(rt, &order) {
         Ok(None) => run(rt, &order),
         Ok(Some(text)) => run(rt, &order.with_text(text)),
-        Err(report) => print_fault(rt, &report),
+        Err(report) => print_report(rt, &report),
     }
 }
 
@@ -145,8 +206,9 @@ fn status_of(rt: &HostRuntime) -> u8 {
         Ok(words) => words,
         Err(bad) => return refuse_words(rt, bad),
     };
-    match order_of(rt, words.as_slice()) {
-        Ok(order) => run_with_record(rt, order),
+    match said(rt, words.as_slice()) {
+        Ok(Words::Order(order)) => run_with_record(rt, order),
+        Ok(Words::Serve(service)) => run_service(rt, &service),
         Err(bad) => refuse_words(rt, bad),
     }
 }

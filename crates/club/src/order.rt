@@ -23,8 +23,8 @@ use sqlite::{Connection, Error, ErrorCode, FileFrom, FileStore};
 use sqlite_disk::Start;
 use std::io::Write;
 
-// Why the files were not opened.
-fn unopened(error: Error) -> Report
+/// Why the files were not opened.
+pub(crate) fn unopened(error: Error) -> Report
     ensures { (result ≡ InUse) ⊎ (result ≡ NotOpened) }
 {
     match error {

@@ -1,5 +1,5 @@
 -- What an order came to: what is printed, the status of the program, and the sessions that it adds to a club's life.
-use Rattle.std.specs.Prelude.{◌≡◌, ◌⊎◌, ℕ, List, [], ◌∷◌, ◌++◌, map, Option, Some, None, Result, Ok, Err, Bool, true, false, codes, string_bytes, ⊤}
+use Rattle.std.specs.Prelude.{◌≡◌, ◌⊎◌, ℕ, List, [], ◌∷◌, ◌++◌, map, Option, Some, None, Result, Ok, Err, Bool, true, false, codes, decimal, string_bytes, ⊤}
 use Rattle.std.specs.declared.alloc.Global.{Global}
 use Rattle.std.specs.declared.vec.Vec.{Vec}
 use Rattle.sqlite.specs.Tree.{Trees}
@@ -25,7 +25,7 @@ use Rattle.store.specs.CrossTable.{AreTableRows}
 use Rattle.store.specs.Exported.{IsExported, IsWrittenSome}
 use Rattle.store.specs.Stored.{AreLegalRows}
 use Rattle.club_words.specs.declared.report.Report.{Report}
-use Rattle.club_words.specs.declared.report.Report.TheVariants.{Ready, Sound, Answered, Listed, Exported, Unwritten, Unopened, Stopped, InUse, NotOpened, NoMoment, Unread, NoMemory}
+use Rattle.club_words.specs.declared.report.Report.TheVariants.{Ready, Sound, Answered, Listed, Exported, Unwritten, Unopened, Stopped, InUse, NotOpened, NoMoment, Unread, Listening, Unbound, NoMemory}
 use Rattle.club_words.specs.declared.words.Task.{Task}
 use Rattle.club_words.specs.declared.words.Task.TheVariants as task
 
@@ -48,6 +48,8 @@ report_text InUse = codes "store 73 Store\n"
 report_text NotOpened = codes "store 73 Store\n"
 report_text NoMoment = codes "store 76 Input\n"
 report_text Unread = codes "store 76 Input\n"
+report_text (Listening port) = codes "listening 127.0.0.1:" ++ decimal port ++ codes "\n"
+report_text Unbound = codes "store 76 Input\n"
 report_text NoMemory = codes "store 75 Memory\n"
 
 abbrev pub outcome_status : Outcome → ℕ
@@ -69,6 +71,8 @@ report_status InUse = 3
 report_status NotOpened = 3
 report_status NoMoment = 3
 report_status Unread = 3
+report_status (Listening port) = 0
+report_status Unbound = 3
 report_status NoMemory = 3
 
 -- ---- the text of an import

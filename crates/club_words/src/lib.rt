@@ -7,4 +7,4 @@ pub mod words;
 
 pub use doing::act;
 pub use report::{BAD_WORDS, DONE, FAULT, REFUSED, Report, print};
-pub use words::{BadWords, Order, Task, read_words};
+pub use words::{BadWords, Order, Service, Task, Words, read_words};

@@ -48,6 +48,10 @@ pub enum Report {
     NoMoment,
     /// The record of an import cannot be read.
     Unread,
+    /// The desk listens on the port.
+    Listening(u16),
+    /// The port is not to be had.
+    Unbound,
     /// The allocator refused before anything was done.
     NoMemory,
 }
@@ -72,6 +76,8 @@ impl Report {
             Report::NotOpened => FAULT,
             Report::NoMoment => FAULT,
             Report::Unread => FAULT,
+            Report::Listening(_) => DONE,
+            Report::Unbound => FAULT,
             Report::NoMemory => FAULT,
         }
     }
@@ -105,6 +111,8 @@ fn write_report(text: &mut String, report: &Report) -> Result<(), AllocError>
         Report::NotOpened => writeln!(text, "store 73 Store"),
         Report::NoMoment => writeln!(text, "store 76 Input"),
         Report::Unread => writeln!(text, "store 76 Input"),
+        Report::Listening(port) => writeln!(text, "listening 127.0.0.1:{port}"),
+        Report::Unbound => writeln!(text, "store 76 Input"),
         Report::NoMemory => writeln!(text, "store 75 Memory"),
     }
 }

@@ -81,6 +81,27 @@ impl Order {
     }
 }
 
+/// The desk over a file, which answers members over HTTP.
+#[derive(Debug, Drop)]
+pub struct Service {
+    pub file: String,
+    /// The moment that is to count at each connection, if the words give one.
+    pub now: Option<Moment>,
+    /// The port of 127.0.0.1.
+    pub port: u16,
+    /// How many connections are served before the program ends.
+    pub count: u64,
+    /// Whether each connection is written down.
+    pub log: bool,
+}
+
+/// What the program's words say.
+#[derive(Debug, Drop)]
+pub enum Words {
+    Order(Order),
+    Serve(Service),
+}
+
 /// Words that are no order.
 #[derive(Debug, Drop)]
 pub enum BadWords {
@@ -234,6 +255,25 @@ fn table_words<'a>(alloc: Global) -> Result<clap::Command<'a>, AllocError> {
         .arg(word(alloc, "EVENT", "The event's name"))
 }
 
+fn serve_words<'a>(alloc: Global) -> Result<clap::Command<'a>, AllocError> {
+    let log = Arg::new(alloc, "LOG")
+        .long("log")
+        .help("Writes a line for each connection: moment, method, path and status, and no key")
+        .action(ArgAction::SetTrue);
+    let count = Arg::new(alloc, "COUNT")
+        .long("count")
+        .help("Ends after so many connections")
+        .action(ArgAction::Set)
+        .value_parser(value_parser!(u64));
+    clap::Command::new(alloc, "serve")
+        .about("Answers members over HTTP, one connection after another")
+        .arg(log)?
+        .arg(count)?
+        .arg(word(alloc, "PORT", "The port of 127.0.0.1 on which it listens").value_parser(
+            value_parser!(u64).range(1..=65_535),
+        ))
+}
+
 // The program's words, as the parser takes them.
 fn club_words<'a>(alloc: Global) -> Result<clap::Command<'a>, AllocError> {
     let now = Arg::new(alloc, "SECONDS")
@@ -272,7 +312,8 @@ fn club_words<'a>(alloc: Global) -> Result<clap::Command<'a>, AllocError> {
         .subcommand(legal_words(alloc)?)?
         .subcommand(export_words(alloc)?)?
         .subcommand(table_words(alloc)?)?
-        .subcommand(verify)
+        .subcommand(verify)?
+        .subcommand(serve_words(alloc)?)
 }
 
 // A copy of a word that has to be there.
@@ -390,25 +431,61 @@ fn refused(alloc: Global, error: &clap::Error) -> BadWords {
     }
 }
 
-/// The order that the words give; the first word is the program's own name.
-pub fn read_words(alloc: Global, words: &[&str]) -> Result<Order, BadWords> {
+// The desk that the words ask for. The parser has passed the port.
+fn service_of(
+    alloc: Global,
+    all: &ArgMatches<'_>,
+    words: &ArgMatches<'_>,
+) -> Result<Service, BadWords> {
+    let Ok(port) = u16::try_from(number_of(words, "PORT")) else {
+        return Err(unknown(alloc, "PORT")?);
+    };
+    Ok(Service {
+        file: text(alloc, all, "FILE")?,
+        now: moment_of(all),
+        port,
+        count: words.get_one::<u64>("COUNT").unwrap_or(u64::MAX),
+        log: words.get_flag("LOG"),
+    })
+}
+
+// The moment that the words give.
+fn moment_of(all: &ArgMatches<'_>) -> Option<Moment> {
+    match all.get_one::<u64>("SECONDS") {
+        Some(seconds) => Moment::new(seconds),
+        None => None,
+    }
+}
+
+// What the words of a subcommand ask for.
+fn words_of(
+    alloc: Global,
+    all: &ArgMatches<'_>,
+    name: &str,
+    words: &ArgMatches<'_>,
+) -> Result<Words, BadWords> {
+    if name == "serve" {
+        return Ok(Words::Serve(service_of(alloc, all, words)?));
+    }
+    let task = task_of(alloc, name, words)?;
+    let record = record_of(alloc, name, words)?;
+    Ok(Words::Order(Order {
+        file: text(alloc, all, "FILE")?,
+        now: moment_of(all),
+        task,
+        record,
+    }))
+}
+
+/// What the words say; the first word is the program's own name.
+pub fn read_words(alloc: Global, words: &[&str]) -> Result<Words, BadWords> {
     let club = club_words(alloc)?;
     let matches = match club.try_get_matches_from(words) {
         Ok(matches) => matches,
         Err(error) => return Err(refused(alloc, &error)),
     };
-    let (task, record) = match matches.subcommand() {
-        Some((name, words)) => (task_of(alloc, name, words)?, record_of(alloc, name, words)?),
-        None => return Err(unknown(alloc, "")?),
-    };
-    let now = match matches.get_one::<u64>("SECONDS") {
-        Some(seconds) => Moment::new(seconds),
-        None => None,
-    };
-    Ok(Order {
-        file: text(alloc, &matches, "FILE")?,
-        now,
-        task,
-        record,
-    })
+    match matches.subcommand() {
+        Some((name, words)) => words_of(alloc, &matches, name, words),
+        None => Err(unknown(alloc, "")?),
+    }
 }

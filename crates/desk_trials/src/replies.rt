@@ -109,7 +109,7 @@ impl Toy {
 impl ServedClub for Toy {
     ghost use Rattle.http_desk.specs.Closed.{closed};
 
-    type State = ();
+    ghost State = { Unit {0} };
 
     ghost club = { closed };
 

@@ -17,7 +17,7 @@ impl ServedClub for Closed {
     ghost use Rattle.std.specs.Prelude.{◌≡◌};
     ghost use Rattle.http_desk.specs.Closed.{closed};
 
-    type State = ();
+    ghost State = { Unit {0} };
 
     ghost club = { closed };
 

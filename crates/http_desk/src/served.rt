@@ -77,16 +77,15 @@ pub enum ChallengeState {
 pub trait ServedClub {
     ghost use Rattle.http_desk.specs.declared.faults.ClubFault.{ClubFault};
 
-    /// The states of the club.
-    type State;
+    ghost State: { Type 0 };
 
-    ghost club: { Club Self.State };
+    ghost club: { Club State };
 
     ghost IsClean: { Self → Type 0 };
 
-    ghost Stands: { Self → Self.State → Type 0 };
+    ghost Stands: { Self → State → Type 0 };
 
-    ghost Leaves: { Self → Self.State → Self.State → Type 0 };
+    ghost Leaves: { Self → State → State → Type 0 };
 
     ghost IsShut: { Self → ClubFault → Type 0 };
 
@@ -95,7 +94,7 @@ pub trait ServedClub {
         ensures clean { IsClean self.new → IsClean self.old }
         ensures shut { (fault : ClubFault) → IsShut self.old fault →
             (result ≡ Err fault) × IsShut self.new fault }
-        ensures serves { IsClean self.new → (s : Self.State) → Stands self.old s →
+        ensures serves { IsClean self.new → (s : State) → Stands self.old s →
             Serves (Stands self.new) (Leaves self.new) s s (λ found. found ≡ club.has_key s key.now) result };
 
     /// A game as members see it, if there is one of that number.
@@ -103,7 +102,7 @@ pub trait ServedClub {
         ensures clean { IsClean self.new → IsClean self.old }
         ensures shut { (fault : ClubFault) → IsShut self.old fault →
             (result ≡ Err fault) × IsShut self.new fault }
-        ensures serves { IsClean self.new → (s : Self.State) → Stands self.old s →
+        ensures serves { IsClean self.new → (s : State) → Stands self.old s →
             Serves (Stands self.new) (Leaves self.new) s s (λ found. club.IsGame s game (found_view found)) result };
 
     /// The legal moves of a game as they are written, in the order in which they are listed.
@@ -111,7 +110,7 @@ pub trait ServedClub {
         ensures clean { IsClean self.new → IsClean self.old }
         ensures shut { (fault : ClubFault) → IsShut self.old fault →
             (result ≡ Err fault) × IsShut self.new fault }
-        ensures serves { IsClean self.new → (s : Self.State) → Stands self.old s →
+        ensures serves { IsClean self.new → (s : State) → Stands self.old s →
             Serves (Stands self.new) (Leaves self.new) s s (λ rows. club.AreLegal s game (rows_view rows)) result };
 
     /// The lines of an event's cross table, if there is an event of that name.
@@ -119,7 +118,7 @@ pub trait ServedClub {
         ensures clean { IsClean self.new → IsClean self.old }
         ensures shut { (fault : ClubFault) → IsShut self.old fault →
             (result ≡ Err fault) × IsShut self.new fault }
-        ensures serves { IsClean self.new → (s : Self.State) → Stands self.old s →
+        ensures serves { IsClean self.new → (s : State) → Stands self.old s →
             Serves (Stands self.new) (Leaves self.new) s s
             (λ rows. club.AreLines s event.now (rows_view rows)) result };
 
@@ -134,7 +133,7 @@ pub trait ServedClub {
         ensures clean { IsClean self.new → IsClean self.old }
         ensures shut { (fault : ClubFault) → IsShut self.old fault →
             (result ≡ Err fault) × IsShut self.new fault }
-        ensures serves { IsClean self.new → (s : Self.State) → Stands self.old s →
+        ensures serves { IsClean self.new → (s : State) → Stands self.old s →
             Serves (Stands self.new) (Leaves self.new) s
             (club.step s (record { who = who_of who.now; command = command_of command.now; moment = moment })).0
             (λ outcome. outcome_of outcome ≡
@@ -152,16 +151,16 @@ pub trait ServedClub {
         ensures clean { IsClean self.new → IsClean self.old }
         ensures shut { (fault : ClubFault) → IsShut self.old fault →
             (result ≡ Err fault) × IsShut self.new fault }
-        ensures serves { IsClean self.new → (s : Self.State) → Stands self.old s →
+        ensures serves { IsClean self.new → (s : State) → Stands self.old s →
             Serves (Stands self.new) (Leaves self.new) s
             (club.challenge s key.now (challenge_view command.now) moment).0
             (λ answer. challenged_view answer ≡ (club.challenge s key.now (challenge_view command.now) moment).1)
             result };
 
     /// What stands is what is left, whichever the other state is.
-    ghost stays: { (b : Self) (s t : Self.State) → Stands b s → Leaves b s t };
+    ghost stays: { (b : Self) (s t : State) → Stands b s → Leaves b s t };
 
-    ghost settled: { (b : Self) (s t : Self.State) → Stands b t → Leaves b s t };
+    ghost settled: { (b : Self) (s t : State) → Stands b t → Leaves b s t };
 
-    ghost wider: { (b : Self) (s t : Self.State) → Leaves b s s → Leaves b s t };
+    ghost wider: { (b : Self) (s t : State) → Leaves b s s → Leaves b s t };
 }

@@ -1,0 +1,5 @@
+pub mod ActedLemmas
+pub mod NextLemmas
+pub mod ReplayLemmas
+pub mod ServeLemmas
+pub mod TurnLemmas

@@ -1,0 +1,98 @@
+-- What the calls of a club tell, as the desk asks it.
+use Rattle.std.proofs.Common.{◌≡◌, ◌≤◌, ℕ, List, Bool, true, false, Result, Ok, Err, refl, ap, sym, subst, ◌∙◌, arith, inl, true≢false}
+use Rattle.std.specs.Prelude.{◌↔◌, IsTrue, IfOk, OnOk, OnErr}
+use Rattle.std.specs.Bool.{one_answer}
+use Rattle.sqlite.specs.State.{State, HasCleanDisk}
+use Rattle.store_tables.specs.Club.{IsExactly}
+use Rattle.store_tables.specs.Tables.{club_schema}
+use Rattle.store_tables.specs.Reading.{OnlyReads}
+use Rattle.store_sql.specs.Read.{KeepsContent}
+use Rattle.club_core.specs.Limits.{last_moment}
+use Rattle.club_core.specs.State.{Request, key_holder, caller_of}
+use Rattle.club_rows.specs.Club.{ClubState, tables}
+use Rattle.store.specs.declared.fault.StoreFault.{StoreFault}
+use Rattle.store.specs.declared.fault.StoreFault.TheVariants.{Reopen as StoreReopen}
+use Rattle.store.specs.Keys.{HasKey}
+use Rattle.store.specs.Steps.{KeepsClub, club_next}
+use Rattle.store.proofs.KeyLemmas.{key_held}
+use Rattle.http_desk.specs.declared.faults.ClubFault.{ClubFault}
+use Rattle.http_desk.specs.declared.faults.ClubFault.TheVariants.{Reopen}
+use Rattle.http_desk.specs.Served.{Serves}
+use Rattle.club_desk.specs.Faults.{told_all}
+use Rattle.club_desk.specs.Served.{has_key}
+use Rattle.club_desk.specs.Standing.{IsServed, IsLeft, MayLeave, served_stays}
+
+-- a club is shut or only read: then its disk was clean before
+pub clean_before : (shut : Bool) (old new : State) → (shut ≡ true → new ≡ old) → (shut ≡ false → OnlyReads old new) → HasCleanDisk new → HasCleanDisk old
+clean_before true old new same reads clean = subst HasCleanDisk (same refl) clean
+clean_before false old new same reads clean = let was = (reads refl).clean in omega arith
+
+true_false : (b : Bool) → b ≡ true → b ≡ false → ⊥
+true_false b is isnt = true≢false (sym is ∙ isnt)
+
+-- a club that is shut stands nowhere
+pub shut_left : (shut : Bool) (now : State) (s t : ClubState) → shut ≡ true → MayLeave now s t → IsLeft shut now s t
+shut_left shut now s t ends left = record { leaves = left; stands = λ ready. absurd (true_false shut ends ready) }
+
+pub if_ok : {A F : Type 0} (P Q : A → Type 0) (found : Result A F) → IfOk found P → ((a : A) → P a → Q a) → IfOk found Q
+if_ok P Q (Ok a) is goes = goes a is
+if_ok P Q (Err fault) is goes = tt
+
+-- what a reading call leaves at a fault
+pub read_left : (old_shut new_shut : Bool) (old new : State) (s : ClubState) → new_shut ≡ true → (old_shut ≡ false → OnlyReads old new) → HasCleanDisk new → IsServed old_shut old s → IsLeft new_shut new s s
+read_left old_shut new_shut old new s ends reads clean served =
+    shut_left new_shut new s s ends (λ db left. inl (served.exactly.may_leave db ((reads served.ready).may clean db left)))
+
+-- where a reading call leaves the club
+pub read_stands : (old_shut new_shut : Bool) (old new : State) (s : ClubState) → new_shut ≡ false → KeepsContent old new → IsServed old_shut old s → IsServed new_shut new s
+read_stands old_shut new_shut old new s ready keeps served =
+    record { ready = ready; legal = served.legal; exactly = keeps club_schema (tables s) served.exactly }
+
+module _ {A : Type 0} where
+  -- a club that is shut tells the desk that it is to be opened again
+  pub told_shut : (fault : ClubFault) (found : Result A StoreFault) → fault ≡ Reopen → found ≡ Err StoreReopen → told_all found ≡ Err fault
+  told_shut fault found is shut = ap told_all shut ∙ ap Err (sym is)
+
+  read_answers : (old_shut new_shut : Bool) (old new : State) (s : ClubState) (IsRight : A → Type 0) (found : Result A StoreFault) → OnOk found (new_shut ≡ false) → OnErr found (new_shut ≡ true) → (old_shut ≡ false → OnlyReads old new) → OnOk found (KeepsContent old new) → IfOk found IsRight → HasCleanDisk new → IsServed old_shut old s → Serves (IsServed new_shut new) (IsLeft new_shut new) s s IsRight (told_all found)
+  read_answers old_shut new_shut old new s IsRight (Ok a) ready ends reads keeps right clean served = (right, read_stands old_shut new_shut old new s ready keeps served)
+  read_answers old_shut new_shut old new s IsRight (Err fault) ready ends reads keeps right clean served = read_left old_shut new_shut old new s ends reads clean served
+
+  -- a call that only reads, at whatever it answers
+  pub read_serves : (old_shut new_shut : Bool) (old new : State) (s : ClubState) (IsRight : A → Type 0) (found : Result A StoreFault) (answer : Result A ClubFault) → answer ≡ told_all found → OnOk found (new_shut ≡ false) → OnErr found (new_shut ≡ true) → (old_shut ≡ false → OnlyReads old new) → OnOk found (KeepsContent old new) → IfOk found IsRight → HasCleanDisk new → IsServed old_shut old s → Serves (IsServed new_shut new) (IsLeft new_shut new) s s IsRight answer
+  read_serves old_shut new_shut old new s IsRight found answer is ready ends reads keeps right clean served =
+      let P : Result A ClubFault → Type 0 = λ r. Serves (IsServed new_shut new) (IsLeft new_shut new) s s IsRight r in
+      subst P (sym is) (read_answers old_shut new_shut old new s IsRight found ready ends reads keeps right clean served)
+
+  -- an answer that is made of what was read
+  pub made_serves : (old_shut new_shut : Bool) (old new : State) (s : ClubState) (IsRight : A → Type 0) (made : Result A ClubFault) → new_shut ≡ false → KeepsContent old new → IfOk made IsRight → IsServed old_shut old s → Serves (IsServed new_shut new) (IsLeft new_shut new) s s IsRight made
+  made_serves old_shut new_shut old new s IsRight (Ok a) ready keeps right served =
+      (right, record { ready = ready; legal = served.legal; exactly = keeps club_schema (tables s) served.exactly })
+  made_serves old_shut new_shut old new s IsRight (Err fault) ready keeps right served =
+      served_stays new_shut new s s (record { ready = ready; legal = served.legal; exactly = keeps club_schema (tables s) served.exactly })
+
+  apply_answers : (old_shut new_shut : Bool) (old new : State) (s : ClubState) (request : Request) (IsRight : A → Type 0) (found : Result A StoreFault) → KeepsClub → request.moment ≤ last_moment → OnOk found (new_shut ≡ false) → OnErr found (new_shut ≡ true) → IfOk found IsRight → OnOk found (IsExactly (tables (club_next s request)) new) → OnErr found (MayLeave new s (club_next s request)) → IsServed old_shut old s → Serves (IsServed new_shut new) (IsLeft new_shut new) s (club_next s request) IsRight (told_all found)
+  apply_answers old_shut new_shut old new s request IsRight (Ok a) keeps within ready ends right steps left served =
+      (right, record { ready = ready; legal = keeps s request within served.legal; exactly = steps })
+  apply_answers old_shut new_shut old new s request IsRight (Err fault) keeps within ready ends right steps left served =
+      shut_left new_shut new s (club_next s request) ends left
+
+  -- a command, at whatever it is answered
+  pub apply_serves : (old_shut new_shut : Bool) (old new : State) (s : ClubState) (request : Request) (IsRight : A → Type 0) (found : Result A StoreFault) (answer : Result A ClubFault) → answer ≡ told_all found → KeepsClub → request.moment ≤ last_moment → OnOk found (new_shut ≡ false) → OnErr found (new_shut ≡ true) → IfOk found IsRight → OnOk found (IsExactly (tables (club_next s request)) new) → OnErr found (MayLeave new s (club_next s request)) → IsServed old_shut old s → Serves (IsServed new_shut new) (IsLeft new_shut new) s (club_next s request) IsRight answer
+  apply_serves old_shut new_shut old new s request IsRight found answer is keeps within ready ends right steps left served =
+      let P : Result A ClubFault → Type 0 = λ r. Serves (IsServed new_shut new) (IsLeft new_shut new) s (club_next s request) IsRight r in
+      subst P (sym is) (apply_answers old_shut new_shut old new s request IsRight found keeps within ready ends right steps left served)
+
+-- what holds of an answer for each state holds of it for this one
+pub on_ok : {A F P Q : Type 0} (found : Result A F) → OnOk found P → (P → Q) → OnOk found Q
+on_ok (Ok a) is goes = goes is
+on_ok (Err fault) is goes = tt
+
+pub on_err : {A F P Q : Type 0} (found : Result A F) → OnErr found P → (P → Q) → OnErr found Q
+on_err (Ok a) is goes = tt
+on_err (Err fault) is goes = goes is
+
+-- a member has the key exactly where the machine takes one who shows it for a member
+pub key_is : (s : ClubState) (key : List ℕ) (found : Bool) → IsTrue found ↔ HasKey s key → found ≡ has_key s key
+key_is s key found held =
+    let known = key_held s key (caller_of s.members (key_holder key)) refl in
+    one_answer found (has_key s key) (held.0, held.1) (known.0, known.1)

@@ -1,0 +1,24 @@
+-- What the desk tells of the faults of a store.
+use Rattle.std.specs.Prelude.{Result, Ok, Err}
+use Rattle.store.specs.declared.fault.StoreFault.{StoreFault}
+use Rattle.store.specs.declared.fault.StoreFault.TheVariants as club
+use Rattle.store.specs.declared.fault.OpenFault.{OpenFault}
+use Rattle.store.specs.declared.fault.OpenFault.TheVariants as opening
+use Rattle.http_desk.specs.declared.faults.ClubFault.{ClubFault}
+use Rattle.http_desk.specs.declared.faults.ClubFault.TheVariants.{Foreign, Schema, Damaged, Store, Reopen, Memory}
+
+abbrev pub told : StoreFault → ClubFault
+told club.Store = Store
+told club.Reopen = Reopen
+told club.Memory = Memory
+
+abbrev pub told_all : {A : Type 0} → Result A StoreFault → Result A ClubFault
+told_all (Ok found) = Ok found
+told_all (Err fault) = Err (told fault)
+
+abbrev pub told_of_opening : OpenFault → ClubFault
+told_of_opening opening.Foreign = Foreign
+told_of_opening (opening.Schema number) = Schema
+told_of_opening (opening.Damaged table) = Damaged
+told_of_opening opening.Store = Store
+told_of_opening opening.Memory = Memory

@@ -1,0 +1,66 @@
+-- The club of a store, as the desk asks it.
+use Rattle.std.specs.Prelude.{◌≡◌, ℕ, Bool, true, false, List, Option, Err, is_some, string_bytes}
+use Rattle.std.specs.Option.{option_map}
+use Rattle.squares.specs.declared.sides.Side.{Side}
+use Rattle.squares.specs.declared.sides.Side.TheVariants.{First, Second}
+use Rattle.club_core.specs.declared.refusals.Refusal.TheVariants.{NotAllowed, UnknownKey}
+use Rattle.club_core.specs.Answer.{answered}
+use Rattle.club_core.specs.State.{key_holder, caller_of}
+use Rattle.club_rows.specs.Club.{ClubState}
+use Rattle.store.specs.declared.viewed.ViewedGame.{ViewedGame}
+use Rattle.store.specs.CrossTable.{AreTableRows}
+use Rattle.store.specs.Steps.{club_step, club_next}
+use Rattle.store.specs.Stored.{AreLegalRows}
+use Rattle.store.specs.Viewed.{IsViewed}
+use Rattle.http_desk.specs.declared.refusals.ChallengeRefusal.{ChallengeRefusal}
+use Rattle.http_desk.specs.declared.refusals.ChallengeRefusal.TheVariants as refusal
+use Rattle.http_desk.specs.Served.{Club}
+use Rattle.http_desk.specs.Shown.{GameShown, ChallengeCommand, make, withdraw, answer}
+use Rattle.http_desk.specs.ShownViews.{texts_view}
+
+-- the machine takes one who shows the key for a member
+abbrev pub has_key : ClubState → List ℕ → Bool
+has_key s key = is_some (caller_of s.members (key_holder key))
+
+-- the name of the player of a side
+abbrev pub named : ViewedGame → Side → List ℕ
+named viewed First = string_bytes viewed.first
+named viewed Second = string_bytes viewed.second
+
+-- what is shown of a view of a game
+abbrev pub shown_of : ViewedGame → GameShown
+shown_of viewed =
+    record {
+      event = string_bytes viewed.event;
+      first = string_bytes viewed.first;
+      second = string_bytes viewed.second;
+      moves = texts_view viewed.played.moves.items;
+      position = string_bytes viewed.played.position;
+      left_first = viewed.played.left_first;
+      left_second = viewed.played.left_second;
+      offer = option_map (named viewed) viewed.played.offer;
+      end = viewed.played.end;
+      result = viewed.played.result;
+    }
+
+-- a view of the game of this number is shown so
+abbrev pub IsGame : ClubState → ℕ → Option GameShown → Type 0
+IsGame s id shown = (viewed : Option ViewedGame) × IsViewed s id viewed × (shown ≡ option_map shown_of viewed)
+
+-- A command about a challenge, by a member or by nobody: no challenge stands, and none can be made.
+abbrev pub challenge_refusal : Bool → ChallengeCommand → ChallengeRefusal
+challenge_refusal false command = refusal.Club UnknownKey
+challenge_refusal true (make number event other first) = refusal.Club NotAllowed
+challenge_refusal true (withdraw number) = refusal.UnknownChallenge
+challenge_refusal true (answer member number accept) = refusal.UnknownChallenge
+
+abbrev pub served : Club ClubState
+served =
+    record {
+      has_key = has_key;
+      IsGame = IsGame;
+      AreLegal = AreLegalRows;
+      AreLines = AreTableRows;
+      step = λ s request. (club_next s request, answered (club_step s request));
+      challenge = λ s key command moment. (s, Err (challenge_refusal (has_key s key) command));
+    }

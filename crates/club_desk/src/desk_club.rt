@@ -1,0 +1,97 @@
+//! The club of a store, as the desk serves it.
+
+ghost use Rattle.std.specs.Prelude.{◌≡◌};
+
+use crate::faults::{told, told_all};
+use crate::shown::{challenge_refusal, found_shown};
+use clocks::Moment;
+use club_core::{Command, Outcome, Who};
+use http_desk::{
+    ChallengeCommand, ChallengeRefusal, ChallengeState, ClubFault, GameShown, ServedClub,
+};
+use sqlite::Alter;
+use std::alloc::Global;
+use store::Club;
+use store::laws::requests_keep_clubs;
+
+/// The club of a store. It has no challenges: none stands, and none can be made.
+#[derive(Drop)]
+pub struct DeskClub<S: Alter> {
+    pub club: Club<S>,
+}
+
+impl<S: Alter> ServedClub for DeskClub<S> {
+    ghost use Rattle.std.specs.Prelude.{◌≡◌, true};
+    ghost use Rattle.sqlite.specs.Held.{state};
+    ghost use Rattle.sqlite.specs.State.{HasCleanDisk};
+    ghost use Rattle.club_rows.specs.Club.{ClubState};
+    ghost use Rattle.http_desk.specs.declared.faults.ClubFault.TheVariants.{Reopen};
+    ghost use Rattle.club_desk.specs.Served.{served};
+    ghost use Rattle.club_desk.specs.Standing.{IsLeft, IsServed, served_stays, served_settled, left_wider};
+
+    ghost State = { ClubState };
+
+    ghost club = { served };
+
+    ghost IsClean = { λ b. HasCleanDisk (state S.Store b.club.connection) };
+
+    ghost Stands = { λ b s. IsServed b.club.needs_reopening (state S.Store b.club.connection) s };
+
+    ghost Leaves = { λ b s t. IsLeft b.club.needs_reopening (state S.Store b.club.connection) s t };
+
+    ghost IsShut = { λ b fault. (b.club.needs_reopening ≡ true) × (fault ≡ Reopen) };
+
+    fn has_key(&mut self, alloc: Global, key: &str) -> Result<bool, ClubFault> {
+        told_all(self.club.has_key(alloc, key))
+    }
+
+    fn view_game(&mut self, alloc: Global, game: u64) -> Result<Option<GameShown>, ClubFault> {
+        match self.club.view_game(alloc, game) {
+            Ok(found) => found_shown(alloc, found),
+            Err(fault) => Err(told(fault)),
+        }
+    }
+
+    fn legal_rows(&mut self, alloc: Global, game: u64) -> Result<Option<Vec<String>>, ClubFault> {
+        told_all(self.club.legal_rows(alloc, game))
+    }
+
+    fn table_lines(
+        &mut self,
+        alloc: Global,
+        event: &str,
+    ) -> Result<Option<Vec<String>>, ClubFault> {
+        told_all(self.club.table_rows(alloc, event))
+    }
+
+    fn apply(
+        &mut self,
+        alloc: Global,
+        who: &Who,
+        command: &Command,
+        moment: Moment,
+    ) -> Result<Outcome, ClubFault> {
+        let _within = moment.seconds();
+        requests_keep_clubs();
+        told_all(self.club.apply(alloc, who, command, moment))
+    }
+
+    fn apply_challenge(
+        &mut self,
+        alloc: Global,
+        key: &str,
+        command: &ChallengeCommand,
+        _moment: Moment,
+    ) -> Result<Result<ChallengeState, ChallengeRefusal>, ClubFault> {
+        match self.club.has_key(alloc, key) {
+            Ok(is_member) => Ok(Err(challenge_refusal(is_member, command))),
+            Err(fault) => Err(told(fault)),
+        }
+    }
+
+    ghost stays = { λ b s t stands. served_stays _ _ s t stands };
+
+    ghost settled = { λ b s t stands. served_settled _ _ s t stands };
+
+    ghost wider = { λ b s t left. left_wider _ _ s t left };
+}

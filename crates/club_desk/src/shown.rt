@@ -1,0 +1,106 @@
+//! A game of the club as the desk shows it, and what is answered about challenges.
+
+ghost use Rattle.std.specs.Prelude.{◌≡◌, IfErr, IfOk, string_bytes};
+ghost use Rattle.std.specs.Option.{option_map};
+ghost use Rattle.http_desk.specs.ShownViews.{challenge_view, found_view, game_view};
+ghost use Rattle.club_desk.specs.Served.{challenge_refusal, named, shown_of};
+
+use club_core::Refusal;
+use http_desk::{ChallengeCommand, ChallengeRefusal, ClubFault, GameShown};
+use squares::Side;
+use std::alloc::{AllocError, Global};
+use store::ViewedGame;
+
+// The name of the player who offers a draw.
+fn offering(
+    alloc: Global,
+    viewed: &ViewedGame,
+    offer: Option<Side>,
+) -> Result<Option<String>, AllocError>
+    ensures { IfOk result (λ name. option_map string_bytes name ≡ option_map (named viewed.now) offer) }
+{
+    match offer {
+        Some(Side::First) => {
+            let name = viewed.first.clone()?;
+            Ok(Some(name))
+        }
+        Some(Side::Second) => {
+            let name = viewed.second.clone()?;
+            Ok(Some(name))
+        }
+        None => Ok(None),
+    }
+}
+
+// The game, with the name of the player who offers a draw.
+fn with_offer(viewed: ViewedGame, offer: Option<String>) -> GameShown
+    ensures { option_map string_bytes offer ≡ option_map (named viewed) viewed.played.offer →
+        game_view result ≡ shown_of viewed }
+{
+    let ViewedGame {
+        event,
+        first,
+        second,
+        played,
+    } = viewed;
+    GameShown {
+        event,
+        first,
+        second,
+        moves: played.moves,
+        position: played.position,
+        left_first: played.left_first,
+        left_second: played.left_second,
+        offer,
+        end: played.end,
+        result: played.result,
+    }
+}
+
+// The game as the desk shows it.
+fn game_shown(alloc: Global, viewed: ViewedGame) -> Result<GameShown, AllocError>
+    ensures { IfOk result (λ game. game_view game ≡ shown_of viewed) }
+{
+    let offer = offering(alloc, &viewed, viewed.played.offer)?;
+    Ok(with_offer(viewed, offer))
+}
+
+// The game that was found, as the desk shows it.
+pub(crate) fn found_shown(
+    alloc: Global,
+    found: Option<ViewedGame>,
+) -> Result<Option<GameShown>, ClubFault>
+    ensures shown { IfOk result (λ game. found_view game ≡ option_map shown_of found) }
+    ensures fault { IfErr result (λ fault. fault ≡ ClubFault.Memory) }
+{
+    let Some(viewed) = found else {
+        return Ok(None);
+    };
+    match game_shown(alloc, viewed) {
+        Ok(game) => Ok(Some(game)),
+        Err(_) => Err(ClubFault::Memory),
+    }
+}
+
+// Why a command about a challenge is refused: no challenge stands, and none can be made.
+pub(crate) fn challenge_refusal(is_member: bool, command: &ChallengeCommand) -> ChallengeRefusal
+    ensures { result ≡ challenge_refusal is_member (challenge_view command.now) }
+{
+    if !is_member {
+        return ChallengeRefusal::Club(Refusal::UnknownKey);
+    }
+    match command {
+        ChallengeCommand::Make {
+            number: _,
+            event: _,
+            other: _,
+            first: _,
+        } => ChallengeRefusal::Club(Refusal::NotAllowed),
+        ChallengeCommand::Withdraw { number: _ } => ChallengeRefusal::UnknownChallenge,
+        ChallengeCommand::Answer {
+            member: _,
+            number: _,
+            accept: _,
+        } => ChallengeRefusal::UnknownChallenge,
+    }
+}
