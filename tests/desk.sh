@@ -203,7 +203,7 @@ officer 0 'accepted game 5' seat d4 autumn bert dora
 verdict 'the officer waits five seconds at most' yes "$([ $((SECONDS - begun)) -le 5 ] && echo yes)"
 touch over
 wait "${crowd[@]}"
-gets 200 '{"end":"Resigned","game":3,"result":"2-0"}' keycara3 POST /games/3/resign
+gets 200 '{"end":"Resigned","game":3,"result":"0-2"}' keybert2 POST /games/3/resign
 kill "$desk"
 wait "$desk" 2> /dev/null
 desk=
@@ -212,7 +212,7 @@ verdict 'none of the crowd was turned away' 0 "$(grep -c -v ' 200$' log)"
 reads 'ok' 'PRAGMA integrity_check'
 reads '1|3|Agreed|1-1
 2|12|Fourfold|1-1
-3|2|Resigned|2-0' 'SELECT id, plies, end, result FROM games WHERE id <= 3 ORDER BY id'
+3|2|Resigned|0-2' 'SELECT id, plies, end, result FROM games WHERE id <= 3 ORDER BY id'
 reads '1|1|32-28
 1|2|19-23
 1|3|28x19
