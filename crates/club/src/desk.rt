@@ -9,9 +9,9 @@ ghost use Rattle.lives.specs.Finds.{AreLed};
 ghost use Rattle.club_words.specs.declared.report.Report.TheVariants.{InUse, NotOpened};
 ghost use Rattle.club.specs.LedOn.{AreLedOn};
 
-use crate::{PAUSE_MILLISECONDS, TURNS};
 use crate::order::unopened;
 use crate::port::Callers;
+use crate::{PAUSE_MILLISECONDS, TURNS};
 use club_desk::{Visits, serve_closed, serve_stretch};
 use club_words::{DONE, Report, Service};
 use http_desk::ClubFault;
