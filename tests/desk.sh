@@ -30,7 +30,15 @@ officer() { # STATUS TEXT WORD..: the officer's words, beside the desk
 }
 
 reads() { # TEXT SQL: sqlite3 reads the file so.
-    verdict "sqlite3 $2" "$1" "$(sqlite3 c.db "$2")"
+    local got
+    if command -v sqlite3 > /dev/null 2>&1; then
+        got=$(sqlite3 c.db "$2")
+    else
+        got=$(python3 -c 'import sqlite3, sys
+for row in sqlite3.connect("c.db").execute(sys.argv[1]):
+    print("|".join("" if cell is None else str(cell) for cell in row))' "$2")
+    fi
+    verdict "sqlite3 $2" "$1" "$got"
 }
 
 asks() { # KEY METHOD PATH BODY: the reply's status and its body
