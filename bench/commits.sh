@@ -13,11 +13,11 @@ trap 'rm -rf "$work"' EXIT
 count=200
 
 cp -a "$top/crates" "$work/crates"
-rm -rf "$work"/crates/{club,club_words,lives,trials,perft,csa}
+rm -rf "$work"/crates/{club,club_words,sessions,trials,perft,csa}
 mkdir -p "$work/crates/commits/src"
 cp "$top/bench/commits.rt.txt" "$work/crates/commits/src/main.rt"
 cp "$top/HANDLES" "$work/"
-grep -vE '^(club|club_words|lives|trials|perft|csa):' "$top/crates.txt" > "$work/crates.txt"
+grep -vE '^(club|club_words|sessions|trials|perft|csa):' "$top/crates.txt" > "$work/crates.txt"
 echo 'commits: store club_core club_rules clocks sqlite sqlite_disk anyhow' >> "$work/crates.txt"
 git init -q "$work"
 (cd "$work/crates/commits" && rt run -- unknown "$work/first.db" 1) > "$work/build.log" 2>&1 || { cat "$work/build.log" >&2; exit 70; }

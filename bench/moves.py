@@ -18,7 +18,7 @@ import time
 
 from opening import TOP, begin, club, multiply
 
-ABOVE = ("club", "club_words", "lives", "trials", "rules_trials", "club_trials", "desk_trials", "http_head", "http_desk",
+ABOVE = ("club", "club_words", "sessions", "trials", "rules_trials", "club_trials", "desk_trials", "http_head", "http_desk",
          "club_desk", "perft")
 RUNS = 5
 MEASURED = 20

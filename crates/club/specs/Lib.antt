@@ -1,1 +1,1 @@
-pub mod LedOn
+pub mod ReachableOn

@@ -5,9 +5,9 @@ ghost use Rattle.sqlite_wal.specs.Files.{image_at};
 ghost use Rattle.sqlite_wal.specs.Recovery.{Image};
 ghost use Rattle.sqlite_store.specs.FileStore.{state as store_state, view as store_view};
 ghost use Rattle.sqlite_trees.specs.View.{IsClean};
-ghost use Rattle.lives.specs.Finds.{AreLed};
+ghost use Rattle.sessions.specs.Finds.{AreReachable};
 ghost use Rattle.club_words.specs.declared.report.Report.TheVariants.{InUse, NotOpened};
-ghost use Rattle.club.specs.LedOn.{AreLedOn};
+ghost use Rattle.club.specs.ReachableOn.{AreReachableOn};
 
 use crate::order::unopened;
 use crate::port::Callers;
@@ -15,7 +15,7 @@ use crate::{PAUSE_MILLISECONDS, TURNS};
 use club_desk::{Visits, serve_closed, serve_stretch};
 use club_words::{DONE, Report, Service};
 use http_desk::ClubFault;
-use lives::close;
+use sessions::close;
 use sqlite::{Connection, FileFrom, FileStore};
 use sqlite_disk::{Start, Wary};
 use std::thread::sleep;
@@ -37,8 +37,8 @@ pub fn stretch<S: Start, V: Visits>(
 )
     ensures unopened { result.1 ≡ None → (result.0 ≡ Err InUse) ⊎ (result.0 ≡ Err NotOpened) }
     ensures led { IfSome result.1 (λ store. IsClean (store_view store) →
-        (sessions : _) → AreLed sessions (image_at S.Start) →
-        (left : Image) → (store_state store).may_leave left → AreLedOn sessions left) }
+        (sessions : _) → AreReachable sessions (image_at S.Start) →
+        (left : Image) → (store_state store).may_leave left → AreReachableOn sessions left) }
 {
     let conn = match Connection::open_from(rt, file, false, start) {
         Ok(conn) => conn,

@@ -10,7 +10,7 @@ ghost use Rattle.store_tables.specs.Club.{Leaves};
 ghost use Rattle.club_core.specs.Answer.{answered, outcome_of};
 ghost use Rattle.club_rows.specs.Club.{ClubState, IsClub, tables};
 ghost use Rattle.store.specs.Steps.{club_step};
-ghost use Rattle.lives.specs.Finds.{IsFoundIn, AreLed, AreVoid};
+ghost use Rattle.sessions.specs.Finds.{IsFoundIn, AreReachable, AreVoid};
 ghost use Rattle.club_words.specs.declared.words.Task.TheVariants.{Init};
 ghost use Rattle.club_words.specs.declared.report.Report.TheVariants.{InUse, NotOpened};
 ghost use Rattle.club_words.specs.Report.{given, Answers, IfRequest, IfLegal, IfTable, IfExport, IfVerify};
@@ -18,7 +18,7 @@ ghost use Rattle.club_words.specs.Report.{ListsMoves, ListsTable, WritesRecord, 
 
 use clocks::Moment;
 use club_words::{Order, Report, act};
-use lives::close;
+use sessions::close;
 use sqlite::{Connection, Error, ErrorCode, FileFrom, FileStore};
 use sqlite_disk::Start;
 use std::io::Write;
@@ -72,9 +72,9 @@ pub fn obey<S: Start, W: Write>(
         (s : ClubState) → IsClub s → ((found : Trees) → IsFoundIn (image_at S.Start) found → Leaves (tables s) found) →
         IfVerify order.entry.now.task (IsPassed result.0)) }
     ensures led { IfSome result.1 (λ store. IsClean (store_view store) →
-        (sessions : _) → AreLed sessions (image_at S.Start) →
+        (sessions : _) → AreReachable sessions (image_at S.Start) →
         (left : Image) → (store_state store).may_leave left →
-        AreLed (sessions ++ task_sessions order.entry.now.task moment result.0) left) }
+        AreReachable (sessions ++ task_sessions order.entry.now.task moment result.0) left) }
 {
     let conn = match Connection::open_from(rt, order.file.as_str(), false, start) {
         Ok(conn) => conn,

@@ -6,12 +6,12 @@ use Rattle.store_tables.specs.Reading.{OnlyReads}
 use Rattle.club_core.specs.Limits.{last_moment}
 use Rattle.club_core.specs.State.{Request}
 use Rattle.club_rows.specs.Club.{ClubState}
-use Rattle.store.specs.Lives.{Session, IsLed, Stands, cut_session}
+use Rattle.store.specs.Histories.{Session, IsReachable, IsHistory, cut_session}
 use Rattle.store.specs.Steps.{KeepsClub, club_next}
-use Rattle.store.proofs.LifeLemmas.{taken_session, one_leads, one_cut}
+use Rattle.store.proofs.HistoryLemmas.{taken_session, one_leads, one_cut}
 use Rattle.club_desk.specs.Served.{served}
 use Rattle.club_desk.specs.Standing.{IsServed, IsLeft, MayLeave}
-use Rattle.club_desk.specs.Turns.{IsTurn, AreTurns, StandsOn, IsLedOn}
+use Rattle.club_desk.specs.Turns.{IsTurn, AreTurns, IsHistoryOn, IsReachableOn}
 use Rattle.club_desk.specs.Visits.{HasActed}
 use Rattle.club_desk.proofs.NextLemmas.{seen_next}
 
@@ -20,11 +20,11 @@ turns_more [] session request are turn is = ((request, turn, is), tt)
 turns_more (one ∷ turns) session request are turn is = (are.0, turns_more turns session request are.1 turn is)
 
 -- where it began
-pub stands_first : (sessions : List Session) (now : State) → Stands sessions now → StandsOn sessions now
+pub stands_first : (sessions : List Session) (now : State) → IsHistory sessions now → IsHistoryOn sessions now
 stands_first sessions now stands =
-    record { turns = []; are_turns = tt; stands = let P : List Session → Type 0 = λ xs. Stands xs now in subst P (sym (append-nil sessions)) stands }
+    record { turns = []; are_turns = tt; stands = let P : List Session → Type 0 = λ xs. IsHistory xs now in subst P (sym (append-nil sessions)) stands }
 
-pub stands_led : (sessions : List Session) (now : State) → StandsOn sessions now → IsLedOn sessions now
+pub stands_led : (sessions : List Session) (now : State) → IsHistoryOn sessions now → IsReachableOn sessions now
 stands_led sessions now on =
     record {
       turns = on.turns;
@@ -33,16 +33,16 @@ stands_led sessions now on =
     }
 
 -- a call that only read leaves nothing else
-pub reads_led : (sessions : List Session) (old new : State) → OnlyReads old new → HasCleanDisk new → Stands sessions old → IsLedOn sessions new
+pub reads_led : (sessions : List Session) (old new : State) → OnlyReads old new → HasCleanDisk new → IsHistory sessions old → IsReachableOn sessions new
 reads_led sessions old new reads clean stands =
     let on = stands_led sessions old (stands_first sessions old stands) in
     record { turns = on.turns; are_turns = on.are_turns; led = λ db may. on.led db (reads.may clean db may) }
 
-module _ (keeps : KeepsClub) (sessions : List Session) (old : State) (on : StandsOn sessions old) where
+module _ (keeps : KeepsClub) (sessions : List Session) (old : State) (on : IsHistoryOn sessions old) where
   abbrev before : ClubState
   before = on.stands.after
 
-  stays : (shut : Bool) (now : State) → IsServed shut now before → StandsOn sessions now
+  stays : (shut : Bool) (now : State) → IsServed shut now before → IsHistoryOn sessions now
   stays shut now is =
       record {
         turns = on.turns;
@@ -50,10 +50,10 @@ module _ (keeps : KeepsClub) (sessions : List Session) (old : State) (on : Stand
         stands = record { after = before; legal = is.legal; leads = on.stands.leads; exactly = is.exactly };
       }
 
-  goes : (shut : Bool) (now : State) (request : Request) → IsTurn request → IsServed shut now (club_next before request) → StandsOn sessions now
+  goes : (shut : Bool) (now : State) (request : Request) → IsTurn request → IsServed shut now (club_next before request) → IsHistoryOn sessions now
   goes shut now request turn is =
       let one = taken_session before request in
-      let P : List Session → Type 0 = λ xs. Stands xs now in
+      let P : List Session → Type 0 = λ xs. IsHistory xs now in
       record {
         turns = on.turns ++ one ∷ [];
         are_turns = turns_more on.turns one request on.are_turns turn refl;
@@ -65,12 +65,12 @@ module _ (keeps : KeepsClub) (sessions : List Session) (old : State) (on : Stand
         });
       }
 
-  next_stands : (shut : Bool) (now : State) (t : ClubState) → (t ≡ before) ⊎ ((request : Request) × IsTurn request × (t ≡ club_next before request)) → IsServed shut now t → StandsOn sessions now
+  next_stands : (shut : Bool) (now : State) (t : ClubState) → (t ≡ before) ⊎ ((request : Request) × IsTurn request × (t ≡ club_next before request)) → IsServed shut now t → IsHistoryOn sessions now
   next_stands shut now t (inl same) is = stays shut now (let P : ClubState → Type 0 = λ u. IsServed shut now u in subst P same is)
   next_stands shut now t (inr done) is = goes shut now done.0 done.1 (let P : ClubState → Type 0 = λ u. IsServed shut now u in subst P done.2 is)
 
   -- no call has failed so far
-  pub acted_stands : (shut : Bool) (now : State) (moment : ℕ) → moment ≤ last_moment → shut ≡ false → HasActed served (IsServed shut now) (IsLeft shut now) before moment → StandsOn sessions now
+  pub acted_stands : (shut : Bool) (now : State) (moment : ℕ) → moment ≤ last_moment → shut ≡ false → HasActed served (IsServed shut now) (IsLeft shut now) before moment → IsHistoryOn sessions now
   acted_stands shut now moment within ready (inl is) = stays shut now is
   acted_stands shut now moment within ready (inr done) = elim done.1 [
     | inl is ↦ next_stands shut now _ (seen_next before moment within done.0) is
@@ -80,7 +80,7 @@ module _ (keeps : KeepsClub) (sessions : List Session) (old : State) (on : Stand
     ]
   ]
 
-  stays_led : (now : State) → MayLeave now before before → IsLedOn sessions now
+  stays_led : (now : State) → MayLeave now before before → IsReachableOn sessions now
   stays_led now left =
       record {
         turns = on.turns;
@@ -93,24 +93,24 @@ module _ (keeps : KeepsClub) (sessions : List Session) (old : State) (on : Stand
         };
       }
 
-  cut_led : (now : State) (request : Request) → IsTurn request → MayLeave now before (club_next before request) → IsLedOn sessions now
+  cut_led : (now : State) (request : Request) → IsTurn request → MayLeave now before (club_next before request) → IsReachableOn sessions now
   cut_led now request turn left =
       let one = cut_session request in
       record {
         turns = on.turns ++ one ∷ [];
         are_turns = turns_more on.turns one request on.are_turns turn refl;
         led = λ db may.
-            let P : List Session → Type 0 = λ xs. IsLed xs db in
+            let P : List Session → Type 0 = λ xs. IsReachable xs db in
             subst P (append_assoc sessions on.turns (one ∷ []))
             (one_cut before (sessions ++ on.turns) request db on.stands.leads on.stands.legal (keeps before request turn.within on.stands.legal) (left db may));
       }
 
-  next_led : (now : State) (t : ClubState) → (t ≡ before) ⊎ ((request : Request) × IsTurn request × (t ≡ club_next before request)) → MayLeave now before t → IsLedOn sessions now
+  next_led : (now : State) (t : ClubState) → (t ≡ before) ⊎ ((request : Request) × IsTurn request × (t ≡ club_next before request)) → MayLeave now before t → IsReachableOn sessions now
   next_led now t (inl same) left = stays_led now (let P : ClubState → Type 0 = λ u. MayLeave now before u in subst P same left)
   next_led now t (inr done) left = cut_led now done.0 done.1 (let P : ClubState → Type 0 = λ u. MayLeave now before u in subst P done.2 left)
 
   -- whether a call has failed or not
-  pub acted_led : (shut : Bool) (now : State) (moment : ℕ) → moment ≤ last_moment → HasActed served (IsServed shut now) (IsLeft shut now) before moment → IsLedOn sessions now
+  pub acted_led : (shut : Bool) (now : State) (moment : ℕ) → moment ≤ last_moment → HasActed served (IsServed shut now) (IsLeft shut now) before moment → IsReachableOn sessions now
   acted_led shut now moment within (inl is) = stands_led sessions now (stays shut now is)
   acted_led shut now moment within (inr done) = elim done.1 [
     | inl is ↦ stands_led sessions now (next_stands shut now _ (seen_next before moment within done.0) is)
@@ -121,16 +121,16 @@ module _ (keeps : KeepsClub) (sessions : List Session) (old : State) (on : Stand
 abbrev pub Acted : Bool → State → ClubState → Type 0
 Acted shut now s = (moment : ℕ) × (moment ≤ last_moment) × HasActed served (IsServed shut now) (IsLeft shut now) s moment
 
-module _ (keeps : KeepsClub) (sessions : List Session) (old_shut : Bool) (old : State) (ready : old_shut ≡ false) (on : StandsOn sessions old) where
+module _ (keeps : KeepsClub) (sessions : List Session) (old_shut : Bool) (old : State) (ready : old_shut ≡ false) (on : IsHistoryOn sessions old) where
   abbrev served_before : IsServed old_shut old on.stands.after
   served_before = record { ready = ready; legal = on.stands.legal; exactly = on.stands.exactly }
 
-  pub turn_stands : (shut : Bool) (now : State) → shut ≡ false → ((s : ClubState) → IsServed old_shut old s → Acted shut now s) → StandsOn sessions now
+  pub turn_stands : (shut : Bool) (now : State) → shut ≡ false → ((s : ClubState) → IsServed old_shut old s → Acted shut now s) → IsHistoryOn sessions now
   turn_stands shut now is_open acts =
       let (moment, within, acted) = acts on.stands.after served_before in
       acted_stands keeps sessions old on shut now moment within is_open acted
 
-  pub turn_led : (shut : Bool) (now : State) → ((s : ClubState) → IsServed old_shut old s → Acted shut now s) → IsLedOn sessions now
+  pub turn_led : (shut : Bool) (now : State) → ((s : ClubState) → IsServed old_shut old s → Acted shut now s) → IsReachableOn sessions now
   turn_led shut now acts =
       let (moment, within, acted) = acts on.stands.after served_before in
       acted_led keeps sessions old on shut now moment within acted

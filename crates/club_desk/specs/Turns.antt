@@ -5,7 +5,7 @@ use Rattle.sqlite.specs.State.{State}
 use Rattle.club_core.specs.Limits.{last_moment}
 use Rattle.club_core.specs.State.{Request, key_holder, on_game}
 use Rattle.club_core.specs.Step.{GameCommand}
-use Rattle.store.specs.Lives.{Session, IsLed, Stands}
+use Rattle.store.specs.Histories.{Session, IsReachable, IsHistory}
 
 -- one who shows a key gives a command on a game
 pub record IsTurn (request : Request) : Type 0 where
@@ -21,13 +21,13 @@ AreTurns [] = ⊤
 AreTurns (session ∷ sessions) = ((request : Request) × IsTurn request × (session.requests ≡ request ∷ [])) × AreTurns sessions
 
 -- with turns added, the sessions lead to what stands
-pub record StandsOn (sessions : List Session) (now : State) : Type 0 where
+pub record IsHistoryOn (sessions : List Session) (now : State) : Type 0 where
   pub turns : List Session
   pub are_turns : AreTurns turns
-  pub stands : Stands (sessions ++ turns) now
+  pub stands : IsHistory (sessions ++ turns) now
 
 -- with turns added, the sessions lead to whatever a stop leaves
-pub record IsLedOn (sessions : List Session) (now : State) : Type 0 where
+pub record IsReachableOn (sessions : List Session) (now : State) : Type 0 where
   pub turns : List Session
   pub are_turns : AreTurns turns
-  pub led : (db : Trees) → now.may_leave db → IsLed (sessions ++ turns) db
+  pub led : (db : Trees) → now.may_leave db → IsReachable (sessions ++ turns) db

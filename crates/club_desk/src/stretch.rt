@@ -3,8 +3,8 @@
 ghost use Rattle.std.specs.Prelude.{◌≡◌, false};
 ghost use Rattle.sqlite.specs.State.{HasCleanDisk, Opens, IsLive};
 ghost use Rattle.sqlite.specs.Held.{state};
-ghost use Rattle.store.specs.Lives.{IsLed, Stands};
-ghost use Rattle.club_desk.specs.Turns.{IsLedOn};
+ghost use Rattle.store.specs.Histories.{IsReachable, IsHistory};
+ghost use Rattle.club_desk.specs.Turns.{IsReachableOn};
 
 use crate::desk_club::DeskClub;
 use crate::faults::told_of_opening;
@@ -21,8 +21,8 @@ fn serve_open<S: Alter, V: Visits>(alloc: Global, club: &mut DeskClub<S>, visits
     ensures clean { HasCleanDisk (state S.Store club.new.club.connection) →
         HasCleanDisk (state S.Store club.old.club.connection) }
     ensures led { HasCleanDisk (state S.Store club.new.club.connection) → (sessions : _) →
-        Stands sessions (state S.Store club.old.club.connection) →
-        IsLedOn sessions (state S.Store club.new.club.connection) }
+        IsHistory sessions (state S.Store club.old.club.connection) →
+        IsReachableOn sessions (state S.Store club.new.club.connection) }
 {
     requests_keep_clubs();
     for _ in 0..u64::MAX {
@@ -58,8 +58,8 @@ pub fn serve_stretch<S: Alter, V: Visits>(
     ensures idle { result.1.in_transaction ≡ false }
     ensures clean { HasCleanDisk (state S.Store result.1) → HasCleanDisk (state S.Store conn) }
     ensures led { HasCleanDisk (state S.Store result.1) → Opens (state S.Store conn) → IsLive (state S.Store conn) →
-        (sessions : _) → IsLed sessions (state S.Store conn).committed.trees →
-        IsLedOn sessions (state S.Store result.1) }
+        (sessions : _) → IsReachable sessions (state S.Store conn).committed.trees →
+        IsReachableOn sessions (state S.Store result.1) }
 {
     holds_what_sessions_left(&conn);
     leaves_what_sessions_left(&conn);

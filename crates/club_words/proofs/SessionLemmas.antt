@@ -4,12 +4,12 @@ use Rattle.sqlite.specs.Tree.{Trees}
 use Rattle.sqlite.specs.State.{State}
 use Rattle.store_tables.specs.Contents.{Content}
 use Rattle.store_tables.specs.Club.{IsExactly}
-use Rattle.store.specs.Lives.{Session, IsLed, Stands}
+use Rattle.store.specs.Histories.{Session, IsReachable, IsHistory}
 
 -- with no session more
-pub led_still : (sessions : List Session) (db : Trees) → IsLed sessions db → IsLed (sessions ++ []) db
-led_still sessions db led = subst (λ xs. IsLed xs db) (sym (append-nil sessions)) led
+pub led_still : (sessions : List Session) (db : Trees) → IsReachable sessions db → IsReachable (sessions ++ []) db
+led_still sessions db led = subst (λ xs. IsReachable xs db) (sym (append-nil sessions)) led
 
 -- where the tables stayed as they were
-pub stands_still : (sessions : List Session) (old new : State) → ((content : Content) → IsExactly content old → IsExactly content new) → Stands sessions old → Stands sessions new
+pub stands_still : (sessions : List Session) (old new : State) → ((content : Content) → IsExactly content old → IsExactly content new) → IsHistory sessions old → IsHistory sessions new
 stands_still sessions old new same at = record { after = at.after; legal = at.legal; leads = at.leads; exactly = same _ at.exactly }

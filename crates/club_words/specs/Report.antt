@@ -1,4 +1,4 @@
--- What an order came to: what is printed, the status of the program, and the sessions that it adds to a club's life.
+-- What an order came to: what is printed, the status of the program, and the sessions that it adds to a club's history.
 use Rattle.std.specs.Prelude.{◌≡◌, ◌⊎◌, ℕ, List, [], ◌∷◌, ◌++◌, map, Option, Some, None, Result, Ok, Err, Bool, true, false, codes, decimal, string_bytes, ⊤}
 use Rattle.std.specs.declared.alloc.Global.{Global}
 use Rattle.std.specs.declared.vec.Vec.{Vec}
@@ -19,7 +19,7 @@ use Rattle.store.specs.declared.fault.OpenFault.{OpenFault}
 use Rattle.store.specs.declared.fault.OpenFault.TheVariants as open_fault
 use Rattle.store.specs.declared.fault.StoreFault.TheVariants as store_fault
 use Rattle.store.specs.FaultText.{open_fault_text, store_fault_text}
-use Rattle.store.specs.Lives.{Session, IsLed, answered_session, cut_session}
+use Rattle.store.specs.Histories.{Session, IsReachable, answered_session, cut_session}
 use Rattle.store.specs.Steps.{request}
 use Rattle.store.specs.CrossTable.{AreTableRows}
 use Rattle.store.specs.Exported.{IsExported, IsWrittenSome}
@@ -93,7 +93,7 @@ task_with text (task.Table name) = task.Table name
 task_with text (task.Export game) = task.Export game
 task_with text task.Verify = task.Verify
 
--- ---- what it adds to the life of a club
+-- ---- what it adds to the history of a club
 
 -- a command of the officer's
 abbrev pub given : Command → ℕ → Request
@@ -210,5 +210,5 @@ IfUnopened _ Holds = ⊤
 
 -- The club with nothing in it stands; or none was made, and there is still no table, or it stands nevertheless.
 abbrev pub IsBegun : Report → Trees → Type 0
-IsBegun Ready trees = IsLed [] trees
-IsBegun _ trees = IsEmpty trees ⊎ IsLed [] trees
+IsBegun Ready trees = IsReachable [] trees
+IsBegun _ trees = IsEmpty trees ⊎ IsReachable [] trees

@@ -13,7 +13,7 @@ ghost use Rattle.store.specs.Steps.{club_step};
 ghost use Rattle.std.specs.Option.{option_map};
 ghost use Rattle.store.specs.Blames.{NamesTable, NamesSchema};
 ghost use Rattle.store.specs.CrossTable.{AreTableRows};
-ghost use Rattle.store.specs.Lives.{IsLed};
+ghost use Rattle.store.specs.Histories.{IsReachable};
 ghost use Rattle.store.specs.Places.{NamesRows};
 ghost use Rattle.store.specs.Stored.{AreLegalRows};
 ghost use Rattle.club_words.specs.declared.words.Task.TheVariants.{Init};
@@ -41,8 +41,8 @@ fn init<S: Alter>(alloc: Global, conn: Connection<S>) -> (Report, Connection<S>)
         IsEmpty (state S.Store conn).committed.trees →
         (db : _) → (state S.Store result.1).may_leave db → IsBegun result.0 db }
     ensures led { HasCleanDisk (state S.Store result.1) → Opens (state S.Store conn) → IsLive (state S.Store conn) →
-        (sessions : _) → IsLed sessions (state S.Store conn).committed.trees →
-        (db : _) → (state S.Store result.1).may_leave db → IsLed sessions db }
+        (sessions : _) → IsReachable sessions (state S.Store conn).committed.trees →
+        (db : _) → (state S.Store result.1).may_leave db → IsReachable sessions db }
 {
     holds_nothing(&conn);
     holds_what_sessions_left(&conn);
@@ -71,9 +71,9 @@ fn request<S: Alter>(
         (s : ClubState) → IsClub s → Leaves (tables s) (state S.Store conn).committed.trees →
         Answers result.0 (λ outcome. outcome_of outcome ≡ answered (club_step s (given command.now moment))) }
     ensures led { HasCleanDisk (state S.Store result.1) → Opens (state S.Store conn) → IsLive (state S.Store conn) →
-        (sessions : _) → IsLed sessions (state S.Store conn).committed.trees →
+        (sessions : _) → IsReachable sessions (state S.Store conn).committed.trees →
         (db : _) → (state S.Store result.1).may_leave db →
-        IsLed (sessions ++ request_sessions (given command.now moment) result.0) db }
+        IsReachable (sessions ++ request_sessions (given command.now moment) result.0) db }
 {
     holds_exactly(&conn);
     holds_what_sessions_left(&conn);
@@ -113,8 +113,8 @@ fn legal<S: Alter>(alloc: Global, conn: Connection<S>, game: u64) -> (Report, Co
         (s : ClubState) → IsClub s → Leaves (tables s) (state S.Store conn).committed.trees →
         ListsMoves s game result.0 }
     ensures led { HasCleanDisk (state S.Store result.1) → Opens (state S.Store conn) → IsLive (state S.Store conn) →
-        (sessions : _) → IsLed sessions (state S.Store conn).committed.trees →
-        (db : _) → (state S.Store result.1).may_leave db → IsLed sessions db }
+        (sessions : _) → IsReachable sessions (state S.Store conn).committed.trees →
+        (db : _) → (state S.Store result.1).may_leave db → IsReachable sessions db }
 {
     holds_exactly(&conn);
     holds_what_sessions_left(&conn);
@@ -154,8 +154,8 @@ fn table<S: Alter>(alloc: Global, conn: Connection<S>, event: &str) -> (Report, 
         (s : ClubState) → IsClub s → Leaves (tables s) (state S.Store conn).committed.trees →
         ListsTable s event.now result.0 }
     ensures led { HasCleanDisk (state S.Store result.1) → Opens (state S.Store conn) → IsLive (state S.Store conn) →
-        (sessions : _) → IsLed sessions (state S.Store conn).committed.trees →
-        (db : _) → (state S.Store result.1).may_leave db → IsLed sessions db }
+        (sessions : _) → IsReachable sessions (state S.Store conn).committed.trees →
+        (db : _) → (state S.Store result.1).may_leave db → IsReachable sessions db }
 {
     holds_exactly(&conn);
     holds_what_sessions_left(&conn);
@@ -201,8 +201,8 @@ fn export<S: Alter, W: Write>(
         (s : ClubState) → IsClub s → Leaves (tables s) (state S.Store conn).committed.trees →
         WritesRecord s game (W.contents out.old) (W.contents out.new) result.0 }
     ensures led { HasCleanDisk (state S.Store result.1) → Opens (state S.Store conn) → IsLive (state S.Store conn) →
-        (sessions : _) → IsLed sessions (state S.Store conn).committed.trees →
-        (db : _) → (state S.Store result.1).may_leave db → IsLed sessions db }
+        (sessions : _) → IsReachable sessions (state S.Store conn).committed.trees →
+        (db : _) → (state S.Store result.1).may_leave db → IsReachable sessions db }
 {
     holds_exactly(&conn);
     holds_what_sessions_left(&conn);
@@ -230,8 +230,8 @@ fn verify<S: Alter>(alloc: Global, conn: Connection<S>) -> (Report, Connection<S
         IfUnopened result.0 (λ fault. NamesTable (state S.Store conn).now fault ⊎ (NamesSchema
         (state S.Store conn).now fault ⊎ NamesRows (state S.Store conn).now fault)) }
     ensures led { HasCleanDisk (state S.Store result.1) → Opens (state S.Store conn) → IsLive (state S.Store conn) →
-        (sessions : _) → IsLed sessions (state S.Store conn).committed.trees →
-        (db : _) → (state S.Store result.1).may_leave db → IsLed sessions db }
+        (sessions : _) → IsReachable sessions (state S.Store conn).committed.trees →
+        (db : _) → (state S.Store result.1).may_leave db → IsReachable sessions db }
 {
     holds_exactly(&conn);
     holds_what_sessions_left(&conn);
@@ -288,9 +288,9 @@ pub fn act<S: Alter, W: Write>(
         IfVerify task.now (IfUnopened result.0 (λ fault. NamesTable (state S.Store conn).now fault ⊎ (NamesSchema
         (state S.Store conn).now fault ⊎ NamesRows (state S.Store conn).now fault))) }
     ensures led { HasCleanDisk (state S.Store result.1) → Opens (state S.Store conn) → IsLive (state S.Store conn) →
-        (sessions : _) → IsLed sessions (state S.Store conn).committed.trees →
+        (sessions : _) → IsReachable sessions (state S.Store conn).committed.trees →
         (db : _) → (state S.Store result.1).may_leave db →
-        IsLed (sessions ++ task_sessions task.now moment result.0) db }
+        IsReachable (sessions ++ task_sessions task.now moment result.0) db }
 {
     match task {
         Task::Init => init(alloc, conn),

@@ -12,7 +12,7 @@ pub mod MoveOrderLemmas
 pub mod GameRows
 pub mod KeyLemmas
 pub mod LegalLemmas
-pub mod LifeLemmas
+pub mod HistoryLemmas
 pub mod NextRows
 pub mod OnceLemmas
 pub mod OutcomeLemmas

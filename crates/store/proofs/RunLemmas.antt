@@ -11,7 +11,7 @@ use Rattle.club_core.specs.State.{Request}
 use Rattle.club_rows.specs.Club.{ClubState, IsClub, tables}
 use Rattle.store.specs.Steps.{club_step, club_next}
 use Rattle.store.specs.Runs.{club_fold, club_outcomes}
-use Rattle.store.specs.Lives.{IsAfter}
+use Rattle.store.specs.Histories.{IsAfter}
 
 pub fold-more : (s : ClubState) (rs : List Request) (r : Request) → club_fold s (rs ++ r ∷ []) ≡ club_next (club_fold s rs) r
 fold-more s [] r = refl

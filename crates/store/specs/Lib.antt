@@ -7,7 +7,7 @@ pub mod Faults
 pub mod FaultText
 pub mod Importing
 pub mod Keys
-pub mod Lives
+pub mod Histories
 pub mod Places
 pub mod Runs
 pub mod Steps

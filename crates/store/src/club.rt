@@ -9,7 +9,7 @@ ghost use Rattle.store_tables.specs.Club.{IsExactly, IsOpened, Leaves};
 ghost use Rattle.store_tables.specs.Reading.{KeepsMay, OnlyReads};
 ghost use Rattle.store_tables.specs.Tables.{club_schema};
 ghost use Rattle.store.specs.Blames.{NamesTable, NamesSchema};
-ghost use Rattle.store.specs.Lives.{IsLed, Stands, answered_session, cut_session};
+ghost use Rattle.store.specs.Histories.{IsReachable, IsHistory, answered_session, cut_session};
 ghost use Rattle.store_tables.specs.Changed.{changed};
 ghost use Rattle.store.specs.Whole.{IsAccepted};
 ghost use Rattle.store.specs.Places.{NamesRows};
@@ -20,9 +20,9 @@ ghost use Rattle.store.specs.Steps.{request, club_step, club_next};
 
 mod exporting;
 mod keys;
-mod life;
 mod reading;
 mod run;
+mod sessions;
 mod shut;
 mod standings;
 
@@ -32,8 +32,8 @@ use crate::fault::{OpenFault, StoreFault};
 use crate::read::fault_of;
 use clocks::Moment;
 use club_core::{Command, Outcome, Who};
-pub use life::resume;
 pub use run::Run;
+pub use sessions::resume;
 use sqlite::{Alter, Connection};
 use std::alloc::Global;
 use std::marker::Model;
@@ -83,9 +83,9 @@ pub fn create<S: Alter>(_alloc: Global, conn: Connection<S>) -> Result<Club<S>, 
     ensures fault { IfErr result (λ u. HasCleanDisk (state S.Store u.conn) → IsExactlyEmpty (state S.Store conn) →
         (db : _) → (state S.Store u.conn).may_leave db → IsEmpty db ⊎ Leaves (tables opening_state) db) }
     ensures begins { IfOk result (λ club. HasCleanDisk (state S.Store club.connection) → IsExactlyEmpty
-        (state S.Store conn) → Stands [] (state S.Store club.connection)) }
+        (state S.Store conn) → IsHistory [] (state S.Store club.connection)) }
     ensures cut_off { IfErr result (λ u. HasCleanDisk (state S.Store u.conn) → IsExactlyEmpty (state S.Store conn) →
-        (db : _) → (state S.Store u.conn).may_leave db → IsEmpty db ⊎ IsLed [] db) }
+        (db : _) → (state S.Store u.conn).may_leave db → IsEmpty db ⊎ IsReachable [] db) }
     ensures stays { IfErr result (λ u. HasCleanDisk (state S.Store u.conn) →
         (state S.Store conn).now.schema ≡ club_schema → KeepsMay (state S.Store conn) (state S.Store u.conn)) }
     ensures refused { IfErr result (λ u. HasCleanDisk (state S.Store u.conn) → u.fault ≡ OpenFault.Foreign → KeepsMay
@@ -205,12 +205,12 @@ impl<S: Alter> Club<S> {
             (state S.Store self.old.connection) →
             (db : _) → (state S.Store self.new.connection).may_leave db → Leaves (tables s) db ⊎ Leaves (tables (club_next s (request who.now command.now moment))) db) }
         ensures stands { HasCleanDisk (state S.Store self.new.connection) → IfOk result (λ outcome. (sessions : _) →
-            Stands sessions (state S.Store self.old.connection) →
-            Stands (sessions ++ answered_session (request who.now command.now moment) outcome ∷ []) (state S.Store self.new.connection)) }
+            IsHistory sessions (state S.Store self.old.connection) →
+            IsHistory (sessions ++ answered_session (request who.now command.now moment) outcome ∷ []) (state S.Store self.new.connection)) }
         ensures cut_off { HasCleanDisk (state S.Store self.new.connection) →
-            OnErr result (self.old.needs_reopening ≡ false → (sessions : _) → Stands sessions
+            OnErr result (self.old.needs_reopening ≡ false → (sessions : _) → IsHistory sessions
             (state S.Store self.old.connection) → (db : _) → (state S.Store self.new.connection).may_leave db →
-            IsLed (sessions ++ cut_session (request who.now command.now moment) ∷ []) db) }
+            IsReachable (sessions ++ cut_session (request who.now command.now moment) ∷ []) db) }
         ensures unchanged { HasCleanDisk (state S.Store self.new.connection) →
             IfOk result (λ outcome. ¬ IsAccepted outcome → (content : _) → IsExactly content
             (state S.Store self.old.connection) → IsExactly content (state S.Store self.new.connection)) }

@@ -1,14 +1,14 @@
 //! Laws of the stored club: each is what a function with an empty body ensures.
 
 ghost use Rattle.store.specs.Steps.{KeepsClub};
-ghost use Rattle.store.specs.Lives.{BeginsAtOpening};
+ghost use Rattle.store.specs.Histories.{BeginsAtOpening};
 
 /// A request leaves a legal club legal, so that command after command may be given to the store.
 pub fn requests_keep_clubs()
     ensures { KeepsClub }
 {}
 
-/// The life of a club begins with what its making leaves: no session is needed to lead there.
-pub fn lives_begin_at_opening()
+/// The history of a club begins with what its making leaves: no session is needed to lead there.
+pub fn histories_begin_at_opening()
     ensures { BeginsAtOpening }
 {}

@@ -4,7 +4,7 @@ ghost use Rattle.std.specs.Prelude.{◌≡◌, false, IfOk};
 
 use clocks::Moment;
 use club_core::{AddMember, Command, Outcome, Request, Who};
-use lives::{end, live};
+use sessions::{end, serve};
 use sqlite::{Connection, FileStore, Files, Options};
 use sqlite_disk::Memory;
 use std::alloc::Global;
@@ -50,7 +50,7 @@ fn lived(
     files: Files<Memory>,
     requests: &[Request],
 ) -> Result<(Run, Files<Memory>), Fail> {
-    match live(alloc, opened(alloc, files)?, requests) {
+    match serve(alloc, opened(alloc, files)?, requests) {
         Ok((run, store)) => Ok((run, store.close())),
         Err(unopened) => Err(Fail::from(unopened.fault)),
     }
@@ -80,7 +80,7 @@ fn what_was_accepted_is_there_in_the_next_life(rt: HostRuntime) -> Result<(), Fa
 
 /// Why the files were not taken as a club's.
 fn refused(alloc: Global, files: Files<Memory>) -> Result<Option<OpenFault>, Fail> {
-    match live(alloc, opened(alloc, files)?, &[]) {
+    match serve(alloc, opened(alloc, files)?, &[]) {
         Ok((_, store)) => {
             let _files = store.close();
             Ok(None)

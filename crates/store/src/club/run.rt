@@ -9,7 +9,7 @@ ghost use Rattle.club_core.specs.Answer.{answered, outcome_of, request_of};
 ghost use Rattle.club_rows.specs.Club.{ClubState, IsClub, tables};
 ghost use Rattle.store.specs.Steps.{club_step, club_next};
 ghost use Rattle.store.specs.Runs.{club_fold, club_outcomes};
-ghost use Rattle.store.specs.Lives.{IsAfter};
+ghost use Rattle.store.specs.Histories.{IsAfter};
 
 use super::Club;
 use crate::fault::StoreFault;

@@ -1,13 +1,13 @@
 use Rattle.std.proofs.Common.{◌≡◌, List, false}
 use Rattle.sqlite.specs.State.{HasCleanDisk}
 use Rattle.sqlite.specs.Held.{state}
-use Rattle.store.specs.Lives.{Session, Stands}
-use Rattle.club_desk.specs.Turns.{StandsOn}
+use Rattle.store.specs.Histories.{Session, IsHistory}
+use Rattle.club_desk.specs.Turns.{IsHistoryOn}
 use Rattle.club_desk.proofs.stretch.serve_open.Given as goal
 
 abbrev pub invariant-loop : goal.invariant-loop
 invariant-loop g l = record {
   ready : l.club.club.needs_reopening ≡ false;
   clean : HasCleanDisk (state g.S.Store l.club.club.connection) → HasCleanDisk (state g.S.Store l.fn.club.club.connection);
-  stands : HasCleanDisk (state g.S.Store l.club.club.connection) → (sessions : List Session) → Stands sessions (state g.S.Store l.fn.club.club.connection) → StandsOn sessions (state g.S.Store l.club.club.connection);
+  stands : HasCleanDisk (state g.S.Store l.club.club.connection) → (sessions : List Session) → IsHistory sessions (state g.S.Store l.fn.club.club.connection) → IsHistoryOn sessions (state g.S.Store l.club.club.connection);
 }

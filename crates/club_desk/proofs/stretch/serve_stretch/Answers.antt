@@ -1,8 +1,8 @@
 use Rattle.std.proofs.Common.{sym, subst}
 use Rattle.sqlite.specs.State.{HasCleanDisk}
 use Rattle.sqlite.specs.Held.{state}
-use Rattle.store.proofs.LifeLemmas.{still_stands}
-use Rattle.club_desk.specs.Turns.{IsLedOn}
+use Rattle.store.proofs.HistoryLemmas.{still_stands}
+use Rattle.club_desk.specs.Turns.{IsReachableOn}
 use Rattle.club_desk.proofs.TurnLemmas.{reads_led}
 use Rattle.club_desk.proofs.stretch.serve_stretch.Goals as goal
 
@@ -18,4 +18,4 @@ returns-clause-led g c clean opens live sessions led =
     let before = c.serve_open-has_failed.ensures.clean after in
     let stood = c.holds_what_sessions_left.ensures opens live sessions led in
     let stands = still_stands sessions (state g.S.Store c.args.conn) (state g.S.Store c.in-Ok.club.connection) (c.in-Ok.ensures.same before) stood in
-    subst (λ k. IsLedOn sessions (state g.S.Store k)) (sym same) (c.serve_open-has_failed.ensures.led after sessions stands)
+    subst (λ k. IsReachableOn sessions (state g.S.Store k)) (sym same) (c.serve_open-has_failed.ensures.led after sessions stands)

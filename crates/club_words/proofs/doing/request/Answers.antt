@@ -2,7 +2,7 @@ use Rattle.std.proofs.Common.{◌≡◌, ◌++◌, arith, sym, subst}
 use Rattle.sqlite.specs.State.{HasCleanDisk}
 use Rattle.sqlite.specs.Held.{state}
 use Rattle.club_rows.specs.Club.{tables}
-use Rattle.store.specs.Lives.{IsLed, Stands}
+use Rattle.store.specs.Histories.{IsReachable, IsHistory}
 use Rattle.club_words.specs.declared.report.Report.TheVariants.{Answered}
 use Rattle.club_words.specs.Report.{given, request_sessions}
 use Rattle.club_words.proofs.SessionLemmas.{led_still, stands_still}
@@ -31,7 +31,7 @@ returns-in-Ok-apply-clause-led g c clean opens live sessions led db left =
     let taken : HasCleanDisk (state g.S.Store c.in-Ok.club.connection) = omega (arith, c.apply.ensures.clean, after) in
     let at = stands_still sessions _ _ (c.in-Ok.ensures.same taken) (c.holds_what_sessions_left.ensures opens live sessions led) in
     let more = c.in-Ok-apply.ensures.stands after sessions at in
-    c.leaves_what_sessions_left-in-Ok-apply.ensures _ (subst (λ h. Stands (sessions ++ request_sessions (given c.args.command.now c.args.moment) (Answered c.in-Ok-apply.outcome)) (state g.S.Store h)) (sym same) more) db left
+    c.leaves_what_sessions_left-in-Ok-apply.ensures _ (subst (λ h. IsHistory (sessions ++ request_sessions (given c.args.command.now c.args.moment) (Answered c.in-Ok-apply.outcome)) (state g.S.Store h)) (sym same) more) db left
 
 pub returns-in-Err-apply-clause-led : goal.returns-in-Err-apply-clause-led
 returns-in-Err-apply-clause-led g c clean opens live sessions led db left =

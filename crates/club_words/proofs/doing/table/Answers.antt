@@ -3,7 +3,7 @@ use Rattle.sqlite.specs.State.{HasCleanDisk}
 use Rattle.sqlite.specs.Held.{state}
 use Rattle.store_tables.specs.Tables.{club_schema}
 use Rattle.club_rows.specs.Club.{tables}
-use Rattle.store.specs.Lives.{IsLed, Stands}
+use Rattle.store.specs.Histories.{IsReachable, IsHistory}
 use Rattle.club_words.proofs.SessionLemmas.{stands_still}
 use Rattle.club_words.proofs.doing.table.Goals as goal
 
@@ -30,7 +30,7 @@ returns-in-Ok-table_rows-clause-led g c clean opens live sessions led db left =
     let taken : HasCleanDisk (state g.S.Store c.in-Ok.club.connection) = omega (arith, (c.table_rows.ensures.reads c.in-Ok.ensures.ready).clean, after) in
     let at = stands_still sessions _ _ (c.in-Ok.ensures.same taken) (c.holds_what_sessions_left.ensures opens live sessions led) in
     let more = stands_still sessions _ _ (c.in-Ok-table_rows.ensures.kept after club_schema) at in
-    c.leaves_what_sessions_left-in-Ok-table_rows.ensures sessions (subst (λ h. Stands sessions (state g.S.Store h)) (sym same) more) db left
+    c.leaves_what_sessions_left-in-Ok-table_rows.ensures sessions (subst (λ h. IsHistory sessions (state g.S.Store h)) (sym same) more) db left
 
 pub returns-in-Err-table_rows-clause-led : goal.returns-in-Err-table_rows-clause-led
 returns-in-Err-table_rows-clause-led g c clean opens live sessions led db left =

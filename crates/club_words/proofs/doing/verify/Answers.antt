@@ -3,7 +3,7 @@ use Rattle.sqlite.specs.State.{HasCleanDisk}
 use Rattle.sqlite.specs.Held.{state}
 use Rattle.club_rows.specs.Club.{ClubState, IsClub, tables}
 use Rattle.store_tables.specs.Club.{IsExactly}
-use Rattle.store.specs.Lives.{Stands}
+use Rattle.store.specs.Histories.{IsHistory}
 use Rattle.club_words.proofs.SessionLemmas.{stands_still}
 use Rattle.club_words.proofs.doing.verify.Goals as goal
 
@@ -19,7 +19,7 @@ returns-in-Ok-clause-led g c clean opens live sessions led db left =
     let same = c.into_connection-conn.ensures.same in
     let taken = subst (λ h. HasCleanDisk (state g.S.Store h)) same clean in
     let at = stands_still sessions _ _ (c.in-Ok.ensures.same taken) (c.holds_what_sessions_left.ensures opens live sessions led) in
-    c.leaves_what_sessions_left-in-Ok.ensures sessions (subst (λ h. Stands sessions (state g.S.Store h)) (sym same) at) db left
+    c.leaves_what_sessions_left-in-Ok.ensures sessions (subst (λ h. IsHistory sessions (state g.S.Store h)) (sym same) at) db left
 
 pub returns-in-Err-clause-passes : goal.returns-in-Err-clause-passes
 returns-in-Err-clause-passes g c clean opens live s is_club left =

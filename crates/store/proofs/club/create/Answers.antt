@@ -1,7 +1,7 @@
 use Rattle.std.proofs.Common.{◌≡◌, inl, inr}
 use Rattle.sqlite.specs.Held.{state}
 use Rattle.store.proofs.OpeningLemmas.{opening-exactly, opening-left}
-use Rattle.store.proofs.LifeLemmas.{opening_led, opening_stands}
+use Rattle.store.proofs.HistoryLemmas.{opening_led, opening_stands}
 use Rattle.store.proofs.club.create.Goals as goal
 
 pub returns-in-Ok-clause-stored : goal.returns-in-Ok-clause-stored

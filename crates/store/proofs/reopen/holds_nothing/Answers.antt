@@ -1,5 +1,5 @@
 use Rattle.sqlite.specs.Held.{state}
-use Rattle.store.proofs.LifeLemmas.{opens_empty}
+use Rattle.store.proofs.HistoryLemmas.{opens_empty}
 use Rattle.store.proofs.reopen.holds_nothing.Goals as goal
 
 pub returns : goal.returns

@@ -1,6 +1,6 @@
 use Rattle.std.proofs.Common.{◌≡◌}
 use Rattle.sqlite.specs.Held.{state}
-use Rattle.store.proofs.LifeLemmas.{opens_led}
+use Rattle.store.proofs.HistoryLemmas.{opens_led}
 use Rattle.store.proofs.reopen.holds_what_sessions_left.Goals as goal
 
 pub returns : goal.returns

@@ -1,5 +1,5 @@
 use Rattle.sqlite.specs.Held.{state}
-use Rattle.store.proofs.LifeLemmas.{stops_led}
+use Rattle.store.proofs.HistoryLemmas.{stops_led}
 use Rattle.store.proofs.reopen.leaves_what_sessions_left.Goals as goal
 
 pub returns : goal.returns

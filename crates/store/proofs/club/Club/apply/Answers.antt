@@ -8,7 +8,7 @@ use Rattle.club_rows.specs.Club.{tables}
 use Rattle.store.specs.Steps.{request, club_next, changed_if, AreSame}
 use Rattle.store.proofs.SameLemmas.{exactly_same, leaves_same}
 use Rattle.store.proofs.LegalLemmas.{club_stays}
-use Rattle.store.proofs.LifeLemmas.{one_stands, one_cut}
+use Rattle.store.proofs.HistoryLemmas.{one_stands, one_cut}
 use Rattle.store.proofs.club.Club.apply.Goals as goal
 
 pub returns-in-Err-clause-fault : goal.returns-in-Err-clause-fault

@@ -1,10 +1,10 @@
 use Rattle.std.proofs.Common.{◌≡◌}
 use Rattle.sqlite.specs.Held.{state}
-use Rattle.store.proofs.LifeLemmas.{session_leads, session_stands}
+use Rattle.store.proofs.HistoryLemmas.{session_leads, session_stands}
 use Rattle.store.proofs.club.Club.session.Goals as goal
 
-pub returns-clause-life : goal.returns-clause-life
-returns-clause-life g c clean usable sessions at db left =
+pub returns-clause-history : goal.returns-clause-history
+returns-clause-history g c clean usable sessions at db left =
     session_leads at.after sessions c.args.requests.now c.run.result db at.leads (c.run.ensures.outcomes clean at.after at.legal at.exactly)
     (c.run.ensures.left clean usable at.after at.legal at.exactly db left)
 

@@ -11,8 +11,8 @@ ghost use Rattle.store_tables.specs.Club.{Leaves};
 ghost use Rattle.club_core.specs.Answer.{answered, outcome_of, request_of};
 ghost use Rattle.club_rows.specs.Club.{ClubState, IsClub, tables};
 ghost use Rattle.store.specs.Runs.{club_outcomes};
-ghost use Rattle.store.specs.Lives.{IsLed, session_of};
-ghost use Rattle.lives.specs.Finds.{Finds, AreVoid};
+ghost use Rattle.store.specs.Histories.{IsReachable, session_of};
+ghost use Rattle.sessions.specs.Finds.{Finds, AreVoid};
 
 use club_core::Request;
 use sqlite::{Connection, FileStore};
@@ -37,8 +37,8 @@ pub fn end<D: Disk + Drop>(club: Club<FileStore<D>>) -> FileStore<D>
     ensures clean { doubt (file_state club.connection).is_clean ≤ doubt (store_view result).is_clean }
     ensures member { IsClean (store_view result) → (left : _) → (store_state result).may_leave left → (found : _) → Finds left found →
         ∥ (file_state club.connection).may_leave found ∥₁ }
-    ensures life { IsClean (store_view result) → (sessions : _) → ((db : _) → (file_state club.connection).may_leave db → IsLed sessions db) →
-        (left : _) → (store_state result).may_leave left → (found : _) → Finds left found → ∥ IsLed sessions found ∥₁ }
+    ensures history { IsClean (store_view result) → (sessions : _) → ((db : _) → (file_state club.connection).may_leave db → IsReachable sessions db) →
+        (left : _) → (store_state result).may_leave left → (found : _) → Finds left found → ∥ IsReachable sessions found ∥₁ }
 {
     let conn = club.into_connection();
     close(conn)
@@ -48,7 +48,7 @@ pub fn end<D: Disk + Drop>(club: Club<FileStore<D>>) -> FileStore<D>
 /// fault, and gives the store back. Where sessions led to what the opening found, then those and this one lead to what the
 /// next opening finds, of whatever a stop leaves. A connection over other tables, or a fault while they are examined, comes
 /// back; a stop then, or `close`, leaves what the earlier sessions led to.
-pub fn live<D: Disk + Drop>(
+pub fn serve<D: Disk + Drop>(
     alloc: Global,
     conn: Connection<FileStore<D>>,
     requests: &[Request],
@@ -60,17 +60,17 @@ pub fn live<D: Disk + Drop>(
     ensures outcomes { IfOk result (λ lived. IsClean (store_view lived.1) → Opens (file_state conn) → IsLive (file_state conn) →
         (s : ClubState) → IsClub s → Leaves (tables s) (file_state conn).committed.trees →
         map outcome_of lived.0.outcomes.items ≡ map answered (club_outcomes s (map request_of (take (length lived.0.outcomes.items) requests.now)))) }
-    ensures life { IfOk result (λ lived. IsClean (store_view lived.1) → Opens (file_state conn) → IsLive (file_state conn) →
-        (sessions : _) → ∥ IsLed sessions (file_state conn).committed.trees ∥₁ →
+    ensures history { IfOk result (λ lived. IsClean (store_view lived.1) → Opens (file_state conn) → IsLive (file_state conn) →
+        (sessions : _) → ∥ IsReachable sessions (file_state conn).committed.trees ∥₁ →
         (left : _) → (store_state lived.1).may_leave left → (found : _) → Finds left found →
-        ∥ IsLed (sessions ++ session_of requests.now lived.0 ∷ []) found ∥₁) }
+        ∥ IsReachable (sessions ++ session_of requests.now lived.0 ∷ []) found ∥₁) }
     ensures idle { IfErr result (λ unopened. unopened.conn.in_transaction ≡ false) }
     ensures known { IfErr result (λ unopened. doubt (file_state conn).is_clean ≤ doubt (file_state unopened.conn).is_clean) }
     ensures good { IfErr result (λ unopened. HasCleanDisk (file_state unopened.conn) → Opens (file_state conn) → IsLive (file_state conn) →
         (s : ClubState) → IsClub s → Leaves (tables s) (file_state conn).committed.trees → (unopened.fault ≡ OpenFault.Store) ⊎ (unopened.fault ≡ OpenFault.Memory)) }
     ensures kept { IfErr result (λ unopened. HasCleanDisk (file_state unopened.conn) → Opens (file_state conn) → IsLive (file_state conn) →
-        (sessions : _) → ∥ IsLed sessions (file_state conn).committed.trees ∥₁ →
-        (db : _) → (file_state unopened.conn).may_leave db → ∥ IsLed sessions db ∥₁) }
+        (sessions : _) → ∥ IsReachable sessions (file_state conn).committed.trees ∥₁ →
+        (db : _) → (file_state unopened.conn).may_leave db → ∥ IsReachable sessions db ∥₁) }
 {
     match resume(alloc, conn, requests) {
         Ok((run, club)) => Ok((run, end(club))),

@@ -10,7 +10,7 @@ use Rattle.sqlite_disk.specs.declared.Disk.{Ghosts}
 use Rattle.sqlite.specs.Held.{Held, AreDatabases}
 use Rattle.sqlite.specs.Files.{file_state}
 use Rattle.sqlite.proofs.Theorems.{opens_again}
-use Rattle.lives.specs.Finds.{Finds}
+use Rattle.sessions.specs.Finds.{Finds}
 
 -- Where the files hold what a stop left, an opening finds a member of what the connection may leave.
 pub next_finds : {D : Type 0} {g : Ghosts D} (old : Held (FileStore D g)) (last : FileStore D g) → IsTrue (view last).is_numbered → AreDatabases (recovers last) → IsQuiet view faults recovers is_shielded old.store last

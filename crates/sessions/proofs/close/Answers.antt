@@ -1,5 +1,5 @@
-use Rattle.lives.proofs.FoundLemmas.{next_finds}
-use Rattle.lives.proofs.close.Goals as goal
+use Rattle.sessions.proofs.FoundLemmas.{next_finds}
+use Rattle.sessions.proofs.close.Goals as goal
 
 pub returns-clause-member : goal.returns-clause-member
 returns-clause-member g c clean left may found finds =

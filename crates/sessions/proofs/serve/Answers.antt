@@ -1,14 +1,14 @@
 use Rattle.std.proofs.Math.Logic.{∥∥₁_elim, ∥∥₁_map}
-use Rattle.lives.proofs.FoundLemmas.{was_clean}
-use Rattle.lives.proofs.live.Goals as goal
+use Rattle.sessions.proofs.FoundLemmas.{was_clean}
+use Rattle.sessions.proofs.serve.Goals as goal
 
 pub returns-in-Ok-clause-outcomes : goal.returns-in-Ok-clause-outcomes
 returns-in-Ok-clause-outcomes g c clean = c.in-Ok.ensures.outcomes (was_clean _ _ c.end.ensures.clean clean)
 
-pub returns-in-Ok-clause-life : goal.returns-in-Ok-clause-life
-returns-in-Ok-clause-life g c clean opens live sessions led left may found finds =
-    let served = c.in-Ok.ensures.life (was_clean _ _ c.end.ensures.clean clean) opens live sessions in
-    ∥∥₁_elim led squash₁ (λ before. c.end.ensures.life clean _ (served before) left may found finds)
+pub returns-in-Ok-clause-history : goal.returns-in-Ok-clause-history
+returns-in-Ok-clause-history g c clean opens live sessions led left may found finds =
+    let served = c.in-Ok.ensures.history (was_clean _ _ c.end.ensures.clean clean) opens live sessions in
+    ∥∥₁_elim led squash₁ (λ before. c.end.ensures.history clean _ (served before) left may found finds)
 
 pub returns-in-Err-clause-kept : goal.returns-in-Err-clause-kept
 returns-in-Err-clause-kept g c clean opens live sessions led db left =

@@ -1,4 +1,4 @@
--- The life of a club: sessions, one after another, each of them stopped at some moment or run to its end.
+-- The history of a club: its sessions, one after another, each of them stopped at some moment or run to its end.
 use Rattle.std.specs.Prelude.{◌≡◌, ◌≤◌, ◌+◌, ℕ, Bool, true, false, if◌then◌else◌, List, [], ◌∷◌, map, take, is_none}
 use Rattle.std.specs.List.{count_by}
 use Rattle.sqlite.specs.Tree.{Trees}
@@ -20,7 +20,7 @@ pub record Session : Type 0 where
   pub is_whole : Bool
 
 -- the state after the first k of the requests that are accepted, for some k from what was answered to one more
-pub record LeadsOn (before : ClubState) (session : Session) (after : ClubState) : Type 0 where
+pub record SessionReaches (before : ClubState) (session : Session) (after : ClubState) : Type 0 where
   pub k : ℕ
   pub least : session.returned ≤ k
   pub most : k ≤ session.returned + 1
@@ -28,22 +28,22 @@ pub record LeadsOn (before : ClubState) (session : Session) (after : ClubState) 
   pub is : after ≡ club_fold before (take k (club_accepted before session.requests))
 
 -- the sessions in turn lead from one state to another
-abbrev pub Leads : ClubState → List Session → ClubState → Type 0
-Leads before [] after = after ≡ before
-Leads before (session ∷ sessions) after = (between : ClubState) × LeadsOn before session between × Leads between sessions after
+abbrev pub Reaches : ClubState → List Session → ClubState → Type 0
+Reaches before [] after = after ≡ before
+Reaches before (session ∷ sessions) after = (between : ClubState) × SessionReaches before session between × Reaches between sessions after
 
 -- From the opening of the club, the sessions lead to a legal state whose tables these trees have, for any later opening.
-pub record IsLed (sessions : List Session) (trees : Trees) : Type 0 where
+pub record IsReachable (sessions : List Session) (trees : Trees) : Type 0 where
   pub after : ClubState
   pub legal : IsClub after
-  pub leads : Leads opening_state sessions after
+  pub leads : Reaches opening_state sessions after
   pub leaves : Leaves (tables after) trees
 
 -- the same of what an open connection holds, and of all that a stop may leave of it
-pub record Stands (sessions : List Session) (now : State) : Type 0 where
+pub record IsHistory (sessions : List Session) (now : State) : Type 0 where
   pub after : ClubState
   pub legal : IsClub after
-  pub leads : Leads opening_state sessions after
+  pub leads : Reaches opening_state sessions after
   pub exactly : IsExactly (tables after) now
 
 -- an answer that the request is accepted
@@ -73,6 +73,6 @@ pub record IsAfter (before : ClubState) (requests : List given_request.Request) 
   pub legal : IsClub (club_fold before (map request_of (take count requests)))
   pub leaves : Leaves (tables (club_fold before (map request_of (take count requests)))) trees
 
--- what a life begins with: no session leads to the tables of a club with nothing in it
+-- what a history begins with: no session leads to the tables of a club with nothing in it
 abbrev pub BeginsAtOpening : Type 0
-BeginsAtOpening = (trees : Trees) → Leaves (tables opening_state) trees → IsLed [] trees
+BeginsAtOpening = (trees : Trees) → Leaves (tables opening_state) trees → IsReachable [] trees

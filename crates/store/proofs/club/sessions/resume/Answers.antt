@@ -4,25 +4,25 @@ use Rattle.sqlite.specs.State.{HasCleanDisk}
 use Rattle.sqlite.specs.Held.{state}
 use Rattle.store_tables.specs.Club.{IsExactly}
 use Rattle.club_rows.specs.Club.{tables}
-use Rattle.store.specs.Lives.{Stands}
+use Rattle.store.specs.Histories.{IsHistory}
 use Rattle.store_sql.proofs.Laws.{opens_exactly}
-use Rattle.store.proofs.LifeLemmas.{opens_led, still_stands, stops_led}
-use Rattle.store.proofs.club.life.resume.Goals as goal
+use Rattle.store.proofs.HistoryLemmas.{opens_led, still_stands, stops_led}
+use Rattle.store.proofs.club.sessions.resume.Goals as goal
 
-pub returns-clause-life : goal.returns-clause-life
-returns-clause-life g c clean opens live sessions led db left =
+pub returns-clause-history : goal.returns-clause-history
+returns-clause-history g c clean opens live sessions led db left =
     let was = state g.S.Store c.args.conn in
     let now = state g.S.Store c.in-Ok.club.connection in
     let before : HasCleanDisk now = omega (arith, c.session-run.ensures.clean, clean) in
-    let found : Stands sessions was = opens_led sessions was opens live (λ d shown stays. g.met.S.Store.settled c.args.conn.store d shown stays) led in
-    c.session-run.ensures.life clean c.in-Ok.ensures.ready sessions (still_stands sessions was now (c.in-Ok.ensures.same before) found) db left
+    let found : IsHistory sessions was = opens_led sessions was opens live (λ d shown stays. g.met.S.Store.settled c.args.conn.store d shown stays) led in
+    c.session-run.ensures.history clean c.in-Ok.ensures.ready sessions (still_stands sessions was now (c.in-Ok.ensures.same before) found) db left
 
 pub returns-clause-stands : goal.returns-clause-stands
 returns-clause-stands g c clean opens live none sessions led =
     let was = state g.S.Store c.args.conn in
     let now = state g.S.Store c.in-Ok.club.connection in
     let before : HasCleanDisk now = omega (arith, c.session-run.ensures.clean, clean) in
-    let found : Stands sessions was = opens_led sessions was opens live (λ d shown stays. g.met.S.Store.settled c.args.conn.store d shown stays) led in
+    let found : IsHistory sessions was = opens_led sessions was opens live (λ d shown stays. g.met.S.Store.settled c.args.conn.store d shown stays) led in
     c.session-run.ensures.stands clean none sessions (still_stands sessions was now (c.in-Ok.ensures.same before) found)
 
 pub returns-clause-outcomes : goal.returns-clause-outcomes
@@ -42,5 +42,5 @@ returns-in-Err-clause-good g c clean opens live s is_club left =
 pub returns-in-Err-clause-kept : goal.returns-in-Err-clause-kept
 returns-in-Err-clause-kept g c clean opens live sessions led db left =
     let was = state g.S.Store c.args.conn in
-    let found : Stands sessions was = opens_led sessions was opens live (λ d shown stays. g.met.S.Store.settled c.args.conn.store d shown stays) led in
+    let found : IsHistory sessions was = opens_led sessions was opens live (λ d shown stays. g.met.S.Store.settled c.args.conn.store d shown stays) led in
     stops_led sessions was found db (c.in-Err.ensures.reads.may clean db left)

@@ -2,16 +2,16 @@
 use Rattle.std.specs.Prelude.{List, ◌++◌}
 use Rattle.sqlite_wal.specs.Recovery.{Image}
 use Rattle.sqlite.specs.Tree.{Trees}
-use Rattle.store.specs.Lives.{Session, IsLed}
-use Rattle.lives.specs.Finds.{IsFoundIn}
+use Rattle.store.specs.Histories.{Session, IsReachable}
+use Rattle.sessions.specs.Finds.{IsFoundIn}
 use Rattle.club_desk.specs.Turns.{AreTurns}
 
 -- the sessions, with commands of members on games added, led to these tables
-pub record IsLedBy (sessions : List Session) (found : Trees) : Type 0 where
+pub record IsReachedBy (sessions : List Session) (found : Trees) : Type 0 where
   pub turns : List Session
   pub are_turns : AreTurns turns
-  pub led : IsLed (sessions ++ turns) found
+  pub led : IsReachable (sessions ++ turns) found
 
 -- whatever an opening finds in the files, they led to it
-abbrev pub AreLedOn : List Session → Image → Type 0
-AreLedOn sessions files = (found : Trees) → IsFoundIn files found → ∥ IsLedBy sessions found ∥₁
+abbrev pub AreReachableOn : List Session → Image → Type 0
+AreReachableOn sessions files = (found : Trees) → IsFoundIn files found → ∥ IsReachedBy sessions found ∥₁

@@ -8,7 +8,7 @@ ghost use Rattle.store_tables.specs.Club.{IsExactly, Leaves};
 ghost use Rattle.club_core.specs.Answer.{answered, outcome_of, request_of};
 ghost use Rattle.club_rows.specs.Club.{ClubState, IsClub, tables};
 ghost use Rattle.store.specs.Runs.{club_outcomes};
-ghost use Rattle.store.specs.Lives.{IsLed, Stands, session_of};
+ghost use Rattle.store.specs.Histories.{IsReachable, IsHistory, session_of};
 
 use super::run::Run;
 use super::{Club, Unopened, adopt};
@@ -35,12 +35,12 @@ impl<S: Alter> Club<S> {
         ensures outcomes { HasCleanDisk (state S.Store self.new.connection) → (s : ClubState) → IsClub s →
             IsExactly (tables s) (state S.Store self.old.connection) →
             map outcome_of result.outcomes.items ≡ map answered (club_outcomes s (map request_of (take (length result.outcomes.items) requests.now))) }
-        ensures life { HasCleanDisk (state S.Store self.new.connection) → self.old.needs_reopening ≡ false →
-            (sessions : _) → Stands sessions (state S.Store self.old.connection) →
-            (db : _) → (state S.Store self.new.connection).may_leave db → IsLed (sessions ++ session_of requests.now result ∷ []) db }
+        ensures history { HasCleanDisk (state S.Store self.new.connection) → self.old.needs_reopening ≡ false →
+            (sessions : _) → IsHistory sessions (state S.Store self.old.connection) →
+            (db : _) → (state S.Store self.new.connection).may_leave db → IsReachable (sessions ++ session_of requests.now result ∷ []) db }
         ensures stands { HasCleanDisk (state S.Store self.new.connection) → result.fault ≡ None → (sessions : _) →
-            Stands sessions (state S.Store self.old.connection) →
-            Stands (sessions ++ session_of requests.now result ∷ []) (state S.Store self.new.connection) }
+            IsHistory sessions (state S.Store self.old.connection) →
+            IsHistory (sessions ++ session_of requests.now result ∷ []) (state S.Store self.new.connection) }
     {
         self.run(alloc, requests)
     }
@@ -66,14 +66,14 @@ pub fn resume<S: Alter>(
         (state S.Store conn) → IsLive (state S.Store conn) →
         (s : ClubState) → IsClub s → Leaves (tables s) (state S.Store conn).committed.trees →
         map outcome_of resumed.0.outcomes.items ≡ map answered (club_outcomes s (map request_of (take (length resumed.0.outcomes.items) requests.now)))) }
-    ensures life { IfOk result (λ resumed. HasCleanDisk (state S.Store resumed.1.connection) → Opens
+    ensures history { IfOk result (λ resumed. HasCleanDisk (state S.Store resumed.1.connection) → Opens
         (state S.Store conn) → IsLive (state S.Store conn) →
-        (sessions : _) → IsLed sessions (state S.Store conn).committed.trees →
-        (db : _) → (state S.Store resumed.1.connection).may_leave db → IsLed (sessions ++ session_of requests.now resumed.0 ∷ []) db) }
+        (sessions : _) → IsReachable sessions (state S.Store conn).committed.trees →
+        (db : _) → (state S.Store resumed.1.connection).may_leave db → IsReachable (sessions ++ session_of requests.now resumed.0 ∷ []) db) }
     ensures stands { IfOk result (λ resumed. HasCleanDisk (state S.Store resumed.1.connection) → Opens
         (state S.Store conn) → IsLive (state S.Store conn) → resumed.0.fault ≡ None →
-        (sessions : _) → IsLed sessions (state S.Store conn).committed.trees →
-        Stands (sessions ++ session_of requests.now resumed.0 ∷ []) (state S.Store resumed.1.connection)) }
+        (sessions : _) → IsReachable sessions (state S.Store conn).committed.trees →
+        IsHistory (sessions ++ session_of requests.now resumed.0 ∷ []) (state S.Store resumed.1.connection)) }
     ensures idle { IfErr result (λ unopened. unopened.conn.in_transaction ≡ false) }
     ensures known { IfErr result (λ unopened. doubt (state S.Store conn).is_clean ≤ doubt
         (state S.Store unopened.conn).is_clean) }
@@ -82,8 +82,8 @@ pub fn resume<S: Alter>(
         (s : ClubState) → IsClub s → Leaves (tables s) (state S.Store conn).committed.trees → (unopened.fault ≡ OpenFault.Store) ⊎ (unopened.fault ≡ OpenFault.Memory)) }
     ensures kept { IfErr result (λ unopened. HasCleanDisk (state S.Store unopened.conn) → Opens (state S.Store conn) →
         IsLive (state S.Store conn) →
-        (sessions : _) → IsLed sessions (state S.Store conn).committed.trees →
-        (db : _) → (state S.Store unopened.conn).may_leave db → IsLed sessions db) }
+        (sessions : _) → IsReachable sessions (state S.Store conn).committed.trees →
+        (db : _) → (state S.Store unopened.conn).may_leave db → IsReachable sessions db) }
 {
     let mut club = match adopt(alloc, conn) {
         Ok(club) => club,

@@ -4,7 +4,7 @@ use Rattle.sqlite_wal.specs.Recovery.{Image}
 use Rattle.sqlite.specs.Tree.{Trees}
 use Rattle.sqlite.specs.Files.{HoldsDatabase, AreFoundIn}
 use Rattle.store_tables.specs.Contents.{IsEmpty}
-use Rattle.store.specs.Lives.{Session, IsLed}
+use Rattle.store.specs.Histories.{Session, IsReachable}
 
 -- It is the database that the files hold, as `found` of `Connection::open` promises (field `holds` of `FindsIn`).
 abbrev pub Finds : Image → Trees → Type 0
@@ -16,8 +16,8 @@ pub record IsFoundIn (files : Image) (found : Trees) : Type 0 where
   pub reads : AreFoundIn files found
 
 -- whatever an opening finds in the files, the sessions led to it
-abbrev pub AreLed : List Session → Image → Type 0
-AreLed sessions files = (found : Trees) → IsFoundIn files found → ∥ IsLed sessions found ∥₁
+abbrev pub AreReachable : List Session → Image → Type 0
+AreReachable sessions files = (found : Trees) → IsFoundIn files found → ∥ IsReachable sessions found ∥₁
 
 -- whatever an opening finds in the files has no table
 abbrev pub AreVoid : Image → Type 0

@@ -22,7 +22,7 @@ use Rattle.store.specs.declared.fault.StoreFault.{StoreFault}
 use Rattle.store.specs.Steps.{club_step, club_next}
 use Rattle.store.specs.Runs.{club_fold, club_outcomes, club_accepted}
 use Rattle.store_sql.proofs.Laws.{opens_exactly, schema_once}
-use Rattle.store.specs.Lives.{Session, LeadsOn, Leads, IsLed, Stands, IsAfter, is_taken, session_of, answered_session, cut_session}
+use Rattle.store.specs.Histories.{Session, SessionReaches, Reaches, IsReachable, IsHistory, IsAfter, is_taken, session_of, answered_session, cut_session}
 
 -- those of the first requests are the first of those
 first_accepted : (s : ClubState) (rs : List Request) (j : ℕ) → take (length (club_accepted s (take j rs))) (club_accepted s rs) ≡ club_accepted s (take j rs)
@@ -51,17 +51,17 @@ after : (s : ClubState) (rs : List Request) (j : ℕ) → club_fold s (take j rs
 after s rs j = sym (folds-accepted both_games s (take j rs)) ∙ ap (club_fold s) (sym (first_accepted s rs j))
 
 -- where so many were answered as accepted, the state after these, or after one more, is one that the session leads to
-leads_on : (s : ClubState) (rs : List Request) (j a : ℕ) (whole : Bool) → a ≡ Counted s rs j → LeadsOn s (record { requests = rs; returned = a; is_whole = whole }) (club_fold s (take j rs))
+leads_on : (s : ClubState) (rs : List Request) (j a : ℕ) (whole : Bool) → a ≡ Counted s rs j → SessionReaches s (record { requests = rs; returned = a; is_whole = whole }) (club_fold s (take j rs))
 leads_on s rs j a whole is = record { k = a; least = omega arith; most = omega arith; whole = λ _. refl; is = after s rs j ∙ ap (λ n. club_fold s (take n (club_accepted s rs))) (sym is) }
 
-leads_further : (s : ClubState) (rs : List Request) (j a : ℕ) (whole : Bool) → whole ≡ false → a ≡ Counted s rs j → LeadsOn s (record { requests = rs; returned = a; is_whole = whole }) (club_fold s (take (j + 1) rs))
+leads_further : (s : ClubState) (rs : List Request) (j a : ℕ) (whole : Bool) → whole ≡ false → a ≡ Counted s rs j → SessionReaches s (record { requests = rs; returned = a; is_whole = whole }) (club_fold s (take (j + 1) rs))
 leads_further s rs j a true stopped is = absurd (let x = stopped in cc)
 leads_further s rs j a false stopped is =
     let more = one_more s rs j (j + 1) refl in
     record { k = Counted s rs (j + 1); least = omega (arith, more.0, is); most = omega (arith, more.1, is); whole = λ e. absurd (let x = e in cc); is = after s rs (j + 1) }
 
-leads_then : (s t u : ClubState) (xs : List Session) (x : Session) → Leads s xs t → LeadsOn t x u → Leads s (xs ++ x ∷ []) u
-leads_then s t u [] x led one = (u, subst (λ v. LeadsOn v x u) led one, refl)
+leads_then : (s t u : ClubState) (xs : List Session) (x : Session) → Reaches s xs t → SessionReaches t x u → Reaches s (xs ++ x ∷ []) u
+leads_then s t u [] x led one = (u, subst (λ v. SessionReaches v x u) led one, refl)
 leads_then s t u (y ∷ xs) x led one = (led.0, led.1, leads_then led.0 t u xs x led.2 one)
 
 -- ---- what was answered
@@ -104,20 +104,20 @@ abbrev pub Told : ClubState → List given_request.Request → Run → Type 0
 Told s rs run = map outcome_of run.outcomes.items ≡ map answered (club_outcomes s (map request_of (take (length run.outcomes.items) rs)))
 
 -- the state after the answered requests is one that the session leads to
-run_leads : (s : ClubState) (rs : List given_request.Request) (run : Run) → Told s rs run → LeadsOn s (session_of rs run) (club_fold s (map request_of (take (length run.outcomes.items) rs)))
+run_leads : (s : ClubState) (rs : List given_request.Request) (run : Run) → Told s rs run → SessionReaches s (session_of rs run) (club_fold s (map request_of (take (length run.outcomes.items) rs)))
 run_leads s rs run told =
-    subst (λ xs. LeadsOn s (session_of rs run) (club_fold s xs)) (take-map request_of (length run.outcomes.items) rs)
+    subst (λ xs. SessionReaches s (session_of rs run) (club_fold s xs)) (take-map request_of (length run.outcomes.items) rs)
     (leads_on s (map request_of rs) (length run.outcomes.items) _ (is_none run.fault) (returned_is s rs run.outcomes.items (length run.outcomes.items) told))
 
 -- with a fault, so is the state after one more
-run_leads_further : (s : ClubState) (rs : List given_request.Request) (run : Run) → IsSome run.fault → Told s rs run → LeadsOn s (session_of rs run) (club_fold s (map request_of (take (length run.outcomes.items + 1) rs)))
+run_leads_further : (s : ClubState) (rs : List given_request.Request) (run : Run) → IsSome run.fault → Told s rs run → SessionReaches s (session_of rs run) (club_fold s (map request_of (take (length run.outcomes.items + 1) rs)))
 run_leads_further s rs run failed told =
-    subst (λ xs. LeadsOn s (session_of rs run) (club_fold s xs)) (take-map request_of (length run.outcomes.items + 1) rs)
+    subst (λ xs. SessionReaches s (session_of rs run) (club_fold s xs)) (take-map request_of (length run.outcomes.items + 1) rs)
     (leads_further s (map request_of rs) (length run.outcomes.items) _ (is_none run.fault) (is_stopped run.fault failed) (returned_is s rs run.outcomes.items (length run.outcomes.items) told))
 
 -- what a stop leaves is led to with this session added
-pub session_leads : (s : ClubState) (sessions : List Session) (rs : List given_request.Request) (run : Run) (db : Trees) → Leads opening_state sessions s → Told s rs run →
-    IsAfter s rs (length run.outcomes.items) db ⊎ (IsSome run.fault × IsAfter s rs (length run.outcomes.items + 1) db) → IsLed (sessions ++ session_of rs run ∷ []) db
+pub session_leads : (s : ClubState) (sessions : List Session) (rs : List given_request.Request) (run : Run) (db : Trees) → Reaches opening_state sessions s → Told s rs run →
+    IsAfter s rs (length run.outcomes.items) db ⊎ (IsSome run.fault × IsAfter s rs (length run.outcomes.items + 1) db) → IsReachable (sessions ++ session_of rs run ∷ []) db
 session_leads s sessions rs run db led told left = elim left [
   | inl here ↦ record {
     after = club_fold s (map request_of (take (length run.outcomes.items) rs));
@@ -134,13 +134,13 @@ session_leads s sessions rs run db led told left = elim left [
 ]
 
 -- without a fault, the tables are led to with this session added
-pub session_stands : (s : ClubState) (sessions : List Session) (rs : List given_request.Request) (run : Run) (now : State) → Leads opening_state sessions s → Told s rs run → length run.outcomes.items ≡ length rs →
-    IsClub (club_fold s (map request_of rs)) → IsExactly (tables (club_fold s (map request_of rs))) now → Stands (sessions ++ session_of rs run ∷ []) now
+pub session_stands : (s : ClubState) (sessions : List Session) (rs : List given_request.Request) (run : Run) (now : State) → Reaches opening_state sessions s → Told s rs run → length run.outcomes.items ≡ length rs →
+    IsClub (club_fold s (map request_of rs)) → IsExactly (tables (club_fold s (map request_of rs))) now → IsHistory (sessions ++ session_of rs run ∷ []) now
 session_stands s sessions rs run now led told whole legal exactly = record {
   after = club_fold s (map request_of rs);
   legal = legal;
   leads = leads_then opening_state s _ sessions (session_of rs run) led
-      (subst (λ xs. LeadsOn s (session_of rs run) (club_fold s (map request_of xs))) (take_all (length run.outcomes.items) rs (omega (arith, whole))) (run_leads s rs run told));
+      (subst (λ xs. SessionReaches s (session_of rs run) (club_fold s (map request_of xs))) (take_all (length run.outcomes.items) rs (omega (arith, whole))) (run_leads s rs run told));
   exactly = exactly;
 }
 
@@ -153,8 +153,8 @@ one_counted : (s : ClubState) (r : Request) → (if is_accepted (club_step s r) 
 one_counted s r = elim (cases_Bool (is_accepted (club_step s r))) [ inl took ↦ rw took refl | inr left ↦ rw left refl ]
 
 -- a request that was answered leads, as a session of its own, to the state after it
-pub one_stands : (s : ClubState) (sessions : List Session) (r : Request) (o : given_outcome.Outcome) (now : State) → Leads opening_state sessions s → outcome_of o ≡ answered (club_step s r)
-    → IsClub (club_next s r) → IsExactly (tables (club_next s r)) now → Stands (sessions ++ answered_session r o ∷ []) now
+pub one_stands : (s : ClubState) (sessions : List Session) (r : Request) (o : given_outcome.Outcome) (now : State) → Reaches opening_state sessions s → outcome_of o ≡ answered (club_step s r)
+    → IsClub (club_next s r) → IsExactly (tables (club_next s r)) now → IsHistory (sessions ++ answered_session r o ∷ []) now
 one_stands s sessions r o now led told legal exactly = record {
   after = club_next s r;
   legal = legal;
@@ -168,13 +168,13 @@ abbrev pub taken_session : ClubState → Request → Session
 taken_session s r = record { requests = r ∷ []; returned = if is_accepted (club_step s r) then 1 else 0; is_whole = true }
 
 -- a request leads, as a session of its own, to the state after it
-pub one_leads : (s : ClubState) (sessions : List Session) (r : Request) → Leads opening_state sessions s → Leads opening_state (sessions ++ taken_session s r ∷ []) (club_next s r)
+pub one_leads : (s : ClubState) (sessions : List Session) (r : Request) → Reaches opening_state sessions s → Reaches opening_state (sessions ++ taken_session s r ∷ []) (club_next s r)
 one_leads s sessions r led =
     leads_then opening_state s _ sessions (taken_session s r) led (leads_on s (r ∷ []) 1 _ true (one_counted s r))
 
 -- a request that a fault cut off leads to the state before it or to the one after
-pub one_cut : (s : ClubState) (sessions : List Session) (r : Request) (db : Trees) → Leads opening_state sessions s → IsClub s → IsClub (club_next s r)
-    → Leaves (tables s) db ⊎ Leaves (tables (club_next s r)) db → IsLed (sessions ++ cut_session r ∷ []) db
+pub one_cut : (s : ClubState) (sessions : List Session) (r : Request) (db : Trees) → Reaches opening_state sessions s → IsClub s → IsClub (club_next s r)
+    → Leaves (tables s) db ⊎ Leaves (tables (club_next s r)) db → IsReachable (sessions ++ cut_session r ∷ []) db
 one_cut s sessions r db led before after (inl kept) = record {
   after = s;
   legal = before;
@@ -205,16 +205,16 @@ opening_legal = record {
   game_keys = λ i j x y b at. absurd (let h = at in cc);
 }
 
-pub opening_led : (trees : Trees) → Leaves (tables opening_state) trees → IsLed [] trees
+pub opening_led : (trees : Trees) → Leaves (tables opening_state) trees → IsReachable [] trees
 opening_led trees left = record { after = opening_state; legal = opening_legal; leads = refl; leaves = left }
 
-pub opening_stands : (now : State) → IsExactly (tables opening_state) now → Stands [] now
+pub opening_stands : (now : State) → IsExactly (tables opening_state) now → IsHistory [] now
 opening_stands now exactly = record { after = opening_state; legal = opening_legal; leads = refl; exactly = exactly }
 
-pub stops_led : (sessions : List Session) (now : State) → Stands sessions now → (trees : Trees) → now.may_leave trees → IsLed sessions trees
+pub stops_led : (sessions : List Session) (now : State) → IsHistory sessions now → (trees : Trees) → now.may_leave trees → IsReachable sessions trees
 stops_led sessions now at trees left = record { after = at.after; legal = at.legal; leads = at.leads; leaves = at.exactly.may_leave trees left }
 
-pub opens_led : (sessions : List Session) (s : State) → Opens s → IsLive s → ((db : Trees) → IsTrue s.is_open → s.may_leave db → db ≡ s.committed.trees) → IsLed sessions s.committed.trees → Stands sessions s
+pub opens_led : (sessions : List Session) (s : State) → Opens s → IsLive s → ((db : Trees) → IsTrue s.is_open → s.may_leave db → db ≡ s.committed.trees) → IsReachable sessions s.committed.trees → IsHistory sessions s
 opens_led sessions s opens live settled led = record { after = led.after; legal = led.legal; leads = led.leads; exactly = opens_exactly club_schema (tables led.after) s opens live settled led.leaves }
 
 -- a connection that opens on trees with no table is empty
@@ -230,5 +230,5 @@ opens_empty s opens live settled empty =
     }
 
 -- what keeps the tables keeps where they stand
-pub still_stands : (sessions : List Session) (old new : State) → ((content : Content) → IsExactly content old → IsExactly content new) → Stands sessions old → Stands sessions new
+pub still_stands : (sessions : List Session) (old new : State) → ((content : Content) → IsExactly content old → IsExactly content new) → IsHistory sessions old → IsHistory sessions new
 still_stands sessions old new same at = record { after = at.after; legal = at.legal; leads = at.leads; exactly = same (tables at.after) at.exactly }
