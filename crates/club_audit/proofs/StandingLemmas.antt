@@ -17,7 +17,8 @@ use Rattle.store_tables.specs.declared.rows.ScoreRow.{ScoreRow}
 use Rattle.club_rows.specs.NextScores.{Fit, gains_of, plus_sums, sums_over, sums_found, row_with}
 use Rattle.club_rows.specs.Scores.{Meeting, same_pair, scores_of, score_rows, own_first, own_second, meetings_if}
 use Rattle.club_rows.specs.EachOnce.{AreEachOnce}
-use Rattle.club_audit.specs.Standings.{AreStandings, AreTold, Clears, Tells, firsts_pair, pair_in, seconds_pair, some_sums, sums_at, sums_or_none, without}
+use Rattle.club_audit.specs.Standings.{AreStandings, AreTold, Clears, Tells, some_sums, sums_or_none, without}
+use Rattle.club_rows.specs.Pairs.{firsts_pair, pair_in, seconds_pair, sums_at}
 use Rattle.club_rows.specs.declared.scores.Pair.{Pair}
 use Rattle.club_rows.specs.declared.scores.OwnScore.{OwnScore}
 use Rattle.club_rows.specs.declared.scores.Sums.{Sums}

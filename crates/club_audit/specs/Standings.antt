@@ -1,7 +1,7 @@
 -- When rows of scores are those of the games whose rows these are.
 use Rattle.std.specs.Prelude.{◌≡◌, ◌≤◌, List, [], ◌∷◌, ◌++◌, map, length, Option, Some, None, cond, string_bytes}
 use Rattle.std.specs.Option.{option_map}
-use Rattle.std.specs.HashMap.{HashMap, get}
+use Rattle.std.specs.HashMap.{HashMap}
 use Rattle.squares.specs.declared.sides.Score.{Score}
 use Rattle.squares.specs.Sides.{score_text}
 use Rattle.store_tables.specs.Cells.{game_cells}
@@ -11,6 +11,7 @@ use Rattle.club_core.specs.Limits.{most_games}
 use Rattle.club_rows.specs.Club.{ClubState, both_games}
 use Rattle.club_rows.specs.Tables.{numbered_from, row_of_game}
 use Rattle.club_rows.specs.NextScores.{no_sums, sums_found, sums_over}
+use Rattle.club_rows.specs.Pairs.{pair_in, sums_at}
 use Rattle.club_rows.specs.Scores.{Meeting, meetings_if, same_pair, scores_of}
 use Rattle.club_rows.specs.declared.scores.Pair.{Pair}
 use Rattle.club_rows.specs.declared.scores.OwnScore.{OwnScore}
@@ -46,23 +47,11 @@ abbrev pub sums_or_none : Option Sums → Sums
 sums_or_none None = no_sums
 sums_or_none (Some sums) = sums
 
-abbrev pub sums_at : {S : Type 0} → HashMap Pair Sums S → Pair → Option Sums
-sums_at standings pair = get same_pair standings pair
-
 -- each pair has the sums of its scores
 abbrev pub AreStandings : {S : Type 0} → HashMap Pair Sums S → List Meeting → Type 0
 AreStandings standings ms = (pair : Pair) → sums_at standings pair ≡ some_sums (scores_of pair ms)
 
 -- ---- rows against sums
-
-abbrev pub firsts_pair : GameRecord → Pair
-firsts_pair row = record { event = row.event; member = row.first; opponent = row.second }
-
-abbrev pub seconds_pair : GameRecord → Pair
-seconds_pair row = record { event = row.event; member = row.second; opponent = row.first }
-
-abbrev pub pair_in : ScoreRow → Pair
-pair_in row = record { event = row.event; member = row.member; opponent = row.opponent }
 
 -- those of the other pairs
 abbrev pub without : Pair → (Pair → Option Sums) → Pair → Option Sums

@@ -1,12 +1,14 @@
 //! Whether the rows of a club are those of a legal one: those that are read whole, and those of each game.
 
-ghost use Rattle.std.specs.Prelude.{◌≡◌, ◌+◌, ◌<◌, ◌≤◌, ◌^◌, ℕ, pos, true, false, None, IfOk, map, IfSome, string_bytes};
+ghost use Rattle.std.specs.Prelude.{◌≡◌, ◌+◌, ◌<◌, ◌≤◌, ◌^◌, ℕ, pos, true, false, None, IfOk, map, IfSome};
+ghost use Rattle.std.specs.Prelude.{string_bytes};
 ghost use Rattle.std.specs.Option.{option_map};
 ghost use Rattle.club_core.specs.Game.{Game, left_of};
 ghost use Rattle.club_core.specs.LegalState.{AreApartIfAny};
 ghost use Rattle.club_core.specs.Limits.{most_games};
 ghost use Rattle.club_core.specs.View.{clocks_in};
-ghost use Rattle.club_audit.specs.Audit.{HasPeople, NamesEvent, IsWithin, EndsBy, HaveGame, HaveRegister, IsGameAt, AreAllOf};
+ghost use Rattle.club_audit.specs.Audit.{HasPeople, NamesEvent, IsWithin, EndsBy, HaveGame, HaveRegister, IsGameAt};
+ghost use Rattle.club_audit.specs.Audit.{AreAllOf};
 ghost use Rattle.store_tables.specs.Cells.{seen_cells};
 ghost use Rattle.club_rows.specs.Club.{both_games, ClubGame, ClubState};
 ghost use Rattle.club_rows.specs.EachOnce.{AreEachOnce};
@@ -72,8 +74,10 @@ fn is_among(id: i64, count: usize) -> bool
 
 // The row of the game's event, at its place, if there is one and the players exist.
 pub(crate) fn event_of<'a>(rows: &'a Rows, game: &GameRecord) -> Option<&'a EventRow>
-    ensures some { IfSome result (λ e. (event first second : ℕ) × NamesEvent rows.now game.now event first second e.now) }
-    ensures none { result ≡ None → (event first second : ℕ) (e : EventRow) → ¬ NamesEvent rows.now game.now event first second e }
+    ensures some { IfSome result (λ e. (event first second : ℕ)
+        × NamesEvent rows.now game.now event first second e.now) }
+    ensures none { result ≡ None → (event first second : ℕ) (e : EventRow) →
+        ¬ NamesEvent rows.now game.now event first second e }
 {
     if !is_among(game.first, rows.members.as_slice().len()) {
         return None;
@@ -155,7 +159,8 @@ fn are_seen_in(
     moves: &[MoveRow],
     seen: &[SeenRow],
 ) -> Result<bool, Memory>
-    ensures sound { IfOk result (λ are. are ≡ true → (s : ClubState) → HasPeople s rows.now → (index : ℕ) (g : ClubGame) →
+    ensures sound { IfOk result (λ are. are ≡ true → (s : ClubState) → HasPeople s rows.now →
+        (index : ℕ) (g : ClubGame) →
         IsGameAt s (index + 1) game.now moves.now g →
         AreEachOnce (map seen_cells seen.now) (rows_of_seen both_games (index + 1) g)) }
     ensures complete { IfOk result (λ are. (s : ClubState) → HasPeople s rows.now → (index : ℕ) → index < most_games →
@@ -177,8 +182,8 @@ fn are_seen_in(
     }
 }
 
-/// The first wrong table by all rows of the game at this place, from 0, up to the last moment; none where they are those
-/// of a legal game of the club. The rows of its moves stand by plies, those of its positions in any order.
+/// The first wrong table by all rows of the game at this place, from 0, up to the last moment; none where they are
+/// those of a legal game of the club. The rows of its moves stand by plies, those of its positions in any order.
 pub fn wrong_game(
     alloc: Global,
     rows: &Rows,
@@ -233,8 +238,10 @@ pub fn wrong_register(alloc: Global, rows: &Rows) -> Result<Option<Table>, Memor
 
 // Whether two games have one key.
 fn share_key(alloc: Global, games: &[GameRecord]) -> Result<bool, Memory>
-    ensures apart { IfOk result (λ shared. shared ≡ false → AreApartIfAny (λ r. option_map (λ s. string_bytes s) r.key) games.now) }
-    ensures shared { IfOk result (λ shared. shared ≡ true → ¬ AreApartIfAny (λ r. option_map (λ s. string_bytes s) r.key) games.now) }
+    ensures apart { IfOk result (λ shared. shared ≡ false →
+        AreApartIfAny (λ r. option_map (λ s. string_bytes s) r.key) games.now) }
+    ensures shared { IfOk result (λ shared. shared ≡ true →
+        ¬ AreApartIfAny (λ r. option_map (λ s. string_bytes s) r.key) games.now) }
 {
     let mut keys = HashSet::new(alloc);
     for game in games {

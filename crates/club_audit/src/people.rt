@@ -4,7 +4,8 @@ ghost use Rattle.std.specs.Prelude.{◌≡◌, ◌+◌, ◌<◌, ◌^◌, ℕ, L
 ghost use Rattle.club_core.specs.Members.{Member};
 ghost use Rattle.club_core.specs.Events.{Event};
 ghost use Rattle.club_core.specs.LegalState.{Each};
-ghost use Rattle.club_audit.specs.Audit.{IsOtherMember, IsMemberAt, AreMembers, GivesTerms, IsOtherEvent, IsEventAt, AreEvents};
+ghost use Rattle.club_audit.specs.Audit.{IsOtherMember, IsMemberAt, AreMembers, GivesTerms, IsOtherEvent, IsEventAt};
+ghost use Rattle.club_audit.specs.Audit.{AreEvents};
 
 use club_core::values::{MOST_EVENTS, MOST_MEMBERS, is_budget, is_increment};
 use club_core::{is_member_key, is_name};

@@ -1,6 +1,7 @@
 //! Whether rows are those of the positions of a game.
 
-ghost use Rattle.std.specs.Prelude.{◌≡◌, ◌≤◌, ◌<◌, ◌++◌, ◌∷◌, ◌^◌, ℕ, [], List, pos, true, length, map, IfOk, IfSome, OnOk};
+ghost use Rattle.std.specs.Prelude.{◌≡◌, ◌≤◌, ◌<◌, ◌++◌, ◌∷◌, ◌^◌, ℕ, [], List, pos, true, length, map, IfOk, IfSome};
+ghost use Rattle.std.specs.Prelude.{OnOk};
 ghost use Rattle.club_core.specs.Events.{Terms};
 ghost use Rattle.club_core.specs.Game.{Game};
 ghost use Rattle.store_tables.specs.Cells.{move_cells, seen_cells};

@@ -11,10 +11,13 @@ ghost use Rattle.club_rows.specs.NextScores.{sums_found};
 ghost use Rattle.club_rows.specs.Scores.{Meeting, scores_in};
 ghost use Rattle.club_rows.specs.EachOnce.{AreEachOnce};
 ghost use Rattle.club_audit.specs.Standings.{AreGamesOf, AreStandings, AreTold, Clears, Tells};
-ghost use Rattle.club_audit.specs.Standings.{firsts_pair, pair_in, seconds_pair, sums_at, sums_or_none};
+ghost use Rattle.club_audit.specs.Standings.{sums_or_none};
+ghost use Rattle.club_rows.specs.Pairs.{sums_at};
 
 use club_rows::ends::score_of;
-use club_rows::scores::{OwnScore, Pair, Sums, gains, plus, sums_of};
+use club_rows::scores::{
+    OwnScore, Pair, Sums, firsts_pair, gains, pair_in, plus, seconds_pair, sums_of,
+};
 use club_rules::Memory;
 use squares::Score;
 use std::alloc::Global;
@@ -54,36 +57,6 @@ fn told_score(game: &GameRecord) -> Option<Score>
     match &game.result {
         Some(text) => score_of(text.as_str()),
         None => None,
-    }
-}
-
-fn firsts_pair(game: &GameRecord) -> Pair
-    ensures { result ≡ firsts_pair game.now }
-{
-    Pair {
-        event: game.event,
-        member: game.first,
-        opponent: game.second,
-    }
-}
-
-fn seconds_pair(game: &GameRecord) -> Pair
-    ensures { result ≡ seconds_pair game.now }
-{
-    Pair {
-        event: game.event,
-        member: game.second,
-        opponent: game.first,
-    }
-}
-
-fn pair_in(row: &ScoreRow) -> Pair
-    ensures { result ≡ pair_in row.now }
-{
-    Pair {
-        event: row.event,
-        member: row.member,
-        opponent: row.opponent,
     }
 }
 

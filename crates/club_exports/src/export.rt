@@ -1,6 +1,7 @@
 //! A game that is written entry by entry, by the texts of its moves.
 
-ghost use Rattle.std.specs.Prelude.{◌≡◌, ◌<◌, ◌≤◌, ◌^◌, ℕ, [], ◌∷◌, ◌++◌, List, Option, Some, Ok, IfOk, IfSome, OnOk, length, true};
+ghost use Rattle.std.specs.Prelude.{◌≡◌, ◌<◌, ◌≤◌, ◌^◌, ℕ, [], ◌∷◌, ◌++◌, List, Option, Some, Ok, IfOk, IfSome, OnOk};
+ghost use Rattle.std.specs.Prelude.{length, true};
 ghost use Rattle.club_core.specs.Game.{Entry};
 ghost use Rattle.club_core.specs.Limits.{most_plies};
 ghost use Rattle.club_exports.specs.Title.{Title, title_of, timed};
@@ -65,8 +66,8 @@ impl<R: Exports> Export<R> {
         })
     }
 
-    /// Writes the next entry, of which this is the text in the position so far and the moment; false where the text is that
-    /// of no legal move, and nothing was written.
+    /// Writes the next entry, of which this is the text in the position so far and the moment; false where the text
+    /// is that of no legal move, and nothing was written.
     pub fn push<W: Write>(
         &mut self,
         alloc: Global,
@@ -107,7 +108,8 @@ impl<R: Exports> Export<R> {
 
     /// Writes the end: what was written is the record of the game.
     pub fn finish<W: Write>(self, writer: &mut W) -> Result<(), WriteFault>
-        ensures written { OnOk result ((title : Title R.End) (entries : List (Entry R.Move)) (before : Option (List ℕ)) →
+        ensures written { OnOk result ((title : Title R.End) (entries : List (Entry R.Move))
+            (before : Option (List ℕ)) →
             IsWritten R.rules R.HasWritten title entries before (W.contents writer.old) self →
             AddsRecord R.IsText title (timed title.start entries) before (W.contents writer.new)) }
         ensures begun { (title : Title R.End) (entries : List (Entry R.Move)) (before : Option (List ℕ)) →

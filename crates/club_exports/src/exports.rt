@@ -10,8 +10,8 @@ use record_writer::WriteFault;
 use std::alloc::Global;
 use std::io::Write;
 
-/// A game whose records are written move by move. The writer is lent to each call; where a call fails, what was written is
-/// a beginning of the record.
+/// A game whose records are written move by move. The writer is lent to each call; where a call fails, what was
+/// written is a beginning of the record.
 pub trait Exports: Rules {
     /// A record on its way to a writer.
     type Record: Drop;
@@ -19,8 +19,10 @@ pub trait Exports: Rules {
     /// A text is the record of a game with these moves, each with the seconds that it took.
     ghost IsText: { Title Self.End → List (Self.Move × ℕ) → List ℕ → Type 0 };
 
-    /// To the bytes that a writer held, what a record says up to these moves was added, and the record stands after them.
-    ghost HasWritten: { Title Self.End → List (Self.Move × ℕ) → Option (List ℕ) → Option (List ℕ) → Self.Record → Type 0 };
+    /// To the bytes that a writer held, what a record says up to these moves was added, and the record stands after
+    /// them.
+    ghost HasWritten: { Title Self.End → List (Self.Move × ℕ) → Option (List ℕ) → Option (List ℕ) → Self.Record →
+        Type 0 };
 
     /// The move is legal after those that are written.
     ghost MayFollow: { Self.Record → Self.Move → Type 0 };
@@ -44,7 +46,8 @@ pub trait Exports: Rules {
         seconds: u64,
     ) -> Result<(), WriteFault>
         requires { MayFollow draft.old made.now }
-        ensures written { OnOk result ((title : Title Self.End) (plies : List (Self.Move × ℕ)) (before : Option (List ℕ)) →
+        ensures written { OnOk result ((title : Title Self.End) (plies : List (Self.Move × ℕ))
+            (before : Option (List ℕ)) →
             HasWritten title plies before (W.contents writer.old) draft.old →
             HasWritten title (plies ++ (made.now, seconds) ∷ []) before (W.contents writer.new) draft.new) }
         ensures begun { (title : Title Self.End) (plies more : List (Self.Move × ℕ)) (before : Option (List ℕ)) →
@@ -53,7 +56,8 @@ pub trait Exports: Rules {
 
     /// Writes the end.
     fn finish_record<W: Write>(draft: Self::Record, writer: &mut W) -> Result<(), WriteFault>
-        ensures written { OnOk result ((title : Title Self.End) (plies : List (Self.Move × ℕ)) (before : Option (List ℕ)) →
+        ensures written { OnOk result ((title : Title Self.End) (plies : List (Self.Move × ℕ))
+            (before : Option (List ℕ)) →
             HasWritten title plies before (W.contents writer.old) draft →
             AddsRecord IsText title plies before (W.contents writer.new)) }
         ensures begun { (title : Title Self.End) (plies : List (Self.Move × ℕ)) (before : Option (List ℕ)) →

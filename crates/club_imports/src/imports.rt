@@ -6,7 +6,8 @@ ghost use Rattle.club_rules.specs.Records.{recorded_of, reading_of, IsGameByRule
 ghost use Rattle.club_core.specs.Answer.{members_of, events_of, keyed_of, import_of};
 ghost use Rattle.club_core.specs.Events.{has_event_name};
 ghost use Rattle.club_core.specs.Game.{Game};
-ghost use Rattle.club_core.specs.Imports.{same_format, has_part, reading_of_import, repeat_of_import, import_refusal, import_game, import_between, import_step, import_found};
+ghost use Rattle.club_core.specs.Imports.{same_format, has_part, reading_of_import, repeat_of_import, import_refusal};
+ghost use Rattle.club_core.specs.Imports.{import_game, import_between, import_step, import_found};
 ghost use Rattle.club_core.specs.Limits.{most_members, most_events, most_games};
 ghost use Rattle.club_core.specs.Members.{find_id};
 ghost use Rattle.club_core.specs.Outcome.{by_officer, game_seated};
@@ -198,9 +199,10 @@ fn import_found<R: Records>(
     Ok(import_between::<R>(event, first, second, games, reading))
 }
 
-/// What an import does, by the members and the events in the order of their ids, the game under its key if there is one,
-/// with what was played in it if it is of this kind, and the number of games. The officer alone imports. The new game's
-/// id is the next one, and what is added is a game by the rules. A refusal of the record comes after all others.
+/// What an import does, by the members and the events in the order of their ids, the game under its key if there is
+/// one, with what was played in it if it is of this kind, and the number of games. The officer alone imports. The new
+/// game's id is the next one, and what is added is a game by the rules. A refusal of the record comes after all
+/// others.
 pub fn import<R: Records>(
     alloc: Global,
     members: &[Member],

@@ -3,6 +3,7 @@ pub mod EachOnce
 pub mod Listed
 pub mod Made
 pub mod NextScores
+pub mod Pairs
 pub mod Records
 pub mod Replay
 pub mod Scores

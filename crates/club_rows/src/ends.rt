@@ -58,7 +58,8 @@ pub fn score_of(text: &str) -> Option<Score>
 
 /// The end other than by the rules that a row names, with the score beside it.
 pub fn outside_of(name: &str, score: Option<Score>) -> Option<OutsideEnd>
-    ensures { (end : OutsideEnd) → name.now ≡ outside_text end → ((s : Score) → end ≡ Recorded s → score ≡ Some s) → result ≡ Some end }
+    ensures { (end : OutsideEnd) → name.now ≡ outside_text end → ((s : Score) → end ≡ Recorded s → score ≡ Some s) →
+        result ≡ Some end }
 {
     match name {
         "Resigned" => Some(OutsideEnd::Resigned),

@@ -43,7 +43,8 @@ fn score_text(alloc: Global, score: Option<Score>) -> Result<Option<String>, Mem
 }
 
 fn end_text<R: Rules>(alloc: Global, row: &GameRow<R::End>) -> Result<Option<String>, Memory>
-    ensures { IfOk result (λ text. option_map (λ s. string_bytes s) text ≡ option_map (end_name_text R.rules) row.now.end) }
+    ensures { IfOk result (λ text. option_map (λ s. string_bytes s) text
+        ≡ option_map (end_name_text R.rules) row.now.end) }
 {
     match &row.end {
         Some(end) => Ok(Some(String::from_str(alloc, end_name::<R>(end))?)),
@@ -117,7 +118,8 @@ pub fn record_of<R: Rules>(
 ) -> Result<GameRecord, Memory>
     // Seconds that 63 bits hold are stored as they are.
     ensures { IfOk result (λ r. row.now.left_first < 2 ^ 63 → row.now.left_second < 2 ^ 63 →
-        (terms : Terms) (game : Game R.Move) → IsRowOf R.rules terms game row.now → game_cells r ≡ game_row R.rules terms id game) }
+        (terms : Terms) (game : Game R.Move) → IsRowOf R.rules terms game row.now →
+        game_cells r ≡ game_row R.rules terms id game) }
 {
     let key = copied(&row.key)?;
     let end = end_text::<R>(alloc, row)?;
@@ -136,7 +138,8 @@ pub fn record_of<R: Rules>(
 /// The row of the table of moves for a move of a game.
 pub fn move_row(game: u32, moved: &Moved, moment: Moment) -> Result<MoveRow, Memory>
     // Seconds that 63 bits hold are stored as they are.
-    ensures { IfOk result (λ r. moved.now.left < 2 ^ 63 → move_cells r ≡ made_row game (move_reply_of moved.now) moment) }
+    ensures { IfOk result (λ r. moved.now.left < 2 ^ 63 →
+        move_cells r ≡ made_row game (move_reply_of moved.now) moment) }
 {
     let text = moved.text.clone()?;
     let position = moved.position.clone()?;

@@ -1,13 +1,15 @@
 //! A game as its rows show it: replayed from its start, each row compared with what the rules and the clocks give.
 
-ghost use Rattle.std.specs.Prelude.{◌≡◌, ◌≢◌, ◌≤◌, ◌<◌, ◌+◌, ◌++◌, ◌∷◌, [], ◌*◌, ◌^◌, ℕ, IfOk, IfSome, IsTrue, None, Some, Ok, cond, length, is_some, string_bytes};
+ghost use Rattle.std.specs.Prelude.{◌≡◌, ◌≢◌, ◌≤◌, ◌<◌, ◌+◌, ◌++◌, ◌∷◌, [], ◌*◌, ◌^◌, ℕ, IfOk, IfSome, IsTrue, None};
+ghost use Rattle.std.specs.Prelude.{Some, Ok, cond, length, is_some, string_bytes};
 ghost use Rattle.squares.specs.Sides.{other};
 ghost use Rattle.club_rules.specs.Line.{IsPlayedLine, line_track, position_after};
 ghost use Rattle.club_core.specs.Limits.{is_budget, is_increment};
 ghost use Rattle.club_core.specs.Game.{Game, Entry};
 ghost use Rattle.club_rows.specs.Tables.{with_entry};
 ghost use Rattle.club_rows.specs.Tally.{PositionText, same_text, seen_at, stood_then, stood_seldom};
-ghost use Rattle.club_rows.specs.Replay.{IsCounted, IsReplayed, TakesTime, IsNext, Replays, Follows, WasReplayed, IsPlayedAs, left_in, clocks_replayed, terms_with, terms_given};
+ghost use Rattle.club_rows.specs.Replay.{IsCounted, IsReplayed, TakesTime, IsNext, Replays, Follows, WasReplayed};
+ghost use Rattle.club_rows.specs.Replay.{IsPlayedAs, left_in, clocks_replayed, terms_with, terms_given};
 
 use crate::numbers::{moment, stored};
 use crate::tally::{Stood, Tally};
@@ -60,7 +62,8 @@ pub(crate) fn move_of<R: Rules>(
 ) -> Result<Option<R::Move>, Memory>
     ensures legal { IfOk result (λ found. IfSome found (λ made. R.rules.check position.now made ≡ Ok tt)) }
     ensures text { IfOk result (λ found. IfSome found (λ made. text.now ≡ R.rules.write_move position.now made)) }
-    ensures none { IfOk result (λ found. found ≡ None → (made : R.Move) → R.rules.check position.now made ≡ Ok tt → text.now ≢ R.rules.write_move position.now made) }
+    ensures none { IfOk result (λ found. found ≡ None → (made : R.Move) → R.rules.check position.now made ≡ Ok tt →
+        text.now ≢ R.rules.write_move position.now made) }
 {
     let made = match R::read_move(alloc, position, text)? {
         Ok(made) => made,
@@ -98,7 +101,8 @@ fn clock<R: Rules>(game: &Replayed<R>, side: Side, increment: u64) -> Clock
 fn start<R: Rules>(alloc: Global, budget: u64, start: Moment) -> Result<Replayed<R>, Memory>
     requires { budget ≤ 31536000 }
     ensures safe { IfOk result (λ game. (increment : ℕ) → IsReplayed R.rules increment 0 game) }
-    ensures clocks { IfOk result (λ game. clocks_replayed game ≡ record { left_first = budget; left_second = budget; since = start }) }
+    ensures clocks { IfOk result (λ game. clocks_replayed game
+        ≡ record { left_first = budget; left_second = budget; since = start }) }
     ensures line { IfOk result (λ game. game.line.items ≡ []) }
 {
     let position = R::start();
@@ -179,11 +183,15 @@ fn next_of<R: Rules>(
     requires line { IsPlayedLine R.rules R.rules.start game.now.line.items }
     requires position { game.now.position ≡ position_after R.rules R.rules.start game.now.line.items }
     requires counted { IsCounted R.rules game.now }
-    ensures some { IfOk result (λ found. IfSome found (λ next. IsNext R.rules increment id game.now row.now next.made next.moment next.left)) }
-    ensures after { IfOk result (λ found. IfSome found (λ next. next.position ≡ R.rules.play game.now.position next.made)) }
-    ensures text { IfOk result (λ found. IfSome found (λ next. string_bytes next.text ≡ R.rules.write_position (R.rules.play game.now.position next.made))) }
+    ensures some { IfOk result (λ found. IfSome found (λ next. IsNext R.rules increment id game.now row.now next.made
+        next.moment next.left)) }
+    ensures after { IfOk result (λ found. IfSome found (λ next. next.position
+        ≡ R.rules.play game.now.position next.made)) }
+    ensures text { IfOk result (λ found. IfSome found (λ next. string_bytes next.text
+        ≡ R.rules.write_position (R.rules.play game.now.position next.made))) }
     ensures turn { IfOk result (λ found. IfSome found (λ next. next.turn ≡ R.rules.turn game.now.position)) }
-    ensures none { IfOk result (λ found. found ≡ None → (made : R.Move) (moment left : ℕ) → ¬ IsNext R.rules increment id game.now row.now made moment left) }
+    ensures none { IfOk result (λ found. found ≡ None → (made : R.Move) (moment left : ℕ) →
+        ¬ IsNext R.rules increment id game.now row.now made moment left) }
 {
     if end_of(game).is_some() {
         return Ok(None);
@@ -227,7 +235,8 @@ fn advanced<R: Rules>(game: Replayed<R>, next: Next<R>) -> Result<Replayed<R>, M
     ensures mover { IfOk result (λ new. left_in new next.turn ≡ next.left) }
     ensures other { IfOk result (λ new. left_in new (other next.turn) ≡ left_in game (other next.turn)) }
     ensures since { IfOk result (λ new. new.since ≡ next.moment) }
-    ensures track { IfOk result (λ new. new.track ≡ R.rules.track_next game.track game.position next.made next.position) }
+    ensures track { IfOk result (λ new. new.track ≡ R.rules.track_next game.track game.position next.made
+        next.position) }
     ensures stood { IfOk result (λ new. stood_seldom (seen_at game.tally next.text) →
         new.stood ≡ stood_then (seen_at game.tally next.text) (length game.line.items + 1)) }
     ensures tally { IfOk result (λ new. (other : PositionText) →
@@ -265,11 +274,15 @@ fn with_row<R: Rules>(
     requires increment { increment ≤ 2592000 }
     requires room { length game.line.items < 600 }
     requires game { IsReplayed R.rules increment (length game.line.items) game }
-    ensures safe { IfOk result (λ found. IfSome found (λ new. IsReplayed R.rules increment (length game.line.items + 1) new)) }
+    ensures safe { IfOk result (λ found. IfSome found (λ new. IsReplayed R.rules increment
+        (length game.line.items + 1) new)) }
     ensures some { IfOk result (λ found. IfSome found (λ new. (budget : ℕ) (old : Game R.Move) →
-        Replays R.rules (terms_with budget increment) old game → (e : Entry R.Move) × Follows R.rules (terms_with budget increment) id old row.now e × Replays R.rules (terms_with budget increment) (with_entry old e) new)) }
+        Replays R.rules (terms_with budget increment) old game →
+        (e : Entry R.Move) × Follows R.rules (terms_with budget increment) id old row.now e
+        × Replays R.rules (terms_with budget increment) (with_entry old e) new)) }
     ensures none { IfOk result (λ found. found ≡ None → (budget : ℕ) (old : Game R.Move) →
-        Replays R.rules (terms_with budget increment) old game → (e : Entry R.Move) → ¬ Follows R.rules (terms_with budget increment) id old row.now e) }
+        Replays R.rules (terms_with budget increment) old game → (e : Entry R.Move) →
+        ¬ Follows R.rules (terms_with budget increment) id old row.now e) }
 {
     match next_of::<R>(alloc, &game, increment, id, row)? {
         Some(next) => {
@@ -288,11 +301,15 @@ pub fn replay<R: Rules>(
     from: Moment,
     rows: &[MoveRow],
 ) -> Result<Option<Replayed<R>>, Memory>
-    ensures safe { IfOk result (λ found. IfSome found (λ game. (terms.budget ≤ 31536000) × (terms.increment ≤ 2592000) × (length rows.now ≤ 600)
+    ensures safe { IfOk result (λ found. IfSome found (λ game. (terms.budget ≤ 31536000) × (terms.increment ≤ 2592000)
+        × (length rows.now ≤ 600)
         × IsReplayed R.rules terms.increment (length rows.now) game)) }
-    ensures terms { IfOk result (λ found. IfSome found (λ game. IsTrue (is_budget terms.budget) × IsTrue (is_increment terms.increment))) }
-    ensures some { IfOk result (λ found. IfSome found (λ game. WasReplayed R.rules (terms_given terms) id from rows.now (length rows.now) game)) }
-    ensures none { IfOk result (λ found. found ≡ None → IsTrue (is_budget terms.budget) → IsTrue (is_increment terms.increment) →
+    ensures terms { IfOk result (λ found. IfSome found (λ game. IsTrue (is_budget terms.budget)
+        × IsTrue (is_increment terms.increment))) }
+    ensures some { IfOk result (λ found. IfSome found (λ game. WasReplayed R.rules
+        (terms_given terms) id from rows.now (length rows.now) game)) }
+    ensures none { IfOk result (λ found. found ≡ None → IsTrue (is_budget terms.budget) →
+        IsTrue (is_increment terms.increment) →
         (game : Game R.Move) → ¬ IsPlayedAs R.rules (terms_given terms) id from rows.now game) }
 {
     if !is_budget(terms.budget) {

@@ -1,6 +1,7 @@
 //! The view of a game by its own row, and by the rows of the ply that a command asks of.
 
-ghost use Rattle.std.specs.Prelude.{◌≡◌, ◌≢◌, ◌≤◌, ◌<◌, ◌-◌, ◌^◌, ℕ, pos, IfOk, IfSome, IsSome, None, Some, Ok, string_bytes};
+ghost use Rattle.std.specs.Prelude.{◌≡◌, ◌≢◌, ◌≤◌, ◌<◌, ◌-◌, ◌^◌, ℕ, pos, IfOk, IfSome, IsSome, None, Some, Ok};
+ghost use Rattle.std.specs.Prelude.{string_bytes};
 ghost use Rattle.club_core.specs.Events as core;
 ghost use Rattle.club_core.specs.Game.{Game, game_at, last_position};
 ghost use Rattle.club_core.specs.Legal.{IsLegalGame};
@@ -134,8 +135,8 @@ fn row_in<R: Rules>(
     })
 }
 
-/// The view of the game whose row this is, with no ply asked of. `stood` is how often its last position stood, and after
-/// which ply first. None where no game that is played by these terms has this row.
+/// The view of the game whose row this is, with no ply asked of. `stood` is how often its last position stood, and
+/// after which ply first. None where no game that is played by these terms has this row.
 pub fn view_of_row<R: Rules>(
     alloc: Global,
     row: &GameRecord,
@@ -146,7 +147,8 @@ pub fn view_of_row<R: Rules>(
     ensures terms { IfOk result (λ found. IfSome found (λ view. terms_of view ≡ terms_given terms)) }
     // The row of a legal game shows that game.
     ensures shows { IfOk result (λ found. IfSome found (λ view. (id : ℕ) (game : Game R.Move) →
-        IsRecordOf R.rules (terms_given terms) id row.now game → HasLastStood R.rules game stood → Shows R.rules game view)) }
+        IsRecordOf R.rules (terms_given terms) id row.now game → HasLastStood R.rules game stood →
+        Shows R.rules game view)) }
     ensures found { IfOk result (λ found. (id : ℕ) (game : Game R.Move) →
         IsRecordOf R.rules (terms_given terms) id row.now game → IsSome found) }
 {
@@ -192,7 +194,8 @@ fn position_before<R: Rules>(
 ) -> Result<Option<R::Position>, Memory>
     requires { 1 ≤ ply }
     // The ply is one that was played.
-    ensures { IfOk result (λ found. (terms : core.Terms) (id : ℕ) (game : Game R.Move) → IsLegalGame R.rules terms game →
+    ensures { IfOk result (λ found. (terms : core.Terms) (id : ℕ) (game : Game R.Move) →
+        IsLegalGame R.rules terms game →
         AreRowsAt R.rules terms id game ply rows.now → IsSome (move_at game ply) →
         found ≡ Some (last_position R.rules (game_at game (ply - 1)))) }
 {
@@ -251,7 +254,8 @@ fn asked_in<R: Rules>(
 // What was played at a ply, by its rows.
 fn asked_by<R: Rules>(alloc: Global, ply: u64, rows: &PlyRows) -> Result<Option<Asked<R>>, Memory>
     ensures legal { IfOk result (λ found. IfSome found (λ a. R.rules.check a.before a.made ≡ Ok tt)) }
-    ensures shows { IfOk result (λ found. (terms : core.Terms) (id : ℕ) (game : Game R.Move) → IsLegalGame R.rules terms game →
+    ensures shows { IfOk result (λ found. (terms : core.Terms) (id : ℕ) (game : Game R.Move) →
+        IsLegalGame R.rules terms game →
         AreRowsAt R.rules terms id game ply rows.now → IsAsked R.rules terms game ply (move_at game ply) found) }
 {
     if ply == 0 || ply > u64::from(MOST_PLIES) {

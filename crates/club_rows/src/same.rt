@@ -9,8 +9,10 @@ use store_tables::GameRecord;
 
 // Whether two texts that may be none are the same.
 fn same_text(one: &Option<String>, other: &Option<String>) -> bool
-    ensures sound { result ≡ true → option_map (λ s. string_bytes s) one.now ≡ option_map (λ s. string_bytes s) other.now }
-    ensures complete { option_map (λ s. string_bytes s) one.now ≡ option_map (λ s. string_bytes s) other.now → result ≡ true }
+    ensures sound { result ≡ true → option_map (λ s. string_bytes s) one.now
+        ≡ option_map (λ s. string_bytes s) other.now }
+    ensures complete { option_map (λ s. string_bytes s) one.now ≡ option_map (λ s. string_bytes s) other.now →
+        result ≡ true }
 {
     match one {
         Some(one) => match other {

@@ -4,10 +4,11 @@ ghost use Rattle.std.specs.Prelude.{◌≡◌, ◌≢◌, ◌≤◌, ◌^◌, �
 ghost use Rattle.std.specs.Option.{option_map};
 ghost use Rattle.club_rows.specs.NextScores.{AreFound, AreNext, Fit};
 ghost use Rattle.club_rows.specs.NextScores.{gains_of, pair_of, plus_sums, sums_found, row_with};
+ghost use Rattle.club_rows.specs.Pairs.{firsts_pair, pair_in, seconds_pair};
 ghost use Rattle.club_rows.specs.Scores.{Meeting, own_first, own_second};
 
 use squares::Score;
-use store_tables::ScoreRow;
+use store_tables::{GameRecord, ScoreRow};
 
 /// A member and an opponent in an event, by their ids.
 #[derive(Clone, Copy, Debug, PartialEq, Eq, Hash)]
@@ -15,6 +16,39 @@ pub struct Pair {
     pub event: i64,
     pub member: i64,
     pub opponent: i64,
+}
+
+/// Whom a row of scores is of.
+pub fn pair_in(row: &ScoreRow) -> Pair
+    ensures { result ≡ pair_in row.now }
+{
+    Pair {
+        event: row.event,
+        member: row.member,
+        opponent: row.opponent,
+    }
+}
+
+/// The pair of a game of which First is the member.
+pub fn firsts_pair(game: &GameRecord) -> Pair
+    ensures { result ≡ firsts_pair game.now }
+{
+    Pair {
+        event: game.event,
+        member: game.first,
+        opponent: game.second,
+    }
+}
+
+/// The pair of a game of which Second is the member.
+pub fn seconds_pair(game: &GameRecord) -> Pair
+    ensures { result ≡ seconds_pair game.now }
+{
+    Pair {
+        event: game.event,
+        member: game.second,
+        opponent: game.first,
+    }
 }
 
 /// The score of an ended game as one of its players has it.

@@ -1,6 +1,7 @@
 //! The rows of the positions of a game: how often each stood, and after which ply first.
 
-ghost use Rattle.std.specs.Prelude.{◌≡◌, ◌≤◌, ◌<◌, ◌+◌, ◌^◌, ℕ, [], ◌∷◌, pos, length, IfOk, Option, Some, None, string_bytes};
+ghost use Rattle.std.specs.Prelude.{◌≡◌, ◌≤◌, ◌<◌, ◌+◌, ◌^◌, ℕ, [], ◌∷◌, pos, length, IfOk, Option, Some, None};
+ghost use Rattle.std.specs.Prelude.{string_bytes};
 ghost use Rattle.std.specs.Option.{option_map};
 ghost use Rattle.club_rules.specs.Line.{IsLegalLine, times_stood, FirstStands};
 ghost use Rattle.club_core.specs.Game.{Entry, Game, moves_of, last_position};

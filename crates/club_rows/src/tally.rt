@@ -1,6 +1,7 @@
 //! How often the positions of a line stood, told by their texts.
 
-ghost use Rattle.std.specs.Prelude.{◌≡◌, ◌≤◌, ◌<◌, ◌+◌, ◌++◌, ◌∷◌, [], List, Some, None, IfOk, cond, length, string_bytes};
+ghost use Rattle.std.specs.Prelude.{◌≡◌, ◌≤◌, ◌<◌, ◌+◌, ◌++◌, ◌∷◌, [], List, Some, None, IfOk, cond, length};
+ghost use Rattle.std.specs.Prelude.{string_bytes};
 ghost use Rattle.club_rules.specs.Line.{position_after, times_stood, FirstStands, IsLegalLine};
 ghost use Rattle.club_rows.specs.Tally.{IsTallyOf, PositionText, same_text, seen_at, stood_then, stood_seldom};
 
@@ -49,7 +50,8 @@ impl Tally {
 
     /// Counts the position that stands after that ply, and answers how often it has stood by then.
     pub fn add(&mut self, text: String, ply: usize) -> Result<Stood, Memory>
-        ensures stood { IfOk result (λ stood. stood_seldom (seen_at self.old text) → stood ≡ stood_then (seen_at self.old text) ply) }
+        ensures stood { IfOk result (λ stood. stood_seldom (seen_at self.old text) →
+            stood ≡ stood_then (seen_at self.old text) ply) }
         ensures adds { IfOk result (λ stood. (other : PositionText) →
             seen_at self.new other ≡ cond (same_text text other) (Some stood) (seen_at self.old other)) }
     {
@@ -62,7 +64,8 @@ impl Tally {
     pub fn stood_after<R: Rules>(&self, position: &String, ply: usize) -> Stood
         ensures { (line : List R.Move) (made : R.Move) → IsTallyOf R.rules line self.now → length line ≤ 600 →
             IsLegalLine R.rules R.rules.start (line ++ made ∷ []) → ply ≡ length line + 1 →
-            string_bytes position.now ≡ R.rules.write_position (position_after R.rules R.rules.start (line ++ made ∷ [])) →
+            string_bytes position.now ≡ R.rules.write_position
+            (position_after R.rules R.rules.start (line ++ made ∷ [])) →
             (result.times ≡ times_stood R.rules R.rules.start (line ++ made ∷ []))
             × FirstStands R.rules R.rules.start (line ++ made ∷ []) result.first_ply }
     {

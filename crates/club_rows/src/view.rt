@@ -1,6 +1,7 @@
 //! The view of a game that its rows give, if they are those of a legal game.
 
-ghost use Rattle.std.specs.Prelude.{◌≡◌, ◌≢◌, ◌≤◌, ◌<◌, ◌^◌, ℕ, List, pos, Option, None, Some, true, false, IfOk, IfSome, length, string_bytes, is_some};
+ghost use Rattle.std.specs.Prelude.{◌≡◌, ◌≢◌, ◌≤◌, ◌<◌, ◌^◌, ℕ, List, pos, Option, None, Some, true, false, IfOk};
+ghost use Rattle.std.specs.Prelude.{IfSome, length, string_bytes, is_some};
 ghost use Rattle.std.specs.Option.{option_map};
 ghost use Rattle.squares.specs.declared.sides.Score.{Score};
 ghost use Rattle.squares.specs.Sides.{score_text};
@@ -15,7 +16,8 @@ ghost use Rattle.club_rows.specs.Tables.{side_number};
 ghost use Rattle.club_rows.specs.Replay.{IsCounted, IsReplayed, Replays, WasReplayed, game_from, terms_given};
 ghost use Rattle.club_rows.specs.Shown.{AreRowsOf, ShowsGame, IsSoundIfShown, StandsAs};
 ghost use Rattle.club_rows.specs.declared.view.Told.{Told};
-ghost use Rattle.club_rows.specs.Told.{HasNumbers, IsTold, AreIds, game_told, may_have_key, may_have_offer, may_have_end, may_stand};
+ghost use Rattle.club_rows.specs.Told.{HasNumbers, IsTold, AreIds, game_told, may_have_key, may_have_offer};
+ghost use Rattle.club_rows.specs.Told.{may_have_end, may_stand};
 
 use crate::ends::{outside_of, score_of, side_of};
 use crate::numbers::{id, moment};
@@ -54,7 +56,8 @@ pub(crate) fn offer_in(row: &GameRecord) -> Option<Offer>
 
 // The score that a row names.
 fn score_in(row: &GameRecord) -> Option<Score>
-    ensures { (score : Score) → option_map (λ s. string_bytes s) row.now.result ≡ Some (score_text score) → result ≡ Some score }
+    ensures { (score : Score) → option_map (λ s. string_bytes s) row.now.result ≡ Some (score_text score) →
+        result ≡ Some score }
 {
     match &row.result {
         Some(text) => score_of(text.as_str()),
@@ -64,8 +67,10 @@ fn score_in(row: &GameRecord) -> Option<Score>
 
 // The end other than by the rules that a row names.
 fn outside_in(row: &GameRecord) -> Option<OutsideEnd>
-    ensures { (outside : Option OutsideEnd) → option_map (λ s. string_bytes s) row.now.end ≡ option_map outside_text outside →
-        ((s : Score) → outside ≡ Some (Recorded s) → option_map (λ s. string_bytes s) row.now.result ≡ Some (score_text s)) → result ≡ outside }
+    ensures { (outside : Option OutsideEnd) → option_map (λ s. string_bytes s) row.now.end
+        ≡ option_map outside_text outside →
+        ((s : Score) → outside ≡ Some (Recorded s) → option_map (λ s. string_bytes s) row.now.result
+        ≡ Some (score_text s)) → result ≡ outside }
 {
     match &row.end {
         Some(name) => outside_of(name.as_str(), score_in(row)),
@@ -77,8 +82,10 @@ fn outside_in(row: &GameRecord) -> Option<OutsideEnd>
 pub(crate) fn outside_left(row: &GameRecord, is_ended: bool) -> Option<OutsideEnd>
     ensures alone { is_some result ≡ true → is_ended ≡ false }
     ensures ruled { is_ended ≡ true → result ≡ None }
-    ensures told { is_ended ≡ false → (outside : Option OutsideEnd) → option_map (λ s. string_bytes s) row.now.end ≡ option_map outside_text outside →
-        ((s : Score) → outside ≡ Some (Recorded s) → option_map (λ s. string_bytes s) row.now.result ≡ Some (score_text s)) → result ≡ outside }
+    ensures told { is_ended ≡ false → (outside : Option OutsideEnd) →
+        option_map (λ s. string_bytes s) row.now.end ≡ option_map outside_text outside →
+        ((s : Score) → outside ≡ Some (Recorded s) → option_map (λ s. string_bytes s) row.now.result
+        ≡ Some (score_text s)) → result ≡ outside }
 {
     if is_ended {
         return None;
@@ -133,7 +140,8 @@ pub(crate) struct Numbers {
 pub(crate) fn numbers_in(row: &GameRecord) -> Option<Numbers>
     ensures some { IfSome result (λ n. HasNumbers row.now n.game n.event n.first n.second n.start) }
     ensures ids { IfSome result (λ n. AreIds n.game n.event n.first n.second n.start) }
-    ensures none { result ≡ None → (game event first second start : ℕ) → AreIds game event first second start → ¬ HasNumbers row.now game event first second start }
+    ensures none { result ≡ None → (game event first second start : ℕ) → AreIds game event first second start →
+        ¬ HasNumbers row.now game event first second start }
 {
     let game = match id(row.id) {
         Some(game) => game,
@@ -199,15 +207,19 @@ fn told_in<R: Rules>(
     requires line { IsPlayedLine R.rules R.rules.start game.now.line.items }
     requires position { game.now.position ≡ position_after R.rules R.rules.start game.now.line.items }
     requires counted { IsCounted R.rules game.now }
-    ensures key { IfOk result (λ t. option_map (λ s. string_bytes s) t.key ≡ option_map (λ s. string_bytes s) row.now.key) }
+    ensures key { IfOk result (λ t. option_map (λ s. string_bytes s) t.key
+        ≡ option_map (λ s. string_bytes s) row.now.key) }
     ensures numbers { IfOk result (λ t. t.numbers ≡ numbers) }
     ensures ruled { IfOk result (λ t. t.ruled ≡ R.rules.judge R.rules.start game.now.line.items) }
-    ensures offer { IfOk result (λ t. (offer : Option Offer) → row.now.offer_side ≡ option_map (λ o. pos (side_number o.side)) offer →
+    ensures offer { IfOk result (λ t. (offer : Option Offer) →
+        row.now.offer_side ≡ option_map (λ o. pos (side_number o.side)) offer →
         row.now.offer_ply ≡ option_map (λ o. pos o.ply) offer → IfSome offer (λ o. o.ply < 2 ^ 32) → t.offer ≡ offer) }
     ensures alone { IfOk result (λ t. is_some t.outside ≡ true → t.ruled ≡ None) }
     ensures none { IfOk result (λ t. is_some t.ruled ≡ true → t.outside ≡ None) }
-    ensures outside { IfOk result (λ t. t.ruled ≡ None → (outside : Option OutsideEnd) → option_map (λ s. string_bytes s) row.now.end ≡ option_map outside_text outside →
-        ((s : Score) → outside ≡ Some (Recorded s) → option_map (λ s. string_bytes s) row.now.result ≡ Some (score_text s)) → t.outside ≡ outside) }
+    ensures outside { IfOk result (λ t. t.ruled ≡ None → (outside : Option OutsideEnd) →
+        option_map (λ s. string_bytes s) row.now.end ≡ option_map outside_text outside →
+        ((s : Score) → outside ≡ Some (Recorded s) → option_map (λ s. string_bytes s) row.now.result
+        ≡ Some (score_text s)) → t.outside ≡ outside) }
 {
     let ruled = end_of(game);
     let outside = outside_left(row, ruled.is_some());
@@ -232,14 +244,17 @@ fn with_told<R: Rules>(
     requires increment { terms.increment ≤ 2592000 }
     requires plies { length game.line.items ≤ 600 }
     requires game { IsReplayed R.rules terms.increment (length game.line.items) game }
-    ensures sound { IfOk result (λ played. told.ruled ≡ R.rules.judge R.rules.start game.line.items → IsSound R.rules played.view) }
+    ensures sound { IfOk result (λ played. told.ruled ≡ R.rules.judge R.rules.start game.line.items →
+        IsSound R.rules played.view) }
     ensures first { IfOk result (λ played. played.view.row.left_first < 2 ^ 63) }
     ensures second { IfOk result (λ played. played.view.row.left_second < 2 ^ 63) }
     ensures terms { IfOk result (λ played. terms_of played.view ≡ terms_given terms) }
     ensures line { IfOk result (λ played. played.line.items ≡ game.line.items) }
     ensures tally { IfOk result (λ played. played.tally ≡ game.tally) }
-    ensures shows { IfOk result (λ played. (entries : List (Entry R.Move)) → told.ruled ≡ R.rules.judge R.rules.start game.line.items →
-        Replays R.rules (terms_given terms) (game_from told.numbers.start entries) game → Shows R.rules (game_told told entries) played.view) }
+    ensures shows { IfOk result (λ played. (entries : List (Entry R.Move)) →
+        told.ruled ≡ R.rules.judge R.rules.start game.line.items →
+        Replays R.rules (terms_given terms) (game_from told.numbers.start entries) game →
+        Shows R.rules (game_told told entries) played.view) }
 {
     let position = R::write_position(alloc, &game.position)?;
     let end = end_with(told.ruled, told.outside);
@@ -292,8 +307,10 @@ fn viewed<R: Rules>(
     ensures terms { IfOk result (λ played. terms_of played.view ≡ terms_given terms) }
     ensures line { IfOk result (λ played. played.line.items ≡ game.line.items) }
     ensures tally { IfOk result (λ played. played.tally ≡ game.tally) }
-    ensures shows { IfOk result (λ played. (told : Told R.End) × IsTold R.rules row.now numbers.now game.line.items told × ((entries : List (Entry R.Move)) →
-        Replays R.rules (terms_given terms) (game_from numbers.now.start entries) game → Shows R.rules (game_told told entries) played.view)) }
+    ensures shows { IfOk result (λ played. (told : Told R.End)
+        × IsTold R.rules row.now numbers.now game.line.items told × ((entries : List (Entry R.Move)) →
+        Replays R.rules (terms_given terms) (game_from numbers.now.start entries) game →
+        Shows R.rules (game_told told entries) played.view)) }
 {
     let told = told_in(row, *numbers, &game)?;
     let played = with_told(alloc, told, terms, game)?;
@@ -324,7 +341,8 @@ fn is_ruled<E: Copy + Drop>(end: &Option<GameEnd<E>>) -> bool
 // Whether an offer may stand in the row: at the next ply of a running game whose players may agree on a draw.
 fn may_have_offer<R: Rules>(row: &GameRow<R::End>) -> bool
     requires { row.now.plies ≤ 600 }
-    ensures { result ≡ may_have_offer R.rules.has_draw_offers row.now.plies (is_some (rule_in row.now.end)) row.now.offer }
+    ensures { result ≡ may_have_offer R.rules.has_draw_offers row.now.plies
+        (is_some (rule_in row.now.end)) row.now.offer }
 {
     match row.offer {
         Some(offer) => { R::has_draw_offers() && !is_ruled(&row.end) && offer.ply == row.plies + 1 }
@@ -334,7 +352,8 @@ fn may_have_offer<R: Rules>(row: &GameRow<R::End>) -> bool
 
 // Whether the row's end other than by the rules may stand.
 fn may_have_end<E: Copy + Drop>(row: &GameRow<E>) -> bool
-    ensures { result ≡ may_have_end (is_some row.now.key) (is_some row.now.offer) row.now.start row.now.since row.now.end }
+    ensures { result ≡ may_have_end (is_some row.now.key) (is_some row.now.offer) row.now.start row.now.since
+        row.now.end }
 {
     match &row.end {
         Some(GameEnd::Outside(OutsideEnd::Agreed)) => row.offer.is_some(),
@@ -390,7 +409,8 @@ pub fn view_of<R: Rules>(
     moves: &[MoveRow],
 ) -> Result<Shown<R>, Memory>
     ensures sound { IfOk result (IsSoundIfShown R.rules (terms_given terms) row.now moves.now) }
-    ensures complete { IfOk result (λ shown. (id : ℕ) (game : Game R.Move) → AreRowsOf R.rules (terms_given terms) id row.now moves.now game →
+    ensures complete { IfOk result (λ shown. (id : ℕ) (game : Game R.Move) →
+        AreRowsOf R.rules (terms_given terms) id row.now moves.now game →
         ShowsGame R.rules (terms_given terms) game shown) }
 {
     let numbers = match numbers_in(row) {

@@ -31,7 +31,8 @@ fn ply_row<R: Rules>(
     requires legal { R.rules.check before.now made.now ≡ Ok tt }
     requires few { ply ≤ most_plies }
     requires left { left < 2 ^ 63 }
-    ensures { IfOk result (λ row. move_cells row ≡ number game ∷ number ply ∷ Text (R.rules.write_move before.now made.now)
+    ensures { IfOk result (λ row. move_cells row ≡ number game ∷ number ply
+        ∷ Text (R.rules.write_move before.now made.now)
         ∷ number moment ∷ number left ∷ Text (R.rules.write_position after.now) ∷ []) }
 {
     let text = R::write_move(alloc, before, made)?;
