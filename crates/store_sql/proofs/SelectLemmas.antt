@@ -13,6 +13,7 @@ use Rattle.sqlite.specs.declared.error.Error.{Error}
 use Rattle.sqlite.specs.State.{State, Shown, FailsToQuery, Survives, HasCleanDisk, IsUnchanged, CommitsShowing}
 use Rattle.sqlite_rules.specs.Lists.{Has}
 use Rattle.sqlite_trees.specs.Tree.{rowid}
+use Rattle.store_tables.specs.Changes.{HaveSame}
 use Rattle.store_tables.specs.Content.{Keeps, AreApart, cells}
 use Rattle.store_tables.specs.Contents.{Content, Stores, IsExactly, AreThose}
 use Rattle.store_tables.specs.Queries.{AreShownBy, IsSelect, Finds, by_others}
@@ -91,6 +92,16 @@ told_rows schema table width place at one_column id content old new shown k told
     let stored : Stores table old.now.trees content = stored_at schema table place at old.now.trees content k.now.tables in
     one_list shown (content table.tree) (in_order shown (subst (λ w. IsSorted (by_columns w) shown) one_column told.sorted) (ids_of table (old.now.trees table.tree) shown id told.once stored.apart))
     (places_rise (content table.tree) places) (moved table old.now.trees shown (content table.tree) told.keeps stored.rows) (moved table old.now.trees (content table.tree) shown stored.rows told.keeps)
+
+-- a table is shown with the rows that it has
+pub same_rows : (schema : Schema) (table : Table) (width place : ℕ) → slice_get schema.tables place ≡ Some table → (content : Content) (old new : State) (shown : List Row)
+    → IsExactly schema content old → Tells table width shown old new → HaveSame shown (content table.tree)
+same_rows schema table width place at content old new shown k told =
+    let stored : Stores table old.now.trees content = stored_at schema table place at old.now.trees content k.now.tables in
+    record {
+      there = moved table old.now.trees shown (content table.tree) told.keeps stored.rows;
+      back = moved table old.now.trees (content table.tree) shown stored.rows told.keeps;
+    }
 
 -- a value of another type than its column
 pub blame_types : (table : Table) (IsTyped : Row → Type 0) (old mid : State) (slice shown : List Row) (e : ReadFault) → slice ≡ shown → mid.now ≡ old.now → Keeps table mid.now.trees shown

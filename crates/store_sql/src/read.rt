@@ -5,6 +5,7 @@ ghost use Rattle.std.specs.List.Sorted.{IsSorted};
 ghost use Rattle.sqlite.specs.State.{HasCleanDisk, IsUnchanged};
 ghost use Rattle.sqlite.specs.Held.{state};
 ghost use Rattle.sqlite.specs.declared.types.Value.TheVariants.{Int};
+ghost use Rattle.store_tables.specs.Changes.{HaveSame};
 ghost use Rattle.store_tables.specs.Contents.{AreThose};
 ghost use Rattle.store_tables.specs.Club.{IsExactly};
 ghost use Rattle.store_tables.specs.Queries.{by_others};
@@ -221,6 +222,8 @@ pub fn list<T: Select, S: Alter>(
     ensures rows { HasCleanDisk (state S.Store conn.new) → IfOk result (λ found. IsTrue T.has_id → (content : _) →
         IsExactly content (state S.Store conn.old) →
         BeginWithPlaces (content T.table.tree) → map T.cells found.items ≡ content T.table.tree) }
+    ensures same { HasCleanDisk (state S.Store conn.new) → IfOk result (λ found. (content : _) →
+        IsExactly content (state S.Store conn.old) → HaveSame (map T.cells found.items) (content T.table.tree)) }
     ensures kept { HasCleanDisk (state S.Store conn.new) → OnOk result (KeepsContent (state S.Store conn.old)
         (state S.Store conn.new)) }
 {
