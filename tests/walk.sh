@@ -231,20 +231,104 @@ copies() {
     if [ -e "$1-wal" ]; then cp "$1-wal" "$2-wal"; fi
 }
 
-# A row of scores is gone.
-copies both.db broken.db
-if command -v sqlite3 > /dev/null 2>&1; then
-    sqlite3 broken.db 'DELETE FROM scores WHERE member = 1'
-else
-    python3 -c 'import sqlite3
-with sqlite3.connect("broken.db") as db: db.execute("DELETE FROM scores WHERE member = 1")'
-fi
-says 3 'store 72 Damaged scores' --now 1000 broken.db verify
+# A club whose clocks run out: a sweep ends the overdue games at one stroke, and what was ended so goes out and in as a record.
+late() { says "$2" "$3" --now "$1" late.db "${@:4}"; }
+late 1000 0 'ready' init
+late 1000 0 'accepted member 1' member anna keyanna1
+late 1000 0 'accepted member 2' member bert keybert2
+late 1000 0 'accepted event 1' event autumn draughts 60 5
+late 1000 0 'accepted game 1' seat g1 autumn anna bert
+late 1060 0 'accepted ply 1 32-28' move 1 1 32-28
+late 1122 1 'refused 60 OutOfTime' move 1 2 19-23
+late 1120 0 'accepted ply 2 19-23' move 1 2 19-23
+late 5000 0 'repeated ply 1 32-28' move 1 1 32-28
+late 5000 1 'refused 58 Conflict' move 1 1 33-28
+late 1125 0 'accepted sweep 0' sweep
+reads '1|1|1125' 'SELECT * FROM meta' late.db
+copies late.db unswept.db
+"$top/build/club" --now 2000 unswept.db export 1 > unswept.pdn
+verdict 'a game that goes on' '[Result "*"] *' "$(sed -n '5p' unswept.pdn) $(tail -n 1 unswept.pdn)"
+late 2000 0 'accepted sweep 1' sweep
+late 2000 0 'accepted sweep 0' sweep
+late 2000 1 'refused 56 GameOver' move 1 3 28x19
+late 900 0 'repeated ply 1 32-28' move 1 1 32-28
+late 2000 0 '[Event "autumn"]
+[Date "1970.01.01"]
+[White "anna"]
+[Black "bert"]
+[Result "0-2"]
+[GameType "20"]
 
-# refused_memory EACH WANTED WORD..: the words over before.db, with each so-manieth of their requests for memory refused in turn, up to
-# the last one; one lane of this for each processor. After a fault the tables are as before and what was printed is a beginning of
-# what is wanted, and the words can be given again (which is tried after every sixty-first); where the program could do without that
-# memory, the words are done whole.
+1. 32-28 19-23
+0-2' export 1
+late 2000 0 'Event autumn
+  1 bert                         2     1     1     0     0     -     2
+  2 anna                         0     1     0     0     1     0     -' table autumn
+late 2000 0 'sound' verify
+copies late.db worked.db
+"$top/build/club" late.db export 1 > late.pdn
+late 2000 0 'accepted game 2' import-pdn old1 autumn anna bert late.pdn
+late 2000 0 'repeated game 2' import-pdn old1 autumn anna bert late.pdn
+reads '1|1|2|0|0|0|2
+1|2|1|4|2|0|0' 'SELECT * FROM scores ORDER BY 1, 2' late.db
+late 2000 1 'refused 27 ResultDiffers' import-pdn old2 autumn anna bert - < <(sed 's/Result "0-2"/Result "2-0"/' late.pdn)
+# Three games in two events, of which two are overdue at 2101 and a third at 2102.
+late 2000 0 'accepted event 2' event fuji shogi 100 0
+late 2000 0 'accepted event 3' event slow draughts 101 0
+late 2000 0 'accepted game 3' seat f1 fuji anna bert
+late 2000 0 'accepted game 4' seat w1 slow anna bert
+late 2000 0 'accepted game 5' seat f2 fuji bert anna
+late 2100 0 'accepted sweep 0' sweep
+late 2101 0 'accepted sweep 2' sweep
+reads '1|Time|0-2
+2|Recorded|0-2
+3|Time|0-2
+4||
+5|Time|0-2' 'SELECT id, "end", result FROM games ORDER BY id' late.db
+reads '1|1|2|0|0|0|2
+1|2|1|4|2|0|0
+2|1|2|2|1|0|1
+2|2|1|2|1|0|1' 'SELECT * FROM scores ORDER BY 1, 2' late.db
+late 2102 0 'accepted sweep 1' sweep
+late 2102 0 'sound' verify
+
+# changes SQL FILE: sqlite3 changes the file so.
+changes() {
+    if command -v sqlite3 > /dev/null 2>&1; then
+        sqlite3 "$2" "$1"
+    else
+        python3 -c 'import sqlite3, sys
+with sqlite3.connect(sys.argv[2]) as db: db.execute(sys.argv[1])' "$1" "$2"
+    fi
+}
+
+# found STATUS TEXT SQL: the file of the swept game, changed so and not otherwise, is found so.
+found() {
+    copies worked.db broken.db
+    changes "$3" broken.db
+    says "$1" "$2" --now 2000 broken.db verify
+}
+found 3 'store 72 Damaged members' "UPDATE members SET name = 'abcdefghijklmnopqrstuvwxy' WHERE id = 1"
+found 3 'store 72 Damaged events' 'UPDATE events SET budget = 0'
+found 3 'store 72 Damaged challenges' 'INSERT INTO challenges VALUES (1, 1, 1, 2, 1, 3, NULL)'
+found 3 'store 72 Damaged moves' 'DELETE FROM moves WHERE ply = 1'
+found 3 'store 72 Damaged moves' "UPDATE moves SET text = '032-28' WHERE ply = 1"
+found 3 'store 72 Damaged games' 'DELETE FROM moves WHERE ply = 2'
+found 3 'store 72 Damaged games' 'UPDATE games SET left1 = 6'
+found 3 'store 72 Damaged seen' 'UPDATE seen SET count = count + 1 WHERE first_ply = 1'
+found 3 'store 72 Damaged scores' 'DELETE FROM scores WHERE member = 1'
+found 3 'store 72 Damaged meta' 'UPDATE meta SET last = 1125'
+found 0 'sound' 'UPDATE meta SET last = 1126'
+found 3 'store 71 Schema 9' 'UPDATE meta SET schema = 9'
+rm -f broken.db*
+: > broken.db
+says 3 'store 70 Foreign' --now 2000 broken.db verify
+
+moment=1000
+# refused_memory EACH WANTED WORD..: the words over before.db at that moment, with each so-manieth of their requests for memory
+# refused in turn, up to the last one; one lane of this for each processor. After a fault the tables are as before and what was
+# printed is a beginning of what is wanted, and the words can be given again (which is tried after every sixty-first); where the
+# program could do without that memory, the words are done whole.
 refused_memory() {
     gcc -shared -fPIC -O1 -o refuse.so "$top/tests/refuse.c" -ldl || return 1
     local each=$1 wanted=$2
@@ -252,7 +336,7 @@ refused_memory() {
     local lanes lane before after requests faults well=0 all=0 failed=0
     lanes=$(nproc)
     copies before.db after.db
-    "$top/build/club" --now 1000 after.db "$@" > /dev/null || return 1
+    "$top/build/club" --now "$moment" after.db "$@" > /dev/null || return 1
     before=$(told before.db)
     after=$(told after.db)
     for lane in $(seq "$lanes"); do
@@ -281,7 +365,7 @@ refused_in_lane() {
     while [ "$number" -lt 1000000 ]; do
         copies before.db r.db
         rm -f refused
-        said=$(REFUSE=$number LD_PRELOAD=../refuse.so "$top/build/club" --now 1000 r.db "$@" 2>&1)
+        said=$(REFUSE=$number LD_PRELOAD=../refuse.so "$top/build/club" --now "$moment" r.db "$@" 2>&1)
         status=$?
         if [ ! -e refused ]; then break; fi
         tried=$((tried + 1))
@@ -293,7 +377,7 @@ refused_in_lane() {
                     echo "  refused $number: $said" && return 1
                 fi
                 if [ $((number % 61)) -eq 0 ]; then
-                    said=$("$top/build/club" --now 1000 r.db "$@" 2>&1)
+                    said=$("$top/build/club" --now "$moment" r.db "$@" 2>&1)
                     if [ "$said" != "$wanted" ]; then echo "  after $number was refused: $said" && return 1; fi
                 fi
                 ;;
@@ -329,6 +413,9 @@ if command -v gcc > /dev/null 2>&1; then
     refuses 'an import' 11 'accepted game 2' import-pdn evening autumn anna bert "$records/evening.pdn"
     copies before.db e.db
     refuses 'an export' 11 "$("$top/build/club" e.db export 1)" export 1
+    copies unswept.db before.db
+    moment=2000
+    refuses 'a sweep' 11 'accepted sweep 1' sweep
 fi
 at 0 'accepted ply 3 28x19' move 1 3 28x19
 at 0 'repeated ply 3 28x19' move 1 3 28:19

@@ -23,7 +23,8 @@ use std::thread::sleep;
 use std::time::Duration;
 use times::clock;
 
-// How often a file that is in use is asked for, and how long the program waits before it asks again: five seconds in all.
+// How often a file that is in use is asked for, and how long the program waits before it asks again: five seconds in
+// all.
 const TURNS: u8 = 50;
 
 const PAUSE_MILLISECONDS: u64 = 100;
@@ -86,7 +87,8 @@ fn said(rt: &HostRuntime, words: &[String]) -> Result<Words, BadWords> {
     read_words(rt.alloc(), words.as_slice())
 }
 
-// What a new file of a club allows: its owner reads and writes it, and nobody else, as keys of members will stand in it.
+// What a new file of a club allows: its owner reads and writes it, and nobody else, as keys of members will stand in
+// it.
 const OWNER_ALONE: u32 = 0o600;
 
 // Makes a file for its owner alone, where there is none.

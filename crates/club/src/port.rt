@@ -237,8 +237,8 @@ impl<'a> Callers<'a> {
         let _ = caller.stream.shutdown(Shutdown::Write);
     }
 
-    // Serves one, and writes a line of it where that is wanted. Gives one back who is to be heard further, once the club
-    // was given up.
+    // Serves one, and writes a line of it where that is wanted. Gives one back who is to be heard further, once the
+    // club was given up.
     fn serve_caller<C: ServedClub>(
         &mut self,
         alloc: Global,

@@ -12,7 +12,7 @@ use Rattle.club_rules.specs.declared.names.GameKind.{GameKind}
 use Rattle.club_rules.specs.declared.names.GameKind.TheVariants.{Draughts, Shogi}
 use Rattle.club_core.specs.Seats.{seat_step}
 use Rattle.club_core.specs.Step.{GameCommand, game_step}
-use Rattle.club_core.specs.State.{AnyGame, draughts, shogi, State, Command, add_member, add_event, seat, import_record, on_game, Request, is_accepted, state_after, place, terms_at, caller_of, game_under, any_under, draughts_in, shogi_in, import_looked_up, import_as, step_game, step_command, step_by, step, next, fold, accepted_of}
+use Rattle.club_core.specs.State.{AnyGame, draughts, shogi, State, Command, add_member, add_event, seat, import_record, on_game, sweep, Request, is_accepted, state_after, place, terms_at, caller_of, game_under, any_under, draughts_in, shogi_in, import_looked_up, import_as, step_game, step_command, step_by, step, next, fold, accepted_of}
 
 -- an outcome that is not accepted leaves what stood
 pub unmoved : {S : Type 0} (s : S) (o : Outcome S) → is_accepted o ≡ false → state_after s o ≡ s
@@ -57,6 +57,8 @@ module _ {DP DM DE DT SP SM SE ST : Type 0} (kinds : ClubRules DP DM DE DT SP SM
       officer-raises s _ who (seat_step s.members s.events (game_under s.games key) _ key event first second) (λ t. above)
   command-raises s moment who (import_record given) above = import-raises s moment who given (event_kind s.events given.event) above
   command-raises s moment who (on_game id command) above = game-raises s moment id who command (place s.games id) above
+  command-raises s moment Officer sweep above = above
+  command-raises s moment (Member id) sweep above = omega arith
 
   by-raises : (s : State DM SM) (moment : ℕ) (who : Option Caller) (command : Command) → s.last ≤ moment → s.last ≤ (state_after s (step_by kinds s moment who command)).last
   by-raises s moment None command above = omega arith

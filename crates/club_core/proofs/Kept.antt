@@ -1,10 +1,12 @@
 -- A game that is over stays as it is, whatever requests come.
-use Rattle.std.proofs.Common.{◌≡◌, ℕ, zero, suc, ◌-◌, List, [], ◌∷◌, Option, Some, None, false, refl, ap, sym, ◌∙◌, arith, inl, inr}
-use Rattle.std.specs.Prelude.{IsSome, is_some, max, slice_get}
+use Rattle.std.proofs.Common.{◌≡◌, ℕ, zero, suc, ◌-◌, List, [], ◌∷◌, Option, Some, None, Bool, true, false, not, ◌&&◌, refl, ap, sym, ◌∙◌, arith, inl, inr}
+use Rattle.std.specs.Prelude.{IsSome, is_some, max, slice_get, if◌then◌else◌}
 use Rattle.squares.specs.declared.sides.Side.{Side}
 use Rattle.club_rules.specs.GameRules.{GameRules}
 use Rattle.club_core.specs.ClubRules.{ClubRules}
 use Rattle.club_core.specs.declared.requests.Caller.{Caller}
+use Rattle.club_core.specs.declared.requests.Caller.TheVariants.{Officer, Member}
+use Rattle.club_core.specs.declared.rows.OutsideEnd.TheVariants.{Time}
 use Rattle.club_core.specs.declared.refusals.Refusal.TheVariants.{NotAllowed}
 use Rattle.club_core.specs.Outcome.{Reply, accepted, by_officer}
 use Rattle.club_core.specs.Members.{member_step}
@@ -12,9 +14,9 @@ use Rattle.club_core.specs.Events.{Terms, event_step, event_kind}
 use Rattle.club_core.specs.Seats.{seat_step}
 use Rattle.club_core.specs.Game.{Game, result_of}
 use Rattle.club_core.specs.Imports.{Import}
-use Rattle.club_core.specs.Step.{GameCommand, move, offer_draw, accept_draw, resign, claim_time, may_give, asked_ply, caller_side, is_over, move_tests, move_refusal, repeat_of, move_at, by_side, game_step}
-use Rattle.club_core.specs.State.{AnyGame, draughts, shogi, State, Command, add_member, add_event, seat, import_record, on_game, Request, state_after, place, terms_at, game_under, any_under, draughts_in, shogi_in, caller_of, with_members, with_events, with_new_game, with_imported, with_game, import_looked_up, import_as, step_game, step_command, step_by, next, fold}
-use Rattle.club_core.proofs.Lists.{get-append, set-got}
+use Rattle.club_core.specs.Step.{GameCommand, move, offer_draw, accept_draw, resign, claim_time, may_give, asked_ply, caller_side, is_over, move_tests, move_refusal, repeat_of, move_at, by_side, game_step, is_overdue, ended, swept}
+use Rattle.club_core.specs.State.{AnyGame, draughts, shogi, State, Command, add_member, add_event, seat, import_record, on_game, sweep, Request, state_after, place, terms_at, game_under, any_under, draughts_in, shogi_in, caller_of, with_members, with_events, with_new_game, with_imported, with_game, swept_any, with_swept, import_looked_up, import_as, step_game, step_command, step_by, next, fold}
+use Rattle.club_core.proofs.Lists.{get-append, set-got, map-at}
 use Rattle.club_core.proofs.Legals.{none-holds}
 use Rattle.club_core.proofs.Later.{unless-accepted, if-accepted, offer-accepts, accept-accepts, resign-accepts, claim-accepts, outcome-later, officer-later}
 use Rattle.club_rules.specs.declared.names.GameKind.{GameKind}
@@ -89,6 +91,21 @@ module _ {DP DM DE DT SP SM SE ST : Type 0} (kinds : ClubRules DP DM DE DT SP SM
       officer-later (λ t. KeepsOver s t) s _ who (import_looked_up kinds.shogi kinds.shogi_records s given (shogi_in (any_under s.games given.key))) (over-refl s)
       (λ i reply is. over-added s moment _)
 
+  -- a sweep leaves a game that was over
+  late-over : {P M E T : Type 0} (laws : GameRules P M E T) (terms : Terms) (game : Game M) (moment : ℕ) → IsSome (result_of laws game) → swept laws terms game moment ≡ game
+  late-over laws terms game moment over = by-over-test (is_some (result_of laws game)) over
+    where
+      by-over-test : (b : Bool) → b ≡ true → (if not b && is_overdue laws terms game moment then ended game Time else game) ≡ game
+      by-over-test true is = refl
+      by-over-test false is = cc
+
+  any-over : (s : State DM SM) (moment : ℕ) (g : AnyGame DM SM) → IsOver g → swept_any kinds s moment g ≡ g
+  any-over s moment (draughts game) over = ap draughts (late-over kinds.draughts (terms_at (place s.events game.event)) game moment over)
+  any-over s moment (shogi game) over = ap shogi (late-over kinds.shogi (terms_at (place s.events game.event)) game moment over)
+
+  swept-over : (s : State DM SM) (moment : ℕ) → KeepsOver s (with_swept kinds s moment)
+  swept-over s moment n g at over = map-at (swept_any kinds s moment) s.games n g at ∙ ap Some (any-over s moment g over)
+
   command-over : (s : State DM SM) (moment : ℕ) (who : Caller) (command : Command) → KeepsOver s (state_after s (step_command kinds s moment who command))
   command-over s moment who (add_member name key) =
       officer-later (λ t. KeepsOver s t) s (with_members s moment) who (member_step s.members name key) (over-refl s) (λ all reply is n g at over. at)
@@ -99,6 +116,8 @@ module _ {DP DM DE DT SP SM SE ST : Type 0} (kinds : ClubRules DP DM DE DT SP SM
       (λ pairing reply is. over-added s moment _)
   command-over s moment who (import_record given) = import-over s moment who given (event_kind s.events given.event)
   command-over s moment who (on_game id command) = game-over s moment id who command (place s.games id) refl
+  command-over s moment Officer sweep = swept-over s moment
+  command-over s moment (Member id) sweep = over-refl s
 
   by-over : (s : State DM SM) (moment : ℕ) (who : Option Caller) (command : Command) → KeepsOver s (state_after s (step_by kinds s moment who command))
   by-over s moment None command = over-refl s

@@ -25,9 +25,9 @@ use Rattle.club_core.specs.Imports.{Import}
 use Rattle.club_core.specs.Events.{Terms, Event, event_kind, event_refusal, same_event, event_step}
 use Rattle.club_core.specs.Seats.{seat_step}
 use Rattle.club_core.specs.Game.{Game, last_position, rule_end, end_of, turn_of, result_of}
-use Rattle.club_core.specs.Step.{GameCommand, move, offer_draw, accept_draw, resign, claim_time, may_give, asked_ply, has_offer, repeat_of_offer, caller_side, played, offered, ended, checked, is_over, offer_tests, offer_refusal, step_offer, reply_of_end, ends, accept_tests, repeat_of_accept, step_accept, resign_tests, repeat_of_resign, step_resign, repeat_of_claim, move_tests, plays, claim_tests, step_claim, by_side, game_step, move_refusal, repeat_of, move_at}
-use Rattle.club_core.specs.State.{AnyGame, draughts, shogi, State, Command, add_member, add_event, seat, import_record, on_game, Request, state_after, place, terms_at, game_under, any_under, draughts_in, shogi_in, caller_of, with_members, with_events, with_new_game, with_imported, with_game, import_looked_up, import_as, step_game, step_command, step_by, next, fold}
-use Rattle.club_core.proofs.Lists.{get-append, set-got}
+use Rattle.club_core.specs.Step.{GameCommand, move, offer_draw, accept_draw, resign, claim_time, may_give, asked_ply, has_offer, repeat_of_offer, caller_side, played, offered, ended, checked, is_over, offer_tests, offer_refusal, step_offer, reply_of_end, ends, accept_tests, repeat_of_accept, step_accept, resign_tests, repeat_of_resign, step_resign, repeat_of_claim, move_tests, plays, claim_tests, step_claim, by_side, game_step, move_refusal, repeat_of, move_at, is_overdue, swept}
+use Rattle.club_core.specs.State.{AnyGame, draughts, shogi, State, Command, add_member, add_event, seat, import_record, on_game, sweep, Request, state_after, place, terms_at, game_under, any_under, draughts_in, shogi_in, caller_of, with_members, with_events, with_new_game, with_imported, with_game, swept_any, with_swept, import_looked_up, import_as, step_game, step_command, step_by, next, fold}
+use Rattle.club_core.proofs.Lists.{get-append, set-got, map-at}
 use Rattle.club_core.proofs.Legals.{NoneHolds, none-holds, not-some}
 use Rattle.club_core.proofs.Played.{outside-alone, score-none}
 
@@ -328,6 +328,29 @@ module _ {P M E T : Type 0} (laws : GameRules P M E T) (terms : Terms) (game : G
       side-later (caller_side game.first game.second who (asked_ply command)) command new reply
       (if-accepted (may_give who command) _ NotAllowed new reply is).1
 
+-- a sweep ends running games alone
+module _ {P M E T : Type 0} (laws : GameRules P M E T) (terms : Terms) (game : Game M) (moment : ℕ) where
+  late-later : (over late : Bool) → is_over laws game ≡ over → IsLaterGame game (if not over && late then ended game Time else game)
+  late-later true late is = later-game-refl game
+  late-later false true is = ended-later game (running-outside laws game is) Time
+  late-later false false is = later-game-refl game
+
+  swept-game-later : IsLaterGame game (swept laws terms game moment)
+  swept-game-later = late-later (is_over laws game) (is_overdue laws terms game moment) refl
+
+module _ {DP DM DE DT SP SM SE ST : Type 0} (kinds : ClubRules DP DM DE DT SP SM SE ST) where
+  swept-any-later : (s : State DM SM) (moment : ℕ) (g : AnyGame DM SM) → IsLaterAny g (swept_any kinds s moment g)
+  swept-any-later s moment (draughts g) = swept-game-later kinds.draughts (terms_at (place s.events g.event)) g moment
+  swept-any-later s moment (shogi g) = swept-game-later kinds.shogi (terms_at (place s.events g.event)) g moment
+
+  swept-later : (s : State DM SM) (moment : ℕ) → IsLater s (with_swept kinds s moment)
+  swept-later s moment =
+      record {
+        members = begins-refl s.members;
+        events = begins-refl s.events;
+        games = λ n g at. (swept_any kinds s moment g, map-at (swept_any kinds s moment) s.games n g at, swept-any-later s moment g);
+      }
+
 module _ {DP DM DE DT SP SM SE ST : Type 0} (kinds : ClubRules DP DM DE DT SP SM SE ST) where
   step-game-later : (s : State DM SM) (moment id : ℕ) (who : Caller) (command : GameCommand) (g : Option (AnyGame DM SM)) → place s.games id ≡ g → IsLater s (state_after s (step_game kinds s moment id who command g))
   step-game-later s moment id who command None at = later-refl s
@@ -364,6 +387,8 @@ module _ {DP DM DE DT SP SM SE ST : Type 0} (kinds : ClubRules DP DM DE DT SP SM
       (λ pairing reply is. game-added-later s moment _)
   command-later s moment who (import_record given) = import-later s moment who given (event_kind s.events given.event)
   command-later s moment who (on_game id command) = step-game-later s moment id who command (place s.games id) refl
+  command-later s moment Officer sweep = swept-later kinds s moment
+  command-later s moment (Member id) sweep = later-refl s
 
   by-later : (s : State DM SM) (moment : ℕ) (who : Option Caller) (command : Command) → IsLater s (state_after s (step_by kinds s moment who command))
   by-later s moment None command = later-refl s

@@ -1,8 +1,9 @@
 -- A request leaves a legal state legal.
-use Rattle.std.proofs.Common.{◌≡◌, ◌≢◌, ℕ, zero, suc, ◌+◌, ◌-◌, ◌<◌, ◌≤◌, List, [], ◌∷◌, ◌++◌, length, map, Option, Some, None, Result, Ok, Err, Bool, true, false, not, ◌&&◌, ◌||◌, refl, sym, ◌∙◌, arith, length-append, length-set}
+use Rattle.std.proofs.Common.{◌≡◌, ◌≢◌, ℕ, zero, suc, ◌+◌, ◌-◌, ◌<◌, ◌≤◌, List, [], ◌∷◌, ◌++◌, length, map, Option, Some, None, Result, Ok, Err, Bool, true, false, not, ◌&&◌, ◌||◌, refl, sym, ◌∙◌, ap, arith, length-append, length-set}
 use Rattle.std.specs.Prelude.{is_some, IsSome, max, slice_get, nat_le, nat_lt, if◌then◌else◌}
 use Rattle.std.specs.Str.{bytes_eq}
 use Rattle.std.proofs.lemmas.Bool.{eq-eqb}
+use Rattle.std.proofs.lemmas.List.{length-map}
 use Rattle.std.proofs.lemmas.Bool.Decides.{nat_tests}
 use Rattle.squares.specs.declared.sides.Side.{Side}
 use Rattle.squares.specs.declared.sides.Side.TheVariants.{First}
@@ -27,13 +28,13 @@ use Rattle.club_core.specs.Events.{Event, event_kind, has_event_name, has_good_v
 use Rattle.club_core.specs.Seats.{Pairing, KeyedGame, has_member_name, are_two, same_seats, seat_tests, seat_refusal, pair, seat_found, seat_step}
 use Rattle.club_core.specs.Imports.{Import}
 use Rattle.club_core.specs.Game.{Game, Entry, Clocks, spend, spend_all, clocks_of, left_of, turn_of, last_position, rule_end, end_of, result_of}
-use Rattle.club_core.specs.Step.{GameCommand, move, offer_draw, accept_draw, resign, claim_time, may_give, asked_ply, has_offer, repeat_of_offer, caller_side, played, offered, ended, checked, offer_tests, offer_refusal, step_offer, ends, accept_tests, repeat_of_accept, step_accept, resign_tests, repeat_of_resign, step_resign, repeat_of_claim, plays, step_move, claim_tests, step_claim, by_side, game_step, move_refusal, repeat_of, move_at}
-use Rattle.club_core.specs.State.{AnyGame, draughts, shogi, State, Command, add_member, add_event, seat, import_record, on_game, Request, state_after, place, kind_at, key_of, has_key, keyed_at, pairing_of, game_under, seated, seated_as, caller_of, with_members, with_events, with_new_game, with_imported, with_game, import_as, step_game, step_command, step_by, next}
+use Rattle.club_core.specs.Step.{GameCommand, move, offer_draw, accept_draw, resign, claim_time, may_give, asked_ply, has_offer, repeat_of_offer, caller_side, played, offered, ended, checked, offer_tests, offer_refusal, step_offer, ends, accept_tests, repeat_of_accept, step_accept, resign_tests, repeat_of_resign, step_resign, repeat_of_claim, plays, step_move, claim_tests, step_claim, by_side, game_step, move_refusal, repeat_of, move_at, is_overdue, is_late, swept}
+use Rattle.club_core.specs.State.{AnyGame, draughts, shogi, State, Command, add_member, add_event, seat, import_record, on_game, sweep, Request, state_after, place, kind_at, key_of, has_key, keyed_at, pairing_of, game_under, seated, seated_as, caller_of, with_members, with_events, with_new_game, with_imported, with_game, terms_at, swept_any, with_swept, import_as, step_game, step_command, step_by, next}
 use Rattle.club_core.specs.LegalState.{Each, IsLegalMember, IsLegalEvent, IsGameOf, IsLegalIn, IsLegalState}
 use Rattle.club_rules.proofs.Proved.{IsPlayedLine-none}
 use Rattle.club_core.proofs.Played.{outside-alone, score-none}
 use Rattle.club_core.proofs.ImportedGames.{spend-since}
-use Rattle.club_core.proofs.Lists.{bytes_eq-same, place-append, is_some-append, each-append, each-set, find_id-found, find_id-none, list_any-false, are_apart-append, are_apart_if_any-append, are_apart_if_any-set}
+use Rattle.club_core.proofs.Lists.{bytes_eq-same, place-append, is_some-append, each-append, each-set, find_id-found, find_id-none, list_any-false, map-got, are_apart-append, are_apart_if_any-append, are_apart_if_any-set}
 use Rattle.club_core.proofs.Legals.{AreRules, NoneHolds, none-holds, not-some, allowed-running, allowed-in_time, checked-legal, legal-played, running-alone, legal-offered, legal-ended}
 use Rattle.club_core.proofs.Later.{is-next}
 
@@ -390,6 +391,43 @@ module _ {DP DM DE DT SP SM SE ST P M E T : Type 0} (kinds : ClubRules DP DM DE 
       kept-if (IsLegalState kinds) s (λ new. with_game s moment id (wrap new)) (may_give who command) NotAllowed _ legal
       (λ given. side-kept (caller_side game.first game.second who (asked_ply command)) command)
 
+-- a game is legal after a sweep, which ends it where its side to move has lost by time
+module _ {DP DM DE DT SP SM SE ST P M E T : Type 0} (kinds : ClubRules DP DM DE DT SP SM SE ST) (laws : GameRules P M E T) (are_rules : AreRules laws) (kind : GameKind) (s : State DM SM) (moment : ℕ) (later : s.last ≤ moment) (game : Game M) (of : IsGameOf laws kind s game) where
+  lost-of : result_of laws game ≡ None → (clocks_of game of.event.terms).since + left_of (turn_of laws game) (clocks_of game of.event.terms) < moment → IsGameOf laws kind (with_swept kinds s moment) (ended game Time)
+  lost-of running lost =
+      record {
+        event = of.event;
+        in_event = of.in_event;
+        of_kind = of.of_kind;
+        legal = legal-ended laws are_rules of.event.terms game of.legal Time running (λ is. cc) (λ score is. cc);
+        first = of.first;
+        second = of.second;
+        key = of.key;
+        start = omega (arith, of.start, later);
+        entries = λ n e is. let was : e.moment ≤ s.last = of.entries n e is in omega (arith, was, later);
+        lost_by_time = λ is. lost;
+      }
+
+  not-swept : IsGameOf laws kind (with_swept kinds s moment) game
+  not-swept = later-game laws kind s (with_swept kinds s moment) (λ id e is. is) (λ id is. is) later game of
+
+  late-kept : (over late : Bool) → is_some (result_of laws game) ≡ over → is_overdue laws of.event.terms game moment ≡ late → IsGameOf laws kind (with_swept kinds s moment) (if not over && late then ended game Time else game)
+  late-kept true late running is = not-swept
+  late-kept false false running is = not-swept
+  late-kept false true running is = lost-of (not-some _ running) (is-late _ _ moment is)
+
+  swept-game-kept : IsGameOf laws kind (with_swept kinds s moment) (swept laws of.event.terms game moment)
+  swept-game-kept = late-kept (is_some (result_of laws game)) (is_overdue laws of.event.terms game moment) refl refl
+
+key-late : {M : Type 0} (b : Bool) (game : Game M) → (if b then ended game Time else game).key ≡ game.key
+key-late true game = refl
+key-late false game = refl
+
+module _ {DP DM DE DT SP SM SE ST : Type 0} (kinds : ClubRules DP DM DE DT SP SM SE ST) where
+  key-swept : (s : State DM SM) (moment : ℕ) (g : AnyGame DM SM) → key_of (swept_any kinds s moment g) ≡ key_of g
+  key-swept s moment (draughts game) = key-late (is_late kinds.draughts (terms_at (place s.events game.event)) game moment) game
+  key-swept s moment (shogi game) = key-late (is_late kinds.shogi (terms_at (place s.events game.event)) game moment) game
+
 pub in-place : {A : Type 0} (P : A → Type 0) (xs : List A) (id : ℕ) (x : A) → Each P xs → place xs id ≡ Some x → P x
 in-place P xs zero x each at = cc
 in-place P xs (suc n) x each at = each n x at
@@ -409,6 +447,33 @@ module _ {DP DM DE DT SP SM SE ST : Type 0} (kinds : ClubRules DP DM DE DT SP SM
       let of : IsGameOf kinds.shogi Shogi s game = in-place (IsLegalIn kinds s) s.games id (shogi game) legal.games at in
       rw of.in_event (caller-kept kinds kinds.shogi are_shogi Shogi shogi (λ g. refl) (λ t g is. is) s moment id game later within legal at of who command)
 
+  swept-any-kept : (g : AnyGame DM SM) → IsLegalIn kinds s g → IsLegalIn kinds (with_swept kinds s moment) (swept_any kinds s moment g)
+  swept-any-kept (draughts game) of = rw of.in_event (swept-game-kept kinds kinds.draughts are_draughts Draughts s moment later game of)
+  swept-any-kept (shogi game) of = rw of.in_event (swept-game-kept kinds kinds.shogi are_shogi Shogi s moment later game of)
+
+  swept-kept : IsLegalState kinds (with_swept kinds s moment)
+  swept-kept =
+      record {
+        last = within;
+        members = legal.members;
+        member_count = legal.member_count;
+        member_names = legal.member_names;
+        member_keys = legal.member_keys;
+        events = legal.events;
+        event_count = legal.event_count;
+        event_names = legal.event_names;
+        games = λ n g at.
+            let (old, was, is) = map-got (swept_any kinds s moment) s.games n g at in
+            rw (← is) (swept-any-kept old (legal.games n old was));
+        game_count = let count : length (map (swept_any kinds s moment) s.games) ≡ length s.games = simp length-map in let few = legal.game_count in omega (arith, count, few);
+        game_keys = λ i j a b key at_i at_j key_i key_j.
+            let (x, was_x, is_x) = map-got (swept_any kinds s moment) s.games i a at_i in
+            let (y, was_y, is_y) = map-got (swept_any kinds s moment) s.games j b at_j in
+            legal.game_keys i j x y key was_x was_y
+            (sym (key-swept kinds s moment x) ∙ (ap (λ g. key_of g) is_x ∙ key_i))
+            (sym (key-swept kinds s moment y) ∙ (ap (λ g. key_of g) is_y ∙ key_j));
+      }
+
   command-kept : (who : Caller) (command : Command) → IsLegalState kinds (state_after s (step_command kinds s moment who command))
   command-kept who (add_member name key) =
       kept-officer (IsLegalState kinds) s (with_members s moment) who (member_step s.members name key) legal
@@ -424,6 +489,8 @@ module _ {DP DM DE DT SP SM SE ST : Type 0} (kinds : ClubRules DP DM DE DT SP SM
       (λ id is. found-some kinds (has_member_name second) s.members id is))
   command-kept who (import_record given) = by_import s moment later within legal who given
   command-kept who (on_game id command) = game-kept id who command (place s.games id) refl
+  command-kept Officer sweep = swept-kept
+  command-kept (Member id) sweep = legal
 
   by-kept : (who : Option Caller) (command : Command) → IsLegalState kinds (state_after s (step_by kinds s moment who command))
   by-kept None command = legal

@@ -1,5 +1,5 @@
 -- Elements of a list that grew at its end or was changed at a place, and those that a search finds.
-use Rattle.std.proofs.Common.{◌≡◌, ℕ, zero, suc, ◌+◌, List, [], ◌∷◌, ◌++◌, length, Option, Some, None, Bool, true, false, refl, ap, sym, ◌∙◌, arith, ◌⊎◌, inl, inr, ◌||◌}
+use Rattle.std.proofs.Common.{◌≡◌, ℕ, zero, suc, ◌+◌, List, [], ◌∷◌, ◌++◌, length, map, Option, Some, None, Bool, true, false, refl, ap, sym, ◌∙◌, arith, ◌⊎◌, inl, inr, ◌||◌}
 use Rattle.std.specs.Prelude.{slice_get, slice_set, IsSome, if◌then◌else◌}
 use Rattle.std.specs.Option.{option_map}
 use Rattle.std.specs.List.{list_any}
@@ -137,6 +137,17 @@ module _ {A : Type 0} where
   put-at [] i x y at = cc
   put-at (z ∷ zs) zero x y at = refl
   put-at (z ∷ zs) (suc i) x y at = put-at zs i x y at
+
+  -- what stands in a list of images is the image of what stands there
+  pub map-got : {B : Type 0} (f : A → B) (xs : List A) (n : ℕ) (y : B) → slice_get (map f xs) n ≡ Some y → (x : A) × (slice_get xs n ≡ Some x) × (f x ≡ y)
+  map-got f [] n y at = cc
+  map-got f (x ∷ xs) zero y at = (x, refl, cc)
+  map-got f (x ∷ xs) (suc n) y at = map-got f xs n y at
+
+  pub map-at : {B : Type 0} (f : A → B) (xs : List A) (n : ℕ) (x : A) → slice_get xs n ≡ Some x → slice_get (map f xs) n ≡ Some (f x)
+  map-at f [] n x at = cc
+  map-at f (z ∷ zs) zero x at = let e : z ≡ x = cc in rw e refl
+  map-at f (z ∷ zs) (suc n) x at = map-at f zs n x at
 
   pub put-at_same : (xs : List A) (i j : ℕ) (x y : A) → i ≡ j → slice_get xs j ≡ Some x → slice_get (slice_set xs i y) j ≡ Some y
   put-at_same xs i j x y same at = rw same (put-at xs j x y at)

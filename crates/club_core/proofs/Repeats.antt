@@ -28,7 +28,7 @@ use Rattle.club_core.specs.Seats.{Pairing, KeyedGame, has_member_name, same_seat
 use Rattle.club_core.specs.Imports.{Import}
 use Rattle.club_core.specs.Game.{Game, Entry, moves_of, last_position, turn_of, side_after, game_at}
 use Rattle.club_core.specs.Step.{GameCommand, move, offer_draw, accept_draw, resign, claim_time, may_give, asked_ply, has_offer, caller_side, played, offered, ended, checked, checked_as, reads_as, repeats, plays, step_move, step_offer, step_accept, step_resign, step_claim, by_side, game_step, move_tests, move_refusal, repeat_of, reply_of_move, move_at}
-use Rattle.club_core.specs.State.{AnyGame, draughts, shogi, State, Command, add_member, add_event, seat, import_record, on_game, Who, officer, key_holder, Request, state_after, place, terms_at, has_key, is_key, pairing_of, game_under, seated_as, kind_at, caller_of, caller_found, has_member_key, with_members, with_events, with_new_game, with_imported, with_game, import_as, step_game, step_command, step_by, step, next, fold}
+use Rattle.club_core.specs.State.{AnyGame, draughts, shogi, State, Command, add_member, add_event, seat, import_record, on_game, sweep, Who, officer, key_holder, Request, state_after, place, terms_at, has_key, is_key, pairing_of, game_under, seated_as, kind_at, caller_of, caller_found, has_member_key, with_members, with_events, with_new_game, with_imported, with_game, import_as, step_game, step_command, step_by, step, next, fold}
 use Rattle.club_core.specs.LegalState.{IsGameOf, IsLegalIn, IsLegalState}
 use Rattle.club_core.specs.Laws.{StillRepeats, StillRepeatsOn}
 use Rattle.club_core.proofs.Lists.{bytes_eq-same, find_id-append, find_id-new, find_id-pointwise, place-append, get-append, put-at_same, at-last}
@@ -375,6 +375,7 @@ module _ {DP DM DE DT SP SM SE ST : Type 0} (kinds : ClubRules DP DM DE DT SP SM
   command-again s t moment again who (seat key event first second) after reply legal is since kept still = seat-again s t moment again who key event first second after reply is since
   command-again s t moment again who (import_record given) after reply legal is since kept still = import_again s t moment again who given after reply is since kept
   command-again s t moment again who (on_game id command) after reply legal is since kept still = on-game-again s t moment again id who command (place s.games id) after reply legal refl is since still
+  command-again s t moment again who sweep after reply legal is since kept still = absurd still
 
   found-later : (o : Option ℕ) (who : Caller) → caller_found o ≡ Some who → (id : ℕ) × (o ≡ Some id) × (Member id ≡ who)
   found-later None who is = cc

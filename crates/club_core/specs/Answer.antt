@@ -20,13 +20,13 @@ use Rattle.club_core.specs.declared.seats.Pairing as given_pairing
 use Rattle.club_core.specs.declared.seats.KeyedGame as given_keyed
 use Rattle.club_core.specs.declared.seats.Seating as given_seating
 use Rattle.club_core.specs.declared.seats.Seating.TheVariants as seating
-use Rattle.club_core.specs.Outcome.{Reply, MoveReply, member_added, event_added, game_seated, moved, draw_offered, game_ended, Outcome, accepted, repeated, refused, map_outcome}
+use Rattle.club_core.specs.Outcome.{Reply, MoveReply, member_added, event_added, game_seated, moved, draw_offered, game_ended, games_swept, Outcome, accepted, repeated, refused, map_outcome}
 use Rattle.club_core.specs.Members.{Member}
 use Rattle.club_core.specs.Events.{Event}
 use Rattle.club_core.specs.Seats.{Pairing, KeyedGame}
 use Rattle.club_core.specs.Imports.{Import}
 use Rattle.club_core.specs.Step.{GameCommand, move, offer_draw, accept_draw, resign, claim_time}
-use Rattle.club_core.specs.State.{Command, add_member, add_event, seat, import_record, on_game, Who, officer, key_holder, Request}
+use Rattle.club_core.specs.State.{Command, add_member, add_event, seat, import_record, on_game, sweep, Who, officer, key_holder, Request}
 
 abbrev pub move_reply_of : Moved → MoveReply
 move_reply_of m = record { ply = m.ply; text = string_bytes m.text; left = m.left; position = string_bytes m.position; end = m.end }
@@ -38,6 +38,7 @@ reply_of (answer.Game id) = game_seated id
 reply_of (answer.Moved m) = moved (move_reply_of m)
 reply_of (answer.Offered ply) = draw_offered ply
 reply_of (answer.Ended end result) = game_ended end result
+reply_of (answer.Swept count) = games_swept count
 
 -- what is answered, without what stands after it
 abbrev pub outcome_of : given_outcome.Outcome → Outcome (Unit {0})
@@ -108,6 +109,7 @@ command_of (given_is.AddEvent c) = add_event (added_event c)
 command_of (given_is.Seat c) = seat (string_bytes c.key) (string_bytes c.event) (string_bytes c.first) (string_bytes c.second)
 command_of (given_is.Import c) = import_record (import_of c)
 command_of (given_is.OnGame c) = on_game c.game (game_command_of c.command)
+command_of given_is.Sweep = sweep
 
 abbrev pub request_of : given_request.Request → Request
 request_of r = record { who = who_of r.who; command = command_of r.command; moment = r.moment }

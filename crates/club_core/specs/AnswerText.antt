@@ -26,6 +26,7 @@ answer_text (answer.Game id) = codes "game " ++ decimal id
 answer_text (answer.Moved moved) = moved_text moved
 answer_text (answer.Offered ply) = codes "offer ply " ++ decimal ply
 answer_text (answer.Ended end result) = codes "end " ++ outside_text end ++ codes " " ++ score_text result
+answer_text (answer.Swept count) = codes "sweep " ++ decimal count
 
 abbrev pub outcome_text : Outcome → List ℕ
 outcome_text (outcome.Accepted answer) = codes "accepted " ++ answer_text answer

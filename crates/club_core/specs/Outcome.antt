@@ -24,6 +24,8 @@ pub data Reply : Type 0 where
   draw_offered : (ply : ℕ) → Reply
   -- the game was ended from outside, with that result
   game_ended : OutsideEnd → Score → Reply
+  -- so many games were ended by time
+  games_swept : (count : ℕ) → Reply
 
 -- accepted with what stands after it, repeated, or refused
 pub data Outcome (S : Type 0) : Type 0 where

@@ -1,5 +1,5 @@
 -- The club: its members, its events and its games of two kinds, and what a request does to them.
-use Rattle.std.specs.Prelude.{ℕ, zero, suc, ◌-◌, List, [], ◌∷◌, ◌++◌, length, Option, Some, None, Bool, true, false, max, if◌then◌else◌, slice_get, slice_set}
+use Rattle.std.specs.Prelude.{ℕ, zero, suc, ◌-◌, List, [], ◌∷◌, ◌++◌, length, map, count_by, Option, Some, None, Bool, true, false, max, if◌then◌else◌, slice_get, slice_set}
 use Rattle.std.specs.Str.{bytes_eq}
 use Rattle.club_rules.specs.declared.names.GameKind.{GameKind}
 use Rattle.club_rules.specs.declared.names.GameKind.TheVariants.{Draughts, Shogi}
@@ -7,7 +7,7 @@ use Rattle.club_core.specs.ClubRules.{ClubRules}
 use Rattle.club_core.specs.declared.requests.Caller.{Caller}
 use Rattle.club_core.specs.declared.requests.Caller.TheVariants.{Officer, Member}
 use Rattle.club_core.specs.declared.refusals.Refusal.TheVariants.{UnknownKey}
-use Rattle.club_core.specs.Outcome.{Outcome, accepted, repeated, refused, map_outcome, by_officer}
+use Rattle.club_core.specs.Outcome.{Outcome, games_swept, accepted, repeated, refused, map_outcome, by_officer}
 use Rattle.club_core.specs.Members as members
 use Rattle.club_core.specs.Members.{find_id, member_step}
 use Rattle.club_core.specs.Events.{Terms, Event, has_event_name, event_kind, event_step}
@@ -16,7 +16,7 @@ use Rattle.club_core.specs.Game.{Game}
 use Rattle.club_rules.specs.GameRules.{GameRules}
 use Rattle.club_rules.specs.Records.{GameRecords}
 use Rattle.club_core.specs.Imports.{Import, Imported, imported, import_found}
-use Rattle.club_core.specs.Step.{GameCommand, no_game_refusal, game_step}
+use Rattle.club_core.specs.Step.{GameCommand, no_game_refusal, game_step, is_late, swept}
 
 -- a game of one of the two kinds
 pub data AnyGame (DM SM : Type 0) : Type 0 where
@@ -40,6 +40,7 @@ pub data Command : Type 0 where
   seat : (key event first second : List ℕ) → Command
   import_record : Import → Command
   on_game : (id : ℕ) → GameCommand → Command
+  sweep : Command
 
 -- who gives a command: the officer, or one who shows a member's key
 pub data Who : Type 0 where
@@ -203,6 +204,22 @@ module _ {DP DM DE DT SP SM SE ST : Type 0} (rules : ClubRules DP DM DE DT SP SM
       (λ i. with_imported s moment (shogi (imported rules.shogi (Some given.key) i.pairing moment i.recorded)))
       (import_looked_up rules.shogi rules.shogi_records s given (shogi_in (any_under s.games given.key)))
 
+  -- the side to move of a running game has lost by time
+  abbrev pub is_late_any : State DM SM → ℕ → AnyGame DM SM → Bool
+  is_late_any s moment (draughts g) = is_late rules.draughts (terms_at (place s.events g.event)) g moment
+  is_late_any s moment (shogi g) = is_late rules.shogi (terms_at (place s.events g.event)) g moment
+
+  abbrev pub swept_any : State DM SM → ℕ → AnyGame DM SM → AnyGame DM SM
+  swept_any s moment (draughts g) = draughts (swept rules.draughts (terms_at (place s.events g.event)) g moment)
+  swept_any s moment (shogi g) = shogi (swept rules.shogi (terms_at (place s.events g.event)) g moment)
+
+  -- every running game whose side to move has lost by time is ended
+  abbrev pub with_swept : State DM SM → ℕ → State DM SM
+  with_swept s moment = record s { last = moment; games = map (swept_any s moment) s.games }
+
+  abbrev pub step_sweep : State DM SM → ℕ → Outcome (State DM SM)
+  step_sweep s moment = accepted (with_swept s moment) (games_swept (count_by (is_late_any s moment) s.games))
+
   -- a command of a caller, at the effective moment
   abbrev pub step_command : State DM SM → ℕ → Caller → Command → Outcome (State DM SM)
   step_command s moment who (add_member name key) = by_officer who (map_outcome (with_members s moment) (member_step s.members name key))
@@ -214,6 +231,7 @@ module _ {DP DM DE DT SP SM SE ST : Type 0} (rules : ClubRules DP DM DE DT SP SM
   step_command s moment who (import_record given) =
       by_officer who (import_as s moment given (event_kind s.events given.event))
   step_command s moment who (on_game id command) = step_game s moment id who command (place s.games id)
+  step_command s moment who sweep = by_officer who (step_sweep s moment)
 
   abbrev pub step_by : State DM SM → ℕ → Option Caller → Command → Outcome (State DM SM)
   step_by s moment None command = refused UnknownKey

@@ -231,6 +231,14 @@ module _ {P M E T : Type 0} (rules : GameRules P M E T) (terms : Terms) (game : 
   abbrev pub is_overdue : Bool
   is_overdue = nat_lt (left_of (turn_of rules game) (clocks_of game terms)) (moment - (clocks_of game terms).since)
 
+  -- the game goes on, and the side to move has lost by time
+  abbrev pub is_late : Bool
+  is_late = not (is_over rules game) && is_overdue
+
+  -- the game with its end, where the side to move has lost by time
+  abbrev pub swept : Game M
+  swept = if is_late then ended game Time else game
+
   -- why a new move is refused before its text is read
   abbrev pub move_tests : Side → ℕ → List ℕ → List (Bool × Refusal)
   move_tests side ply text =

@@ -124,6 +124,7 @@ answer_with rules end (given.Event id) = given.Event id
 answer_with rules end (given.Game id) = given.Game id
 answer_with rules end (given.Offered ply) = given.Offered ply
 answer_with rules end (given.Ended by score) = given.Ended by score
+answer_with rules end (given.Swept count) = given.Swept count
 
 -- the decision with that end and that result
 abbrev pub concluded : {R P M E T : Type 0} →

@@ -28,6 +28,8 @@ pub enum Answer {
     Offered { ply: u32 },
     /// The game was ended from outside, with that result.
     Ended { end: OutsideEnd, result: Score },
+    /// So many games were ended by time.
+    Swept { count: u32 },
 }
 
 /// What a command is answered: a repeat has the answer of the command that it repeats, and like a refusal it changes
@@ -40,7 +42,8 @@ pub enum Outcome {
 }
 
 /// Writes what is named, as `member 1`, `game 2` or `ply 3 32-28`, and after a move that ended the game ` end Repetition`.
-/// An offer of a draw is written as `offer ply 5`, and an end from outside with its result: `end Agreed 1-1`.
+/// An offer of a draw is written as `offer ply 5`, an end from outside with its result, `end Agreed 1-1`, and a sweep with
+/// the number of games that it ended, `sweep 3`.
 impl fmt::Display for Answer {
     ghost use Rattle.std.specs.Prelude.{Some};
     ghost use Rattle.club_core.specs.AnswerText.{answer_text};
@@ -55,6 +58,7 @@ impl fmt::Display for Answer {
             Answer::Moved(moved) => write!(f, "{moved}"),
             Answer::Offered { ply } => write!(f, "offer ply {ply}"),
             Answer::Ended { end, result } => write!(f, "end {end} {result}"),
+            Answer::Swept { count } => write!(f, "sweep {count}"),
         }
     }
 }

@@ -101,6 +101,8 @@ pub enum Command {
     Seat(Seat),
     Import(Import),
     OnGame(OnGame),
+    /// Ends by time every running game whose side to move has used more seconds than it had left.
+    Sweep,
 }
 
 /// A command, with the one who gives it and the moment at which it came.

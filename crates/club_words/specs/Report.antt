@@ -84,6 +84,7 @@ with_text text (command.AddEvent c) = command.AddEvent c
 with_text text (command.Seat c) = command.Seat c
 with_text text (command.Import c) = command.Import (record c { text = text })
 with_text text (command.OnGame c) = command.OnGame c
+with_text text command.Sweep = command.Sweep
 
 abbrev pub task_with : Vec ℕ Global → Task → Task
 task_with text task.Init = task.Init

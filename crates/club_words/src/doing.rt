@@ -17,8 +17,10 @@ ghost use Rattle.store.specs.Histories.{IsReachable};
 ghost use Rattle.store.specs.Places.{NamesRows};
 ghost use Rattle.store.specs.Stored.{AreLegalRows};
 ghost use Rattle.club_words.specs.declared.words.Task.TheVariants.{Init};
-ghost use Rattle.club_words.specs.Report.{given, Answers, export_report, IfRequest, IfLegal, IfTable, IfExport, IfVerify, IfUnopened};
-ghost use Rattle.club_words.specs.Report.{ListsMoves, ListsTable, WritesRecord, IsPassed, IsBegun, request_sessions, task_sessions};
+ghost use Rattle.club_words.specs.Report.{given, Answers, export_report, IfRequest, IfLegal, IfTable, IfExport};
+ghost use Rattle.club_words.specs.Report.{IfVerify, IfUnopened};
+ghost use Rattle.club_words.specs.Report.{ListsMoves, ListsTable, WritesRecord, IsPassed, IsBegun, request_sessions};
+ghost use Rattle.club_words.specs.Report.{task_sessions};
 
 use crate::report::Report;
 use crate::words::Task;
@@ -246,11 +248,12 @@ fn verify<S: Alter>(alloc: Global, conn: Connection<S>) -> (Report, Connection<S
     }
 }
 
-/// Does what is asked for over a connection that was just opened, at that moment, and gives the connection back: makes
-/// a club, gives the club that stands there a command of the officer's, lists the legal moves of a game, shows the
-/// cross table of an event, writes the record of a game to `out`, or tests that the rows are those of a club. The answer
-/// is the machine's. Sessions that led to what the opening found lead, with this request as one more, to whatever a stop
-/// leaves; where there was no table, and a club was to be made, none led to it, or there is no table still.
+/// Does what is asked for over a connection that was just opened, at that moment, and gives the connection back:
+/// makes a club, gives the club that stands there a command of the officer's, lists the legal moves of a game, shows
+/// the cross table of an event, writes the record of a game to `out`, or tests that the rows are those of a club. The
+/// answer is the machine's. Sessions that led to what the opening found lead, with this request as one more, to
+/// whatever a stop leaves; where there was no table, and a club was to be made, none led to it, or there is no table
+/// still.
 pub fn act<S: Alter, W: Write>(
     alloc: Global,
     conn: Connection<S>,

@@ -125,8 +125,8 @@ fn unprinted<E: Write>(err: &mut E, line: &str) -> u8
     FAULT
 }
 
-/// Prints a report by one call: what was done to the standard output, a refusal or a fault to the standard
-/// error. Gives the status, which is that of a fault where the line could not be written. `line` is empty, and has the room
+/// Prints a report by one call: what was done to the standard output, a refusal or a fault to the standard error.
+/// Gives the status, which is that of a fault where the line could not be written. `line` is empty, and has the room
 /// that was set aside for it.
 pub fn print<O: Write, E: Write>(line: String, report: &Report, out: &mut O, err: &mut E) -> u8
     requires { string_bytes line ≡ [] }

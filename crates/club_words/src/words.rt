@@ -284,6 +284,9 @@ fn club_words<'a>(alloc: Global) -> Result<clap::Command<'a>, AllocError> {
     let init = clap::Command::new(alloc, "init").about(
         "Makes the tables of a club in an empty file",
     );
+    let sweep = clap::Command::new(alloc, "sweep").about(
+        "Ends by time every running game whose side to move has used more seconds than it has left",
+    );
     let verify = clap::Command::new(alloc, "verify").about(
         "Reads and replays the whole file, and says that it is sound, or which table is damaged",
     );
@@ -309,6 +312,7 @@ fn club_words<'a>(alloc: Global) -> Result<clap::Command<'a>, AllocError> {
         )?)?
         .subcommand(import_csa_words(alloc)?)?
         .subcommand(move_words(alloc)?)?
+        .subcommand(sweep)?
         .subcommand(legal_words(alloc)?)?
         .subcommand(export_words(alloc)?)?
         .subcommand(table_words(alloc)?)?
@@ -403,6 +407,7 @@ fn task_of(alloc: Global, name: &str, words: &ArgMatches<'_>) -> Result<Task, Ba
             first: text(alloc, words, "FIRST")?,
             second: text(alloc, words, "SECOND")?,
         }),
+        "sweep" => Command::Sweep,
         "import-pdn" => Command::Import(import_of(alloc, words, RecordFormat::Pdn, 1)?),
         "import-csa" => {
             let part = words.get_one::<u64>("N").unwrap_or(1);

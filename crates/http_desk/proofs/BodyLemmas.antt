@@ -13,7 +13,7 @@ use Rattle.serde_json.specs.declared.value.Value.TheVariants as variants
 use Rattle.serde_json.specs.Written.{has_float, items_have_float}
 use Rattle.squares.specs.Sides.{score_text}
 use Rattle.club_rules.specs.EndName.{end_text}
-use Rattle.club_core.specs.Outcome.{MoveReply, Reply, member_added, event_added, game_seated, moved, draw_offered, game_ended}
+use Rattle.club_core.specs.Outcome.{MoveReply, Reply, member_added, event_added, game_seated, moved, draw_offered, game_ended, games_swept}
 use Rattle.http_desk.specs.Shown.{GameShown, end_name, ChallengeState, stands_open, withdrawn, refused, accepted}
 use Rattle.http_desk.specs.ShownViews.{texts_view}
 use Rattle.http_desk.specs.Bodies.{texts, text_or_null, moves_data, number_data, lefts, game_front, game_object, game_data, moved_data, reply_data, state_data, json_of}
@@ -90,6 +90,7 @@ reply_float id (game_ended end result) = refl
 reply_float id (member_added added) = refl
 reply_float id (event_added added) = refl
 reply_float id (game_seated added) = refl
+reply_float id (games_swept count) = refl
 
 pub state_float : (n : ℕ) (state : ChallengeState) → has_float (state_data n state) ≡ false
 state_float n stands_open = refl

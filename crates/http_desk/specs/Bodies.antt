@@ -7,7 +7,7 @@ use Rattle.serde_json.specs.Find.{get, as_str, as_bool}
 use Rattle.squares.specs.Sides.{score_text}
 use Rattle.club_rules.specs.EndName.{end_text}
 use Rattle.club_core.specs.OutsideEnd.{outside_text}
-use Rattle.club_core.specs.Outcome.{MoveReply, Reply, member_added, event_added, game_seated, moved, draw_offered, game_ended}
+use Rattle.club_core.specs.Outcome.{MoveReply, Reply, member_added, event_added, game_seated, moved, draw_offered, game_ended, games_swept}
 use Rattle.http_desk.specs.Shown.{GameShown, end_name, ChallengeCommand, make, answer, ChallengeState, stands_open, withdrawn, refused, accepted}
 
 -- ---- replies: the keys of an object stand in byte order
@@ -83,6 +83,10 @@ ended_data id end result = object
 abbrev pub added_data : List ℕ → ℕ → Data
 added_data kind id = object (member kind (number_data id) no_members)
 
+-- so many games were ended by time
+abbrev pub swept_data : ℕ → Data
+swept_data count = object (member (codes "swept") (number_data count) no_members)
+
 -- what a command on the game of that number is answered
 abbrev pub reply_data : ℕ → Reply → Data
 reply_data id (moved m) = moved_data id m
@@ -91,6 +95,7 @@ reply_data id (game_ended end result) = ended_data id (outside_text end) (score_
 reply_data id (member_added member_id) = added_data (codes "member") member_id
 reply_data id (event_added event_id) = added_data (codes "event") event_id
 reply_data id (game_seated game_id) = added_data (codes "game") game_id
+reply_data id (games_swept count) = swept_data count
 
 abbrev pub stands_data : ℕ → List ℕ → Data
 stands_data n state = object (member (codes "challenge") (number_data n) (member (codes "state") (string state) no_members))

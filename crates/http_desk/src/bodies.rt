@@ -9,7 +9,9 @@ ghost use Rattle.club_core.specs.OutsideEnd.{outside_text};
 ghost use Rattle.club_core.specs.Answer.{move_reply_of, reply_of};
 ghost use Rattle.http_desk.specs.Shown.{end_name};
 ghost use Rattle.http_desk.specs.ShownViews.{texts_view, game_view, state_view};
-ghost use Rattle.http_desk.specs.Bodies.{texts, text_or_null, moves_data, lefts, number_data, game_front, game_object, game_data, moved_data, offered_data, ended_data, added_data, reply_data, stands_data, started_data, state_data, lined};
+ghost use Rattle.http_desk.specs.Bodies.{texts, text_or_null, moves_data, lefts, number_data, game_front, game_object};
+ghost use Rattle.http_desk.specs.Bodies.{game_data, moved_data, offered_data, ended_data, added_data, swept_data};
+ghost use Rattle.http_desk.specs.Bodies.{reply_data, stands_data, started_data, state_data, lined};
 
 use crate::reply::text_of;
 use crate::served::{ChallengeState, GameShown, end_name};
@@ -226,6 +228,12 @@ fn seated_value(alloc: Global, id: u32) -> Result<Value, AllocError>
     json!(in alloc; {"game": id})
 }
 
+fn swept_value(alloc: Global, count: u32) -> Result<Value, AllocError>
+    ensures { IfOk result (λ v. view v ≡ swept_data count) }
+{
+    json!(in alloc; {"swept": count})
+}
+
 // The answer to a command on a game.
 fn answer_value(alloc: Global, id: u32, answer: Answer) -> Result<Value, AllocError>
     ensures { IfOk result (λ v. view v ≡ reply_data id (reply_of answer)) }
@@ -237,6 +245,7 @@ fn answer_value(alloc: Global, id: u32, answer: Answer) -> Result<Value, AllocEr
         Answer::Member(added) => member_value(alloc, added),
         Answer::Event(added) => event_value(alloc, added),
         Answer::Game(added) => seated_value(alloc, added),
+        Answer::Swept { count } => swept_value(alloc, count),
     }
 }
 

@@ -6,7 +6,8 @@ ghost use Rattle.club_core.specs.State.{key_holder, on_game};
 ghost use Rattle.http_desk.specs.RouteViews.{turn_view};
 ghost use Rattle.http_desk.specs.ShownViews.{challenge_view, challenged_view};
 ghost use Rattle.http_desk.specs.Bodies.{reply_data};
-ghost use Rattle.http_desk.specs.Desk.{shows, command_given, outcome_answer, challenge_answer, serve_command, serve_challenge, ServesDue};
+ghost use Rattle.http_desk.specs.Desk.{shows, command_given, outcome_answer, challenge_answer, serve_command};
+ghost use Rattle.http_desk.specs.Desk.{serve_challenge, ServesDue};
 ghost use Rattle.http_desk.specs.DeskViews.{answer_view, command_view};
 
 use crate::asks::move_text;

@@ -4,7 +4,9 @@ ghost use Rattle.http_head.specs.Request.{whole};
 ghost use Rattle.http_head.specs.RequestViews.{request_view, seen_view};
 ghost use Rattle.http_desk.specs.RouteViews.{asked_view};
 ghost use Rattle.http_desk.specs.Routes.{text_of};
-ghost use Rattle.http_desk.specs.Desk.{is_method, answer_reply, serve_page, serve_known, serve_asked, serve, ServesDue, RepliesTo, Answers, shut_known, shut_asked, shut_serve, shut_text, shut_reply, IsShutReply};
+ghost use Rattle.http_desk.specs.Desk.{is_method, answer_reply, serve_page, serve_known, serve_asked, serve, ServesDue};
+ghost use Rattle.http_desk.specs.Desk.{RepliesTo, Answers, shut_known, shut_asked, shut_serve, shut_text, shut_reply};
+ghost use Rattle.http_desk.specs.Desk.{IsShutReply};
 ghost use Rattle.http_desk.specs.DeskViews.{answer_view, IsShutBy};
 
 use crate::asks::{answer_of, challenge_of};

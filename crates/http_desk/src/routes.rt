@@ -3,7 +3,10 @@ ghost use Rattle.std.specs.Prelude.{◌≡◌, ◌≤◌, IfOk, OnOk, Ok, length
 ghost use Rattle.std.specs.Str.{bytes_eq};
 ghost use Rattle.matchit.specs.Route.{parse_route};
 ghost use Rattle.http_head.specs.Head.{number_of};
-ghost use Rattle.http_desk.specs.Routes.{before, behind, begins, path_behind, path_of, with_route, routes, page_of, second_part, third_part, fourth_part, make_move, offer_draw, accept_draw, cross_table, turn_asked, ply_asked, answer_asked, text_of, asked_of_page, asked_of_path, asked_of, method_of};
+ghost use Rattle.http_desk.specs.Routes.{before, behind, begins, path_behind, path_of, with_route, routes, page_of};
+ghost use Rattle.http_desk.specs.Routes.{second_part, third_part, fourth_part, make_move, offer_draw, accept_draw};
+ghost use Rattle.http_desk.specs.Routes.{cross_table, turn_asked, ply_asked, answer_asked, text_of, asked_of_page};
+ghost use Rattle.http_desk.specs.Routes.{asked_of_path, asked_of, method_of};
 ghost use Rattle.http_desk.specs.RouteViews.{turn_view, asked_view};
 
 use crate::refusals::Method;

@@ -20,34 +20,37 @@ use sqlite_disk::Disk;
 use std::alloc::Global;
 use store::{Club, OpenFault, Run, Unopened, resume};
 
-/// Closes a connection, and gives the store back. Where the files hold what a stop leaves then, an opening finds one of the
-/// databases that a stop could leave of the connection.
+/// Closes a connection, and gives the store back. Where the files hold what a stop leaves then, an opening finds one
+/// of the databases that a stop could leave of the connection.
 pub fn close<D: Disk + Drop>(conn: Connection<FileStore<D>>) -> FileStore<D>
     ensures clean { doubt (file_state conn).is_clean ≤ doubt (store_view result).is_clean }
-    ensures member { IsClean (store_view result) → (left : _) → (store_state result).may_leave left → (found : _) → Finds left found →
+    ensures member { IsClean (store_view result) → (left : _) → (store_state result).may_leave left → (found : _) →
+        Finds left found →
         ∥ (file_state conn).may_leave found ∥₁ }
 {
     conn.into_store()
 }
 
-/// Ends a session over files, whether it was served to its end or stopped by a fault, and gives the store back. Where the
-/// files hold what a stop leaves of it then, an opening finds one of the databases that a stop could leave of the club;
-/// so if sessions led to all of those, they led to what the opening finds.
+/// Ends a session over files, whether it was served to its end or stopped by a fault, and gives the store back. Where
+/// the files hold what a stop leaves of it then, an opening finds one of the databases that a stop could leave of the
+/// club; so if sessions led to all of those, they led to what the opening finds.
 pub fn end<D: Disk + Drop>(club: Club<FileStore<D>>) -> FileStore<D>
     ensures clean { doubt (file_state club.connection).is_clean ≤ doubt (store_view result).is_clean }
-    ensures member { IsClean (store_view result) → (left : _) → (store_state result).may_leave left → (found : _) → Finds left found →
+    ensures member { IsClean (store_view result) → (left : _) → (store_state result).may_leave left → (found : _) →
+        Finds left found →
         ∥ (file_state club.connection).may_leave found ∥₁ }
-    ensures history { IsClean (store_view result) → (sessions : _) → ((db : _) → (file_state club.connection).may_leave db → IsReachable sessions db) →
+    ensures history { IsClean (store_view result) → (sessions : _) →
+        ((db : _) → (file_state club.connection).may_leave db → IsReachable sessions db) →
         (left : _) → (store_state result).may_leave left → (found : _) → Finds left found → ∥ IsReachable sessions found ∥₁ }
 {
     let conn = club.into_connection();
     close(conn)
 }
 
-/// A session on a connection that was just opened over files: takes the club, serves the requests in turn up to the first
-/// fault, and gives the store back. Where sessions led to what the opening found, then those and this one lead to what the
-/// next opening finds, of whatever a stop leaves. A connection over other tables, or a fault while they are examined, comes
-/// back; a stop then, or `close`, leaves what the earlier sessions led to.
+/// A session on a connection that was just opened over files: takes the club, serves the requests in turn up to the
+/// first fault, and gives the store back. Where sessions led to what the opening found, then those and this one lead
+/// to what the next opening finds, of whatever a stop leaves. A connection over other tables, or a fault while they
+/// are examined, comes back; a stop then, or `close`, leaves what the earlier sessions led to.
 pub fn serve<D: Disk + Drop>(
     alloc: Global,
     conn: Connection<FileStore<D>>,
@@ -57,18 +60,25 @@ pub fn serve<D: Disk + Drop>(
     ensures clean { IfOk result (λ lived. doubt (file_state conn).is_clean ≤ doubt (store_view lived.1).is_clean) }
     ensures within { IfOk result (λ lived. length lived.0.outcomes.items ≤ length requests.now) }
     ensures whole { IfOk result (λ lived. lived.0.fault ≡ None → length lived.0.outcomes.items ≡ length requests.now) }
-    ensures outcomes { IfOk result (λ lived. IsClean (store_view lived.1) → Opens (file_state conn) → IsLive (file_state conn) →
+    ensures outcomes { IfOk result (λ lived. IsClean (store_view lived.1) → Opens (file_state conn) →
+        IsLive (file_state conn) →
         (s : ClubState) → IsClub s → Leaves (tables s) (file_state conn).committed.trees →
-        map outcome_of lived.0.outcomes.items ≡ map answered (club_outcomes s (map request_of (take (length lived.0.outcomes.items) requests.now)))) }
-    ensures history { IfOk result (λ lived. IsClean (store_view lived.1) → Opens (file_state conn) → IsLive (file_state conn) →
+        map outcome_of lived.0.outcomes.items ≡ map answered (club_outcomes s
+        (map request_of (take (length lived.0.outcomes.items) requests.now)))) }
+    ensures history { IfOk result (λ lived. IsClean (store_view lived.1) → Opens (file_state conn) →
+        IsLive (file_state conn) →
         (sessions : _) → ∥ IsReachable sessions (file_state conn).committed.trees ∥₁ →
         (left : _) → (store_state lived.1).may_leave left → (found : _) → Finds left found →
         ∥ IsReachable (sessions ++ session_of requests.now lived.0 ∷ []) found ∥₁) }
     ensures idle { IfErr result (λ unopened. unopened.conn.in_transaction ≡ false) }
-    ensures known { IfErr result (λ unopened. doubt (file_state conn).is_clean ≤ doubt (file_state unopened.conn).is_clean) }
-    ensures good { IfErr result (λ unopened. HasCleanDisk (file_state unopened.conn) → Opens (file_state conn) → IsLive (file_state conn) →
-        (s : ClubState) → IsClub s → Leaves (tables s) (file_state conn).committed.trees → (unopened.fault ≡ OpenFault.Store) ⊎ (unopened.fault ≡ OpenFault.Memory)) }
-    ensures kept { IfErr result (λ unopened. HasCleanDisk (file_state unopened.conn) → Opens (file_state conn) → IsLive (file_state conn) →
+    ensures known { IfErr result (λ unopened. doubt (file_state conn).is_clean ≤ doubt
+        (file_state unopened.conn).is_clean) }
+    ensures good { IfErr result (λ unopened. HasCleanDisk (file_state unopened.conn) → Opens (file_state conn) →
+        IsLive (file_state conn) →
+        (s : ClubState) → IsClub s → Leaves (tables s) (file_state conn).committed.trees →
+        (unopened.fault ≡ OpenFault.Store) ⊎ (unopened.fault ≡ OpenFault.Memory)) }
+    ensures kept { IfErr result (λ unopened. HasCleanDisk (file_state unopened.conn) → Opens (file_state conn) →
+        IsLive (file_state conn) →
         (sessions : _) → ∥ IsReachable sessions (file_state conn).committed.trees ∥₁ →
         (db : _) → (file_state unopened.conn).may_leave db → ∥ IsReachable sessions db ∥₁) }
 {
@@ -78,7 +88,8 @@ pub fn serve<D: Disk + Drop>(
     }
 }
 
-/// A law. Of new files, whose database file is empty or was left unfinished by its first opening, an opening finds no table.
+/// A law. Of new files, whose database file is empty or was left unfinished by its first opening, an opening finds no
+/// table.
 pub fn new_files_are_void()
     ensures { (files : Image) → IsNothing files → AreVoid files }
 {}

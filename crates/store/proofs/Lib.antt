@@ -26,4 +26,5 @@ pub mod ReadRows
 pub mod RegisterLemmas
 pub mod RunLemmas
 pub mod SameLemmas
+pub mod SweptTables
 pub mod ViewedLemmas

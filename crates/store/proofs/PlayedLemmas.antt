@@ -346,6 +346,7 @@ moved_answer (answer_is.Event id) r is = cc
 moved_answer (answer_is.Game id) r is = cc
 moved_answer (answer_is.Offered ply) r is = cc
 moved_answer (answer_is.Ended end result) r is = cc
+moved_answer (answer_is.Swept count) r is = cc
 
 -- any other answer puts no move
 unmoved_rows : (id moment : ℕ) (answer : Answer) → ((r : MoveReply) → reply_of answer ≡ moved r → ⊥) → (answered_rows id answer moment ≡ []) × (left_answered answer ≡ 0)
@@ -355,6 +356,7 @@ unmoved_rows id moment (answer_is.Event n) unmoved = (refl, refl)
 unmoved_rows id moment (answer_is.Game n) unmoved = (refl, refl)
 unmoved_rows id moment (answer_is.Offered ply) unmoved = (refl, refl)
 unmoved_rows id moment (answer_is.Ended end result) unmoved = (refl, refl)
+unmoved_rows id moment (answer_is.Swept count) unmoved = (refl, refl)
 
 module _ {P M E T : Type 0} (laws : GameRules P M E T) (are_rules : AreRules laws) (terms : Terms) (id : ℕ) (g : Game M) (moment : ℕ) (who : Caller) (command : GameCommand)
     (budget : IsTrue (is_budget terms.budget)) (increment : IsTrue (is_increment terms.increment)) (legal : IsLegalGame laws terms g) (table : List Row) where

@@ -1,40 +1,24 @@
 -- Rows that are put into a table that has an id for each place of a list.
-use Rattle.std.proofs.Common.{◌≡◌, ℕ, zero, suc, ◌+◌, ◌<◌, List, [], ◌∷◌, ◌++◌, length, map, take, get_or, pos, Option, Some, None, true, false, not, ◌&&◌, refl, ap, sym, subst, subst₂, ◌∙◌, arith, add-one, inl, inr, ◌⊎◌, true≢false}
+use Rattle.std.proofs.Common.{◌≡◌, ℕ, zero, suc, ◌+◌, ◌<◌, List, [], ◌∷◌, ◌++◌, length, get_or, pos, Option, Some, None, true, false, not, ◌&&◌, refl, ap, sym, subst, subst₂, ◌∙◌, arith, inl, inr, ◌⊎◌, true≢false}
 use Rattle.std.specs.Prelude.{slice_get, slice_set}
-use Rattle.std.specs.Cmp.{tied_itself}
-use Rattle.std.proofs.lemmas.Bool.{cases_Bool, and_parts, and_from, not-true}
+use Rattle.std.proofs.lemmas.Bool.{cases_Bool, and_parts, not-true}
 use Rattle.std.proofs.lemmas.Option.{slice_get_within}
 use Rattle.sqlite.specs.Order.{Row, column}
 use Rattle.sqlite.specs.Collation.TheVariants.{Binary}
 use Rattle.sqlite_schema.specs.Rules.{equal}
 use Rattle.sqlite_value.specs.Keys.{first_key}
-use Rattle.sqlite_value.proofs.OrderLemmas.{value_cmp_total}
 use Rattle.sqlite_rules.specs.Lists.{Has}
 use Rattle.sqlite_rules.proofs.ListLemmas.{has_filtered, has_kept, has_either, has_left, has_right, has_got}
 use Rattle.club_core.proofs.Lists.{got-append, got-set, set-got, get-append, at-last, put-at}
 use Rattle.club_rows.specs.Tables.{number, numbered_from, gathered_from}
 use Rattle.store_tables.specs.Content.{same_key, put}
-use Rattle.store_tables.proofs.Laws.{equal_ints, equal_from}
+use Rattle.store_tables.proofs.Laws.{equal_ints}
 pub use Rattle.store_tables.proofs.Laws.{same_itself, same_by, put_had, put_kept}
 pub use Rattle.import_rows.proofs.PlacedRows.{same_list, had_at, AreAtPlaces, one_line}
+pub use Rattle.sweep_rows.proofs.PlacedIds.{pos_same, ids_agree, ids_same, numbered_had, numbered_has, numbered_length, numbered_at, take_next}
 use Rattle.store.specs.Steps.{HaveSame}
 
 -- ---- keys
-
-pos_same : (m n : ℕ) → pos m ≡ pos n → m ≡ n
-pos_same m n is = cc
-
-value_itself : (m : ℕ) → equal Binary (number m) (number m) ≡ true
-value_itself m = equal_from (number m) (number m) refl refl (tied_itself value_cmp_total (number m))
-
-pub ids_agree : (a b : Row) (m : ℕ) → column a 0 ≡ number m → column b 0 ≡ number m → same_key (0 ∷ []) a b ≡ true
-unfolding first_key
-ids_agree a b m p q = subst₂ (λ x y. (equal Binary x y && true) ≡ true) (sym p) (sym q) (and_from _ _ (value_itself m) refl)
-
-pub ids_same : (a b : Row) (m n : ℕ) → column a 0 ≡ number m → column b 0 ≡ number n → same_key (0 ∷ []) a b ≡ true → m ≡ n
-unfolding first_key
-ids_same a b m n p q same =
-    pos_same m n (equal_ints (pos m) (pos n) (subst₂ (λ x y. equal Binary x y ≡ true) p q (and_parts _ _ same).0))
 
 pub ids_apart : (a b : Row) (m n : ℕ) → column a 0 ≡ number m → column b 0 ≡ number n → (m ≡ n → ⊥) → same_key (0 ∷ []) a b ≡ false
 ids_apart a b m n p q apart = elim (cases_Bool (same_key (0 ∷ []) a b)) [
@@ -76,54 +60,9 @@ at_get [] k x within is = absurd (omega arith)
 at_get (y ∷ ys) zero x within is = ap Some (sym is)
 at_get (y ∷ ys) (suc k) x within is = at_get ys k x (omega arith) is
 
-take_suc : {A : Type 0} (xs : List A) (k : ℕ) (x : A) → slice_get xs k ≡ Some x → take (suc k) xs ≡ take k xs ++ x ∷ []
-take_suc [] k x at = cc
-take_suc (y ∷ ys) zero x at = let e : y ≡ x = cc in ap (λ (z : _). z ∷ []) e
-take_suc (y ∷ ys) (suc k) x at = ap (λ zs. y ∷ zs) (take_suc ys k x at)
-
-pub take_next : {A : Type 0} (xs : List A) (k : ℕ) (x : A) → slice_get xs k ≡ Some x → take (k + 1) xs ≡ take k xs ++ x ∷ []
-take_next xs k x at = rw add-one (take_suc xs k x at)
-
 -- ---- a row for each element, by ids that count up
 
 module _ {A : Type 0} (row : ℕ → A → Row) where
-  pub numbered_had : (id : ℕ) (xs : List A) (z : Row) → Has (numbered_from row id xs) z → (n : ℕ) × (x : A) × (slice_get xs n ≡ Some x) × (z ≡ row (id + n) x)
-  numbered_had id [] z h = absurd h
-  numbered_had id (x ∷ xs) z (inl is) = let here : id ≡ id + 0 = omega arith in (0, x, refl, is ∙ ap (λ k. row k x) here)
-  numbered_had id (x ∷ xs) z (inr h) =
-      let (n, y, at, is) = numbered_had (suc id) xs z h in
-      let later : suc id + n ≡ id + suc n = omega arith in
-      (suc n, y, at, is ∙ ap (λ k. row k y) later)
-
-  pub numbered_has : (id : ℕ) (xs : List A) (n : ℕ) (x : A) → slice_get xs n ≡ Some x → Has (numbered_from row id xs) (row (id + n) x)
-  numbered_has id [] n x at = cc
-  numbered_has id (y ∷ ys) zero x at =
-      let here : id + 0 ≡ id = omega arith in
-      let same : x ≡ y = cc in
-      inl (ap (λ k. row k x) here ∙ ap (row id) same)
-  numbered_has id (y ∷ ys) (suc n) x at =
-      let later : suc id + n ≡ id + suc n = omega arith in
-      inr (subst (λ k. Has (numbered_from row (suc id) ys) (row k x)) later (numbered_has (suc id) ys n x at))
-
-  pub numbered_length : (id : ℕ) (xs : List A) → length (numbered_from row id xs) ≡ length xs
-  numbered_length id [] = refl
-  numbered_length id (x ∷ xs) = ap suc (numbered_length (suc id) xs)
-
-  -- the element whose row stands at a place
-  pub numbered_at : {R : Type 0} (cells : R → Row) (id : ℕ) (rs : List R) (xs : List A) → map cells rs ≡ numbered_from row id xs → (k : ℕ) (r : R) → slice_get rs k ≡ Some r → (x : A) × (slice_get xs k ≡ Some x) × (cells r ≡ row (id + k) x)
-  numbered_at cells id [] xs same k r at = cc
-  numbered_at cells id (q ∷ rs) [] same k r at = cc
-  numbered_at cells id (q ∷ rs) (x ∷ xs) same zero r at =
-      let first : cells q ≡ row id x = cc in
-      let is : r ≡ q = cc in
-      let here : id ≡ id + 0 = omega arith in
-      (x, refl, ap cells is ∙ (first ∙ ap (λ k. row k x) here))
-  numbered_at cells id (q ∷ rs) (x ∷ xs) same (suc k) r at =
-      let rest : map cells rs ≡ numbered_from row (suc id) xs = cc in
-      let (y, stands, is) = numbered_at cells (suc id) rs xs rest k r at in
-      let later : suc id + k ≡ id + suc k = omega arith in
-      (y, stands, is ∙ ap (λ j. row j y) later)
-
   module _ (first : (id : ℕ) (x : A) → column (row id x) 0 ≡ number id) where
     pub numbered_places : (id : ℕ) (xs : List A) (k : ℕ) → k < length (numbered_from row id xs) → column (get_or (numbered_from row id xs) k []) 0 ≡ number (id + k)
     numbered_places id [] k within = absurd (omega arith)
@@ -136,18 +75,18 @@ module _ {A : Type 0} (row : ℕ → A → Row) where
     pub row_added : (xs : List A) (x : A) (r : Row) → r ≡ row (1 + length xs) x → HaveSame (put (0 ∷ []) r (numbered_from row 1 xs)) (numbered_from row 1 (xs ++ x ∷ []))
     row_added xs x r is = record {
       there = λ z h. elim (put_had (0 ∷ []) r (numbered_from row 1 xs) z h) [
-        | inl new ↦ subst (Has (numbered_from row 1 (xs ++ x ∷ []))) (sym (new ∙ is)) (numbered_has 1 (xs ++ x ∷ []) (length xs) x (at-last xs x))
+        | inl new ↦ subst (Has (numbered_from row 1 (xs ++ x ∷ []))) (sym (new ∙ is)) (numbered_has row 1 (xs ++ x ∷ []) (length xs) x (at-last xs x))
         | inr old ↦
-            let (n, y, at, same) = numbered_had 1 xs z old.0 in
-            subst (Has (numbered_from row 1 (xs ++ x ∷ []))) (sym same) (numbered_has 1 (xs ++ x ∷ []) n y (get-append xs (x ∷ []) n y at))
+            let (n, y, at, same) = numbered_had row 1 xs z old.0 in
+            subst (Has (numbered_from row 1 (xs ++ x ∷ []))) (sym same) (numbered_has row 1 (xs ++ x ∷ []) n y (get-append xs (x ∷ []) n y at))
       ];
       back = λ z h.
-          let (n, y, at, same) = numbered_had 1 (xs ++ x ∷ []) z h in
+          let (n, y, at, same) = numbered_had row 1 (xs ++ x ∷ []) z h in
           elim (got-append xs x n y at) [
             | inl old ↦
                 let within : n < length xs = slice_get_within xs n y old in
                 put_kept (0 ∷ []) r (numbered_from row 1 xs) z
-                (subst (Has (numbered_from row 1 xs)) (sym same) (numbered_has 1 xs n y old))
+                (subst (Has (numbered_from row 1 xs)) (sym same) (numbered_has row 1 xs n y old))
                 (ids_apart z r (1 + n) (1 + length xs) (ap (λ w. column w 0) same ∙ first (1 + n) y) (ap (λ w. column w 0) is ∙ first (1 + length xs) x) (λ e. absurd (omega arith)))
             | inr new ↦ inl (same ∙ (ap (λ k. row (1 + k) y) new.0 ∙ (ap (row (1 + length xs)) (sym new.1) ∙ sym is)))
           ];
@@ -157,18 +96,18 @@ module _ {A : Type 0} (row : ℕ → A → Row) where
     pub row_replaced : (xs : List A) (i : ℕ) (old new : A) (r : Row) → slice_get xs i ≡ Some old → r ≡ row (1 + i) new → HaveSame (put (0 ∷ []) r (numbered_from row 1 xs)) (numbered_from row 1 (slice_set xs i new))
     row_replaced xs i old new r at_i is = record {
       there = λ z h. elim (put_had (0 ∷ []) r (numbered_from row 1 xs) z h) [
-        | inl put ↦ subst (Has (numbered_from row 1 (slice_set xs i new))) (sym (put ∙ is)) (numbered_has 1 (slice_set xs i new) i new (put-at xs i old new at_i))
+        | inl put ↦ subst (Has (numbered_from row 1 (slice_set xs i new))) (sym (put ∙ is)) (numbered_has row 1 (slice_set xs i new) i new (put-at xs i old new at_i))
         | inr was ↦
-            let (n, y, at, same) = numbered_had 1 xs z was.0 in
+            let (n, y, at, same) = numbered_had row 1 xs z was.0 in
             elim (set-got xs i new n y at) [
-              | inl kept ↦ subst (Has (numbered_from row 1 (slice_set xs i new))) (sym same) (numbered_has 1 (slice_set xs i new) n y kept)
+              | inl kept ↦ subst (Has (numbered_from row 1 (slice_set xs i new))) (sym same) (numbered_has row 1 (slice_set xs i new) n y kept)
               | inr here ↦
                   let first_z : column z 0 ≡ number (1 + i) = ap (λ w. column w 0) same ∙ (first (1 + n) y ∙ ap (λ k. number (1 + k)) here.0) in
                   absurd (true≢false (sym (ids_agree z r (1 + i) first_z (ap (λ w. column w 0) is ∙ first (1 + i) new)) ∙ was.1))
             ]
       ];
       back = λ z h.
-          let (n, y, at, same) = numbered_had 1 (slice_set xs i new) z h in
+          let (n, y, at, same) = numbered_had row 1 (slice_set xs i new) z h in
           elim (cases_Bool (same_key (0 ∷ []) z r)) [
             | inl alike ↦
                 let here : 1 + n ≡ 1 + i = ids_same z r (1 + n) (1 + i) (ap (λ w. column w 0) same ∙ first (1 + n) y) (ap (λ w. column w 0) is ∙ first (1 + i) new) alike in
@@ -177,7 +116,7 @@ module _ {A : Type 0} (row : ℕ → A → Row) where
                 let y_is : y ≡ new = cc in
                 inl (same ∙ (ap (λ k. row k y) here ∙ (ap (row (1 + i)) y_is ∙ sym is)))
             | inr other ↦ elim (got-set xs i new n y at) [
-              | inl was ↦ put_kept (0 ∷ []) r (numbered_from row 1 xs) z (subst (Has (numbered_from row 1 xs)) (sym same) (numbered_has 1 xs n y was)) other
+              | inl was ↦ put_kept (0 ∷ []) r (numbered_from row 1 xs) z (subst (Has (numbered_from row 1 xs)) (sym same) (numbered_has row 1 xs n y was)) other
               | inr put ↦ inl (same ∙ (ap (λ k. row (1 + k) y) put.0 ∙ (ap (row (1 + i)) (sym put.1) ∙ sym is)))
             ]
           ];

@@ -149,6 +149,7 @@ answered_rows id (answer.Event n) moment = []
 answered_rows id (answer.Game n) moment = []
 answered_rows id (answer.Offered ply) moment = []
 answered_rows id (answer.Ended end result) moment = []
+answered_rows id (answer.Swept count) moment = []
 
 -- the seconds that the answer to a move shows, and else none
 abbrev pub left_answered : Answer → ℕ
@@ -158,6 +159,7 @@ left_answered (answer.Event n) = 0
 left_answered (answer.Game n) = 0
 left_answered (answer.Offered ply) = 0
 left_answered (answer.Ended end result) = 0
+left_answered (answer.Swept count) = 0
 
 -- the rows of a table of positions tell what stood in this game
 abbrev pub TellsSeen : {P M E T : Type 0} → GameRules P M E T → ℕ → Game M → Content → Type 0

@@ -68,7 +68,8 @@ pub struct Unopened<S: Alter> {
     pub conn: Connection<S>,
 }
 
-/// Makes the tables of a club with nothing in it, in an empty database, by one transaction with one commit. A database where one of the tables stands is left as it is. Nothing is allocated so far.
+/// Makes the tables of a club with nothing in it, in an empty database, by one transaction with one commit. A
+/// database where one of the tables stands is left as it is. Nothing is allocated so far.
 pub fn create<S: Alter>(_alloc: Global, conn: Connection<S>) -> Result<Club<S>, Unopened<S>>
     requires { conn.in_transaction ≡ false }
     ensures ready { IfOk result (λ club. club.needs_reopening ≡ false) }
@@ -149,7 +150,8 @@ impl<S: Alter> Club<S> {
         connection
     }
 
-    /// Puts all of the rows in one transaction with one commit. After a fault every later call is refused with `Reopen`.
+    /// Puts all of the rows in one transaction with one commit. After a fault every later call is refused with
+    /// `Reopen`.
     pub(crate) fn apply_changes(&mut self, changes: &Changes) -> Result<(), StoreFault>
         ensures clean { doubt (state S.Store self.old.connection).is_clean ≤ doubt
             (state S.Store self.new.connection).is_clean }
@@ -178,8 +180,8 @@ impl<S: Alter> Club<S> {
     }
 
     /// Gives the club a command, as the machine takes it: its answer, and the tables of the state after it, in one
-    /// transaction with one commit where the command is accepted. A fault leaves the tables before, or those after, whole;
-    /// after it every later call is refused with `Reopen`.
+    /// transaction with one commit where the command is accepted. A fault leaves the tables before, or those after,
+    /// whole; after it every later call is refused with `Reopen`.
     pub fn apply(
         &mut self,
         alloc: Global,
@@ -203,10 +205,12 @@ impl<S: Alter> Club<S> {
         ensures fault { HasCleanDisk (state S.Store self.new.connection) →
             OnErr result (self.old.needs_reopening ≡ false → (s : ClubState) → IsClub s → IsExactly (tables s)
             (state S.Store self.old.connection) →
-            (db : _) → (state S.Store self.new.connection).may_leave db → Leaves (tables s) db ⊎ Leaves (tables (club_next s (request who.now command.now moment))) db) }
+            (db : _) → (state S.Store self.new.connection).may_leave db →
+            Leaves (tables s) db ⊎ Leaves (tables (club_next s (request who.now command.now moment))) db) }
         ensures stands { HasCleanDisk (state S.Store self.new.connection) → IfOk result (λ outcome. (sessions : _) →
             IsHistory sessions (state S.Store self.old.connection) →
-            IsHistory (sessions ++ answered_session (request who.now command.now moment) outcome ∷ []) (state S.Store self.new.connection)) }
+            IsHistory (sessions ++ answered_session (request who.now command.now moment) outcome ∷ [])
+            (state S.Store self.new.connection)) }
         ensures cut_off { HasCleanDisk (state S.Store self.new.connection) →
             OnErr result (self.old.needs_reopening ≡ false → (sessions : _) → IsHistory sessions
             (state S.Store self.old.connection) → (db : _) → (state S.Store self.new.connection).may_leave db →

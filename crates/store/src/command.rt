@@ -1,14 +1,17 @@
 //! What a command does to the tables.
 
-ghost use Rattle.std.specs.Prelude.{◌≡◌, ◌≤◌, ◌<◌, ◌^◌, ℕ, List, [], ◌∷◌, map, pos, Some, None, false, IfOk, OnOk, length, slice_get, string_bytes};
+ghost use Rattle.std.specs.Prelude.{◌≡◌, ◌≤◌, ◌<◌, ◌^◌, ℕ, List, [], ◌∷◌, map, pos, Some, None, false, IfOk, OnOk};
+ghost use Rattle.std.specs.Prelude.{length, slice_get, string_bytes};
 ghost use Rattle.std.specs.Option.{option_map};
 ghost use Rattle.sqlite.specs.State.{HasCleanDisk};
 ghost use Rattle.sqlite.specs.Held.{state};
-ghost use Rattle.club_core.specs.Answer.{outcome_of, members_of, event_of, events_of, added_event, keyed_of, pairing_of, command_of, game_command_of, import_of};
+ghost use Rattle.club_core.specs.Answer.{outcome_of, members_of, event_of, events_of, added_event, keyed_of};
+ghost use Rattle.club_core.specs.Answer.{pairing_of, command_of, game_command_of, import_of};
 ghost use Rattle.club_core.specs.Events as core;
 ghost use Rattle.club_core.specs.Members as core_members;
 ghost use Rattle.club_core.specs.State as club;
-ghost use Rattle.club_core.specs.State.{is_accepted, place, game_under, keyed_game, add_member, add_event, import_record, on_game};
+ghost use Rattle.club_core.specs.State.{is_accepted, place, game_under, keyed_game, add_member, add_event};
+ghost use Rattle.club_core.specs.State.{import_record, on_game};
 ghost use Rattle.club_core.specs.LegalState.{Each, IsLegalEvent};
 ghost use Rattle.club_rows.specs.Replay.{terms_given};
 ghost use Rattle.club_rows.specs.Tables.{number, numbered_from, member_row, event_row};
@@ -17,7 +20,8 @@ ghost use Rattle.store_tables.specs.Club.{IsExactly};
 ghost use Rattle.store_tables.specs.Reading.{OnlyReads};
 ghost use Rattle.store_sql.specs.Read.{KeepsContent};
 ghost use Rattle.club_rows.specs.Club.{ClubGame, ClubState, IsClub, tables};
-ghost use Rattle.store.specs.Steps.{request, club_step, caller_step, game_in, started, started_seen, started_scores, PutsOnly, IsDecided};
+ghost use Rattle.store.specs.Steps.{request, club_step, caller_step, game_in, started, started_seen, started_scores};
+ghost use Rattle.store.specs.Steps.{PutsOnly, IsDecided};
 ghost use Rattle.store.specs.Stored.{IsStoredGame, IsFoundGame};
 ghost use Rattle.store.specs.Whole.{IsWhole};
 
@@ -26,6 +30,7 @@ use crate::game::StoredGame;
 use crate::imports::read_known;
 use crate::kinds::{act_in, import_in, seat_in};
 use crate::people::{caller_by, event_with};
+use crate::sweep::on_sweep;
 use clocks::Moment;
 use club_core::values::{MOST_EVENTS, MOST_MEMBERS};
 use club_core::{
@@ -172,7 +177,8 @@ fn events_of(alloc: Global, rows: &[EventRow]) -> Result<Vec<Event>, CallFault>
 
 // The row of a member that is added.
 fn member_row(id: u32, command: &AddMember) -> Result<MemberRow, CallFault>
-    ensures { IfOk result (λ row. member_cells row ≡ member_row id (record { name = string_bytes command.now.name; key = string_bytes command.now.key })) }
+    ensures { IfOk result (λ row. member_cells row ≡ member_row id
+        (record { name = string_bytes command.now.name; key = string_bytes command.now.key })) }
 {
     let name = command.name.clone()?;
     let key = command.key.clone()?;
@@ -194,7 +200,8 @@ fn on_member(
     requires { length members.now ≤ 200 }
     ensures acts { IfOk result IsWhole }
     ensures step { IfOk result (λ d. (s : ClubState) → members_of members.now ≡ s.members →
-        IsDecided s (caller_step s moment caller (add_member (string_bytes command.now.name) (string_bytes command.now.key))) d) }
+        IsDecided s (caller_step s moment caller (add_member (string_bytes command.now.name)
+        (string_bytes command.now.key))) d) }
 {
     let outcome = add_member(members, caller, command);
     if !is_accepted(&outcome) {
@@ -328,7 +335,8 @@ fn seated_rows(
     moment: Moment,
 ) -> Result<Changes, CallFault>
     ensures puts { IfOk result (λ changes. Each IsLegalEvent (events_of events.now) →
-        PutsOnly changes moment [] [] (started (events_of events.now) new.game key.now (pairing_of new.pairing) moment ∷ []) []
+        PutsOnly changes moment [] [] (started (events_of events.now) new.game key.now (pairing_of new.pairing) moment
+        ∷ []) []
         (started_seen (events_of events.now) new.game key.now (pairing_of new.pairing) moment) []) }
     ensures running { IfOk result (λ changes.
         started_scores (events_of events.now) key.now (pairing_of new.pairing) moment ≡ []) }
@@ -356,7 +364,8 @@ fn on_seat<S: Alter>(
     ensures step { HasCleanDisk (state S.Store conn.new) → IfOk result (λ d. (s : ClubState) → IsClub s →
         members_of members.now ≡ s.members → events_of events.now ≡ s.events →
         IsExactly (tables s) (state S.Store conn.old) → IsDecided s (caller_step s moment caller
-        (club.seat (string_bytes command.now.key) (string_bytes command.now.event) (string_bytes command.now.first) (string_bytes command.now.second))) d) }
+        (club.seat (string_bytes command.now.key) (string_bytes command.now.event) (string_bytes command.now.first)
+        (string_bytes command.now.second))) d) }
 {
     let under_key = game_under(alloc, conn, command.key.as_str())?;
     let Ok(games) = u32::try_from(count::<GameRecord, S>(conn)?) else {
@@ -531,6 +540,7 @@ fn on_command<S: Alter>(
         }
         Command::Import(command) => on_import(alloc, conn, caller, command, moment),
         Command::OnGame(command) => on_game(alloc, conn, caller, command, moment),
+        Command::Sweep => on_sweep(alloc, conn, caller, moment),
     }
 }
 

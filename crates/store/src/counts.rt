@@ -19,7 +19,8 @@ ghost use Rattle.store_tables.specs.Club.{IsExactly};
 ghost use Rattle.store_tables.specs.Contents.{Content};
 ghost use Rattle.store_tables.specs.Reading.{OnlyReads};
 ghost use Rattle.store_sql.specs.Read.{KeepsContent};
-ghost use Rattle.store.specs.Steps.{TellsSeen, IsSeenAfter, HasTwoPlayers, AreScoresAfter, PutsScores, seen_list, score_list};
+ghost use Rattle.store.specs.Steps.{TellsSeen, IsSeenAfter, HasTwoPlayers, AreScoresAfter, PutsScores, seen_list};
+ghost use Rattle.store.specs.Steps.{score_list};
 
 use crate::command::first;
 use crate::fault::CallFault;

@@ -1,6 +1,7 @@
 //! Games of the club as records, written a row at a time.
 
-ghost use Rattle.std.specs.Prelude.{◌≡◌, ◌⊎◌, ◌<◌, ℕ, suc, [], List, Option, Some, map, take, length, pos, IfOk, IfSome, OnOk};
+ghost use Rattle.std.specs.Prelude.{◌≡◌, ◌⊎◌, ◌<◌, ℕ, suc, [], List, Option, Some, map, take, length, pos, IfOk};
+ghost use Rattle.std.specs.Prelude.{IfSome, OnOk};
 ghost use Rattle.std.specs.Option.{option_map};
 ghost use Rattle.club_core.specs.Events as core;
 ghost use Rattle.club_core.specs.Game.{Game};
@@ -164,13 +165,15 @@ fn write_plies<R: Exports, S: Alter, W: Write>(
     ensures kept { HasCleanDisk (state S.Store conn.new) →
         KeepsUnlessCalled result (state S.Store conn.old) (state S.Store conn.new) }
     ensures written { HasCleanDisk (state S.Store conn.new) → OnOk result ((content : Content) (terms : core.Terms)
-        (game : Game R.Move) (title : Title R.End) (before : Option (List ℕ)) → IsExactly content (state S.Store conn.old) →
+        (game : Game R.Move) (title : Title R.End) (before : Option (List ℕ)) →
+        IsExactly content (state S.Store conn.old) →
         TellsMoves R.rules terms stored.now.id game content → IsLegalGame R.rules terms game →
         plies ≡ length game.entries →
         IsWritten R.rules R.HasWritten title [] before (W.contents writer.old) export.old →
         IsWritten R.rules R.HasWritten title game.entries before (W.contents writer.new) export.new) }
     ensures begun { HasCleanDisk (state S.Store conn.new) → (content : Content) (terms : core.Terms)
-        (game : Game R.Move) (title : Title R.End) (before : Option (List ℕ)) → IsExactly content (state S.Store conn.old) →
+        (game : Game R.Move) (title : Title R.End) (before : Option (List ℕ)) →
+        IsExactly content (state S.Store conn.old) →
         TellsMoves R.rules terms stored.now.id game content → IsLegalGame R.rules terms game →
         plies ≡ length game.entries →
         IsWritten R.rules R.HasWritten title [] before (W.contents writer.old) export.old →

@@ -1,6 +1,7 @@
 //! What is done in one game, by its rules and its rows.
 
-ghost use Rattle.std.specs.Prelude.{◌≡◌, ◌≤◌, ◌<◌, ◌^◌, ℕ, List, [], ◌∷◌, length, map, Some, None, IfOk, OnOk, IsTrue, string_bytes};
+ghost use Rattle.std.specs.Prelude.{◌≡◌, ◌≤◌, ◌<◌, ◌^◌, ℕ, List, [], ◌∷◌, length, map, Some, None, IfOk, OnOk, IsTrue};
+ghost use Rattle.std.specs.Prelude.{string_bytes};
 ghost use Rattle.club_core.specs.Answer.{pairing_of, game_command_of};
 ghost use Rattle.club_core.specs.Events as core;
 ghost use Rattle.club_core.specs.Game.{Game, clocks_of, result_of};
@@ -22,7 +23,8 @@ ghost use Rattle.store_tables.specs.Club.{IsExactly};
 ghost use Rattle.store_tables.specs.Contents.{Content};
 ghost use Rattle.store_tables.specs.Reading.{OnlyReads};
 ghost use Rattle.store_sql.specs.Read.{KeepsContent};
-ghost use Rattle.store.specs.Steps.{PutsOnly, IsDecidedIn, IsRecordOf, IsSeenAfter, AreScoresAfter, HasTwoPlayers, TellsMoves, TellsSeen, answered_rows, left_answered, seen_list, score_list};
+ghost use Rattle.store.specs.Steps.{PutsOnly, IsDecidedIn, IsRecordOf, IsSeenAfter, AreScoresAfter, HasTwoPlayers};
+ghost use Rattle.store.specs.Steps.{TellsMoves, TellsSeen, answered_rows, left_answered, seen_list, score_list};
 ghost use Rattle.store.specs.Whole.{IsWhole};
 
 use crate::command::{Decided, at, unchanged};
@@ -58,7 +60,8 @@ pub(crate) fn start<R: Rules>(
     moment: Moment,
 ) -> Result<Changes, CallFault>
     ensures puts { IfOk result (λ changes. IsTrue (is_budget terms.budget) →
-        PutsOnly changes moment [] [] (game_row R.rules (terms_given terms) new.game (seated (Some key.now) (pairing_of new.pairing) moment) ∷ []) []
+        PutsOnly changes moment [] [] (game_row R.rules (terms_given terms) new.game
+        (seated (Some key.now) (pairing_of new.pairing) moment) ∷ []) []
         (seen_rows R.rules new.game (seated (Some key.now) (pairing_of new.pairing) moment)) []) }
     ensures running { IfOk result (λ changes.
         result_of R.rules (seated (Some key.now) (pairing_of new.pairing) moment) ≡ None) }
@@ -100,6 +103,7 @@ fn answered_moves(
         Answer::Game(_) => {}
         Answer::Offered { ply: _ } => {}
         Answer::Ended { end: _, result: _ } => {}
+        Answer::Swept { count: _ } => {}
     }
     Ok(rows)
 }
@@ -136,7 +140,8 @@ fn done<R: Rules>(
     moment: Moment,
 ) -> Result<Decided, CallFault>
     ensures acts { IfOk result IsWhole }
-    ensures step { IfOk result (λ d. (terms : core.Terms) (old : Game R.Move) (who : Caller) (command : machine.GameCommand)
+    ensures step { IfOk result (λ d. (terms : core.Terms) (old : Game R.Move) (who : Caller)
+        (command : machine.GameCommand)
         (table : List Row) → IsTrue (is_budget terms.budget) → IsTrue (is_increment terms.increment) →
         IsLegalGame R.rules terms old →
         IsConcluded R.rules terms old (game_step R.rules terms old moment who command) shown →
@@ -217,7 +222,8 @@ fn on_view<R: Rules, S: Alter>(
     ensures step { HasCleanDisk (state S.Store conn.new) → IfOk result (λ d. (content : Content) (old : Game R.Move) →
         IsExactly content (state S.Store conn.old) → TellsSeen R.rules game old content →
         IsTrue (is_budget view.now.budget) →
-        IsTrue (is_increment view.now.increment) → IsLegalGame R.rules (terms_of view.now) old → Shows R.rules old view.now →
+        IsTrue (is_increment view.now.increment) → IsLegalGame R.rules (terms_of view.now) old →
+        Shows R.rules old view.now →
         ShowsPly R.rules old (asked_ply (game_command_of command.now)) view.now →
         (clocks_of old (terms_of view.now)).since ≤ moment →
         IsDecidedIn R.rules (terms_of view.now) game moment (content 14) old
@@ -264,7 +270,8 @@ pub(crate) fn legal<R: Rules, S: Alter>(
     ensures reads { OnlyReads (state S.Store conn.old) (state S.Store conn.new) }
     ensures kept { HasCleanDisk (state S.Store conn.new) → OnOk result (KeepsContent (state S.Store conn.old)
         (state S.Store conn.new)) }
-    ensures legal { HasCleanDisk (state S.Store conn.new) → IfOk result (λ texts. (content : Content) (game : Game R.Move) →
+    ensures legal { HasCleanDisk (state S.Store conn.new) →
+        IfOk result (λ texts. (content : Content) (game : Game R.Move) →
         IsExactly content (state S.Store conn.old) → TellsSeen R.rules stored.now.id game content →
         IsRecordOf R.rules (terms_given stored.now.terms) stored.now.id stored.now.row game →
         AreLegalTexts R.rules game (map (λ t. string_bytes t) texts.items)) }

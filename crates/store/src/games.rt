@@ -1,6 +1,7 @@
 //! Examining the games of a club, one after another: each by its row, and by those of its moves and of its positions.
 
-ghost use Rattle.std.specs.Prelude.{◌≡◌, ◌⊎◌, ◌+◌, ◌<◌, ◌≤◌, ◌^◌, pos, None, Some, IsTrue, IfOk, IfErr, OnOk, map, length, slice_get};
+ghost use Rattle.std.specs.Prelude.{◌≡◌, ◌⊎◌, ◌+◌, ◌<◌, ◌≤◌, ◌^◌, pos, None, Some, IsTrue, IfOk, IfErr, OnOk, map};
+ghost use Rattle.std.specs.Prelude.{length, slice_get};
 ghost use Rattle.sqlite.specs.State.{HasCleanDisk};
 ghost use Rattle.sqlite.specs.Held.{state};
 ghost use Rattle.store_tables.specs.Reading.{OnlyReads};
@@ -160,9 +161,9 @@ fn examine_game<S: Alter>(
     }
 }
 
-/// Reads the rows of all games, one game after another, of so many rows of moves and of positions, and tests that they are
-/// those of legal games, up to the last moment, and that there are no others. Of tables whose rows tell another game the
-/// first is named.
+/// Reads the rows of all games, one game after another, of so many rows of moves and of positions, and tests that
+/// they are those of legal games, up to the last moment, and that there are no others. Of tables whose rows tell
+/// another game the first is named.
 pub(crate) fn examine_games<S: Alter>(
     alloc: Global,
     conn: &mut Connection<S>,

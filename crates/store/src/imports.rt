@@ -1,6 +1,7 @@
 //! What an import does to the tables.
 
-ghost use Rattle.std.specs.Prelude.{◌≡◌, ◌≢◌, ◌≤◌, ℕ, List, [], ◌∷◌, map, length, Option, Some, IfOk, OnOk, string_bytes};
+ghost use Rattle.std.specs.Prelude.{◌≡◌, ◌≢◌, ◌≤◌, ℕ, List, [], ◌∷◌, map, length, Option, Some, IfOk, OnOk};
+ghost use Rattle.std.specs.Prelude.{string_bytes};
 ghost use Rattle.std.specs.Option.{option_map};
 ghost use Rattle.sqlite.specs.State.{HasCleanDisk};
 ghost use Rattle.sqlite.specs.Held.{state};
@@ -40,8 +41,8 @@ use std::alloc::Global;
 use store_sql::{GameKey, count, find, find_by_first};
 use store_tables::{Changes, GameRecord, MoveRow};
 
-/// What a club has that an import may ask of: its members and events by id, the game under the import's key, and how many
-/// games there are.
+/// What a club has that an import may ask of: its members and events by id, the game under the import's key, and how
+/// many games there are.
 #[derive(Drop)]
 pub(crate) struct Known {
     pub members: Vec<Member>,
@@ -219,7 +220,8 @@ fn added<R: Rules, S: Alter>(
         (state S.Store conn.new)) }
     ensures puts { HasCleanDisk (state S.Store conn.new) → IfOk result (λ changes. (content : Content) →
         IsExactly content (state S.Store conn.old) → new.now.pairing.first ≢ new.now.pairing.second →
-        PutsNewGame R.rules (terms_at (place (events_of events.now) new.now.pairing.event)) new.now.game moment (content 14)
+        PutsNewGame R.rules (terms_at (place (events_of events.now) new.now.pairing.event)) new.now.game moment
+        (content 14)
         (imported R.rules (Some key.now) (pairing_of new.now.pairing) moment (recorded_of new.now.recorded)) changes) }
 {
     let event = event_at(events, new.pairing.event)?;

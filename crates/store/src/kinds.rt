@@ -45,7 +45,8 @@ pub(crate) fn seat_in(
     moment: Moment,
 ) -> Result<Changes, CallFault>
     ensures puts { IfOk result (λ changes. IsTrue (is_budget terms.budget) →
-        PutsOnly changes moment [] [] (first_row kind (terms_given terms) new.game key.now (pairing_of new.pairing) moment ∷ []) []
+        PutsOnly changes moment [] [] (first_row kind (terms_given terms) new.game key.now
+        (pairing_of new.pairing) moment ∷ []) []
         (first_seen_rows kind new.game key.now (pairing_of new.pairing) moment) []) }
     ensures running { IfOk result (λ changes. first_meetings kind key.now (pairing_of new.pairing) moment ≡ []) }
 {

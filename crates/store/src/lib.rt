@@ -19,6 +19,7 @@ mod read;
 mod reopen;
 mod scored;
 mod shown;
+mod sweep;
 mod viewed;
 
 pub use club::{Club, Run, Unopened, adopt, create, resume};

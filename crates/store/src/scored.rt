@@ -68,8 +68,8 @@ fn comes_last(scores: &[Scored], next: &Scored) -> bool
     }
 }
 
-/// What these rows tell of an event, where all are of this event, each comes after the one before it, and each number is
-/// within 32 bits; all else is a fault.
+/// What these rows tell of an event, where all are of this event, each comes after the one before it, and each number
+/// is within 32 bits; all else is a fault.
 pub(crate) fn scored_rows(
     alloc: Global,
     rows: &[ScoreRow],

@@ -49,7 +49,8 @@ fn last_stood<R: Rules, S: Alter>(
     ensures reads { OnlyReads (state S.Store conn.old) (state S.Store conn.new) }
     ensures kept { HasCleanDisk (state S.Store conn.new) → OnOk result (KeepsContent (state S.Store conn.old)
         (state S.Store conn.new)) }
-    ensures stood { HasCleanDisk (state S.Store conn.new) → IfOk result (λ stood. (content : Content) (game : Game R.Move) →
+    ensures stood { HasCleanDisk (state S.Store conn.new) →
+        IfOk result (λ stood. (content : Content) (game : Game R.Move) →
         IsExactly content (state S.Store conn.old) → TellsSeen R.rules stored.now.id game content →
         IsRecordOf R.rules (terms_given stored.now.terms) stored.now.id stored.now.row game →
         HasLastStood R.rules game stood) }
@@ -112,7 +113,8 @@ fn rows_at<R: Rules, S: Alter>(
     ensures reads { OnlyReads (state S.Store conn.old) (state S.Store conn.new) }
     ensures kept { HasCleanDisk (state S.Store conn.new) → OnOk result (KeepsContent (state S.Store conn.old)
         (state S.Store conn.new)) }
-    ensures found { HasCleanDisk (state S.Store conn.new) → IfOk result (λ rows. (content : Content) (terms : core.Terms)
+    ensures found { HasCleanDisk (state S.Store conn.new) →
+        IfOk result (λ rows. (content : Content) (terms : core.Terms)
         (old : Game R.Move) → IsExactly content (state S.Store conn.old) → TellsMoves R.rules terms game old content →
         IsLegalGame R.rules terms old → AreRowsAt R.rules terms game old ply rows) }
 {
@@ -138,7 +140,8 @@ pub(crate) fn view<R: Rules, S: Alter>(
         (state S.Store conn.new)) }
     ensures sound { IfOk result (IsSound R.rules) }
     ensures terms { IfOk result (λ view. terms_of view ≡ terms_given stored.now.terms) }
-    ensures shows { HasCleanDisk (state S.Store conn.new) → IfOk result (λ view. (content : Content) (game : Game R.Move) →
+    ensures shows { HasCleanDisk (state S.Store conn.new) →
+        IfOk result (λ view. (content : Content) (game : Game R.Move) →
         IsExactly content (state S.Store conn.old) → TellsSeen R.rules stored.now.id game content →
         IsRecordOf R.rules (terms_given stored.now.terms) stored.now.id stored.now.row game → Shows R.rules game view) }
 {
@@ -161,7 +164,8 @@ pub(crate) fn asked_view<R: Rules, S: Alter>(
         (state S.Store conn.new)) }
     ensures sound { IfOk result (IsSound R.rules) }
     ensures terms { IfOk result (λ view. terms_of view ≡ terms_given stored.now.terms) }
-    ensures shows { HasCleanDisk (state S.Store conn.new) → IfOk result (λ view. (content : Content) (game : Game R.Move) →
+    ensures shows { HasCleanDisk (state S.Store conn.new) →
+        IfOk result (λ view. (content : Content) (game : Game R.Move) →
         IsExactly content (state S.Store conn.old) → TellsSeen R.rules stored.now.id game content →
         TellsMoves R.rules (terms_given stored.now.terms) stored.now.id game content →
         IsRecordOf R.rules (terms_given stored.now.terms) stored.now.id stored.now.row game →

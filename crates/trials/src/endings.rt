@@ -1,4 +1,4 @@
-//! Offers of a draw, resignations and claims of time, each with what it must come to.
+//! Offers of a draw, resignations, claims of time and sweeps, each with what it must come to.
 
 use crate::commands::{opened, serve_at_once};
 use crate::tables::lines_of;
@@ -92,5 +92,29 @@ fn time_is_claimed_a_second_late(rt: HostRuntime) -> Result<(), Fail> {
     let club = serve_at_once(&rt, seated(&rt, "shogi")?, A_CLAIM)?;
     let ended = "SELECT since || ' ' || end || ' ' || result FROM games";
     assert!(rt; lines_of(rt.alloc(), club, ended)?.as_str() == "1000 Time 0-2;");
+    Ok(())
+}
+
+const SWEEPS: &str = "1000 officer seat g2 spring bert anna = accepted
+1000 officer seat g3 spring anna bert = accepted
+1060 officer sweep = accepted 0
+1060 keyanna1 move 3 1 32-28 = accepted
+1061 keyanna1 sweep = 51 NotAllowed
+1061 officer sweep = accepted 2
+1061 officer sweep = accepted 0
+1061 keybert2 claim 1 = repeated
+1061 keyanna1 claim 1 = 56 GameOver
+1061 keyanna1 claim 2 = repeated
+1120 officer sweep = accepted 0
+1121 officer sweep = accepted 1
+1121 keyanna1 claim 3 = repeated";
+
+// One sweep ends two games of the same players; a second more than a side has left must be used.
+#[test]
+fn a_sweep_ends_overdue_games(rt: HostRuntime) -> Result<(), Fail> {
+    let club = serve_at_once(&rt, seated(&rt, "draughts")?, SWEEPS)?;
+    let sums =
+        "SELECT member || ' ' || points || ' ' || wins || ' ' || draws || ' ' || losses FROM scores ORDER BY member";
+    assert!(rt; lines_of(rt.alloc(), club, sums)?.as_str() == "1 4 2 0 1;2 2 1 0 2;");
     Ok(())
 }

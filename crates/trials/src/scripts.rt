@@ -2,7 +2,9 @@
 //! with what the request must come to, as `1000 officer move 1 1 32-28 = accepted`.
 
 use clocks::Moment;
-use club_core::{AddEvent, AddMember, Command, GameCommand, OnGame, Outcome, Request, Seat, Who};
+use club_core::{
+    AddEvent, AddMember, Answer, Command, GameCommand, OnGame, Outcome, Request, Seat, Who,
+};
 use club_rules::GameKind;
 use std::alloc::Global;
 use std::test::Fail;
@@ -67,6 +69,7 @@ fn command(alloc: Global, words: &[&str]) -> Result<Command, Fail> {
             first: text(alloc, first)?,
             second: text(alloc, second)?,
         })),
+        ["sweep"] => Ok(Command::Sweep),
         _ => game_command(alloc, words),
     }
 }
@@ -84,9 +87,10 @@ pub(crate) fn request(alloc: Global, line: &str) -> Result<Request, Fail> {
     }
 }
 
-/// The outcome in a word, a refusal with its number and name.
+/// The outcome in a word, a sweep with the number of games that it ended, a refusal with its number and name.
 pub(crate) fn told(alloc: Global, outcome: &Outcome) -> Result<String, Fail> {
     Ok(match outcome {
+        Outcome::Accepted(Answer::Swept { count }) => format!(in alloc; "accepted {count}")?,
         Outcome::Accepted(_) => String::from_str(alloc, "accepted")?,
         Outcome::Repeated(_) => String::from_str(alloc, "repeated")?,
         Outcome::Refused(refusal) => format!(in alloc; "{refusal}")?,

@@ -4,7 +4,7 @@ ghost use Rattle.std.specs.Prelude.{◌≡◌, false, IfOk};
 
 use crate::scripts::request;
 use crate::tables::{Tables, stored};
-use club_core::Outcome;
+use club_core::{Answer, Outcome};
 use sqlite::{Connection, FileStore, Files, Options};
 use sqlite_disk::{Crash, Disk, Fuse, Memory};
 use std::alloc::Global;
@@ -152,7 +152,7 @@ fn begun(alloc: Global, trial: Trial<'_>) -> Result<Image, Fail> {
     image_of(alloc, &closed(club))
 }
 
-/// What stands in the files once nothing stops, and whether the request, given then, is accepted or repeated.
+/// What stands in the files once nothing stops, and what the request, given then, comes to.
 fn found(
     alloc: Global,
     trial: Trial<'_>,
@@ -212,8 +212,10 @@ fn make_wanted(alloc: Global, trial: Trial<'_>, before: &Image) -> Result<Wanted
 }
 
 /// Whole before the request, which is then accepted, or whole after it, which is then repeated; what was answered stands.
+/// A sweep is not repeated: after it there is nothing more to end.
 fn is_whole(wanted: &Wanted, answered: bool, found: &Tables, outcome: &Outcome) -> bool {
     match outcome {
+        Outcome::Accepted(Answer::Swept { count: 0 }) => *found == wanted.after,
         Outcome::Accepted(_) => !answered && *found == wanted.before,
         Outcome::Repeated(_) => *found == wanted.after,
         Outcome::Refused(_) => false,
@@ -337,6 +339,23 @@ fn a_stopped_claim_of_time_is_whole_or_none(rt: HostRuntime) -> Result<(), Fail>
 1000 officer event fuji shogi 60 5
 1000 officer seat s1 fuji anna bert",
             stopped: "1061 keybert2 claim 1",
+        },
+    )
+}
+
+#[test]
+fn a_stopped_sweep_is_whole_or_none(rt: HostRuntime) -> Result<(), Fail> {
+    whole_or_none(
+        &rt,
+        Trial {
+            before: "1000 officer member anna keyanna1
+1000 officer member bert keybert2
+1000 officer event autumn draughts 60 5
+1000 officer event fuji shogi 60 5
+1000 officer seat g1 autumn anna bert
+1000 officer seat s1 fuji bert anna
+1010 keyanna1 move 1 1 32-28",
+            stopped: "1071 officer sweep",
         },
     )
 }

@@ -70,10 +70,10 @@ fn export_of<S: Alter, W: Write>(
 }
 
 impl<S: Alter> Club<S> {
-    /// Writes the record of a game, draughts in Portable Draughts Notation and shogi in the format of the Computer Shogi
-    /// Association, and answers whether there is a game of this number. It changes nothing and holds one row of the game's
-    /// moves at a time. Where the writer fails it answers `Output` and the club goes on; after any other fault every later
-    /// call is refused with `Reopen`. Wherever it stops, the writer has a beginning of the record.
+    /// Writes the record of a game, draughts in Portable Draughts Notation and shogi in the format of the Computer
+    /// Shogi Association, and answers whether there is a game of this number. It changes nothing and holds one row of
+    /// the game's moves at a time. Where the writer fails it answers `Output` and the club goes on; after any other
+    /// fault every later call is refused with `Reopen`. Wherever it stops, the writer has a beginning of the record.
     pub fn export<W: Write>(
         &mut self,
         alloc: Global,

@@ -96,8 +96,8 @@ fn view_of<S: Alter>(
 
 impl<S: Alter> Club<S> {
     /// The legal moves of a game as they are written, in the order in which they are listed: none of a game that has
-    /// ended, and no answer for a number that no game has. It changes nothing. After a fault every later call is refused
-    /// with `Reopen`.
+    /// ended, and no answer for a number that no game has. It changes nothing. After a fault every later call is
+    /// refused with `Reopen`.
     pub fn legal_rows(
         &mut self,
         alloc: Global,

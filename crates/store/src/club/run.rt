@@ -1,6 +1,7 @@
 //! Requests in turn.
 
-ghost use Rattle.std.specs.Prelude.{◌≡◌, ◌≤◌, ◌⊎◌, ◌+◌, true, false, None, Some, IsSome, IfSome, Err, IfOk, IfErr, OnOk, OnErr, [], map, length, take};
+ghost use Rattle.std.specs.Prelude.{◌≡◌, ◌≤◌, ◌⊎◌, ◌+◌, true, false, None, Some, IsSome, IfSome, Err, IfOk, IfErr};
+ghost use Rattle.std.specs.Prelude.{OnOk, OnErr, [], map, length, take};
 ghost use Rattle.sqlite.specs.State.{HasCleanDisk};
 ghost use Rattle.sqlite.specs.Held.{state};
 ghost use Rattle.sqlite_trees.specs.View.{doubt};
@@ -56,16 +57,17 @@ impl<S: Alter> Club<S> {
         ensures fault { HasCleanDisk (state S.Store self.new.connection) →
             OnErr result (self.old.needs_reopening ≡ false → (s : ClubState) → IsClub s → IsExactly (tables s)
             (state S.Store self.old.connection) →
-            (db : _) → (state S.Store self.new.connection).may_leave db → Leaves (tables s) db ⊎ Leaves (tables (club_next s (request_of request.now))) db) }
+            (db : _) → (state S.Store self.new.connection).may_leave db →
+            Leaves (tables s) db ⊎ Leaves (tables (club_next s (request_of request.now))) db) }
     {
         let _within = request.moment.seconds();
         self.apply(alloc, &request.who, &request.command, request.moment)
     }
 
-    /// Gives the club the requests in turn, up to the first fault. The outcomes are those of the machine. Without a fault
-    /// all requests are answered, and the tables are those of the state after all of them, now and after a stop. With one, a
-    /// stop leaves the tables of the state after the answered requests, or after one more, whole; and every later call is
-    /// refused with `Reopen`.
+    /// Gives the club the requests in turn, up to the first fault. The outcomes are those of the machine. Without a
+    /// fault all requests are answered, and the tables are those of the state after all of them, now and after a
+    /// stop. With one, a stop leaves the tables of the state after the answered requests, or after one more, whole;
+    /// and every later call is refused with `Reopen`.
     pub fn run(&mut self, alloc: Global, requests: &[Request]) -> Run
         ensures shut { self.old.needs_reopening ≡ true → (result.fault ≡ Some StoreFault.Reopen) ×
             (result.outcomes.items ≡ []) × (self.new ≡ self.old) }
@@ -79,7 +81,8 @@ impl<S: Alter> Club<S> {
         ensures whole { result.fault ≡ None → length result.outcomes.items ≡ length requests.now }
         ensures outcomes { HasCleanDisk (state S.Store self.new.connection) → (s : ClubState) → IsClub s →
             IsExactly (tables s) (state S.Store self.old.connection) →
-            map outcome_of result.outcomes.items ≡ map answered (club_outcomes s (map request_of (take (length result.outcomes.items) requests.now))) }
+            map outcome_of result.outcomes.items ≡ map answered
+            (club_outcomes s (map request_of (take (length result.outcomes.items) requests.now))) }
         ensures stored { HasCleanDisk (state S.Store self.new.connection) → result.fault ≡ None → (s : ClubState) →
             IsClub s → IsExactly (tables s) (state S.Store self.old.connection) →
             IsExactly (tables (club_fold s (map request_of requests.now))) (state S.Store self.new.connection) }
@@ -95,7 +98,8 @@ impl<S: Alter> Club<S> {
         ensures left { HasCleanDisk (state S.Store self.new.connection) → self.old.needs_reopening ≡ false →
             (s : ClubState) → IsClub s → IsExactly (tables s) (state S.Store self.old.connection) →
             (db : _) → (state S.Store self.new.connection).may_leave db →
-            IsAfter s requests.now (length result.outcomes.items) db ⊎ (IsSome result.fault × IsAfter s requests.now (length result.outcomes.items + 1) db) }
+            IsAfter s requests.now (length result.outcomes.items) db
+            ⊎ (IsSome result.fault × IsAfter s requests.now (length result.outcomes.items + 1) db) }
     {
         if self.needs_reopening {
             return Run::ended(alloc, StoreFault::Reopen);

@@ -1,6 +1,7 @@
 //! Sessions of a club, one after another, over what earlier ones left.
 
-ghost use Rattle.std.specs.Prelude.{◌≡◌, ◌≤◌, ◌⊎◌, ◌++◌, ◌∷◌, [], false, true, Some, None, IsSome, IfSome, IfOk, IfErr, map, length, take};
+ghost use Rattle.std.specs.Prelude.{◌≡◌, ◌≤◌, ◌⊎◌, ◌++◌, ◌∷◌, [], false, true, Some, None, IsSome, IfSome, IfOk, IfErr};
+ghost use Rattle.std.specs.Prelude.{map, length, take};
 ghost use Rattle.sqlite.specs.State.{HasCleanDisk, Opens, IsLive};
 ghost use Rattle.sqlite.specs.Held.{state};
 ghost use Rattle.sqlite_trees.specs.View.{doubt};
@@ -18,9 +19,9 @@ use sqlite::{Alter, Connection};
 use std::alloc::Global;
 
 impl<S: Alter> Club<S> {
-    /// A session: the requests in turn, up to the first fault, as `run` serves them. Where sessions lead to the tables of
-    /// the club, they lead with this one added to all that a stop may leave; and without a fault to the tables of the club,
-    /// so that the next session may follow.
+    /// A session: the requests in turn, up to the first fault, as `run` serves them. Where sessions lead to the
+    /// tables of the club, they lead with this one added to all that a stop may leave; and without a fault to the
+    /// tables of the club, so that the next session may follow.
     pub fn session(&mut self, alloc: Global, requests: &[Request]) -> Run
         ensures shut { self.old.needs_reopening ≡ true → (result.fault ≡ Some StoreFault.Reopen) ×
             (result.outcomes.items ≡ []) × (self.new ≡ self.old) }
@@ -34,10 +35,12 @@ impl<S: Alter> Club<S> {
         ensures whole { result.fault ≡ None → length result.outcomes.items ≡ length requests.now }
         ensures outcomes { HasCleanDisk (state S.Store self.new.connection) → (s : ClubState) → IsClub s →
             IsExactly (tables s) (state S.Store self.old.connection) →
-            map outcome_of result.outcomes.items ≡ map answered (club_outcomes s (map request_of (take (length result.outcomes.items) requests.now))) }
+            map outcome_of result.outcomes.items ≡ map answered
+            (club_outcomes s (map request_of (take (length result.outcomes.items) requests.now))) }
         ensures history { HasCleanDisk (state S.Store self.new.connection) → self.old.needs_reopening ≡ false →
             (sessions : _) → IsHistory sessions (state S.Store self.old.connection) →
-            (db : _) → (state S.Store self.new.connection).may_leave db → IsReachable (sessions ++ session_of requests.now result ∷ []) db }
+            (db : _) → (state S.Store self.new.connection).may_leave db →
+            IsReachable (sessions ++ session_of requests.now result ∷ []) db }
         ensures stands { HasCleanDisk (state S.Store self.new.connection) → result.fault ≡ None → (sessions : _) →
             IsHistory sessions (state S.Store self.old.connection) →
             IsHistory (sessions ++ session_of requests.now result ∷ []) (state S.Store self.new.connection) }
@@ -46,9 +49,10 @@ impl<S: Alter> Club<S> {
     }
 }
 
-/// Takes a connection that was just opened over what earlier sessions left, after a stop or an end, and serves a session on
-/// it. What a stop may leave then is led to by the earlier sessions and this one. A connection over other tables, or a
-/// fault while they are examined, comes back as from `adopt`; what a stop may leave then is led to by the earlier sessions.
+/// Takes a connection that was just opened over what earlier sessions left, after a stop or an end, and serves a
+/// session on it. What a stop may leave then is led to by the earlier sessions and this one. A connection over other
+/// tables, or a fault while they are examined, comes back as from `adopt`; what a stop may leave then is led to by
+/// the earlier sessions.
 pub fn resume<S: Alter>(
     alloc: Global,
     conn: Connection<S>,
@@ -65,11 +69,13 @@ pub fn resume<S: Alter>(
     ensures outcomes { IfOk result (λ resumed. HasCleanDisk (state S.Store resumed.1.connection) → Opens
         (state S.Store conn) → IsLive (state S.Store conn) →
         (s : ClubState) → IsClub s → Leaves (tables s) (state S.Store conn).committed.trees →
-        map outcome_of resumed.0.outcomes.items ≡ map answered (club_outcomes s (map request_of (take (length resumed.0.outcomes.items) requests.now)))) }
+        map outcome_of resumed.0.outcomes.items ≡ map answered
+        (club_outcomes s (map request_of (take (length resumed.0.outcomes.items) requests.now)))) }
     ensures history { IfOk result (λ resumed. HasCleanDisk (state S.Store resumed.1.connection) → Opens
         (state S.Store conn) → IsLive (state S.Store conn) →
         (sessions : _) → IsReachable sessions (state S.Store conn).committed.trees →
-        (db : _) → (state S.Store resumed.1.connection).may_leave db → IsReachable (sessions ++ session_of requests.now resumed.0 ∷ []) db) }
+        (db : _) → (state S.Store resumed.1.connection).may_leave db →
+        IsReachable (sessions ++ session_of requests.now resumed.0 ∷ []) db) }
     ensures stands { IfOk result (λ resumed. HasCleanDisk (state S.Store resumed.1.connection) → Opens
         (state S.Store conn) → IsLive (state S.Store conn) → resumed.0.fault ≡ None →
         (sessions : _) → IsReachable sessions (state S.Store conn).committed.trees →
@@ -79,7 +85,8 @@ pub fn resume<S: Alter>(
         (state S.Store unopened.conn).is_clean) }
     ensures good { IfErr result (λ unopened. HasCleanDisk (state S.Store unopened.conn) → Opens (state S.Store conn) →
         IsLive (state S.Store conn) →
-        (s : ClubState) → IsClub s → Leaves (tables s) (state S.Store conn).committed.trees → (unopened.fault ≡ OpenFault.Store) ⊎ (unopened.fault ≡ OpenFault.Memory)) }
+        (s : ClubState) → IsClub s → Leaves (tables s) (state S.Store conn).committed.trees →
+        (unopened.fault ≡ OpenFault.Store) ⊎ (unopened.fault ≡ OpenFault.Memory)) }
     ensures kept { IfErr result (λ unopened. HasCleanDisk (state S.Store unopened.conn) → Opens (state S.Store conn) →
         IsLive (state S.Store conn) →
         (sessions : _) → IsReachable sessions (state S.Store conn).committed.trees →

@@ -42,3 +42,8 @@ pub returns-in-Import-clause-step : goal.returns-in-Import-clause-step
 returns-in-Import-clause-step g c clean =
     IfOk-weaker c.on_import.result _ _ (λ d step s is_club later k.
     subst (λ x. IsDecided s (caller_step s c.args.moment c.args.caller (command_of x)) d) (sym c.in-Import.is) (step s is_club k)) (c.on_import.ensures.step clean)
+
+pub returns-in-Sweep-clause-step : goal.returns-in-Sweep-clause-step
+returns-in-Sweep-clause-step g c clean =
+    IfOk-weaker c.on_sweep.result _ _ (λ d step s is_club later k.
+    subst (λ x. IsDecided s (caller_step s c.args.moment c.args.caller (command_of x)) d) (sym c.in-Sweep.is) (step s is_club k)) (c.on_sweep.ensures.step clean)

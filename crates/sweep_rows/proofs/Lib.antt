@@ -1,0 +1,4 @@
+pub mod LateGames
+pub mod PlacedIds
+pub mod StandingLemmas
+pub mod SweptLemmas
