@@ -1,4 +1,5 @@
 use squares::{DMove, DPiece, DPos, DSet, Direction, Dsq, Numbers, Side};
+use std::cmp::Ordering;
 use std::hash::{DefaultHasher, Hash, Hasher};
 use std::test::Fail;
 
@@ -6,26 +7,41 @@ fn man(side: Side) -> DPiece {
     DPiece { side, king: false }
 }
 
+fn square(number: u8) -> Result<Dsq, Fail> {
+    Ok(Dsq::new(number).ok_or("a square")?)
+}
+
 // Squares by number, row and column, from a printed board.
+const PLACES: &str = "\
+1 0 1
+5 0 9
+6 1 0
+10 1 8
+23 4 5
+28 5 4
+45 8 9
+46 9 0
+50 9 8";
+
+// Whether the square of the number has the place.
+fn is_placed(case: &str) -> Result<bool, Fail> {
+    let (number, place) = case.split_once(' ').ok_or("a case")?;
+    let (row, column) = place.split_once(' ').ok_or("a case")?;
+    let number: u8 = number.parse()?;
+    let (row, column): (u8, u8) = (row.parse()?, column.parse()?);
+    let placed = square(number)?;
+    Ok(
+        placed.number() == number
+            && placed.row() == row
+            && placed.column() == column
+            && Dsq::at(row, column) == Some(placed),
+    )
+}
+
 #[test]
 fn numbers_have_their_places(rt: HostRuntime) -> Result<(), Fail> {
-    let places = [
-        (1, 0, 1),
-        (5, 0, 9),
-        (6, 1, 0),
-        (10, 1, 8),
-        (23, 4, 5),
-        (28, 5, 4),
-        (45, 8, 9),
-        (46, 9, 0),
-        (50, 9, 8),
-    ];
-    for (number, row, column) in places {
-        let square = Dsq::new(number).ok_or("no square")?;
-        assert!(rt; square.number() == number);
-        assert!(rt; square.row() == row, "at {number}");
-        assert!(rt; square.column() == column, "at {number}");
-        assert!(rt; Dsq::at(row, column) == Some(square), "at {number}");
+    for case in PLACES.lines() {
+        assert!(rt; is_placed(case)?, "{case}");
     }
     assert!(rt; Dsq::new(0) == None);
     assert!(rt; Dsq::new(51) == None);
@@ -36,28 +52,19 @@ fn numbers_have_their_places(rt: HostRuntime) -> Result<(), Fail> {
     Ok(())
 }
 
-#[test]
-fn lines_go_to_the_edge(rt: HostRuntime) -> Result<(), Fail> {
-    let from = Dsq::new(28).ok_or("no square")?;
-    let mut rest = from.line(Direction::UpLeft);
-    let mut squares = [0; 4];
-    for i in 0..4 {
-        squares[i] = rest.pop().ok_or("no square")?.number();
-    }
-    assert!(rt; squares == [6, 11, 17, 22]);
-    assert!(rt; from.step(Direction::DownRight) == Dsq::new(33));
-    assert!(rt; from.line(Direction::DownLeft).len() == 4);
-    Ok(())
-}
-
 // The way up to the left from 28 is 22, 17, 11 and 6.
 #[test]
-fn a_line_meets_the_first_square_of_a_set(rt: HostRuntime) -> Result<(), Fail> {
-    let from = Dsq::new(28).ok_or("no square")?;
-    let near = Dsq::new(17).ok_or("no square")?;
-    let far = Dsq::new(6).ok_or("no square")?;
+fn lines_go_to_the_edge(rt: HostRuntime) -> Result<(), Fail> {
+    let from = square(28)?;
+    let (near, far) = (square(17)?, square(6)?);
+    let mut rest = from.line(Direction::UpLeft);
+    assert!(rt; rest.len() == 4);
+    for number in [6, 11, 17, 22] {
+        assert!(rt; rest.pop() == Dsq::new(number), "{number}");
+    }
+    assert!(rt; from.step(Direction::DownRight) == Dsq::new(33));
+    assert!(rt; from.line(Direction::DownLeft).len() == 4);
     let both = DSet::new().with(far).with(near);
-    assert!(rt; from.line(Direction::UpLeft).len() == 4);
     assert!(rt; from.first_on(Direction::UpLeft, both) == Some(near));
     assert!(rt; from.first_on(Direction::UpLeft, both.without(near)) == Some(far));
     assert!(rt; from.first_on(Direction::UpRight, both) == None);
@@ -67,46 +74,40 @@ fn a_line_meets_the_first_square_of_a_set(rt: HostRuntime) -> Result<(), Fail> {
 }
 
 #[test]
-fn opening_leaves_two_rows_empty(rt: HostRuntime) {
+fn sets_are_their_squares(rt: HostRuntime) -> Result<(), Fail> {
+    let (near, far) = (square(7)?, square(44)?);
+    let both = DSet::new().with(far).with(near).with(far);
+    assert!(rt; DSet::new().is_empty());
+    assert!(rt; both.contains(near));
+    assert!(rt; both.len() == 2);
+    assert!(rt; Numbers::of(both).as_slice() == [7, 44].as_slice());
+    assert!(rt; both == DSet::new().with(near).with(far));
+    assert!(rt; both.compare(DSet::new().with(far)) == Ordering::Less);
+    let played = DMove {
+        from: far,
+        to: near,
+        taken: both,
+    };
+    assert!(rt; played == played);
+    Ok(())
+}
+
+// Twenty men a side, and two empty rows between them.
+#[test]
+fn a_game_opens_with_forty_men(rt: HostRuntime) {
     let position = DPos::opening();
+    assert!(rt; position.turn() == Side::First);
     assert!(rt; position.empty_squares().len() == 10);
     assert!(rt; position.kings().is_empty());
     assert!(rt; position.squares_of(Side::First).len() == 20);
-}
-
-#[test]
-fn opening_has_twenty_men_a_side(rt: HostRuntime) -> Result<(), Fail> {
-    let position = DPos::opening();
-    assert!(rt; position.turn() == Side::First);
     for square in &Dsq::all() {
         let stands = match square.number() {
             1..=20 => Some(man(Side::Second)),
             31..=50 => Some(man(Side::First)),
             _ => None,
         };
-        assert!(rt; position.at(*square) == stands);
+        assert!(rt; position.at(*square) == stands, "{}", square.number());
     }
-    Ok(())
-}
-
-#[test]
-fn a_position_changes_square_by_square(rt: HostRuntime) -> Result<(), Fail> {
-    let near = Dsq::new(7).ok_or("no square")?;
-    let far = Dsq::new(44).ok_or("no square")?;
-    let mut position = DPos::new(Side::First);
-    position.put(near, man(Side::First));
-    position.put(far, man(Side::Second));
-    position.pass();
-    assert!(rt; position.turn() == Side::Second);
-    let before = position;
-    assert!(rt; before == position);
-    position.clear(near);
-    assert!(rt; before != position);
-    assert!(rt; position.at(near) == None);
-    assert!(rt; position.at(far) == Some(man(Side::Second)));
-    position.clear_all(DSet::new().with(far));
-    assert!(rt; position.at(far) == None);
-    Ok(())
 }
 
 fn hash_of(position: &DPos) -> u64 {
@@ -128,39 +129,26 @@ fn two_men(first: Dsq, second: Dsq, in_order: bool) -> DPos {
     position
 }
 
+// A position is what stands on it and whose turn it is, and is hashed by that.
 #[test]
-fn positions_are_hashed_by_what_stands_on_them(rt: HostRuntime) -> Result<(), Fail> {
-    let near = Dsq::new(7).ok_or("no square")?;
-    let far = Dsq::new(44).ok_or("no square")?;
-    let one = two_men(near, far, true);
-    one.keeps_to_its_squares();
-    let hashed = hash_of(&one);
+fn a_position_changes_square_by_square(rt: HostRuntime) -> Result<(), Fail> {
+    let (near, far) = (square(7)?, square(44)?);
+    let before = two_men(near, far, true);
+    before.keeps_to_its_squares();
+    let hashed = hash_of(&before);
     assert!(rt; hashed == hash_of(&two_men(near, far, false)));
-    let mut passed = one;
-    passed.pass();
-    assert!(rt; hashed != hash_of(&passed));
-    let mut moved = one;
-    moved.clear(near);
-    assert!(rt; hashed != hash_of(&moved));
-    Ok(())
-}
-
-#[test]
-fn sets_are_their_squares(rt: HostRuntime) -> Result<(), Fail> {
-    let near = Dsq::new(7).ok_or("no square")?;
-    let far = Dsq::new(44).ok_or("no square")?;
-    let both = DSet::new().with(far).with(near).with(far);
-    assert!(rt; DSet::new().is_empty());
-    assert!(rt; both.contains(near));
-    assert!(rt; both.len() == 2);
-    assert!(rt; Numbers::of(both).as_slice() == [7, 44].as_slice());
-    assert!(rt; both == DSet::new().with(near).with(far));
-    assert!(rt; both.compare(DSet::new().with(far)) == std::cmp::Ordering::Less);
-    let played = DMove {
-        from: far,
-        to: near,
-        taken: both,
-    };
-    assert!(rt; played == played);
+    let mut position = before;
+    assert!(rt; before == position);
+    position.pass();
+    assert!(rt; position.turn() == Side::Second);
+    assert!(rt; hashed != hash_of(&position));
+    position.pass();
+    position.clear(near);
+    assert!(rt; before != position);
+    assert!(rt; hashed != hash_of(&position));
+    assert!(rt; position.at(near) == None);
+    assert!(rt; position.at(far) == Some(man(Side::Second)));
+    position.clear_all(DSet::new().with(far));
+    assert!(rt; position.at(far) == None);
     Ok(())
 }

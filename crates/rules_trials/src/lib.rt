@@ -1,4 +1,5 @@
-//! Trials of the games' rules, texts and records: values from outside against what the public calls answer. It has tests alone.
+//! Trials of the games' rules, texts and records: values from outside against what the public calls answer. It has
+//! tests alone.
 #![tactic(auto)]
 
 #[cfg(test)]
@@ -8,7 +9,11 @@ mod draughts_ends;
 #[cfg(test)]
 mod draughts_legal;
 #[cfg(test)]
+mod draughts_told;
+#[cfg(test)]
 mod draughts_words;
+#[cfg(test)]
+mod faults;
 #[cfg(test)]
 mod long_line;
 #[cfg(test)]
@@ -22,13 +27,13 @@ mod pdn_written;
 #[cfg(test)]
 mod pieces_written;
 #[cfg(test)]
-mod sfen_read;
-#[cfg(test)]
-mod sfen_written;
+mod sfen_texts;
 #[cfg(test)]
 mod shogi_ends;
 #[cfg(test)]
 mod shogi_legal;
+#[cfg(test)]
+mod shogi_told;
 #[cfg(test)]
 mod shogi_words;
 #[cfg(test)]

@@ -1,11 +1,8 @@
-//! A line of six hundred moves without a capture and without an end before the last: kings go about, and a man moves at least
-//! once in fifty plies. From `W:WK36,K45,46,47,48,49,50:B1,2,3,4,5,K6,K15`.
+//! A line of six hundred moves without a capture and without an end before the last: kings go about, and a man moves
+//! at least once in fifty plies. From `W:WK36,K45,46,47,48,49,50:B1,2,3,4,5,K6,K15`.
 
-use squares::{DMove, DSet, Dsq};
-use std::alloc::Global;
-use std::test::Fail;
-
-const MOVES: &str =
+/// The moves of the line.
+pub const MOVES: &str =
     "45-18 6-17 36-31 15-10 18-45 10-28 31-36 17-21 36-41 28-10 45-29 21-8 41-36 8-17 29-38 \
     17-12 38-15 12-40 36-27 40-12 27-16 12-26 15-38 26-12 38-20 12-17 20-42 17-39 16-27 \
     10-15 27-36 39-17 42-26 17-33 36-41 33-11 41-14 15-33 50-45 33-50 14-23 11-6 26-42 6-39 \
@@ -47,24 +44,3 @@ const MOVES: &str =
     23-28 50-39 17-8 30-25 8-3 39-50 3-9 50-44 9-14 44-50 14-9 50-44 9-13 44-50 13-24 50-39 \
     24-19 39-50 19-2 50-44 2-19 44-49 19-35 46-41 35-13 49-35 13-9 35-8 9-3 8-19 28-33 38-32 \
     3-9";
-
-fn square(digits: &str) -> Result<Dsq, Fail> {
-    match digits.parse::<u8>() {
-        Ok(number) => Ok(Dsq::new(number).ok_or("no square")?),
-        Err(_) => Err(Fail::new("no number")),
-    }
-}
-
-/// The moves of the line.
-pub fn moves(alloc: Global) -> Result<Vec<DMove>, Fail> {
-    let mut moves = Vec::new(alloc);
-    for word in MOVES.split_whitespace() {
-        let (from, to) = word.split_once("-").ok_or("a move")?;
-        moves.push(DMove {
-            from: square(from)?,
-            to: square(to)?,
-            taken: DSet::new(),
-        })?;
-    }
-    Ok(moves)
-}

@@ -1,97 +1,53 @@
-//! Texts that are read, and texts that are refused.
-use draughts_moves::Illegal;
-use pdn_games::{PdnFault, PdnGame, read_game};
+//! Texts of games that are read, and texts that are refused.
+use crate::draughts_told::told_moves;
+use crate::pdn_samples::{BY_HAND, COMMENTED, MOVES, TAGS, TWO_CAPTURES};
+use pdn_games::read_game;
 use squares::Score;
-use std::alloc::Global;
+use std::alloc::{AllocGlobal, Global};
+use std::process::Abort;
 use std::test::Fail;
 
-fn game(alloc: Global, text: &str) -> Result<PdnGame, Fail> {
-    Ok(read_game(alloc, text.as_bytes()).ok().ok_or("a game")?)
-}
-
-fn fault(alloc: Global, text: &str) -> Option<PdnFault> {
-    read_game(alloc, text.as_bytes()).err()
-}
-
-static AUTUMN: &str =
-    "[Event \"autumn\"]\n[Date \"1970.01.01\"]\n[White \"anna\"]\n[Black \"bert\"]\n[Result \"0-2\"]\n[GameType \"20\"]\n\n1. 32-28 19-23\n0-2\n";
-
-#[test]
-fn a_written_game_is_read(rt: HostRuntime) -> Result<(), Fail> {
-    let read = game(rt.alloc(), AUTUMN)?;
-    assert!(rt; read.score == Score::SecondWins);
-    assert!(rt; read.moves.len() == 2);
-    let played = read.moves.as_slice().first().copied().ok_or("a move")?;
-    assert!(rt; played.from.number() == 32);
-    assert!(rt; played.to.number() == 28);
-    Ok(())
-}
-
-// Each beginning of the text that lacks a part of its result is refused.
-#[test]
-fn a_cut_text_is_no_game(rt: HostRuntime) -> Result<(), Fail> {
-    let whole = AUTUMN.as_bytes();
-    for count in 0..whole.len() - 1 {
-        let read = read_game(rt.alloc(), &whole[..count]);
-        assert!(rt; read.err().is_some(), "{count}");
-    }
-    assert!(rt; game(rt.alloc(), AUTUMN)?.moves.len() == 2);
-    Ok(())
-}
-
-// Cases, each with a `|` after it: the offset of the least fault, and the text.
-const BAD_TEXTS: &str = "0@|\
-0@ \t\r\n{all} $1 (passed) !? ;over|\
-2@  ]|\
-0@{|\
-1@ {1-1|\
-4@1-1 {|\
-0@$|\
-0@$ 1|\
-4@1-1 $|\
-0@(|\
-1@ ( (1) |\
-3@1. ((2) 1-1|\
-0@({) 1-1|\
-4@1-1 1-1|\
-4@1-1 1.|\
-3@1. [Event \"a\"] *|\
-5@32-28[Event \"a\"]|\
-5@32-28. *|\
-5@32-285 *|\
-5@32-28x5 *|\
-5@28x19x *|\
-5@28x19-10 *|\
-0@328-5 *|\
-0@51-46 *|\
-0@1 32-28 *|\
-4@1.. 32 *|\
-3@1-0x|\
-3@2-0-|\
-0@1/2 *|\
-1@*1|\
-0@[Event] *|\
-0@[Event \"a] *|\
-0@[Event \"a\\\"] *|\
-1@ [Event\n\"a\"] *|\
-0@[ \"a\"] *|\
-7@[A \"b\"]%no\n*|\
-0@a%b *|\
-1@ % *\n*";
-
-// What has not the form is refused at the least offset.
-#[test]
-fn a_bad_text_says_where(rt: HostRuntime) -> Result<(), Fail> {
-    for case in BAD_TEXTS.split('|') {
-        let (offset, text) = case.split_once('@').ok_or("a case")?;
-        let wanted = PdnFault::BadText(offset.parse()?);
-        assert!(rt; fault(rt.alloc(), text) == Some(wanted), "{text}");
-    }
-    Ok(())
-}
-
-// Cases, each with a `|` after it: why the text is refused, and the text.
-const REFUSED: &str = "25 Unfinished@32-28|\
+// Cases, each with a `|` after it: why the text is refused, and the text. What has not the form is refused at the
+// least offset.
+const REFUSED: &str = "20 BadText 0@|\
+20 BadText 0@ \t\r\n{all} $1 (passed) !? ;over|\
+20 BadText 2@  ]|\
+20 BadText 0@{|\
+20 BadText 1@ {1-1|\
+20 BadText 4@1-1 {|\
+20 BadText 0@$|\
+20 BadText 0@$ 1|\
+20 BadText 4@1-1 $|\
+20 BadText 0@(|\
+20 BadText 1@ ( (1) |\
+20 BadText 3@1. ((2) 1-1|\
+20 BadText 0@({) 1-1|\
+20 BadText 4@1-1 1-1|\
+20 BadText 4@1-1 1.|\
+20 BadText 3@1. [Event \"a\"] *|\
+20 BadText 5@32-28[Event \"a\"]|\
+20 BadText 5@32-28. *|\
+20 BadText 5@32-285 *|\
+20 BadText 5@32-28x5 *|\
+20 BadText 5@28x19x *|\
+20 BadText 5@28x19-10 *|\
+20 BadText 0@328-5 *|\
+20 BadText 0@51-46 *|\
+20 BadText 0@1 32-28 *|\
+20 BadText 4@1.. 32 *|\
+20 BadText 3@1-0x|\
+20 BadText 3@2-0-|\
+20 BadText 0@1/2 *|\
+20 BadText 1@*1|\
+20 BadText 0@[Event] *|\
+20 BadText 0@[Event \"a] *|\
+20 BadText 0@[Event \"a\\\"] *|\
+20 BadText 1@ [Event\n\"a\"] *|\
+20 BadText 0@[ \"a\"] *|\
+20 BadText 7@[A \"b\"]%no\n*|\
+20 BadText 0@a%b *|\
+20 BadText 1@ % *\n*|\
+25 Unfinished@32-28|\
 25 Unfinished@32-28 *|\
 25 Unfinished@*{} \n%|\
 25 Unfinished@[Result \"2-0\"] 32-28 *|\
@@ -107,29 +63,28 @@ const REFUSED: &str = "25 Unfinished@32-28|\
 27 ResultDiffers@[Result \"2-0\"] 32-28 0-2|\
 27 ResultDiffers@[Result \"1/2-1/2\"] 32-28 0-2";
 
-#[test]
-fn texts_are_refused_in_order(rt: HostRuntime) -> Result<(), Fail> {
-    for case in REFUSED.split('|') {
-        let (wanted, text) = case.split_once('@').ok_or("a case")?;
-        let found = fault(rt.alloc(), text).ok_or("a fault")?;
-        assert!(rt;
-            format!(in rt.alloc(); "{found}")?.as_str() == wanted,
-            "{text}"
-        );
-    }
-    Ok(())
-}
-
-// Cases, each with a `|` after it: the plies, the score, and the text.
+// Cases, each with a `|` after it: the plies, the score and the moves, and the text.
 const READ: &str = "0 1-1@1-1|\
 0 2-0@[Result \"*\"] 2-0|\
 0 2-0@[Result \"0-0\"] 1-0|\
 0 1-1@[Result \"1-1\"][Result \"2-0\"]1/2-1/2|\
 0 0-2@[GameType \"20,W,10,10,N2,0\"] 0-1|\
 0 0-2@[FEN \"W:B1-20:W31-50.\"] 0-2|\
-3 0-2@[Event \"a\\\"b\\\\\"]99....32-28!? 7.19-23{x}28x19 0-2|\
-2 2-0@032-028 (1. 3 ( {)} ) ) 19-023 2-0|\
-2 2-0@[ A  \"]\" ]\n%no\n32-28;19-24\n19-23\r\n%1-1\r\n2-0";
+3 0-2 32-28 19-23 28-19-23@[Event \"a\\\"b\\\\\"]99....32-28!? 7.19-23{x}28x19 0-2|\
+2 2-0 32-28 19-23@032-028 (1. 3 ( {)} ) ) 19-023 2-0|\
+2 2-0 32-28 19-23@[ A  \"]\" ]\n%no\n32-28;19-24\n19-23\r\n%1-1\r\n2-0";
+
+// The same for texts that go on after a game that the rules have ended.
+const AFTER_THE_END: &str = "27 ResultDiffers@1-1|\
+27 ResultDiffers@0-1|\
+25 Unfinished@*|\
+25 Unfinished@|\
+26 AfterEnd 60@7-11 2-0|\
+26 AfterEnd 60@50x49 2-0";
+
+// The same for two texts of captures: the first fits two of them.
+const CAPTURES: &str = "21 Ambiguous 80@47x49 2-0|\
+25 Unfinished@47x29x40x49 *";
 
 fn told_score(score: Score) -> &'static str {
     match score {
@@ -139,43 +94,69 @@ fn told_score(score: Score) -> &'static str {
     }
 }
 
-#[test]
-fn texts_are_read(rt: HostRuntime) -> Result<(), Fail> {
-    for case in READ.split('|') {
-        let (wanted, text) = case.split_once('@').ok_or("a case")?;
-        let read = game(rt.alloc(), text)?;
-        let found = format!(in rt.alloc(); "{} {}", read.moves.len(), told_score(read.score))?;
-        assert!(rt; found.as_str() == wanted, "{text}");
+// The plies, the score and the moves of a text's game, or why the text is refused.
+fn told(alloc: Global, text: &[u8]) -> Result<String, Fail> {
+    match read_game(alloc, text) {
+        Ok(game) => {
+            let moves = told_moves(alloc, game.moves.as_slice())?;
+            let (plies, score) = (game.moves.len(), told_score(game.score));
+            Ok(format!(in alloc; "{plies} {score}{moves}")?)
+        }
+        Err(fault) => Ok(format!(in alloc; "{fault}")?),
+    }
+}
+
+// Whether each text that begins so is told as it is wanted.
+fn all_hold<R: Abort + AllocGlobal>(rt: &R, beginning: &str, cases: &str) -> Result<(), Fail> {
+    for case in cases.split('|') {
+        let (wanted, rest) = case.split_once('@').ok_or("a case")?;
+        let text = format!(in rt.alloc(); "{beginning}{rest}")?;
+        assert!(rt;
+            told(rt.alloc(), text.as_bytes())?.as_str() == wanted,
+            "{case}"
+        );
     }
     Ok(())
 }
 
 #[test]
-fn faults_are_told(rt: HostRuntime) -> Result<(), Fail> {
-    let illegal = PdnFault::Illegal {
-        ply: 3,
-        cause: Illegal::MustCapture,
-    };
+fn texts_are_read_and_refused(rt: HostRuntime) -> Result<(), Fail> {
+    all_hold(&rt, "", REFUSED)?;
+    all_hold(&rt, "", READ)?;
+    all_hold(&rt, MOVES, AFTER_THE_END)?;
+    all_hold(&rt, TWO_CAPTURES, CAPTURES)?;
+    let brackets = vec![in rt.alloc(); b'('; 60_000]?;
+    assert!(rt; told(rt.alloc(), &brackets)?.as_str() == "20 BadText 0");
+    Ok(())
+}
+
+#[test]
+fn one_game_is_read_from_three_records(rt: HostRuntime) -> Result<(), Fail> {
+    let text = format!(in rt.alloc(); "{TAGS}\n{MOVES}2-0")?;
+    let listed = told(rt.alloc(), text.as_bytes())?;
     assert!(rt;
-        format!(in rt.alloc();
-            "{illegal}, {}, {}, {}",
-            PdnFault::BadText(0),
-            PdnFault::Ambiguous(12),
-            PdnFault::OtherType
-        )?
-        .as_str()
-            == "22 Illegal 3 11, 20 BadText 0, 21 Ambiguous 12, 23 OtherType"
+        listed
+            .as_str()
+            .starts_with("59 2-0 32-28 20-24 37-32 19-23 ")
     );
-    assert!(rt;
-        format!(in rt.alloc();
-            "{}, {}, {}, {}",
-            PdnFault::OtherOpening,
-            PdnFault::Unfinished,
-            PdnFault::AfterEnd(601),
-            PdnFault::ResultDiffers
-        )?
-        .as_str()
-            == "24 OtherOpening, 25 Unfinished, 26 AfterEnd 601, 27 ResultDiffers"
-    );
+    let commented = told(rt.alloc(), COMMENTED.as_bytes())?;
+    assert!(rt; commented.as_str() == listed.as_str());
+    let by_hand = told(rt.alloc(), BY_HAND.as_bytes())?;
+    assert!(rt; by_hand.as_str() == listed.as_str());
+    Ok(())
+}
+
+static AUTUMN: &str =
+    "[Event \"autumn\"]\n[Date \"1970.01.01\"]\n[White \"anna\"]\n[Black \"bert\"]\n[Result \"0-2\"]\n[GameType \"20\"]\n\n1. 32-28 19-23\n0-2\n";
+
+// Each beginning of the text that lacks a part of its result is refused.
+#[test]
+fn a_cut_text_is_no_game(rt: HostRuntime) -> Result<(), Fail> {
+    let whole = AUTUMN.as_bytes();
+    for count in 0..whole.len() - 1 {
+        let read = read_game(rt.alloc(), &whole[..count]);
+        assert!(rt; read.err().is_some(), "{count}");
+    }
+    assert!(rt; told(rt.alloc(), whole)?.as_str() == "2 0-2 32-28 19-23");
     Ok(())
 }

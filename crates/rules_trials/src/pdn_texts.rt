@@ -1,47 +1,127 @@
-use draughts_moves::{Illegal, legal};
-use pdn::{FenFault, Memory, MoveFault, read_fen, read_move, write_fen, write_move};
-use squares::{DMove, DPiece, DPos, DSet, Dsq, Side};
+use crate::draughts_told::{position, told_move};
+use draughts_moves::{check, legal};
+use pdn::{read_fen, read_move, write_fen, write_move};
+use squares::{DPos, DSet, Numbers, Side};
 use std::alloc::Global;
 use std::test::Fail;
 
-fn place(position: &mut DPos, side: Side, king: bool, numbers: &[u8]) {
-    for number in numbers {
-        match Dsq::new(*number) {
-            Some(square) => position.put(square, DPiece { side, king }),
-            None => {}
+// The text of a position, the text that is written for it, and what it is read as: whose turn it is, the squares of
+// White's and of Black's pieces, and those of the kings. Or the text of no position, and the length of the longest
+// beginning that begins a position's text, or that of the second item that gives a square.
+const POSITIONS: &str = "\
+W:B1-20:W31-50.@\
+W:W31,32,33,34,35,36,37,38,39,40,41,42,43,44,45,46,47,48,49,50:B1,2,3,4,5,6,7,8,9,10,11,12,13,14,15,16,17,18,19,20@\
+W, 31 32 33 34 35 36 37 38 39 40 41 42 43 44 45 46 47 48 49 50, 1 2 3 4 5 6 7 8 9 10 11 12 13 14 15 16 17 18 19 20,
+W:WK046:B17,27,31,41@W:WK46:B17,27,31,41@W, 46, 17 27 31 41, 46
+B:B:W@B:W:B@B,,,
+B:BK08,7:W9-11,K5,28-28@B:WK5,9,10,11,28:B7,K8@B, 5 9 10 11 28, 7 8, 5 8
+@no such text after 0 bytes
+w:W:B@no such text after 0 bytes
+W;W:B@no such text after 1 bytes
+W:@no such text after 2 bytes
+W:31@no such text after 2 bytes
+W:W31@no such text after 5 bytes
+W:W31:W1@no such text after 6 bytes
+W:W31:B1 @no such text after 8 bytes
+W:W31:B1..@no such text after 9 bytes
+W:W51:B1@no such text after 4 bytes
+W:WK@no such text after 4 bytes
+W:WK1-5:B@no such text after 5 bytes
+W:W1,:B@no such text after 5 bytes
+W:W31-30:B@no such text after 7 bytes
+W:W31-2:B@no such text after 6 bytes
+W:W31-05:B@no such text after 8 bytes
+W:W31,31:B1@no such text after 6 bytes
+W:W31:B1-31@no such text after 7 bytes
+W:W31,31:B0@no such text after 11 bytes";
+
+// The numbers of the squares of a set, each with a blank before it.
+fn told_set(alloc: Global, squares: DSet) -> Result<String, Fail> {
+    let mut text = String::new(alloc);
+    for number in Numbers::of(squares).as_slice() {
+        text.push_str(format!(in alloc; " {number}")?.as_str())?;
+    }
+    Ok(text)
+}
+
+fn told_position(alloc: Global, position: &DPos) -> Result<String, Fail> {
+    let first = told_set(alloc, position.squares_of(Side::First))?;
+    let second = told_set(alloc, position.squares_of(Side::Second))?;
+    let kings = told_set(alloc, position.kings())?;
+    let turn = match position.turn() {
+        Side::First => "W",
+        Side::Second => "B",
+    };
+    Ok(format!(in alloc; "{turn},{first},{second},{kings}")?)
+}
+
+fn position_told(alloc: Global, text: &str) -> Result<String, Fail> {
+    match read_fen(alloc, text) {
+        Ok(position) => {
+            let written = write_fen(alloc, &position)?;
+            let told = told_position(alloc, &position)?;
+            Ok(format!(in alloc; "{written}@{told}")?)
         }
+        Err(fault) => Ok(format!(in alloc; "{fault}")?),
     }
 }
 
-// W:WK46:B17,27,31,41
-fn six_captures() -> DPos {
-    let mut position = DPos::new(Side::First);
-    place(&mut position, Side::First, true, &[46]);
-    place(&mut position, Side::Second, false, &[17, 27, 31, 41]);
-    position
-}
-
-// A move by numbers: from, to, and the squares taken.
-fn by_numbers(from: u8, to: u8, taken: &[u8]) -> Option<DMove> {
-    let mut squares = DSet::new();
-    for number in taken {
-        squares = squares.with(Dsq::new(*number)?);
+#[test]
+fn positions_are_read_and_written(rt: HostRuntime) -> Result<(), Fail> {
+    for case in POSITIONS.lines() {
+        let (text, wanted) = case.split_once('@').ok_or("a case")?;
+        assert!(rt;
+            position_told(rt.alloc(), text)?.as_str() == wanted,
+            "{case}"
+        );
     }
-    Some(DMove {
-        from: Dsq::new(from)?,
-        to: Dsq::new(to)?,
-        taken: squares,
-    })
+    assert!(rt; read_fen(rt.alloc(), "W:B1-20:W31-50.") == Ok(DPos::opening()));
+    Ok(())
 }
 
-// The texts of the legal moves, parted by blanks.
-fn listed(alloc: Global, position: &DPos) -> Result<String, Memory> {
+// What the text of a move is read as in a position: the squares that it leaves and comes to and those whose pieces it
+// takes, why it is refused, or the length of the longest beginning that begins a move's text. The word `all` asks for
+// the texts of all moves.
+const MOVES: &str = "\
+W:W31-50:B1-20|all|31-26 31-27 32-27 32-28 33-28 33-29 34-29 34-30 35-30
+W:WK46:B17,27,31,41|all|46x32x21x3 46x37x26x3 46x32x21x8 46x37x26x8 46x32x21x12 46x37x26x12
+W:WK46:B17,27,31,41|46x12|more than one capture fits
+W:WK46:B17,27,31,41|46x37x26x12|46-12-17-31-41
+W:WK46:B17,27,31,41|46x32x21x12|46-12-17-27-41
+W:WK46:B17,27,31,41|46x26x12|46-12-17-31-41
+W:WK46:B17,27,31,41|046:37:26x012|46-12-17-31-41
+W:W28:BK22,14,23|all|28x10
+W:W28:BK22,14,23|28x10|28-10-14-23
+W:W28:BK22,14,23|28x19x10|28-10-14-23
+W:W28:BK22,14,23|28x17|as many pieces as can be must be taken
+W:W28:BK22,14,23|28x19|as many pieces as can be must be taken
+W:W28:BK22,14,23|28x18|no piece of the side to move can move so
+W:W28:BK22,14,23|28x17x10|no piece of the side to move can move so
+W:W28:BK22,14,23|28-27|no piece of the side to move can move so
+W:W31-50:B1-20||no such text after 0 bytes
+W:W31-50:B1-20|51-46|no such text after 1 bytes
+W:W31-50:B1-20|005-10|no such text after 1 bytes
+W:W31-50:B1-20|0-5|no such text after 1 bytes
+W:W31-50:B1-20|32|no such text after 2 bytes
+W:W31-50:B1-20|32 -28|no such text after 2 bytes
+W:W31-50:B1-20|32-|no such text after 3 bytes
+W:W31-50:B1-20|32-0|no such text after 4 bytes
+W:W31-50:B1-20|32-28 |no such text after 5 bytes
+W:W31-50:B1-20|32-28x17|no such text after 5 bytes
+W:W31-50:B1-20|28x|no such text after 3 bytes
+W:W31-50:B1-20|28x19x|no such text after 6 bytes
+W:W31-50:B1-20|28x19-10|no such text after 5 bytes
+W:W31-50:B1-20|28x19:60|no such text after 7 bytes
+W:W31-50:B1-20|28xx19|no such text after 3 bytes";
+
+// The texts of the legal moves, each with a blank before it.
+fn all_texts(alloc: Global, position: &DPos) -> Result<String, Fail> {
     let mut texts = String::new(alloc);
     for played in &legal(alloc, position)? {
-        match draughts_moves::check(position, played) {
+        match check(position, played) {
             Ok(()) => {
-                texts.push_str(write_move(alloc, position, played)?.as_str())?;
                 texts.push_str(" ")?;
+                texts.push_str(write_move(alloc, position, played)?.as_str())?;
             }
             Err(_) => {}
         }
@@ -49,160 +129,33 @@ fn listed(alloc: Global, position: &DPos) -> Result<String, Memory> {
     Ok(texts)
 }
 
-#[test]
-fn positions_are_written(rt: HostRuntime) -> Result<(), Fail> {
-    assert!(rt;
-        write_fen(rt.alloc(), &DPos::opening())?.as_str()
-            == "W:W31,32,33,34,35,36,37,38,39,40,41,42,43,44,45,46,47,48,49,50:B1,2,3,4,5,6,7,8,9,10,11,12,13,14,15,16,17,18,19,20"
-    );
-    assert!(rt; write_fen(rt.alloc(), &six_captures())?.as_str() == "W:WK46:B17,27,31,41");
-    assert!(rt; write_fen(rt.alloc(), &DPos::new(Side::Second))?.as_str() == "B:W:B");
-    Ok(())
+fn move_told(alloc: Global, position: &DPos, text: &str) -> Result<String, Fail> {
+    match read_move(alloc, position, text) {
+        Ok(played) => told_move(alloc, &played),
+        Err(fault) => Ok(format!(in alloc; "{fault}")?),
+    }
 }
 
-#[test]
-fn positions_are_read(rt: HostRuntime) -> Result<(), Fail> {
-    let opening = read_fen(rt.alloc(), "W:B1-20:W31-50.");
-    assert!(rt; opening == Ok(DPos::opening()));
-    let captures = read_fen(rt.alloc(), "W:WK046:B17,27,31,41");
-    assert!(rt; captures == Ok(six_captures()));
-    let empty = read_fen(rt.alloc(), "B:B:W");
-    assert!(rt; empty == Ok(DPos::new(Side::Second)));
-    match read_fen(rt.alloc(), "B:BK08,7:W9-11,K5,28-28") {
-        Ok(position) => {
-            assert!(rt; write_fen(rt.alloc(), &position)?.as_str() == "B:WK5,9,10,11,28:B7,K8");
+// Whether the text is told so in the position.
+fn holds(alloc: Global, case: &str) -> Result<bool, Fail> {
+    let parts: Vec<&str> = case.split('|').collect(alloc)?;
+    match *parts.as_slice() {
+        [start, "all", wanted] => {
+            let told = all_texts(alloc, &position(alloc, start)?)?;
+            Ok(told.as_str().trim() == wanted)
         }
-        Err(fault) => assert!(rt; false, "{fault}"),
+        [start, text, wanted] => {
+            let told = move_told(alloc, &position(alloc, start)?, text)?;
+            Ok(told.as_str() == wanted)
+        }
+        _ => Err(Fail::new("no case")),
     }
-    Ok(())
 }
 
-// Cases, each with a `|` after it: an offset and a text. The offset is the length of the longest beginning that begins a
-// position's text, or that of the second item that gives a square.
-const BAD_POSITIONS: &str = "0@|\
-0@w:W:B|\
-1@W;W:B|\
-2@W:|\
-2@W:31|\
-5@W:W31|\
-6@W:W31:W1|\
-8@W:W31:B1 |\
-9@W:W31:B1..|\
-4@W:W51:B1|\
-4@W:WK|\
-5@W:WK1-5:B|\
-5@W:W1,:B|\
-7@W:W31-30:B|\
-6@W:W31-2:B|\
-8@W:W31-05:B|\
-6@W:W31,31:B1|\
-7@W:W31:B1-31|\
-11@W:W31,31:B0";
-
 #[test]
-fn a_bad_position_says_where(rt: HostRuntime) -> Result<(), Fail> {
-    for case in BAD_POSITIONS.split('|') {
-        let (offset, text) = case.split_once('@').ok_or("a case")?;
-        let read = read_fen(rt.alloc(), text);
-        assert!(rt; read == Err(FenFault::BadText(offset.parse()?)), "{text}");
+fn moves_are_read_and_written(rt: HostRuntime) -> Result<(), Fail> {
+    for case in MOVES.lines() {
+        assert!(rt; holds(rt.alloc(), case)?, "{case}");
     }
-    Ok(())
-}
-
-#[test]
-fn opening_moves_are_written(rt: HostRuntime) -> Result<(), Fail> {
-    assert!(rt;
-        listed(rt.alloc(), &DPos::opening())?.as_str()
-            == "31-26 31-27 32-27 32-28 33-28 33-29 34-29 34-30 35-30 "
-    );
-    Ok(())
-}
-
-#[test]
-fn captures_with_one_from_and_to_name_their_landings(rt: HostRuntime) -> Result<(), Fail> {
-    let position = six_captures();
-    let first = by_numbers(46, 12, &[17, 27, 41]).ok_or("no squares")?;
-    let second = by_numbers(46, 12, &[17, 31, 41]).ok_or("no squares")?;
-    assert!(rt; read_move(rt.alloc(), &position, "46x12") == Err(MoveFault::Ambiguous));
-    let left = read_move(rt.alloc(), &position, "46x37x26x12");
-    let right = read_move(rt.alloc(), &position, "46x32x21x12");
-    assert!(rt; left != right);
-    assert!(rt; left == Ok(first) || left == Ok(second));
-    assert!(rt; right == Ok(first) || right == Ok(second));
-    assert!(rt; read_move(rt.alloc(), &position, "46x26x12") == left);
-    assert!(rt; read_move(rt.alloc(), &position, "046:37:26x012") == left);
-    let texts = listed(rt.alloc(), &position)?;
-    assert!(rt; texts.as_str().contains("46x37x26x12 "));
-    assert!(rt; texts.as_str().contains("46x32x21x12 "));
-    Ok(())
-}
-
-// W:W28:BK22,14,23
-#[test]
-fn refused_texts_have_their_causes(rt: HostRuntime) -> Result<(), Fail> {
-    let mut position = DPos::new(Side::First);
-    place(&mut position, Side::First, false, &[28]);
-    place(&mut position, Side::Second, true, &[22]);
-    place(&mut position, Side::Second, false, &[14, 23]);
-    assert!(rt; listed(rt.alloc(), &position)?.as_str() == "28x10 ");
-    let played = by_numbers(28, 10, &[14, 23]).ok_or("no squares")?;
-    assert!(rt; read_move(rt.alloc(), &position, "28x10") == Ok(played));
-    assert!(rt; read_move(rt.alloc(), &position, "28x19x10") == Ok(played));
-    let illegal = |cause| Err(MoveFault::Illegal(cause));
-    assert!(rt; read_move(rt.alloc(), &position, "28x17") == illegal(Illegal::NotLongest));
-    assert!(rt; read_move(rt.alloc(), &position, "28x19") == illegal(Illegal::NotLongest));
-    assert!(rt; read_move(rt.alloc(), &position, "28x18") == illegal(Illegal::NoSuchMove));
-    assert!(rt; read_move(rt.alloc(), &position, "28x17x10") == illegal(Illegal::NoSuchMove));
-    assert!(rt; read_move(rt.alloc(), &position, "28-27") == illegal(Illegal::NoSuchMove));
-    Ok(())
-}
-
-// The same for texts of moves.
-const BAD_MOVES: &str = "0@|\
-1@51-46|\
-1@005-10|\
-1@0-5|\
-2@32|\
-2@32 -28|\
-3@32-|\
-4@32-0|\
-5@32-28 |\
-5@32-28x17|\
-3@28x|\
-6@28x19x|\
-5@28x19-10|\
-7@28x19:60|\
-3@28xx19";
-
-#[test]
-fn a_bad_text_says_where(rt: HostRuntime) -> Result<(), Fail> {
-    for case in BAD_MOVES.split('|') {
-        let (offset, text) = case.split_once('@').ok_or("a case")?;
-        assert!(rt;
-            read_move(rt.alloc(), &DPos::opening(), text)
-                == Err(MoveFault::BadText(offset.parse()?)),
-            "{text}"
-        );
-    }
-    Ok(())
-}
-
-#[test]
-fn faults_are_told(rt: HostRuntime) -> Result<(), Fail> {
-    assert!(rt;
-        format!(in rt.alloc();
-            "{}, {}, {}, {}",
-            MoveFault::Illegal(Illegal::NotLongest),
-            MoveFault::Ambiguous,
-            MoveFault::BadText(3),
-            MoveFault::Memory
-        )?
-        .as_str()
-            == "as many pieces as can be must be taken, more than one capture fits, no such text after 3 bytes, out of memory"
-    );
-    assert!(rt;
-        format!(in rt.alloc(); "{}, {}", FenFault::BadText(5), FenFault::Memory)?.as_str()
-            == "no such text after 5 bytes, out of memory"
-    );
     Ok(())
 }

@@ -6,22 +6,14 @@ ghost use Rattle.draughts_draws.specs.Faults.{IsPlayed};
 ghost use Rattle.record_writer.specs.Pieces.{AppendsSome};
 ghost use Rattle.pdn_games.specs.Writer.{whole_text};
 
+use crate::draughts_told::line;
 use clocks::{Moment, civil};
 use draughts_draws::judge;
 use pdn_games::{GameWriter, PdnHead, WriteFault, write_game};
-use squares::{DMove, DPos, DSet, Dsq, Score};
+use squares::{DMove, DPos, Score};
 use std::alloc::Global;
 use std::io::Write;
 use std::test::Fail;
-
-// A quiet move.
-fn quiet(from: u8, to: u8) -> Result<DMove, Fail> {
-    Ok(DMove {
-        from: Dsq::new(from).ok_or("on the board")?,
-        to: Dsq::new(to).ok_or("on the board")?,
-        taken: DSet::new(),
-    })
-}
 
 fn autumn(score: Option<Score>) -> Result<PdnHead<'static>, Fail> {
     Ok(PdnHead {
@@ -34,42 +26,33 @@ fn autumn(score: Option<Score>) -> Result<PdnHead<'static>, Fail> {
 }
 
 // The text of a game that the rules allow.
-fn written(alloc: Global, score: Option<Score>, moves: &[DMove]) -> Result<String, Fail> {
-    match judge(alloc, &DPos::opening(), moves) {
-        Ok(_) => Ok(write_game(alloc, &autumn(score)?, moves)?),
+fn written(alloc: Global, score: Option<Score>, texts: &str) -> Result<String, Fail> {
+    let moves = line(alloc, texts)?;
+    match judge(alloc, &DPos::opening(), moves.as_slice()) {
+        Ok(_) => Ok(write_game(alloc, &autumn(score)?, moves.as_slice())?),
         Err(_) => Err(Fail::new("a game by the rules")),
     }
 }
 
-#[test]
-fn an_ended_game_is_written(rt: HostRuntime) -> Result<(), Fail> {
-    let moves = [quiet(32, 28)?, quiet(19, 23)?];
-    let text = written(rt.alloc(), Some(Score::SecondWins), &moves)?;
-    assert!(rt;
-        text.as_str()
-            == "[Event \"autumn\"]\n[Date \"1970.01.01\"]\n[White \"anna\"]\n[Black \"bert\"]\n[Result \"0-2\"]\n[GameType \"20\"]\n\n1. 32-28 19-23\n0-2\n"
-    );
-    Ok(())
-}
+static ENDED: &str =
+    "[Event \"autumn\"]\n[Date \"1970.01.01\"]\n[White \"anna\"]\n[Black \"bert\"]\n[Result \"0-2\"]\n[GameType \"20\"]\n\n1. 32-28 19-23\n0-2\n";
 
-#[test]
-fn a_running_game_has_a_star(rt: HostRuntime) -> Result<(), Fail> {
-    let moves = [quiet(32, 28)?, quiet(20, 25)?, quiet(37, 32)?];
-    let text = written(rt.alloc(), None, &moves)?;
-    assert!(rt;
-        text.as_str()
-            == "[Event \"autumn\"]\n[Date \"1970.01.01\"]\n[White \"anna\"]\n[Black \"bert\"]\n[Result \"*\"]\n[GameType \"20\"]\n\n1. 32-28 20-25\n2. 37-32\n*\n"
-    );
-    Ok(())
-}
+static RUNNING: &str =
+    "[Event \"autumn\"]\n[Date \"1970.01.01\"]\n[White \"anna\"]\n[Black \"bert\"]\n[Result \"*\"]\n[GameType \"20\"]\n\n1. 32-28 20-25\n2. 37-32\n*\n";
 
 static NO_MOVE: &str =
     "[Event \"autumn\"]\n[Date \"1970.01.01\"]\n[White \"anna\"]\n[Black \"bert\"]\n[Result \"1-1\"]\n[GameType \"20\"]\n\n1-1\n";
 
+// A running game has a star, and a game without moves no line of them.
 #[test]
-fn a_game_without_moves_has_no_line_of_them(rt: HostRuntime) -> Result<(), Fail> {
-    let text = written(rt.alloc(), Some(Score::Draw), &[])?;
-    assert!(rt; text.as_str() == NO_MOVE);
+fn games_are_written(rt: HostRuntime) -> Result<(), Fail> {
+    let alloc = rt.alloc();
+    let ended = written(alloc, Some(Score::SecondWins), "32-28 19-23")?;
+    assert!(rt; ended.as_str() == ENDED);
+    let running = written(alloc, None, "32-28 20-25 37-32")?;
+    assert!(rt; running.as_str() == RUNNING);
+    let unplayed = written(alloc, Some(Score::Draw), "")?;
+    assert!(rt; unplayed.as_str() == NO_MOVE);
     Ok(())
 }
 
@@ -96,19 +79,25 @@ fn write_moves<W: Write>(
 static THREE_MOVES: &str =
     "[Event \"autumn\"]\n[Date \"1970.01.01\"]\n[White \"anna\"]\n[Black \"bert\"]\n[Result \"2-0\"]\n[GameType \"20\"]\n\n1. 32-28 20-25\n2. 37-32\n2-0\n";
 
-#[test]
-fn a_game_is_written_move_by_move(rt: HostRuntime) -> Result<(), Fail> {
-    let alloc = rt.alloc();
-    let moves = [quiet(32, 28)?, quiet(20, 25)?, quiet(37, 32)?];
+// Whether the writer took the whole game of three moves.
+fn takes_all<W: Write>(alloc: Global, writer: &mut W) -> Result<bool, Fail> {
+    let moves = line(alloc, "32-28 20-25 37-32")?;
     let head = autumn(Some(Score::FirstWins))?;
-    match judge(alloc, &DPos::opening(), &moves) {
+    match judge(alloc, &DPos::opening(), moves.as_slice()) {
         Ok(_) => {}
         Err(_) => return Err(Fail::new("a game by the rules")),
     }
-    let mut bytes = vec![in alloc; b'>']?;
-    write_moves(alloc, &head, &moves, &mut bytes)
-        .ok()
-        .ok_or("room")?;
+    match write_moves(alloc, &head, moves.as_slice(), writer) {
+        Ok(()) => Ok(true),
+        Err(WriteFault::Writer(_)) => Ok(false),
+        Err(WriteFault::Memory) => Err(Fail::new("memory")),
+    }
+}
+
+#[test]
+fn a_game_is_written_move_by_move(rt: HostRuntime) -> Result<(), Fail> {
+    let mut bytes = vec![in rt.alloc(); b'>']?;
+    assert!(rt; takes_all(rt.alloc(), &mut bytes)?);
     assert!(rt; bytes.as_slice().first() == Some(&b'>'));
     assert!(rt; &bytes[1..] == THREE_MOVES.as_bytes());
     Ok(())
@@ -116,21 +105,11 @@ fn a_game_is_written_move_by_move(rt: HostRuntime) -> Result<(), Fail> {
 
 #[test]
 fn a_full_writer_holds_a_beginning(rt: HostRuntime) -> Result<(), Fail> {
-    let alloc = rt.alloc();
-    let moves = [quiet(32, 28)?, quiet(20, 25)?, quiet(37, 32)?];
-    let head = autumn(Some(Score::FirstWins))?;
-    match judge(alloc, &DPos::opening(), &moves) {
-        Ok(_) => {}
-        Err(_) => return Err(Fail::new("a game by the rules")),
-    }
     let text = THREE_MOVES.as_bytes();
     for size in 0..text.len() {
-        let mut bytes = vec![in alloc; 0u8; size]?;
+        let mut bytes = vec![in rt.alloc(); 0u8; size]?;
         let mut room: &mut [u8] = bytes.as_mut_slice();
-        match write_moves(alloc, &head, &moves, &mut room) {
-            Err(WriteFault::Writer(_)) => {}
-            _ => return Err(Fail::new("a full writer")),
-        }
+        assert!(rt; !takes_all(rt.alloc(), &mut room)?, "at {size}");
         assert!(rt; bytes.as_slice() == &text[..size], "at {size}");
     }
     Ok(())

@@ -22,6 +22,7 @@ fn kings_and_pawns(pawns: u8) -> Result<Option<SPos>, Fail> {
     Ok(SPos::new(board, hands, Side::First))
 }
 
+// A square of any number, and none past the last.
 #[test]
 fn squares_have_files_and_ranks(rt: HostRuntime) -> Result<(), Fail> {
     let last = square(9, 9)?;
@@ -33,11 +34,14 @@ fn squares_have_files_and_ranks(rt: HostRuntime) -> Result<(), Fail> {
     let all = Ssq::all();
     let squares = &all[..];
     assert!(rt; squares.get(59).copied() == Some(pawn));
+    assert!(rt; Ssq::from_number(59) == Some(pawn));
+    assert!(rt; Ssq::from_number(81) == None);
     Ok(())
 }
 
+// Kings and golds do not promote.
 #[test]
-fn kings_and_golds_do_not_promote(rt: HostRuntime) {
+fn a_board_keeps_what_is_put(rt: HostRuntime) -> Result<(), Fail> {
     assert!(rt; SPiece::new(Side::First, Kind::Gold, true) == None);
     assert!(rt; SPiece::new(Side::Second, Kind::King, true) == None);
     let dragon = SPiece::new(Side::First, Kind::Rook, true);
@@ -45,23 +49,20 @@ fn kings_and_golds_do_not_promote(rt: HostRuntime) {
     assert!(rt; Role::PromotedPawn.kind().in_hand() == Some(HandKind::Pawn));
     assert!(rt; Role::PromotedPawn.is_promoted());
     assert!(rt; HandKind::Lance.kind().role() == Role::Lance);
-}
-
-#[test]
-fn a_board_keeps_what_is_put(rt: HostRuntime) -> Result<(), Fail> {
-    let mut board = SBoard::empty();
+    let place = square(2, 8)?;
     let rook = piece(Side::First, Role::Rook);
-    board.put(square(2, 8)?, rook);
-    assert!(rt; board.at(square(2, 8)?) == Some(rook));
+    let mut board = SBoard::empty();
+    board.put(place, rook);
+    assert!(rt; board.at(place) == Some(rook));
     assert!(rt; board.at(square(8, 2)?) == None);
     assert!(rt; board.count_kind(HandKind::Rook) == 1);
     assert!(rt; board.count_kings(Side::First) == 0);
-    board.clear(square(2, 8)?);
-    assert!(rt; board.at(square(2, 8)?) == None);
+    board.clear(place);
+    assert!(rt; board.at(place) == None);
     Ok(())
 }
 
-// The set of a game has eighteen pawns.
+// A position has one set, in which are eighteen pawns, and one king a side.
 #[test]
 fn a_position_has_one_set(rt: HostRuntime) -> Result<(), Fail> {
     let position = kings_and_pawns(18)?.ok_or("eighteen pawns")?;
@@ -70,22 +71,10 @@ fn a_position_has_one_set(rt: HostRuntime) -> Result<(), Fail> {
     assert!(rt; position.hands().of(Side::Second).count(HandKind::Pawn) == 0);
     assert!(rt; position.board().count_kings(Side::Second) == 1);
     assert!(rt; kings_and_pawns(19)?.is_none());
-    Ok(())
-}
-
-// Each side has one king.
-#[test]
-fn a_position_has_two_kings(rt: HostRuntime) -> Result<(), Fail> {
     let mut board = SBoard::empty();
     board.put(square(9, 9)?, piece(Side::First, Role::King));
     assert!(rt; SPos::new(board, Hands::default(), Side::First).is_none());
     Ok(())
-}
-
-// Whether a position is the one of two kings with so many pawns in First's hand.
-fn has_pawns(position: &SPos, pawns: u8) -> Result<bool, Fail> {
-    let other = kings_and_pawns(pawns)?.ok_or("a position")?;
-    Ok(*position == other)
 }
 
 // Whether a position is the one with its own hands, this board and this turn.
@@ -94,20 +83,19 @@ fn is_on(position: &SPos, board: SBoard, turn: Side) -> Result<bool, Fail> {
     Ok(*position == other)
 }
 
+// Positions are the same by board, hands and turn, and ordered by turn, then hands, then board.
 #[test]
-fn positions_are_the_same_by_hands_and_turn(rt: HostRuntime) -> Result<(), Fail> {
+fn positions_are_compared(rt: HostRuntime) -> Result<(), Fail> {
     let position = kings_and_pawns(2)?.ok_or("two pawns")?;
     assert!(rt; position.copied() == position);
-    assert!(rt; has_pawns(&position, 2)?);
-    assert!(rt; !has_pawns(&position, 1)?);
+    assert!(rt; position == kings_and_pawns(2)?.ok_or("two pawns")?);
+    let fewer = kings_and_pawns(1)?.ok_or("one pawn")?;
+    assert!(rt; position != fewer);
+    assert!(rt; fewer < position);
+    assert!(rt; SPos::opening() < fewer);
+    assert!(rt; SPos::opening().cmp(&SPos::opening()) == Ordering::Equal);
     assert!(rt; is_on(&position, position.board().copied(), Side::First)?);
     assert!(rt; !is_on(&position, position.board().copied(), Side::Second)?);
-    Ok(())
-}
-
-#[test]
-fn positions_are_the_same_by_board(rt: HostRuntime) -> Result<(), Fail> {
-    let position = kings_and_pawns(2)?.ok_or("two pawns")?;
     let mut moved = position.board().copied();
     assert!(rt; moved == *position.board());
     moved.clear(square(9, 9)?);
@@ -134,25 +122,5 @@ fn a_game_opens_with_two_armies(rt: HostRuntime) -> Result<(), Fail> {
     assert!(rt; pawns.trailing_zeros() == 2);
     assert!(rt; position.board().squares_of_side(Side::First).len() == 20);
     assert!(rt; position.word(piece(Side::First, Role::PromotedPawn)) == 0);
-    Ok(())
-}
-
-// A square of any number, and none past the last.
-#[test]
-fn numbers_above_eighty_are_no_squares(rt: HostRuntime) -> Result<(), Fail> {
-    assert!(rt; Ssq::from_number(59) == Some(square(7, 6)?));
-    assert!(rt; Ssq::from_number(81) == None);
-    Ok(())
-}
-
-// Positions are ordered by turn, then hands, then board.
-#[test]
-fn positions_have_an_order(rt: HostRuntime) -> Result<(), Fail> {
-    let opening = SPos::opening();
-    let fewer = kings_and_pawns(1)?.ok_or("one pawn")?;
-    let more = kings_and_pawns(2)?.ok_or("two pawns")?;
-    assert!(rt; fewer < more);
-    assert!(rt; opening < fewer);
-    assert!(rt; opening.cmp(&SPos::opening()) == Ordering::Equal);
     Ok(())
 }

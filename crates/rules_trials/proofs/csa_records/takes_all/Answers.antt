@@ -1,7 +1,7 @@
 use Rattle.std.proofs.Common.{List, [], ◌∷◌, subst}
 use Rattle.squares.specs.declared.shogi.moves.SMove.{SMove}
 use Rattle.shogi_repetition.specs.Faults.{GoesOn}
-use Rattle.rules_trials.proofs.csa_records.a_game_is_written.Goals as goal
+use Rattle.rules_trials.proofs.csa_records.takes_all.Goals as goal
 
 pub write_game-requires-clause-played : goal.write_game-requires-clause-played
 write_game-requires-clause-played g c k h =
