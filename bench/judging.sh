@@ -24,7 +24,7 @@ cp "$top/bench/judging.rt.txt" "$work/src/main.rt"
 } > "$work/BUILD.bazel"
 {
     echo W:WK36,K45,46,47,48,49,50:B1,2,3,4,5,K6,K15
-    sed -n 's/^    "\(.*\)",$/\1/p' "$top/crates/rules_trials/src/long_line.rt"
+    sed -n '/const MOVES/,/;$/p' "$top/crates/rules_trials/src/long_line.rt" | grep -oE '[0-9]+-[0-9]+'
 } > "$work/draughts_line.txt"
 
 cd "$work"

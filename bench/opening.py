@@ -47,7 +47,8 @@ def begin(path, plies):
         play(path, game, plies)
 
 
-def multiply(path, games):
+def multiply(path, games, like=lambda game: 2 - game % 2):
+    """Writes the rows of games 1 and 2 again until there are so many games, each like the one that `like` names."""
     base = sqlite3.connect(path)
     rows = {name: {game: [row[1:] for row in base.execute(f"SELECT * FROM {name} WHERE game = ?", (game,))] for game in (1, 2)}
             for name in ("moves", "seen")}
@@ -55,12 +56,13 @@ def multiply(path, games):
     at = columns.index("key")
     ones = {row[0]: row[1:] for row in base.execute("SELECT * FROM games")}
     for game in range(max(ones) + 1, games + 1):
-        like = 2 - game % 2
-        row = list(ones[like])
+        one = like(game)
+        row = list(ones[one])
         row[at - 1] = f"g{game}"
         base.execute(f"INSERT INTO games VALUES ({','.join('?' * len(columns))})", [game, *row])
         for name, held in rows.items():
-            base.executemany(f"INSERT INTO {name} VALUES (?{',?' * len(held[like][0])})", [(game, *it) for it in held[like]])
+            if held[one]:
+                base.executemany(f"INSERT INTO {name} VALUES (?{',?' * len(held[one][0])})", [(game, *it) for it in held[one]])
     base.commit()
     moves = base.execute("SELECT count(*) FROM moves").fetchone()[0]
     base.execute("PRAGMA wal_checkpoint(TRUNCATE)")
