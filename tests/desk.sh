@@ -93,7 +93,7 @@ serves --count 0
 ends 0
 
 # A game of draughts, to an agreed draw.
-serves --count 22
+serves --count 21
 gets 401 '{"error":50,"name":"UnknownKey"}' keycara3 GET /games/1
 gets 404 '{"error":53,"name":"UnknownGame"}' keyanna1 GET /games/3
 gets 200 '{"moves":["31-26","31-27","32-27","32-28","33-28","33-29","34-29","34-30","35-30"]}' keyanna1 GET /games/1/legal
@@ -113,11 +113,10 @@ gets 200 '  1 anna                         1     1     0     1     0     -     1
 gets 404 '{"error":52,"name":"UnknownEvent"}' keybert2 GET /events/winter/table
 gets 405 '{"error":83,"name":"WrongMethod"}' keybert2 POST /games/1
 gets 404 '{"error":82,"name":"NoRoute"}' keybert2 GET /nowhere
-gets 403 '{"error":51,"name":"NotAllowed"}' keyanna1 POST /challenges/1 '{"event":"autumn","first":true,"other":"bert"}'
 gets 404 '{"error":54,"name":"UnknownChallenge"}' keyanna1 POST /challenges/1/withdraw
 gets 404 '{"error":54,"name":"UnknownChallenge"}' keybert2 POST /answers/anna/1 '{"accept":true}'
 ends 0
-verdict 'a line for each connection' 22 "$(wc -l < log)"
+verdict 'a line for each connection' 21 "$(wc -l < log)"
 verdict 'no key is written down' 0 "$(grep -c 'key[a-c]' log)"
 verdict 'a line of the log' 'GET /games/1 401' "$(head -n 1 log | cut -d' ' -f2-)"
 
@@ -216,6 +215,40 @@ kill "$desk"
 wait "$desk" 2> /dev/null
 desk=
 verdict 'none of the crowd was turned away' 0 "$(grep -c -v ' 200$' log)"
+
+# Challenges: opened, repeated, withdrawn, refused, and one that is accepted and starts a game.
+serves --count 24
+first='{"event":"autumn","first":true,"other":"bert"}'
+second='{"event":"autumn","first":false,"other":"bert"}'
+gets 422 '{"error":65,"name":"BadValue"}' keyanna1 POST /challenges/0 "$first"
+gets 422 '{"error":65,"name":"BadValue"}' keyanna1 POST /challenges/1 '{"event":"autumn","first":true,"other":"anna"}'
+gets 422 '{"error":65,"name":"BadValue"}' keyanna1 POST /challenges/10000 "$first"
+gets 404 '{"error":52,"name":"UnknownEvent"}' keyanna1 POST /challenges/1 '{"event":"winter","first":true,"other":"bert"}'
+gets 400 '{"error":81,"name":"BadBody"}' keyanna1 POST /challenges/1 '{"event":"autumn","other":"bert"}'
+gets 200 '{"challenge":1,"state":"open"}' keyanna1 POST /challenges/1 "$second"
+gets 200 '{"challenge":1,"state":"open"}' keyanna1 POST /challenges/1 "$second"
+gets 409 '{"error":58,"name":"Conflict"}' keyanna1 POST /challenges/1 "$first"
+gets 404 '{"error":54,"name":"UnknownChallenge"}' keycara3 POST /answers/anna/1 '{"accept":true}'
+gets 404 '{"error":54,"name":"UnknownChallenge"}' keybert2 POST /answers/anna/2 '{"accept":true}'
+gets 400 '{"error":81,"name":"BadBody"}' keybert2 POST /answers/anna/1 '{"accept":"yes"}'
+gets 200 '{"challenge":1,"game":6,"state":"accepted"}' keybert2 POST /answers/anna/1 '{"accept":true}'
+gets 200 '{"challenge":1,"game":6,"state":"accepted"}' keybert2 POST /answers/anna/1 '{"accept":true}'
+gets 409 '{"error":58,"name":"Conflict"}' keybert2 POST /answers/anna/1 '{"accept":false}'
+gets 409 '{"error":58,"name":"Conflict"}' keyanna1 POST /challenges/1/withdraw
+gets 200 '"first":"bert","game":6' keyanna1 GET /games/6
+gets 200 '"move":"32-28","ply":1' keybert2 POST /games/6/moves/1 '{"move":"32-28"}'
+gets 200 '{"challenge":2,"state":"open"}' keyanna1 POST /challenges/2 "$first"
+gets 200 '{"challenge":2,"state":"withdrawn"}' keyanna1 POST /challenges/2/withdraw
+gets 200 '{"challenge":2,"state":"withdrawn"}' keyanna1 POST /challenges/2/withdraw
+gets 409 '{"error":58,"name":"Conflict"}' keybert2 POST /answers/anna/2 '{"accept":true}'
+gets 200 '{"challenge":1,"state":"open"}' keybert2 POST /challenges/1 '{"event":"fuji","first":true,"other":"cara"}'
+gets 200 '{"challenge":1,"state":"refused"}' keycara3 POST /answers/bert/1 '{"accept":false}'
+gets 405 '{"error":83,"name":"WrongMethod"}' keyanna1 GET /challenges/1
+ends 0
+reads '1|1|1|2|0|3|6
+1|2|1|2|1|1|
+2|1|2|3|1|2|' 'SELECT * FROM challenges ORDER BY 1, 2'
+reads '||2|1' "SELECT key, '', first, second FROM games WHERE id = 6"
 
 reads 'ok' 'PRAGMA integrity_check'
 reads '1|3|Agreed|1-1

@@ -1,7 +1,9 @@
 pub mod AuditLemmas
+pub mod ChallengeLemmas
 pub mod GameLemmas
 pub mod KeyLemmas
 pub mod MatchLemmas
+pub mod NumberLemmas
 pub mod PeopleLemmas
 pub mod PlacedLemmas
 pub mod SeenCounts

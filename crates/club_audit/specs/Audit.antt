@@ -1,5 +1,5 @@
--- What the rows of single tables are tested for: the members, the events and the games of a legal club.
-use Rattle.std.specs.Prelude.{◌≡◌, ◌≢◌, ◌+◌, ◌<◌, ◌≤◌, ℕ, pos, List, [], map, length, Some, IsTrue, string_bytes}
+-- What the rows of single tables are tested for: the members, the events, the challenges and the games of a legal club.
+use Rattle.std.specs.Prelude.{◌≡◌, ◌≢◌, ◌+◌, ◌<◌, ◌≤◌, ℕ, pos, List, map, length, Some, IsTrue, string_bytes}
 use Rattle.std.specs.Option.{option_map}
 use Rattle.club_rules.specs.GameRules.{GameRules}
 use Rattle.club_core.specs.declared.rows.GameEnd.TheVariants.{Outside}
@@ -22,6 +22,7 @@ use Rattle.store_tables.specs.declared.rows.SeenRow.{SeenRow}
 use Rattle.club_rows.specs.Club.{ClubState, ClubGame, both_games}
 use Rattle.club_rows.specs.EachOnce.{AreEachOnce}
 use Rattle.club_rows.specs.Shown.{AreRowsOf}
+use Rattle.club_audit.specs.ChallengeAudit.{AreChallenges}
 use Rattle.club_rows.specs.Tables.{member_row, event_row, numbered_from, row_of_game, rows_of_moves, rows_of_seen}
 
 -- ---- members
@@ -124,11 +125,11 @@ pub record AreAllOf (s : ClubState) (id : ℕ) (row : GameRecord) (moves : List 
 
 -- ---- a club but for the moves and the positions of its games
 
--- The rows are those of the members and events of a legal club, and no challenge; there are no more games than a club may have,
--- and no two with one key.
+-- The rows are those of the members, the events and the challenges of a legal club; there are no more games than a club may
+-- have, and no two with one key.
 pub record HaveRegister (rows : Rows) : Type 0 where
   pub state : ClubState
   pub people : HasPeople state rows
-  pub challenges : rows.challenges.items ≡ []
+  pub challenges : AreChallenges state.challenges rows
   pub few : length rows.games.items ≤ most_games
   pub keys : AreApartIfAny (λ r. option_map (λ s. string_bytes s) r.key) rows.games.items

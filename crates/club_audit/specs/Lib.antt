@@ -1,4 +1,6 @@
 pub mod Audit
+pub mod ChallengeAudit
+pub mod ChallengeKeys
 pub mod GameAudit
 pub mod SeenAudit
 pub mod Standings

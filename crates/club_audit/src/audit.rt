@@ -1,14 +1,17 @@
 //! Whether the rows of a club are those of a legal one: those that are read whole, and those of each game.
 
 ghost use Rattle.std.specs.Prelude.{◌≡◌, ◌+◌, ◌<◌, ◌≤◌, ◌^◌, ℕ, pos, true, false, None, IfOk, map, IfSome};
-ghost use Rattle.std.specs.Prelude.{string_bytes};
+ghost use Rattle.std.specs.Prelude.{string_bytes, length, List, Some};
 ghost use Rattle.std.specs.Option.{option_map};
+ghost use Rattle.club_core.specs.declared.challenges.Challenge.{Challenge};
 ghost use Rattle.club_core.specs.Game.{Game, left_of};
 ghost use Rattle.club_core.specs.LegalState.{AreApartIfAny};
 ghost use Rattle.club_core.specs.Limits.{most_games};
 ghost use Rattle.club_core.specs.View.{clocks_in};
 ghost use Rattle.club_audit.specs.Audit.{HasPeople, NamesEvent, IsWithin, EndsBy, HaveGame, HaveRegister, IsGameAt};
 ghost use Rattle.club_audit.specs.Audit.{AreAllOf};
+ghost use Rattle.club_audit.specs.ChallengeAudit.{AreChallenges};
+ghost use Rattle.store_tables.specs.declared.names.Table.TheVariants.{Challenges};
 ghost use Rattle.store_tables.specs.Cells.{seen_cells};
 ghost use Rattle.club_rows.specs.Club.{both_games, ClubGame, ClubState};
 ghost use Rattle.club_rows.specs.EachOnce.{AreEachOnce};
@@ -16,6 +19,7 @@ ghost use Rattle.club_rows.specs.Tables.{rows_of_seen};
 ghost use Rattle.club_rows.specs.Replay.{terms_given};
 ghost use Rattle.club_rows.specs.Shown.{AreRowsOf};
 
+use crate::challenges::are_challenges;
 use crate::people::{are_events, are_members, is_place, terms_of};
 use crate::seen_audit::are_seen;
 use clocks::Moment;
@@ -214,6 +218,11 @@ pub fn wrong_game(
 pub fn wrong_register(alloc: Global, rows: &Rows) -> Result<Option<Table>, Memory>
     ensures sound { IfOk result (λ wrong. wrong ≡ None → HaveRegister rows.now) }
     ensures complete { IfOk result (λ wrong. HaveRegister rows.now → wrong ≡ None) }
+    // The challenges are called wrong exactly where they are, and the members and the events are not.
+    ensures blamed { IfOk result (λ wrong. wrong ≡ Some Challenges → length rows.now.games.items ≤ most_games →
+        (cs : List Challenge) → ¬ AreChallenges cs rows.now) }
+    ensures blames { IfOk result (λ wrong. (s : ClubState) → HasPeople s rows.now →
+        ((cs : List Challenge) → ¬ AreChallenges cs rows.now) → wrong ≡ Some Challenges) }
 {
     if !are_members(&rows.members) {
         return Ok(Some(Table::Members));
@@ -221,7 +230,7 @@ pub fn wrong_register(alloc: Global, rows: &Rows) -> Result<Option<Table>, Memor
     if !are_events(&rows.events) {
         return Ok(Some(Table::Events));
     }
-    if rows.challenges.len() > 0 {
+    if !are_challenges(alloc, rows)? {
         return Ok(Some(Table::Challenges));
     }
     if rows.games.len() > MOST_GAMES as usize {

@@ -2,6 +2,7 @@
 #![tactic(auto)]
 
 pub mod audit;
+mod challenges;
 mod game_audit;
 mod people;
 mod seen_audit;

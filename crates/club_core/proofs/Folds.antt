@@ -5,14 +5,16 @@ use Rattle.club_core.specs.ClubRules.{ClubRules}
 use Rattle.club_core.specs.declared.requests.Caller.{Caller}
 use Rattle.club_core.specs.declared.requests.Caller.TheVariants.{Officer, Member}
 use Rattle.club_core.specs.Outcome.{Outcome, accepted, repeated, refused, map_outcome, by_officer}
-use Rattle.club_core.specs.Members.{member_step}
+use Rattle.club_core.specs.declared.challenges.Challenge.{Challenge}
+use Rattle.club_core.specs.Members.{find_id, member_step}
 use Rattle.club_core.specs.Events.{event_step, event_kind}
 use Rattle.club_core.specs.Imports.{Import}
 use Rattle.club_rules.specs.declared.names.GameKind.{GameKind}
 use Rattle.club_rules.specs.declared.names.GameKind.TheVariants.{Draughts, Shogi}
-use Rattle.club_core.specs.Seats.{seat_step}
+use Rattle.club_core.specs.Seats.{has_member_name, seat_step}
+use Rattle.club_core.specs.Challenges.{challenge_under, challenge_by, opening_step, withdrawal_step, answer_step}
 use Rattle.club_core.specs.Step.{GameCommand, game_step}
-use Rattle.club_core.specs.State.{AnyGame, draughts, shogi, State, Command, add_member, add_event, seat, import_record, on_game, sweep, Request, is_accepted, state_after, place, terms_at, caller_of, game_under, any_under, draughts_in, shogi_in, import_looked_up, import_as, step_game, step_command, step_by, step, next, fold, accepted_of}
+use Rattle.club_core.specs.State.{AnyGame, draughts, shogi, State, Command, add_member, add_event, seat, import_record, on_game, sweep, open_challenge, withdraw_challenge, answer_challenge, Request, is_accepted, state_after, place, terms_at, caller_of, game_under, any_under, draughts_in, shogi_in, with_challenge, with_answer, import_looked_up, import_as, step_game, step_command, step_by, step, next, fold, accepted_of}
 
 -- an outcome that is not accepted leaves what stood
 pub unmoved : {S : Type 0} (s : S) (o : Outcome S) → is_accepted o ≡ false → state_after s o ≡ s
@@ -50,6 +52,10 @@ module _ {DP DM DE DT SP SM SE ST : Type 0} (kinds : ClubRules DP DM DE DT SP SM
   import-raises s moment who given Shogi above =
       officer-raises s _ who (import_looked_up kinds.shogi kinds.shogi_records s given (shogi_in (any_under s.games given.key))) (λ t. above)
 
+  answer-raises : (s : State DM SM) (moment : ℕ) (accept : Bool) (c : Challenge) → s.last ≤ moment → s.last ≤ (with_answer s moment accept c).last
+  answer-raises s moment false c above = above
+  answer-raises s moment true c above = above
+
   command-raises : (s : State DM SM) (moment : ℕ) (who : Caller) (command : Command) → s.last ≤ moment → s.last ≤ (state_after s (step_command kinds s moment who command)).last
   command-raises s moment who (add_member name key) above = officer-raises s _ who (member_step s.members name key) (λ t. above)
   command-raises s moment who (add_event event) above = officer-raises s _ who (event_step s.events event) (λ t. above)
@@ -59,6 +65,15 @@ module _ {DP DM DE DT SP SM SE ST : Type 0} (kinds : ClubRules DP DM DE DT SP SM
   command-raises s moment who (on_game id command) above = game-raises s moment id who command (place s.games id) above
   command-raises s moment Officer sweep above = above
   command-raises s moment (Member id) sweep above = omega arith
+  command-raises s moment Officer (open_challenge number event other first) above = omega arith
+  command-raises s moment (Member id) (open_challenge number event other first) above =
+      raises s (with_challenge s moment) (opening_step s.members s.events (challenge_under s.challenges id number) id number event other first) (λ c. above)
+  command-raises s moment Officer (withdraw_challenge number) above = omega arith
+  command-raises s moment (Member id) (withdraw_challenge number) above =
+      raises s (with_challenge s moment) (withdrawal_step (challenge_under s.challenges id number)) (λ c. above)
+  command-raises s moment Officer (answer_challenge challenger number accept) above = omega arith
+  command-raises s moment (Member id) (answer_challenge challenger number accept) above =
+      raises s (with_answer s moment accept) (answer_step (challenge_by s.challenges (find_id (has_member_name challenger) s.members) number) _ id accept) (λ c. answer-raises s moment accept c above)
 
   by-raises : (s : State DM SM) (moment : ℕ) (who : Option Caller) (command : Command) → s.last ≤ moment → s.last ≤ (state_after s (step_by kinds s moment who command)).last
   by-raises s moment None command above = omega arith

@@ -19,7 +19,8 @@ use Rattle.club_core.specs.Imports.{Import, Imported, imported, is_record_of, re
 use Rattle.club_core.specs.State.{AnyGame, draughts, shogi, State, has_key, is_key, pairing_of, game_under, any_under, at_found, draughts_in, shogi_in, with_imported, import_looked_up, import_as}
 use Rattle.club_core.proofs.Lists.{bytes_eq-same, at-last}
 use Rattle.club_core.proofs.Legals.{AreRules, none-holds}
-use Rattle.club_core.proofs.Later.{IsLater, unless-accepted, accepted-same}
+use Rattle.club_core.proofs.Accepts.{unless-accepted, accepted-same}
+use Rattle.club_core.proofs.Later.{IsLater}
 use Rattle.club_core.proofs.Kept.{IsOver, KeepsOver}
 use Rattle.club_core.proofs.ImportedGames.{imported-result, record-of-itself}
 use Rattle.club_core.proofs.Repeats.{and-true, find-later, map-accepted, officer-accepted, added-found, keyed-later, RepeatsImport}

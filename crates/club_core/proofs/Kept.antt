@@ -9,16 +9,19 @@ use Rattle.club_core.specs.declared.requests.Caller.TheVariants.{Officer, Member
 use Rattle.club_core.specs.declared.rows.OutsideEnd.TheVariants.{Time}
 use Rattle.club_core.specs.declared.refusals.Refusal.TheVariants.{NotAllowed}
 use Rattle.club_core.specs.Outcome.{Reply, accepted, by_officer}
-use Rattle.club_core.specs.Members.{member_step}
+use Rattle.club_core.specs.declared.challenges.Challenge.{Challenge}
+use Rattle.club_core.specs.Members.{find_id, member_step}
 use Rattle.club_core.specs.Events.{Terms, event_step, event_kind}
-use Rattle.club_core.specs.Seats.{seat_step}
+use Rattle.club_core.specs.Seats.{has_member_name, seat_step}
+use Rattle.club_core.specs.Challenges.{challenge_under, challenge_by, opening_step, withdrawal_step, answer_step}
 use Rattle.club_core.specs.Game.{Game, result_of}
 use Rattle.club_core.specs.Imports.{Import}
 use Rattle.club_core.specs.Step.{GameCommand, move, offer_draw, accept_draw, resign, claim_time, may_give, asked_ply, caller_side, is_over, move_tests, move_refusal, repeat_of, move_at, by_side, game_step, is_overdue, ended, swept}
-use Rattle.club_core.specs.State.{AnyGame, draughts, shogi, State, Command, add_member, add_event, seat, import_record, on_game, sweep, Request, state_after, place, terms_at, game_under, any_under, draughts_in, shogi_in, caller_of, with_members, with_events, with_new_game, with_imported, with_game, swept_any, with_swept, import_looked_up, import_as, step_game, step_command, step_by, next, fold}
+use Rattle.club_core.specs.State.{AnyGame, draughts, shogi, State, Command, add_member, add_event, seat, import_record, on_game, sweep, open_challenge, withdraw_challenge, answer_challenge, Request, state_after, place, terms_at, game_under, any_under, draughts_in, shogi_in, caller_of, with_members, with_events, with_new_game, with_imported, with_game, with_challenge, challenge_game, with_answer, swept_any, with_swept, import_looked_up, import_as, step_game, step_command, step_by, next, fold}
 use Rattle.club_core.proofs.Lists.{get-append, set-got, map-at}
 use Rattle.club_core.proofs.Legals.{none-holds}
-use Rattle.club_core.proofs.Later.{unless-accepted, if-accepted, offer-accepts, accept-accepts, resign-accepts, claim-accepts, outcome-later, officer-later}
+use Rattle.club_core.proofs.Accepts.{unless-accepted, if-accepted, outcome-later, officer-later}
+use Rattle.club_core.proofs.Later.{offer-accepts, accept-accepts, resign-accepts, claim-accepts}
 use Rattle.club_rules.specs.declared.names.GameKind.{GameKind}
 use Rattle.club_rules.specs.declared.names.GameKind.TheVariants.{Draughts, Shogi}
 
@@ -106,6 +109,11 @@ module _ {DP DM DE DT SP SM SE ST : Type 0} (kinds : ClubRules DP DM DE DT SP SM
   swept-over : (s : State DM SM) (moment : ℕ) → KeepsOver s (with_swept kinds s moment)
   swept-over s moment n g at over = map-at (swept_any kinds s moment) s.games n g at ∙ ap Some (any-over s moment g over)
 
+  -- a challenge is to a game of its own
+  answer-over : (s : State DM SM) (moment : ℕ) (accept : Bool) (c : Challenge) → KeepsOver s (with_answer s moment accept c)
+  answer-over s moment false c n g at over = at
+  answer-over s moment true c n g at over = over-added s moment (challenge_game s moment c) n g at over
+
   command-over : (s : State DM SM) (moment : ℕ) (who : Caller) (command : Command) → KeepsOver s (state_after s (step_command kinds s moment who command))
   command-over s moment who (add_member name key) =
       officer-later (λ t. KeepsOver s t) s (with_members s moment) who (member_step s.members name key) (over-refl s) (λ all reply is n g at over. at)
@@ -118,6 +126,16 @@ module _ {DP DM DE DT SP SM SE ST : Type 0} (kinds : ClubRules DP DM DE DT SP SM
   command-over s moment who (on_game id command) = game-over s moment id who command (place s.games id) refl
   command-over s moment Officer sweep = swept-over s moment
   command-over s moment (Member id) sweep = over-refl s
+  command-over s moment Officer (open_challenge number event other first) = over-refl s
+  command-over s moment (Member id) (open_challenge number event other first) =
+      outcome-later (λ t. KeepsOver s t) s (with_challenge s moment) (opening_step s.members s.events (challenge_under s.challenges id number) id number event other first) (over-refl s) (λ c reply is n g at over. at)
+  command-over s moment Officer (withdraw_challenge number) = over-refl s
+  command-over s moment (Member id) (withdraw_challenge number) =
+      outcome-later (λ t. KeepsOver s t) s (with_challenge s moment) (withdrawal_step (challenge_under s.challenges id number)) (over-refl s) (λ c reply is n g at over. at)
+  command-over s moment Officer (answer_challenge challenger number accept) = over-refl s
+  command-over s moment (Member id) (answer_challenge challenger number accept) =
+      outcome-later (λ t. KeepsOver s t) s (with_answer s moment accept) (answer_step (challenge_by s.challenges (find_id (has_member_name challenger) s.members) number) _ id accept) (over-refl s)
+      (λ c reply is. answer-over s moment accept c)
 
   by-over : (s : State DM SM) (moment : ℕ) (who : Option Caller) (command : Command) → KeepsOver s (state_after s (step_by kinds s moment who command))
   by-over s moment None command = over-refl s

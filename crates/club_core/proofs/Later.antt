@@ -1,4 +1,5 @@
--- A later state has what an earlier one had: members, events and games stay at their places, and games keep their entries.
+-- A later state has what an earlier one had: members, events and games stay at their places, games keep their entries, and
+-- challenges stand under their numbers.
 use Rattle.std.proofs.Common.{◌≡◌, ℕ, zero, suc, ◌+◌, ◌-◌, List, [], ◌∷◌, ◌++◌, length, Option, Some, None, Result, Ok, Err, Bool, true, false, ◌&&◌, not, refl, ap, sym, ◌∙◌, arith, append_assoc, append-nil, length-append, inl, inr}
 use Rattle.std.specs.Prelude.{max, slice_get, ◌==◌, if◌then◌else◌}
 use Rattle.std.proofs.lemmas.Bool.{eq-eqb}
@@ -16,19 +17,26 @@ use Rattle.club_core.specs.declared.requests.Caller.{Caller}
 use Rattle.club_core.specs.declared.requests.Caller.TheVariants.{Officer, Member}
 use Rattle.club_core.specs.declared.refusals.Refusal.{Refusal}
 use Rattle.club_core.specs.declared.refusals.Refusal.TheVariants.{NotAllowed, NotInThisGame}
-use Rattle.club_core.specs.Outcome.{Reply, draw_offered, Outcome, accepted, repeated, refused, map_outcome, by_officer, first_refusal, unless, unless_repeat}
+use Rattle.club_core.specs.Outcome.{Reply, draw_offered, challenge_refused, challenge_accepted, accepted, by_officer, first_refusal, unless, unless_repeat}
+use Rattle.club_core.specs.declared.challenges.Challenge.{Challenge}
+use Rattle.club_core.specs.declared.challenges.Standing.{Standing}
+use Rattle.club_core.specs.declared.challenges.Standing.TheVariants.{Withdrawn, Refused, Accepted}
 use Rattle.club_core.specs.Members as members
 use Rattle.club_core.specs.Members.{find_id, member_refusal, same_member, member_step}
 use Rattle.club_rules.specs.declared.names.GameKind.{GameKind}
 use Rattle.club_rules.specs.declared.names.GameKind.TheVariants.{Draughts, Shogi}
 use Rattle.club_core.specs.Imports.{Import}
-use Rattle.club_core.specs.Events.{Terms, Event, event_kind, event_refusal, same_event, event_step}
-use Rattle.club_core.specs.Seats.{seat_step}
+use Rattle.club_core.specs.Events.{Terms, Event, has_event_name, event_kind, event_refusal, same_event, event_step}
+use Rattle.club_core.specs.Seats.{has_member_name, seat_step}
+use Rattle.club_core.specs.Challenges.{is_under, challenge_under, challenge_by, put_challenge, is_open, standing_as, opening_step, withdrawal_step, answer_step}
 use Rattle.club_core.specs.Game.{Game, last_position, rule_end, end_of, turn_of, result_of}
 use Rattle.club_core.specs.Step.{GameCommand, move, offer_draw, accept_draw, resign, claim_time, may_give, asked_ply, has_offer, repeat_of_offer, caller_side, played, offered, ended, checked, is_over, offer_tests, offer_refusal, step_offer, reply_of_end, ends, accept_tests, repeat_of_accept, step_accept, resign_tests, repeat_of_resign, step_resign, repeat_of_claim, move_tests, plays, claim_tests, step_claim, by_side, game_step, move_refusal, repeat_of, move_at, is_overdue, swept}
-use Rattle.club_core.specs.State.{AnyGame, draughts, shogi, State, Command, add_member, add_event, seat, import_record, on_game, sweep, Request, state_after, place, terms_at, game_under, any_under, draughts_in, shogi_in, caller_of, with_members, with_events, with_new_game, with_imported, with_game, swept_any, with_swept, import_looked_up, import_as, step_game, step_command, step_by, next, fold}
+use Rattle.club_core.specs.State.{AnyGame, draughts, shogi, State, Command, add_member, add_event, seat, import_record, on_game, sweep, open_challenge, withdraw_challenge, answer_challenge, Request, state_after, place, terms_at, game_under, any_under, draughts_in, shogi_in, caller_of, with_members, with_events, with_new_game, with_imported, with_game, with_challenge, challenge_game, with_answer, swept_any, with_swept, import_looked_up, import_as, step_game, step_command, step_by, next, fold}
 use Rattle.club_core.proofs.Lists.{get-append, set-got, map-at}
 use Rattle.club_core.proofs.Legals.{NoneHolds, none-holds, not-some}
+use Rattle.club_core.proofs.Accepts.{outcome-later, officer-later, unless-accepted, accepted-same, if-accepted}
+use Rattle.club_core.proofs.PutChallenges.{under-key, under-same, under-found, under-put, found-by}
+use Rattle.club_core.proofs.Challenged.{IsLaterChallenge, later-challenge-refl, later-challenge-trans, closed-later, was-opened, was-withdrawn, was-answered}
 use Rattle.club_core.proofs.Played.{outside-alone, score-none}
 
 -- one list begins with the other
@@ -64,6 +72,7 @@ pub record IsLater {DM SM : Type 0} (s t : State DM SM) : Type 0 where
   pub members : Begins s.members t.members
   pub events : Begins s.events t.events
   pub games : (n : ℕ) (g : AnyGame DM SM) → slice_get s.games n ≡ Some g → (new : AnyGame DM SM) × (slice_get t.games n ≡ Some new) × IsLaterAny g new
+  pub challenges : (member number : ℕ) (c : Challenge) → challenge_under s.challenges member number ≡ Some c → (new : Challenge) × (challenge_under t.challenges member number ≡ Some new) × IsLaterChallenge c new
 
 later-game-refl : {M : Type 0} (game : Game M) → IsLaterGame game game
 later-game-refl game =
@@ -98,6 +107,16 @@ later-game-trans a b c first second =
           second.offered offer (first.offered offer is next between) (omega (arith, between, next)) (omega (arith, between, same));
     }
 
+-- a challenge is found where one was put that follows from the one in its place
+put-found : (cs : List Challenge) (new c : Challenge) (member number : ℕ) → challenge_under cs member number ≡ Some c → ((old : Challenge) → challenge_under cs new.member new.number ≡ Some old → IsLaterChallenge old new) → (b : Bool) → is_under member number new ≡ b → challenge_under (put_challenge cs new) member number ≡ (if b then Some new else challenge_under cs member number) → (x : Challenge) × (challenge_under (put_challenge cs new) member number ≡ Some x) × IsLaterChallenge c x
+put-found cs new c member number at fits true is found =
+    let key = under-key member number new is in
+    (new, found, fits c (under-same cs member number _ _ c (sym key.0) (sym key.1) at))
+put-found cs new c member number at fits false is found = (c, found ∙ at, later-challenge-refl c)
+
+same-challenge : (c d : Challenge) → Some c ≡ Some d → c ≡ d
+same-challenge c d is = cc
+
 module _ {DM SM : Type 0} where
   later-any-refl : (g : AnyGame DM SM) → IsLaterAny g g
   later-any-refl (draughts game) = later-game-refl game
@@ -111,8 +130,20 @@ module _ {DM SM : Type 0} where
   later-any-trans (shogi a) (draughts b) c first second = absurd first
   later-any-trans (shogi a) (shogi b) (draughts c) first second = absurd second
 
+  games-stay : (s : State DM SM) (n : ℕ) (g : AnyGame DM SM) → slice_get s.games n ≡ Some g → (new : AnyGame DM SM) × (slice_get s.games n ≡ Some new) × IsLaterAny g new
+  games-stay s n g at = (g, at, later-any-refl g)
+
+  challenges-stay : (s : State DM SM) (member number : ℕ) (c : Challenge) → challenge_under s.challenges member number ≡ Some c → (new : Challenge) × (challenge_under s.challenges member number ≡ Some new) × IsLaterChallenge c new
+  challenges-stay s member number c at = (c, at, later-challenge-refl c)
+
   pub later-refl : (s : State DM SM) → IsLater s s
-  later-refl s = record { members = begins-refl s.members; events = begins-refl s.events; games = λ n g at. (g, at, later-any-refl g) }
+  later-refl s =
+      record {
+        members = begins-refl s.members;
+        events = begins-refl s.events;
+        games = games-stay s;
+        challenges = challenges-stay s;
+      }
 
   pub later-trans : (s t u : State DM SM) → IsLater s t → IsLater t u → IsLater s u
   later-trans s t u first second =
@@ -123,16 +154,29 @@ module _ {DM SM : Type 0} where
             let (middle, at_middle, to_middle) = first.games n g at in
             let (new, at_new, to_new) = second.games n middle at_middle in
             (new, at_new, later-any-trans g middle new to_middle to_new);
+        challenges = λ member number c at.
+            let (middle, at_middle, to_middle) = first.challenges member number c at in
+            let (new, at_new, to_new) = second.challenges member number middle at_middle in
+            (new, at_new, later-challenge-trans c middle new to_middle to_new);
       }
 
-  games-stay : (s : State DM SM) (n : ℕ) (g : AnyGame DM SM) → slice_get s.games n ≡ Some g → (new : AnyGame DM SM) × (slice_get s.games n ≡ Some new) × IsLaterAny g new
-  games-stay s n g at = (g, at, later-any-refl g)
-
   members-later : (s : State DM SM) (moment : ℕ) (more : List members.Member) → IsLater s (with_members s moment (s.members ++ more))
-  members-later s moment more = record { members = (more, refl); events = begins-refl s.events; games = games-stay s }
+  members-later s moment more =
+      record {
+        members = (more, refl);
+        events = begins-refl s.events;
+        games = games-stay s;
+        challenges = challenges-stay s;
+      }
 
   events-later : (s : State DM SM) (moment : ℕ) (more : List Event) → IsLater s (with_events s moment (s.events ++ more))
-  events-later s moment more = record { members = begins-refl s.members; events = (more, refl); games = games-stay s }
+  events-later s moment more =
+      record {
+        members = begins-refl s.members;
+        events = (more, refl);
+        games = games-stay s;
+        challenges = challenges-stay s;
+      }
 
   game-added-later : (s : State DM SM) (moment : ℕ) (new : AnyGame DM SM) → IsLater s (with_imported s moment new)
   game-added-later s moment new =
@@ -140,6 +184,7 @@ module _ {DM SM : Type 0} where
         members = begins-refl s.members;
         events = begins-refl s.events;
         games = λ n g at. (g, get-append s.games _ n g at, later-any-refl g);
+        challenges = challenges-stay s;
       }
 
   some-same : (x y : AnyGame DM SM) → Some x ≡ Some y → x ≡ y
@@ -160,31 +205,56 @@ module _ {DM SM : Type 0} where
                   let e : g ≡ old = some-same g old (sym is ∙ (ap (slice_get s.games) place_is ∙ at)) in
                   (new, put.1, rw e later)
             ];
+        challenges = challenges-stay s;
       }
 
--- what stands after an outcome is later, where each accepted one is
-pub outcome-later : {S T : Type 0} (Is : S → Type 0) (s : S) (f : T → S) (o : Outcome T) → Is s → ((t : T) (reply : Reply) → o ≡ accepted t reply → Is (f t)) → Is (state_after s (map_outcome f o))
-outcome-later Is s f (accepted t reply) stays new = new t reply refl
-outcome-later Is s f (repeated reply) stays new = stays
-outcome-later Is s f (refused refusal) stays new = stays
+  -- a challenge is put where it follows from the one in its place, if there is one
+  challenge-later : (s : State DM SM) (moment : ℕ) (new : Challenge) → ((old : Challenge) → challenge_under s.challenges new.member new.number ≡ Some old → IsLaterChallenge old new) → IsLater s (with_challenge s moment new)
+  challenge-later s moment new fits =
+      record {
+        members = begins-refl s.members;
+        events = begins-refl s.events;
+        games = games-stay s;
+        challenges = λ member number c at. put-found s.challenges new c member number at fits (is_under member number new) refl (under-put s.challenges new member number);
+      }
 
-pub officer-later : {S T : Type 0} (Is : S → Type 0) (s : S) (f : T → S) (who : Caller) (o : Outcome T) → Is s → ((t : T) (reply : Reply) → o ≡ accepted t reply → Is (f t)) → Is (state_after s (by_officer who (map_outcome f o)))
-officer-later Is s f Officer o stays new = outcome-later Is s f o stays new
-officer-later Is s f (Member id) o stays new = stays
+  -- an open challenge is closed
+  close-later : (s : State DM SM) (moment member number : ℕ) (old : Challenge) (standing : Standing) → challenge_under s.challenges member number ≡ Some old → is_open old.standing ≡ true → IsLater s (with_challenge s moment (standing_as old standing))
+  close-later s moment member number old standing found waited =
+      let key = under-key member number old (under-found s.challenges member number old found) in
+      challenge-later s moment (standing_as old standing)
+      (λ other at.
+      let e : old ≡ other = same-challenge old other (sym found ∙ under-same s.challenges _ _ member number other key.0 key.1 at) in
+      rw (← e) (closed-later old standing waited))
 
--- an accepted outcome was no repeat and not refused
-pub unless-accepted : {T : Type 0} (o : Option Reply) (refusal : Option Refusal) (x : Outcome T) (t : T) (reply : Reply) → unless_repeat o (unless refusal x) ≡ accepted t reply → (o ≡ None) × (refusal ≡ None) × (x ≡ accepted t reply)
-unless-accepted (Some r) refusal x t reply is = cc
-unless-accepted None (Some refusal) x t reply is = cc
-unless-accepted None None x t reply is = (refl, refl, is)
+  opened-later : (s : State DM SM) (moment id number : ℕ) (event other : List ℕ) (first : Bool) (new : Challenge) (reply : Reply) → opening_step s.members s.events (challenge_under s.challenges id number) id number event other first ≡ accepted new reply → IsLater s (with_challenge s moment new)
+  opened-later s moment id number event other first new reply is =
+      let was = was-opened id number (find_id (has_event_name event) s.events) (find_id (has_member_name other) s.members) first (challenge_under s.challenges id number) new reply is in
+      challenge-later s moment new
+      (λ old at.
+      let none : None ≡ Some old = sym was.fresh ∙ under-same s.challenges _ _ id number old was.by_caller was.has_number at in
+      absurd cc)
 
-pub accepted-same : {T : Type 0} (t u : T) (a b : Reply) → accepted t a ≡ accepted u b → (t ≡ u) × (a ≡ b)
-accepted-same t u a b is = (cc, cc)
+  withdrawn-later : (s : State DM SM) (moment id number : ℕ) (new : Challenge) (reply : Reply) → withdrawal_step (challenge_under s.challenges id number) ≡ accepted new reply → IsLater s (with_challenge s moment new)
+  withdrawn-later s moment id number new reply is =
+      let was = was-withdrawn (challenge_under s.challenges id number) new reply is in
+      rw (← was.stands) (close-later s moment id number was.old Withdrawn was.found was.waited)
 
--- an accepted outcome passed its test
-pub if-accepted : {T : Type 0} (b : Bool) (o : Outcome T) (refusal : Refusal) (t : T) (reply : Reply) → (if b then o else refused refusal) ≡ accepted t reply → (b ≡ true) × (o ≡ accepted t reply)
-if-accepted true o refusal t reply is = (refl, is)
-if-accepted false o refusal t reply is = cc
+  answered-later : (s : State DM SM) (moment : ℕ) (by : Option ℕ) (number id : ℕ) (accept : Bool) (new : Challenge) (reply : Reply) → answer_step (challenge_by s.challenges by number) (length s.games) id accept ≡ accepted new reply → IsLater s (with_answer s moment accept new)
+  answered-later s moment by number id false new reply is =
+      let was = was-answered (challenge_by s.challenges by number) (length s.games) id false new reply is in
+      let (member, by_is, found) = found-by s.challenges by number was.old was.found in
+      let same = accepted-same (standing_as was.old Refused) new (challenge_refused was.old.number) reply was.gives in
+      rw (← same.0) (close-later s moment member number was.old Refused found was.waited)
+  answered-later s moment by number id true new reply is =
+      let was = was-answered (challenge_by s.challenges by number) (length s.games) id true new reply is in
+      let (member, by_is, found) = found-by s.challenges by number was.old was.found in
+      let next = length s.games + 1 in
+      let same = accepted-same (standing_as was.old (Accepted next)) new (challenge_accepted was.old.number next) reply was.gives in
+      let played : State DM SM = with_imported s moment (challenge_game s moment was.old) in
+      rw (← same.0)
+      (later-trans s played _ (game-added-later s moment (challenge_game s moment was.old))
+      (close-later played moment member number was.old (Accepted next) found was.waited))
 
 module _ {M : Type 0} (game : Game M) (running : game.outside ≡ None) where
   played-later : (m : M) (moment : ℕ) → IsLaterGame game (played game m moment)
@@ -349,6 +419,7 @@ module _ {DP DM DE DT SP SM SE ST : Type 0} (kinds : ClubRules DP DM DE DT SP SM
         members = begins-refl s.members;
         events = begins-refl s.events;
         games = λ n g at. (swept_any kinds s moment g, map-at (swept_any kinds s moment) s.games n g at, swept-any-later s moment g);
+        challenges = challenges-stay s;
       }
 
 module _ {DP DM DE DT SP SM SE ST : Type 0} (kinds : ClubRules DP DM DE DT SP SM SE ST) where
@@ -389,6 +460,18 @@ module _ {DP DM DE DT SP SM SE ST : Type 0} (kinds : ClubRules DP DM DE DT SP SM
   command-later s moment who (on_game id command) = step-game-later s moment id who command (place s.games id) refl
   command-later s moment Officer sweep = swept-later kinds s moment
   command-later s moment (Member id) sweep = later-refl s
+  command-later s moment Officer (open_challenge number event other first) = later-refl s
+  command-later s moment (Member id) (open_challenge number event other first) =
+      outcome-later (λ t. IsLater s t) s (with_challenge s moment) (opening_step s.members s.events (challenge_under s.challenges id number) id number event other first) (later-refl s)
+      (opened-later s moment id number event other first)
+  command-later s moment Officer (withdraw_challenge number) = later-refl s
+  command-later s moment (Member id) (withdraw_challenge number) =
+      outcome-later (λ t. IsLater s t) s (with_challenge s moment) (withdrawal_step (challenge_under s.challenges id number)) (later-refl s)
+      (withdrawn-later s moment id number)
+  command-later s moment Officer (answer_challenge challenger number accept) = later-refl s
+  command-later s moment (Member id) (answer_challenge challenger number accept) =
+      outcome-later (λ t. IsLater s t) s (with_answer s moment accept) (answer_step (challenge_by s.challenges (find_id (has_member_name challenger) s.members) number) (length s.games) id accept) (later-refl s)
+      (answered-later s moment (find_id (has_member_name challenger) s.members) number id accept)
 
   by-later : (s : State DM SM) (moment : ℕ) (who : Option Caller) (command : Command) → IsLater s (state_after s (step_by kinds s moment who command))
   by-later s moment None command = later-refl s

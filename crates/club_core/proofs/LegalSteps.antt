@@ -1,6 +1,6 @@
 -- A request leaves a legal state legal.
-use Rattle.std.proofs.Common.{◌≡◌, ◌≢◌, ℕ, zero, suc, ◌+◌, ◌-◌, ◌<◌, ◌≤◌, List, [], ◌∷◌, ◌++◌, length, map, Option, Some, None, Result, Ok, Err, Bool, true, false, not, ◌&&◌, ◌||◌, refl, sym, ◌∙◌, ap, arith, length-append, length-set}
-use Rattle.std.specs.Prelude.{is_some, IsSome, max, slice_get, nat_le, nat_lt, if◌then◌else◌}
+use Rattle.std.proofs.Common.{◌≡◌, ◌≢◌, ℕ, zero, suc, ◌+◌, ◌-◌, ◌<◌, ◌≤◌, List, [], ◌∷◌, ◌++◌, length, map, Option, Some, None, Result, Ok, Err, Bool, true, false, not, ◌&&◌, ◌||◌, refl, sym, ◌∙◌, ap, arith, length-append, length-set, add-one, inl, inr}
+use Rattle.std.specs.Prelude.{is_some, IsTrue, IsSome, IfSome, max, slice_get, slice_set, nat_le, nat_lt, if◌then◌else◌}
 use Rattle.std.specs.Str.{bytes_eq}
 use Rattle.std.proofs.lemmas.Bool.{eq-eqb}
 use Rattle.std.proofs.lemmas.List.{length-map}
@@ -17,25 +17,33 @@ use Rattle.club_core.specs.ClubRules.{ClubRules}
 use Rattle.club_core.specs.declared.rows.OutsideEnd.{OutsideEnd}
 use Rattle.club_core.specs.declared.rows.OutsideEnd.TheVariants.{Resigned, Agreed, Time, Recorded}
 use Rattle.club_core.specs.declared.rows.Offer.{Offer}
+use Rattle.club_core.specs.declared.challenges.Challenge.{Challenge}
+use Rattle.club_core.specs.declared.challenges.Standing.{Standing}
+use Rattle.club_core.specs.declared.challenges.Standing.TheVariants.{Open, Withdrawn, Refused, Accepted}
 use Rattle.club_core.specs.declared.requests.Caller.{Caller}
 use Rattle.club_core.specs.declared.requests.Caller.TheVariants.{Officer, Member}
 use Rattle.club_core.specs.declared.refusals.Refusal.{Refusal}
 use Rattle.club_core.specs.declared.refusals.Refusal.TheVariants.{NotAllowed, NotInThisGame}
 use Rattle.club_core.specs.Limits.{last_moment, most_members, most_events, most_games, is_name, is_member_key, is_budget, is_increment}
-use Rattle.club_core.specs.Outcome.{Reply, Outcome, refused, map_outcome, by_officer, first_refusal, unless, unless_repeat}
+use Rattle.club_core.specs.Outcome.{Reply, challenge_refused, challenge_accepted, Outcome, accepted, refused, map_outcome, by_officer, first_refusal, unless, unless_repeat}
+use Rattle.club_core.specs.Members as members
 use Rattle.club_core.specs.Members.{find_id, has_name_or_key, member_tests, member_refusal, same_member, member_step}
 use Rattle.club_core.specs.Events.{Event, event_kind, has_event_name, has_good_values, event_tests, event_refusal, same_event, event_step}
 use Rattle.club_core.specs.Seats.{Pairing, KeyedGame, has_member_name, are_two, same_seats, seat_tests, seat_refusal, pair, seat_found, seat_step}
+use Rattle.club_core.specs.Challenges.{challenge_under, challenge_by, pairing_for, standing_as, opening_step, withdrawal_step, answer_step}
 use Rattle.club_core.specs.Imports.{Import}
 use Rattle.club_core.specs.Game.{Game, Entry, Clocks, spend, spend_all, clocks_of, left_of, turn_of, last_position, rule_end, end_of, result_of}
 use Rattle.club_core.specs.Step.{GameCommand, move, offer_draw, accept_draw, resign, claim_time, may_give, asked_ply, has_offer, repeat_of_offer, caller_side, played, offered, ended, checked, offer_tests, offer_refusal, step_offer, ends, accept_tests, repeat_of_accept, step_accept, resign_tests, repeat_of_resign, step_resign, repeat_of_claim, plays, step_move, claim_tests, step_claim, by_side, game_step, move_refusal, repeat_of, move_at, is_overdue, is_late, swept}
-use Rattle.club_core.specs.State.{AnyGame, draughts, shogi, State, Command, add_member, add_event, seat, import_record, on_game, sweep, Request, state_after, place, kind_at, key_of, has_key, keyed_at, pairing_of, game_under, seated, seated_as, caller_of, with_members, with_events, with_new_game, with_imported, with_game, terms_at, swept_any, with_swept, import_as, step_game, step_command, step_by, next}
-use Rattle.club_core.specs.LegalState.{Each, IsLegalMember, IsLegalEvent, IsGameOf, IsLegalIn, IsLegalState}
+use Rattle.club_core.specs.State.{AnyGame, draughts, shogi, State, Command, add_member, add_event, seat, import_record, on_game, sweep, open_challenge, withdraw_challenge, answer_challenge, Who, officer, key_holder, Request, state_after, place, kind_at, key_of, has_key, keyed_at, pairing_of, game_under, seated, seated_as, caller_of, caller_found, has_member_key, with_members, with_events, with_new_game, with_imported, with_game, with_challenge, challenge_game, with_answer, terms_at, swept_any, with_swept, import_as, step_game, step_command, step_by, next}
+use Rattle.club_core.specs.LegalState.{Each, IsLegalMember, IsLegalEvent, IsGameOf, IsLegalIn, IsLegalChallenge, IsLegalState}
 use Rattle.club_rules.proofs.Proved.{IsPlayedLine-none}
 use Rattle.club_core.proofs.Played.{outside-alone, score-none}
 use Rattle.club_core.proofs.ImportedGames.{spend-since}
-use Rattle.club_core.proofs.Lists.{bytes_eq-same, place-append, is_some-append, each-append, each-set, find_id-found, find_id-none, list_any-false, map-got, are_apart-append, are_apart_if_any-append, are_apart_if_any-set}
+use Rattle.club_core.proofs.Lists.{both-true, bytes_eq-same, place-append, is_some-append, each-append, each-set, set-got, at-last, find_id-found, find_id-none, list_any-false, map-got, map-at, are_apart-append, are_apart_if_any-append, are_apart_if_any-set}
 use Rattle.club_core.proofs.Legals.{AreRules, NoneHolds, none-holds, not-some, allowed-running, allowed-in_time, checked-legal, legal-played, running-alone, legal-offered, legal-ended}
+use Rattle.club_core.proofs.Accepts.{outcome-later, accepted-same}
+use Rattle.club_core.proofs.PutChallenges.{under-each, found-by, each-put, apart-put}
+use Rattle.club_core.proofs.Challenged.{was-opened, was-withdrawn, was-answered}
 use Rattle.club_core.proofs.Later.{is-next}
 
 -- an outcome that is not accepted leaves a legal state, and an accepted one is legal where nothing is refused
@@ -59,10 +67,6 @@ not-false false is = cc
 pub not-true : (b : Bool) → not b ≡ true → b ≡ false
 not-true true is = cc
 not-true false is = refl
-
-pub both-true : (a b : Bool) → (a && b) ≡ true → (a ≡ true) × (b ≡ true)
-both-true true b is = (refl, is)
-both-true false b is = cc
 
 pub three-true : (a b c : Bool) → (a && b && c) ≡ true → (a ≡ true) × (b ≡ true) × (c ≡ true)
 three-true true true true is = (refl, refl, refl)
@@ -123,7 +127,7 @@ module _ {DM SM : Type 0} where
 
 -- a game that was just seated is legal
 module _ {DM SM P M E T : Type 0} (laws : GameRules P M E T) (kind : GameKind) (t : State DM SM) where
-  seated-game : (key : List ℕ) (pairing : Pairing) (moment : ℕ) (e : Event) → place t.events pairing.event ≡ Some e → e.game ≡ kind → IsSome (place t.members pairing.first) → IsSome (place t.members pairing.second) → pairing.first ≢ pairing.second → is_name key ≡ true → moment ≤ t.last → IsGameOf laws kind t (seated {M = M} (Some key) pairing moment)
+  seated-game : (key : Option (List ℕ)) (pairing : Pairing) (moment : ℕ) (e : Event) → place t.events pairing.event ≡ Some e → e.game ≡ kind → IsSome (place t.members pairing.first) → IsSome (place t.members pairing.second) → pairing.first ≢ pairing.second → IfSome key (λ k. IsTrue (is_name k)) → moment ≤ t.last → IsGameOf laws kind t (seated {M = M} key pairing moment)
   seated-game key pairing moment e found of_kind is_first is_second apart named now =
       record {
         event = e;
@@ -145,6 +149,42 @@ module _ {DM SM P M E T : Type 0} (laws : GameRules P M E T) (kind : GameKind) (
         start = now;
         entries = λ n x at. cc;
         lost_by_time = λ is. cc;
+      }
+
+-- what a challenge names in one state it names in another
+record KeepsNamed {DM SM : Type 0} (s t : State DM SM) : Type 0 where
+  pub members : (id : ℕ) → IsSome (place s.members id) → IsSome (place t.members id)
+  pub events : (id : ℕ) → IsSome (place s.events id) → IsSome (place t.events id)
+  pub games : (id : ℕ) (g : AnyGame DM SM) → place s.games id ≡ Some g → (new : AnyGame DM SM) × (place t.games id ≡ Some new) × (pairing_of new ≡ pairing_of g)
+
+module _ {DM SM : Type 0} where
+  same-named : (s : State DM SM) (id : ℕ) (g : AnyGame DM SM) → place s.games id ≡ Some g → (new : AnyGame DM SM) × (place s.games id ≡ Some new) × (pairing_of new ≡ pairing_of g)
+  same-named s id g at = (g, at, refl)
+
+  challenge-stays : (s t : State DM SM) → KeepsNamed s t → (c : Challenge) → IsLegalChallenge s c → IsLegalChallenge t c
+  challenge-stays s t named c is =
+      record {
+        number = is.number;
+        member = named.members c.member is.member;
+        other = named.members c.other is.other;
+        apart = is.apart;
+        event = named.events c.event is.event;
+        accepted = λ id stands.
+            let (game, at, of) = is.accepted id stands in
+            let (new, at_new, of_new) = named.games id game at in
+            (new, at_new, of_new ∙ of);
+      }
+
+  -- a challenge of a legal one's members and event is legal, where a game that it names is the one that it is to
+  restanding : (s : State DM SM) (c : Challenge) (standing : Standing) → IsLegalChallenge s c → ((id : ℕ) → standing ≡ Accepted id → (game : AnyGame DM SM) × (place s.games id ≡ Some game) × (pairing_of game ≡ pairing_for c)) → IsLegalChallenge s (standing_as c standing)
+  restanding s c standing is names =
+      record {
+        number = is.number;
+        member = is.member;
+        other = is.other;
+        apart = is.apart;
+        event = is.event;
+        accepted = names;
       }
 
 -- the clocks run from a moment that is at most the last
@@ -179,6 +219,11 @@ module _ {DP DM DE DT SP SM SE ST : Type 0} (kinds : ClubRules DP DM DE DT SP SM
         games = λ n g at. later-any s _ (λ id e is. is) (λ id is. is_some-append s.members _ id is) later g (legal.games n g at);
         game_count = legal.game_count;
         game_keys = legal.game_keys;
+        challenges = λ n c at.
+            challenge-stays s _
+            (record { members = λ id is. is_some-append s.members _ id is; events = λ id is. is; games = same-named s })
+            c (legal.challenges n c at);
+        challenge_numbers = legal.challenge_numbers;
       }
 
   -- an event is added
@@ -200,19 +245,24 @@ module _ {DP DM DE DT SP SM SE ST : Type 0} (kinds : ClubRules DP DM DE DT SP SM
         games = λ n g at. later-any s _ (λ id e is. place-append s.events _ id e is) (λ id is. is) later g (legal.games n g at);
         game_count = legal.game_count;
         game_keys = legal.game_keys;
+        challenges = λ n c at.
+            challenge-stays s _
+            (record { members = λ id is. is; events = λ id is. is_some-append s.events _ id is; games = same-named s })
+            c (legal.challenges n c at);
+        challenge_numbers = legal.challenge_numbers;
       }
 
   key-seated : (kind : GameKind) (key : List ℕ) (pairing : Pairing) (moment : ℕ) → key_of {DM = DM} {SM = SM} (seated_as kind (Some key) pairing moment) ≡ Some key
   key-seated Draughts key pairing moment = refl
   key-seated Shogi key pairing moment = refl
 
-  any-seated : (kind : GameKind) (t : State DM SM) (key : List ℕ) (pairing : Pairing) (moment : ℕ) (e : Event) → place t.events pairing.event ≡ Some e → e.game ≡ kind → IsSome (place t.members pairing.first) → IsSome (place t.members pairing.second) → pairing.first ≢ pairing.second → is_name key ≡ true → moment ≤ t.last → IsLegalIn kinds t (seated_as kind (Some key) pairing moment)
+  any-seated : (kind : GameKind) (t : State DM SM) (key : Option (List ℕ)) (pairing : Pairing) (moment : ℕ) (e : Event) → place t.events pairing.event ≡ Some e → e.game ≡ kind → IsSome (place t.members pairing.first) → IsSome (place t.members pairing.second) → pairing.first ≢ pairing.second → IfSome key (λ k. IsTrue (is_name k)) → moment ≤ t.last → IsLegalIn kinds t (seated_as kind key pairing moment)
   any-seated Draughts t = seated-game kinds.draughts Draughts t
   any-seated Shogi t = seated-game kinds.shogi Shogi t
 
-  -- a game is added under a key that is free
-  pub game-added : (s : State DM SM) (moment : ℕ) (new : AnyGame DM SM) (key : List ℕ) → s.last ≤ moment → moment ≤ last_moment → IsLegalState kinds s → IsLegalIn kinds (with_imported s moment new) new → length s.games < most_games → key_of new ≡ Some key → ((n : ℕ) (g : AnyGame DM SM) → slice_get s.games n ≡ Some g → has_key key g ≡ false) → IsLegalState kinds (with_imported s moment new)
-  game-added s moment new key later within legal is_legal room keyed fresh =
+  -- a game is added, whose key no other game has
+  any-added : (s : State DM SM) (moment : ℕ) (new : AnyGame DM SM) → s.last ≤ moment → moment ≤ last_moment → IsLegalState kinds s → IsLegalIn kinds (with_imported s moment new) new → length s.games < most_games → ((n : ℕ) (g : AnyGame DM SM) (b : List ℕ) → slice_get s.games n ≡ Some g → key_of g ≡ Some b → key_of new ≡ Some b → ⊥) → IsLegalState kinds (with_imported s moment new)
+  any-added s moment new later within legal is_legal room apart =
       record {
         last = within;
         members = legal.members;
@@ -224,7 +274,38 @@ module _ {DP DM DE DT SP SM SE ST : Type 0} (kinds : ClubRules DP DM DE DT SP SM
         event_names = legal.event_names;
         games = each-append (IsLegalIn kinds (with_imported s moment new)) s.games new (λ n g at. later-any s _ (λ id e is. is) (λ id is. is) later g (legal.games n g at)) is_legal;
         game_count = let count : length (s.games ++ new ∷ []) ≡ length s.games + 1 = simp length-append in omega (arith, count, room);
-        game_keys = are_apart_if_any-append (λ g. key_of g) s.games new legal.game_keys (λ n g b at has same. false-true _ (rw has at (fresh n g at)) (bytes_eq-same b key (some-same b key (sym same ∙ keyed))));
+        game_keys = are_apart_if_any-append (λ g. key_of g) s.games new legal.game_keys apart;
+        challenges = λ n c at.
+            challenge-stays s _
+            (record { members = λ id is. is; events = λ id is. is; games = λ id g stands. (g, place-append s.games _ id g stands, refl) })
+            c (legal.challenges n c at);
+        challenge_numbers = legal.challenge_numbers;
+      }
+
+  -- a game is added under a key that is free
+  pub game-added : (s : State DM SM) (moment : ℕ) (new : AnyGame DM SM) (key : List ℕ) → s.last ≤ moment → moment ≤ last_moment → IsLegalState kinds s → IsLegalIn kinds (with_imported s moment new) new → length s.games < most_games → key_of new ≡ Some key → ((n : ℕ) (g : AnyGame DM SM) → slice_get s.games n ≡ Some g → has_key key g ≡ false) → IsLegalState kinds (with_imported s moment new)
+  game-added s moment new key later within legal is_legal room keyed fresh =
+      any-added s moment new later within legal is_legal room
+      (λ n g b at has same. false-true _ (rw has at (fresh n g at)) (bytes_eq-same b key (some-same b key (sym same ∙ keyed))))
+
+  -- a challenge is put
+  challenge-put : (s : State DM SM) (moment : ℕ) (c : Challenge) → s.last ≤ moment → moment ≤ last_moment → IsLegalState kinds s → IsLegalChallenge s c → IsLegalState kinds (with_challenge s moment c)
+  challenge-put s moment c later within legal is_legal =
+      let stays = challenge-stays s (with_challenge s moment c) (record { members = λ id is. is; events = λ id is. is; games = same-named s }) in
+      record {
+        last = within;
+        members = legal.members;
+        member_count = legal.member_count;
+        member_names = legal.member_names;
+        member_keys = legal.member_keys;
+        events = legal.events;
+        event_count = legal.event_count;
+        event_names = legal.event_names;
+        games = λ n g at. later-any s _ (λ id e is. is) (λ id is. is) later g (legal.games n g at);
+        game_count = legal.game_count;
+        game_keys = legal.game_keys;
+        challenges = each-put (IsLegalChallenge (with_challenge s moment c)) s.challenges c (λ n x at. stays x (legal.challenges n x at)) (stays c is_legal);
+        challenge_numbers = apart-put s.challenges c legal.challenge_numbers;
       }
 
   -- two members are seated for a game
@@ -232,7 +313,7 @@ module _ {DP DM DE DT SP SM SE ST : Type 0} (kinds : ClubRules DP DM DE DT SP SM
   game-seated s moment key event first second e later within legal found is_first is_second apart named room fresh =
       let pairing : Pairing = record { event = event; first = first; second = second } in
       game-added s moment (seated_as (kind_at (place s.events event)) (Some key) pairing moment) key later within legal
-      (rw found (any-seated e.game _ key pairing moment e found refl is_first is_second apart named (omega arith)))
+      (rw found (any-seated e.game _ (Some key) pairing moment e found refl is_first is_second apart named (omega arith)))
       room (key-seated (kind_at (place s.events event)) key pairing moment) fresh
 
   pub found-some : {A : Type 0} (test : A → Bool) (xs : List A) (id : ℕ) → find_id test xs ≡ Some id → IsSome (place xs id)
@@ -255,10 +336,20 @@ module _ {DP DM DE DT SP SM SE ST : Type 0} (kinds : ClubRules DP DM DE DT SP SM
       kept-unless (IsLegalState kinds) s (with_new_game s moment key) (same_seats event first second (game_under s.games key)) (seat_refusal (game_under s.games key) (length s.games) key first second) (pair event first second (length s.games)) legal
       (pair-kept s moment key event e first second later within legal at is_first is_second)
 
+  changed-named : (s : State DM SM) (k : ℕ) (old new : AnyGame DM SM) → slice_get s.games k ≡ Some old → pairing_of new ≡ pairing_of old → (id : ℕ) (g : AnyGame DM SM) → place s.games id ≡ Some g → (x : AnyGame DM SM) × (place (slice_set s.games k new) id ≡ Some x) × (pairing_of x ≡ pairing_of g)
+  changed-named s k old new at same zero g is = cc
+  changed-named s k old new at same (suc n) g is =
+      elim (set-got s.games k new n g is) [
+        | inl stays ↦ (g, stays, refl)
+        | inr put ↦
+            let e : old ≡ g = some-same old g (sym at ∙ (ap (slice_get s.games) (sym put.0) ∙ is)) in
+            (new, put.1, same ∙ ap (λ x. pairing_of x) e)
+      ]
+
   -- a game is changed
-  game-changed : (s : State DM SM) (moment id : ℕ) (old new : AnyGame DM SM) → s.last ≤ moment → moment ≤ last_moment → IsLegalState kinds s → place s.games id ≡ Some old → key_of new ≡ key_of old → IsLegalIn kinds (with_game s moment id new) new → IsLegalState kinds (with_game s moment id new)
-  game-changed s moment zero old new later within legal at same legal_new = cc
-  game-changed s moment (suc k) old new later within legal at same legal_new =
+  game-changed : (s : State DM SM) (moment id : ℕ) (old new : AnyGame DM SM) → s.last ≤ moment → moment ≤ last_moment → IsLegalState kinds s → place s.games id ≡ Some old → key_of new ≡ key_of old → pairing_of new ≡ pairing_of old → IsLegalIn kinds (with_game s moment id new) new → IsLegalState kinds (with_game s moment id new)
+  game-changed s moment zero old new later within legal at same between legal_new = cc
+  game-changed s moment (suc k) old new later within legal at same between legal_new =
       let before : suc k - 1 ≡ k = omega arith in
       record {
         last = within;
@@ -272,6 +363,11 @@ module _ {DP DM DE DT SP SM SE ST : Type 0} (kinds : ClubRules DP DM DE DT SP SM
         games = each-set (IsLegalIn kinds (with_game s moment (suc k) new)) s.games (suc k - 1) new (λ n g is. later-any s _ (λ id e is. is) (λ id is. is) later g (legal.games n g is)) legal_new;
         game_count = rw length-set legal.game_count;
         game_keys = are_apart_if_any-set (λ g. key_of g) s.games (suc k - 1) new old (rw before at) same legal.game_keys;
+        challenges = λ n c is.
+            challenge-stays s _
+            (record { members = λ id is. is; events = λ id is. is; games = changed-named s (suc k - 1) old new (rw before at) between })
+            c (legal.challenges n c is);
+        challenge_numbers = legal.challenge_numbers;
       }
 
 some-offer : (offer : Option Offer) (side : Side) (ply : ℕ) → has_offer offer side ply ≡ true → IsSome offer
@@ -283,7 +379,7 @@ is-late : (left since moment : ℕ) → nat_lt left (moment - since) ≡ true �
 is-late left since moment is = grind (arith, nat_tests)
 
 -- a command on a game of one kind
-module _ {DP DM DE DT SP SM SE ST P M E T : Type 0} (kinds : ClubRules DP DM DE DT SP SM SE ST) (laws : GameRules P M E T) (are_rules : AreRules laws) (kind : GameKind) (wrap : Game M → AnyGame DM SM) (wrap_key : (g : Game M) → key_of (wrap g) ≡ g.key) (wrap_legal : (t : State DM SM) (g : Game M) → IsGameOf laws kind t g → IsLegalIn kinds t (wrap g)) (s : State DM SM) (moment id : ℕ) (game : Game M) (later : s.last ≤ moment) (within : moment ≤ last_moment) (legal : IsLegalState kinds s) (at : place s.games id ≡ Some (wrap game)) (of : IsGameOf laws kind s game) where
+module _ {DP DM DE DT SP SM SE ST P M E T : Type 0} (kinds : ClubRules DP DM DE DT SP SM SE ST) (laws : GameRules P M E T) (are_rules : AreRules laws) (kind : GameKind) (wrap : Game M → AnyGame DM SM) (wrap_key : (g : Game M) → key_of (wrap g) ≡ g.key) (wrap_pairing : (g : Game M) → pairing_of (wrap g) ≡ record { event = g.event; first = g.first; second = g.second }) (wrap_legal : (t : State DM SM) (g : Game M) → IsGameOf laws kind t g → IsLegalIn kinds t (wrap g)) (s : State DM SM) (moment id : ℕ) (game : Game M) (later : s.last ≤ moment) (within : moment ≤ last_moment) (legal : IsLegalState kinds s) (at : place s.games id ≡ Some (wrap game)) (of : IsGameOf laws kind s game) where
   played-of : (m : M) → result_of laws game ≡ None → moment - (clocks_of game of.event.terms).since ≤ left_of (turn_of laws game) (clocks_of game of.event.terms) → laws.check (last_position laws game) m ≡ Ok tt → IsGameOf laws kind (with_game s moment id (wrap (played game m moment))) (played game m moment)
   played-of m running in_time ok =
       let since : (clocks_of game of.event.terms).since ≤ s.last = since-within of.event.terms.increment First game.entries _ s.last of.start of.entries in
@@ -304,7 +400,7 @@ module _ {DP DM DE DT SP SM SE ST P M E T : Type 0} (kinds : ClubRules DP DM DE 
   plays-kept : (read : Result M MoveRefusal) (o : Result M MoveRefusal) → checked laws (last_position laws game) read ≡ o → result_of laws game ≡ None → moment - (clocks_of game of.event.terms).since ≤ left_of (turn_of laws game) (clocks_of game of.event.terms) → IsLegalState kinds (state_after s (map_outcome (λ new. with_game s moment id (wrap new)) (plays laws of.event.terms game moment o)))
   plays-kept read (Err refusal) is running in_time = legal
   plays-kept read (Ok m) is running in_time =
-      game-changed kinds s moment id (wrap game) (wrap (played game m moment)) later within legal at (wrap_key (played game m moment) ∙ sym (wrap_key game))
+      game-changed kinds s moment id (wrap game) (wrap (played game m moment)) later within legal at (wrap_key (played game m moment) ∙ sym (wrap_key game)) (wrap_pairing (played game m moment) ∙ sym (wrap_pairing game))
       (wrap_legal _ (played game m moment) (played-of m running in_time (checked-legal laws of.event.terms game moment (last_position laws game) read m is)))
 
   move-kept : (side : Side) (ply : ℕ) (text : List ℕ) → IsLegalState kinds (state_after s (map_outcome (λ new. with_game s moment id (wrap new)) (step_move laws of.event.terms game moment side ply text)))
@@ -351,14 +447,14 @@ module _ {DP DM DE DT SP SM SE ST P M E T : Type 0} (kinds : ClubRules DP DM DE 
       (λ allowed.
       let tests = none-holds (offer_tests laws game side ply) allowed in
       let new = offered game (record { side = side; ply = ply }) in
-      game-changed kinds s moment id (wrap game) (wrap new) later within legal at (wrap_key new ∙ sym (wrap_key game))
+      game-changed kinds s moment id (wrap game) (wrap new) later within legal at (wrap_key new ∙ sym (wrap_key game)) (wrap_pairing new ∙ sym (wrap_pairing game))
       (wrap_legal _ new (offered-of side ply (not-some _ tests.0) draws (is-next ply (length game.entries) tests.1.0)))))
 
   ends-kept : (end : OutsideEnd) (repeat : Option Reply) (tests : List (Bool × Refusal)) → (NoneHolds tests → IsGameOf laws kind (with_game s moment id (wrap (ended game end))) (ended game end)) → IsLegalState kinds (state_after s (map_outcome (λ new. with_game s moment id (wrap new)) (unless_repeat repeat (unless (first_refusal tests) (ends laws game end)))))
   ends-kept end repeat tests is_legal =
       kept-unless (IsLegalState kinds) s (λ new. with_game s moment id (wrap new)) repeat (first_refusal tests) (ends laws game end) legal
       (λ allowed.
-      game-changed kinds s moment id (wrap game) (wrap (ended game end)) later within legal at (wrap_key (ended game end) ∙ sym (wrap_key game))
+      game-changed kinds s moment id (wrap game) (wrap (ended game end)) later within legal at (wrap_key (ended game end) ∙ sym (wrap_key game)) (wrap_pairing (ended game end) ∙ sym (wrap_pairing game))
       (wrap_legal _ (ended game end) (is_legal (none-holds tests allowed))))
 
   accept-kept : (side : Side) (ply : ℕ) → IsLegalState kinds (state_after s (map_outcome (λ new. with_game s moment id (wrap new)) (step_accept laws game side ply)))
@@ -423,10 +519,22 @@ key-late : {M : Type 0} (b : Bool) (game : Game M) → (if b then ended game Tim
 key-late true game = refl
 key-late false game = refl
 
+pairing-late : {M : Type 0} (b : Bool) (game : Game M) → ◌≡◌ {A = Pairing} (record { event = (if b then ended game Time else game).event; first = (if b then ended game Time else game).first; second = (if b then ended game Time else game).second }) (record { event = game.event; first = game.first; second = game.second })
+pairing-late true game = refl
+pairing-late false game = refl
+
 module _ {DP DM DE DT SP SM SE ST : Type 0} (kinds : ClubRules DP DM DE DT SP SM SE ST) where
   key-swept : (s : State DM SM) (moment : ℕ) (g : AnyGame DM SM) → key_of (swept_any kinds s moment g) ≡ key_of g
   key-swept s moment (draughts game) = key-late (is_late kinds.draughts (terms_at (place s.events game.event)) game moment) game
   key-swept s moment (shogi game) = key-late (is_late kinds.shogi (terms_at (place s.events game.event)) game moment) game
+
+  pairing-swept : (s : State DM SM) (moment : ℕ) (g : AnyGame DM SM) → pairing_of (swept_any kinds s moment g) ≡ pairing_of g
+  pairing-swept s moment (draughts game) = pairing-late (is_late kinds.draughts (terms_at (place s.events game.event)) game moment) game
+  pairing-swept s moment (shogi game) = pairing-late (is_late kinds.shogi (terms_at (place s.events game.event)) game moment) game
+
+  swept-named : (s : State DM SM) (moment id : ℕ) (g : AnyGame DM SM) → place s.games id ≡ Some g → (new : AnyGame DM SM) × (place (map (swept_any kinds s moment) s.games) id ≡ Some new) × (pairing_of new ≡ pairing_of g)
+  swept-named s moment zero g at = cc
+  swept-named s moment (suc n) g at = (swept_any kinds s moment g, map-at (swept_any kinds s moment) s.games n g at, pairing-swept s moment g)
 
 pub in-place : {A : Type 0} (P : A → Type 0) (xs : List A) (id : ℕ) (x : A) → Each P xs → place xs id ≡ Some x → P x
 in-place P xs zero x each at = cc
@@ -437,15 +545,111 @@ module _ {DP DM DE DT SP SM SE ST : Type 0} (kinds : ClubRules DP DM DE DT SP SM
   abbrev pub KeepsByImport : Type 0
   KeepsByImport = (s : State DM SM) (moment : ℕ) → s.last ≤ moment → moment ≤ last_moment → IsLegalState kinds s → (who : Caller) (given : Import) → IsLegalState kinds (state_after s (by_officer who (import_as kinds s moment given (event_kind s.events given.event))))
 
+-- the caller of a request is the officer or a member
+abbrev IsCallerIn : List members.Member → Caller → Type 0
+IsCallerIn all Officer = Unit {0}
+IsCallerIn all (Member id) = IsSome (place all id)
+
+-- a game from a challenge
+module _ {DP DM DE DT SP SM SE ST : Type 0} (kinds : ClubRules DP DM DE DT SP SM SE ST) where
+  keyless : (kind : GameKind) (pairing : Pairing) (moment : ℕ) → key_of {DM = DM} {SM = SM} (seated_as kind None pairing moment) ≡ None
+  keyless Draughts pairing moment = refl
+  keyless Shogi pairing moment = refl
+
+  as-paired : (kind : GameKind) (pairing : Pairing) (moment : ℕ) → pairing_of {DM = DM} {SM = SM} (seated_as kind None pairing moment) ≡ pairing
+  as-paired Draughts pairing moment = refl
+  as-paired Shogi pairing moment = refl
+
+  -- is legal
+  challenge-seated : (t : State DM SM) (moment : ℕ) (c : Challenge) (e : Event) (b : Bool) → place t.events c.event ≡ Some e → IsLegalChallenge t c → moment ≤ t.last → IsLegalIn kinds t (seated_as e.game None (if b then record { event = c.event; first = c.member; second = c.other } else record { event = c.event; first = c.other; second = c.member }) moment)
+  challenge-seated t moment c e true at is now =
+      any-seated kinds e.game t None (record { event = c.event; first = c.member; second = c.other }) moment e at refl is.member is.other is.apart tt now
+  challenge-seated t moment c e false at is now =
+      any-seated kinds e.game t None (record { event = c.event; first = c.other; second = c.member }) moment e at refl is.other is.member (λ same. is.apart (sym same)) tt now
+
+  some-event : (o : Option Event) → IsSome o → (e : Event) × (o ≡ Some e)
+  some-event None is = cc
+  some-event (Some e) is = (e, refl)
+
+  challenge-game-legal : (s : State DM SM) (moment : ℕ) (c : Challenge) (played : State DM SM) → played.events ≡ s.events → IsLegalChallenge played c → moment ≤ played.last → IsLegalIn kinds played (challenge_game s moment c)
+  challenge-game-legal s moment c played events is now =
+      let (e, at) = some-event (place played.events c.event) is.event in
+      let kind : kind_at (place s.events c.event) ≡ e.game = ap (λ es. kind_at (place es c.event)) (sym events) ∙ ap kind_at at in
+      rw kind (challenge-seated played moment c e c.first at is now)
+
+  -- a challenge that is accepted names its game
+  accepted-kept : (s : State DM SM) (moment : ℕ) (c : Challenge) → s.last ≤ moment → moment ≤ last_moment → IsLegalState kinds s → IsLegalChallenge s c → length s.games < most_games → IsLegalState kinds (with_answer s moment true (standing_as c (Accepted (length s.games + 1))))
+  accepted-kept s moment c later within legal is_legal room =
+      let game : AnyGame DM SM = challenge_game s moment c in
+      let played : State DM SM = with_imported s moment game in
+      let named : IsLegalChallenge played c = challenge-stays s played (record { members = λ id is. is; events = λ id is. is; games = λ id g stands. (g, place-append s.games _ id g stands, refl) }) c is_legal in
+      let kind = kind_at (place s.events c.event) in
+      let legal_then : IsLegalState kinds played =
+      any-added kinds s moment game later within legal (challenge-game-legal s moment c played refl named (omega arith)) room
+      (λ n g b at has same. let none : None ≡ Some b = sym (keyless kind (pairing_for c) moment) ∙ same in absurd cc) in
+      challenge-put kinds played moment (standing_as c (Accepted (length s.games + 1))) (omega arith) within legal_then
+      (restanding played c (Accepted (length s.games + 1)) named
+      (λ id is.
+      let e : length s.games + 1 ≡ id = cc in
+      let next_id : id ≡ suc (length s.games) = sym e ∙ add-one (length s.games) in
+      (game, ap (place (s.games ++ game ∷ [])) next_id ∙ at-last s.games game, as-paired kind (pairing_for c) moment)))
+
+  -- the member challenged answers
+  answered-kept : (s : State DM SM) (moment : ℕ) (by : Option ℕ) (number id : ℕ) (accept : Bool) (new : Challenge) (reply : Reply) → s.last ≤ moment → moment ≤ last_moment → IsLegalState kinds s → answer_step (challenge_by s.challenges by number) (length s.games) id accept ≡ accepted new reply → IsLegalState kinds (with_answer s moment accept new)
+  answered-kept s moment by number id false new reply later within legal is =
+      let was = was-answered (challenge_by s.challenges by number) (length s.games) id false new reply is in
+      let (member, by_is, found) = found-by s.challenges by number was.old was.found in
+      let old_legal = under-each (IsLegalChallenge s) s.challenges member number was.old legal.challenges found in
+      let same = accepted-same (standing_as was.old Refused) new (challenge_refused was.old.number) reply was.gives in
+      rw (← same.0) (challenge-put kinds s moment (standing_as was.old Refused) later within legal (restanding s was.old Refused old_legal (λ game is. cc)))
+  answered-kept s moment by number id true new reply later within legal is =
+      let was = was-answered (challenge_by s.challenges by number) (length s.games) id true new reply is in
+      let (member, by_is, found) = found-by s.challenges by number was.old was.found in
+      let old_legal = under-each (IsLegalChallenge s) s.challenges member number was.old legal.challenges found in
+      let next = length s.games + 1 in
+      let same = accepted-same (standing_as was.old (Accepted next)) new (challenge_accepted was.old.number next) reply was.gives in
+      rw (← same.0) (accepted-kept s moment was.old later within legal old_legal (nat_le-false _ _ was.room))
+
+  -- the challenger withdraws
+  withdrawn-kept : (s : State DM SM) (moment id number : ℕ) (new : Challenge) (reply : Reply) → s.last ≤ moment → moment ≤ last_moment → IsLegalState kinds s → withdrawal_step (challenge_under s.challenges id number) ≡ accepted new reply → IsLegalState kinds (with_challenge s moment new)
+  withdrawn-kept s moment id number new reply later within legal is =
+      let was = was-withdrawn (challenge_under s.challenges id number) new reply is in
+      let old_legal = under-each (IsLegalChallenge s) s.challenges id number was.old legal.challenges was.found in
+      rw (← was.stands) (challenge-put kinds s moment (standing_as was.old Withdrawn) later within legal (restanding s was.old Withdrawn old_legal (λ game is. cc)))
+
+  -- a member challenges another
+  opened-kept : (s : State DM SM) (moment id number : ℕ) (event other : List ℕ) (first : Bool) (new : Challenge) (reply : Reply) → s.last ≤ moment → moment ≤ last_moment → IsLegalState kinds s → IsSome (place s.members id) → opening_step s.members s.events (challenge_under s.challenges id number) id number event other first ≡ accepted new reply → IsLegalState kinds (with_challenge s moment new)
+  opened-kept s moment id number event other first new reply later within legal is_member is =
+      let was = was-opened id number (find_id (has_event_name event) s.events) (find_id (has_member_name other) s.members) first (challenge_under s.challenges id number) new reply is in
+      challenge-put kinds s moment new later within legal
+      (record {
+        number = rw was.has_number was.fits;
+        member = rw was.by_caller is_member;
+        other = found-some kinds (has_member_name other) s.members new.other was.to_member;
+        apart = λ same. was.apart (sym was.by_caller ∙ same);
+        event = found-some kinds (has_event_name event) s.events new.event was.in_event;
+        accepted = λ game stands. let none : Open ≡ Accepted game = sym was.waits ∙ stands in absurd cc;
+      })
+
+  caller-in : (all : List members.Member) (key : List ℕ) (o : Option ℕ) → find_id (has_member_key key) all ≡ o → (who : Caller) → caller_found o ≡ Some who → IsCallerIn all who
+  caller-in all key None found who is = cc
+  caller-in all key (Some id) found Officer is = tt
+  caller-in all key (Some id) found (Member other) is = let e : id ≡ other = cc in rw (← e) (found-some kinds (has_member_key key) all id found)
+
+  is-caller : (all : List members.Member) (w : Who) (who : Caller) → caller_of all w ≡ Some who → IsCallerIn all who
+  is-caller all officer Officer is = tt
+  is-caller all officer (Member id) is = cc
+  is-caller all (key_holder key) who is = caller-in all key (find_id (has_member_key key) all) refl who is
+
 module _ {DP DM DE DT SP SM SE ST : Type 0} (kinds : ClubRules DP DM DE DT SP SM SE ST) (are_draughts : AreRules kinds.draughts) (are_shogi : AreRules kinds.shogi) (by_import : KeepsByImport kinds) (s : State DM SM) (moment : ℕ) (later : s.last ≤ moment) (within : moment ≤ last_moment) (legal : IsLegalState kinds s) where
   game-kept : (id : ℕ) (who : Caller) (command : GameCommand) (g : Option (AnyGame DM SM)) → place s.games id ≡ g → IsLegalState kinds (state_after s (step_game kinds s moment id who command g))
   game-kept id who command None at = legal
   game-kept id who command (Some (draughts game)) at =
       let of : IsGameOf kinds.draughts Draughts s game = in-place (IsLegalIn kinds s) s.games id (draughts game) legal.games at in
-      rw of.in_event (caller-kept kinds kinds.draughts are_draughts Draughts draughts (λ g. refl) (λ t g is. is) s moment id game later within legal at of who command)
+      rw of.in_event (caller-kept kinds kinds.draughts are_draughts Draughts draughts (λ g. refl) (λ g. refl) (λ t g is. is) s moment id game later within legal at of who command)
   game-kept id who command (Some (shogi game)) at =
       let of : IsGameOf kinds.shogi Shogi s game = in-place (IsLegalIn kinds s) s.games id (shogi game) legal.games at in
-      rw of.in_event (caller-kept kinds kinds.shogi are_shogi Shogi shogi (λ g. refl) (λ t g is. is) s moment id game later within legal at of who command)
+      rw of.in_event (caller-kept kinds kinds.shogi are_shogi Shogi shogi (λ g. refl) (λ g. refl) (λ t g is. is) s moment id game later within legal at of who command)
 
   swept-any-kept : (g : AnyGame DM SM) → IsLegalIn kinds s g → IsLegalIn kinds (with_swept kinds s moment) (swept_any kinds s moment g)
   swept-any-kept (draughts game) of = rw of.in_event (swept-game-kept kinds kinds.draughts are_draughts Draughts s moment later game of)
@@ -472,31 +676,49 @@ module _ {DP DM DE DT SP SM SE ST : Type 0} (kinds : ClubRules DP DM DE DT SP SM
             legal.game_keys i j x y key was_x was_y
             (sym (key-swept kinds s moment x) ∙ (ap (λ g. key_of g) is_x ∙ key_i))
             (sym (key-swept kinds s moment y) ∙ (ap (λ g. key_of g) is_y ∙ key_j));
+        challenges = λ n c at.
+            challenge-stays s _
+            (record { members = λ id is. is; events = λ id is. is; games = swept-named kinds s moment })
+            c (legal.challenges n c at);
+        challenge_numbers = legal.challenge_numbers;
       }
 
-  command-kept : (who : Caller) (command : Command) → IsLegalState kinds (state_after s (step_command kinds s moment who command))
-  command-kept who (add_member name key) =
+  command-kept : (who : Caller) (command : Command) → IsCallerIn s.members who → IsLegalState kinds (state_after s (step_command kinds s moment who command))
+  command-kept who (add_member name key) is_caller =
       kept-officer (IsLegalState kinds) s (with_members s moment) who (member_step s.members name key) legal
       (kept-unless (IsLegalState kinds) s (with_members s moment) (same_member s.members name key) (member_refusal s.members name key) _ legal (members-added kinds s moment name key later within legal))
-  command-kept who (add_event event) =
+  command-kept who (add_event event) is_caller =
       kept-officer (IsLegalState kinds) s (with_events s moment) who (event_step s.events event) legal
       (kept-unless (IsLegalState kinds) s (with_events s moment) (same_event s.events event) (event_refusal s.events event) _ legal (events-added kinds s moment event later within legal))
-  command-kept who (seat key event first second) =
+  command-kept who (seat key event first second) is_caller =
       kept-officer (IsLegalState kinds) s (with_new_game s moment key) who (seat_step s.members s.events (game_under s.games key) (length s.games) key event first second) legal
       (seat-kept kinds s moment key (find_id (has_event_name event) s.events) (find_id (has_member_name first) s.members) (find_id (has_member_name second) s.members) later within legal
       (λ id is. let (e, at, _) = find_id-found (has_event_name event) s.events id is in (e, at))
       (λ id is. found-some kinds (has_member_name first) s.members id is)
       (λ id is. found-some kinds (has_member_name second) s.members id is))
-  command-kept who (import_record given) = by_import s moment later within legal who given
-  command-kept who (on_game id command) = game-kept id who command (place s.games id) refl
-  command-kept Officer sweep = swept-kept
-  command-kept (Member id) sweep = legal
+  command-kept who (import_record given) is_caller = by_import s moment later within legal who given
+  command-kept who (on_game id command) is_caller = game-kept id who command (place s.games id) refl
+  command-kept Officer sweep is_caller = swept-kept
+  command-kept (Member id) sweep is_caller = legal
+  command-kept Officer (open_challenge number event other first) is_caller = legal
+  command-kept (Member id) (open_challenge number event other first) is_caller =
+      outcome-later (IsLegalState kinds) s (with_challenge s moment) (opening_step s.members s.events (challenge_under s.challenges id number) id number event other first) legal
+      (λ new reply is. opened-kept kinds s moment id number event other first new reply later within legal is_caller is)
+  command-kept Officer (withdraw_challenge number) is_caller = legal
+  command-kept (Member id) (withdraw_challenge number) is_caller =
+      outcome-later (IsLegalState kinds) s (with_challenge s moment) (withdrawal_step (challenge_under s.challenges id number)) legal
+      (λ new reply is. withdrawn-kept kinds s moment id number new reply later within legal is)
+  command-kept Officer (answer_challenge challenger number accept) is_caller = legal
+  command-kept (Member id) (answer_challenge challenger number accept) is_caller =
+      outcome-later (IsLegalState kinds) s (with_answer s moment accept) (answer_step (challenge_by s.challenges (find_id (has_member_name challenger) s.members) number) (length s.games) id accept) legal
+      (λ new reply is. answered-kept kinds s moment (find_id (has_member_name challenger) s.members) number id accept new reply later within legal is)
 
-  by-kept : (who : Option Caller) (command : Command) → IsLegalState kinds (state_after s (step_by kinds s moment who command))
-  by-kept None command = legal
-  by-kept (Some who) command = command-kept who command
+  by-kept : (who : Option Caller) (command : Command) → ((c : Caller) → who ≡ Some c → IsCallerIn s.members c) → IsLegalState kinds (state_after s (step_by kinds s moment who command))
+  by-kept None command are = legal
+  by-kept (Some who) command are = command-kept who command (are who refl)
 
 module _ {DP DM DE DT SP SM SE ST : Type 0} (kinds : ClubRules DP DM DE DT SP SM SE ST) (are_draughts : AreRules kinds.draughts) (are_shogi : AreRules kinds.shogi) (by_import : KeepsByImport kinds) where
   pub next-legal : (s : State DM SM) (r : Request) → r.moment ≤ last_moment → IsLegalState kinds s → IsLegalState kinds (next kinds s r)
   next-legal s r within legal =
       by-kept kinds are_draughts are_shogi by_import s (max r.moment s.last) (omega arith) (let before = legal.last in omega (arith, within, before)) legal (caller_of s.members r.who) r.command
+      (λ c. is-caller kinds s.members r.who c)

@@ -7,6 +7,9 @@ pub mod Tracked
 pub mod Folds
 pub mod Lists
 pub mod Legals
+pub mod Accepts
+pub mod PutChallenges
+pub mod Challenged
 pub mod ImportedGames
 pub mod LegalSteps
 pub mod ImportSteps

@@ -1,6 +1,7 @@
 -- An accepted command that comes again from the one who gave it is repeated with the same answer.
 use Rattle.std.proofs.Common.{◌≡◌, ℕ, zero, suc, ◌+◌, ◌-◌, ◌≤◌, List, [], ◌∷◌, ◌++◌, length, map, take, Option, Some, None, Result, Ok, Err, Bool, true, false, ◌&&◌, ◌||◌, refl, ap, sym, ◌∙◌, arith, length-append, add-one}
-use Rattle.std.specs.Prelude.{is_some, max, slice_get, slice_set, nat_lt, nat_le, ◌==◌}
+use Rattle.std.specs.Prelude.{is_some, max, slice_get, slice_set, nat_lt, nat_le, ◌==◌, if◌then◌else◌}
+use Rattle.std.specs.Cmp.{booleans_Decides}
 use Rattle.std.specs.Option.{option_map}
 use Rattle.std.specs.Str.{bytes_eq}
 use Rattle.std.proofs.Math.Seq.{take-length}
@@ -17,18 +18,22 @@ use Rattle.club_rules.specs.GameRules.{GameRules}
 use Rattle.club_core.specs.ClubRules.{ClubRules}
 use Rattle.club_rules.specs.Line.{IsLegalLine}
 use Rattle.club_core.specs.declared.rows.OutsideEnd.TheVariants.{Resigned, Agreed, Time}
+use Rattle.club_core.specs.declared.challenges.Challenge.{Challenge}
+use Rattle.club_core.specs.declared.challenges.Standing.{Standing}
+use Rattle.club_core.specs.declared.challenges.Standing.TheVariants.{Withdrawn, Refused, Accepted}
 use Rattle.club_core.specs.declared.refusals.Refusal.TheVariants.{NotAllowed}
 use Rattle.club_core.specs.declared.requests.Caller.{Caller}
 use Rattle.club_core.specs.declared.requests.Caller.TheVariants.{Officer, Member}
-use Rattle.club_core.specs.Outcome.{Reply, member_added, event_added, game_seated, Outcome, accepted, repeated, refused, map_outcome, by_officer}
+use Rattle.club_core.specs.Outcome.{Reply, member_added, event_added, game_seated, challenge_withdrawn, challenge_refused, challenge_accepted, Outcome, accepted, repeated, refused, map_outcome, by_officer}
 use Rattle.club_core.specs.Members as members
 use Rattle.club_core.specs.Members.{find_id, is_member, member_refusal, same_member, member_step}
 use Rattle.club_core.specs.Events.{Terms, Event, event_kind, same_game, is_event, has_event_name, event_refusal, same_event, event_step}
 use Rattle.club_core.specs.Seats.{Pairing, KeyedGame, has_member_name, same_seats, seat_tests, seat_refusal, pair, seat_found, seat_step}
+use Rattle.club_core.specs.Challenges.{challenge_under, challenge_by, is_open, standing_as, asks_same, opening_step, withdrawal_step, repeat_of_answer, answer_step}
 use Rattle.club_core.specs.Imports.{Import}
 use Rattle.club_core.specs.Game.{Game, Entry, moves_of, last_position, turn_of, side_after, game_at}
 use Rattle.club_core.specs.Step.{GameCommand, move, offer_draw, accept_draw, resign, claim_time, may_give, asked_ply, has_offer, caller_side, played, offered, ended, checked, checked_as, reads_as, repeats, plays, step_move, step_offer, step_accept, step_resign, step_claim, by_side, game_step, move_tests, move_refusal, repeat_of, reply_of_move, move_at}
-use Rattle.club_core.specs.State.{AnyGame, draughts, shogi, State, Command, add_member, add_event, seat, import_record, on_game, sweep, Who, officer, key_holder, Request, state_after, place, terms_at, has_key, is_key, pairing_of, game_under, seated_as, kind_at, caller_of, caller_found, has_member_key, with_members, with_events, with_new_game, with_imported, with_game, import_as, step_game, step_command, step_by, step, next, fold}
+use Rattle.club_core.specs.State.{AnyGame, draughts, shogi, State, Command, add_member, add_event, seat, import_record, on_game, sweep, open_challenge, withdraw_challenge, answer_challenge, Who, officer, key_holder, Request, state_after, place, terms_at, has_key, is_key, pairing_of, game_under, seated_as, kind_at, caller_of, caller_found, has_member_key, with_members, with_events, with_new_game, with_imported, with_game, with_challenge, challenge_game, with_answer, import_as, step_game, step_command, step_by, step, next, fold}
 use Rattle.club_core.specs.LegalState.{IsGameOf, IsLegalIn, IsLegalState}
 use Rattle.club_core.specs.Laws.{StillRepeats, StillRepeatsOn}
 use Rattle.club_core.proofs.Lists.{bytes_eq-same, find_id-append, find_id-new, find_id-pointwise, place-append, get-append, put-at_same, at-last}
@@ -36,7 +41,10 @@ use Rattle.club_core.proofs.Legals.{AreRules, none-holds}
 use Rattle.club_core.proofs.Played.{turn-of-game, made-played, take-before, take-whole}
 use Rattle.club_core.proofs.LegalSteps.{no-game-under, not-false, in-place}
 use Rattle.club_core.proofs.Kept.{KeepsOver, fold-over}
-use Rattle.club_core.proofs.Later.{Begins, IsLater, IsLaterAny, IsLaterGame, later-trans, next-later, fold-later, unless-accepted, accepted-same, if-accepted, is-next, offer-accepts, accept-accepts, resign-accepts, claim-accepts, caller-later}
+use Rattle.club_core.proofs.Accepts.{unless-accepted, accepted-same, if-accepted}
+use Rattle.club_core.proofs.PutChallenges.{under-key, key-under, under-same, under-found, under-put, found-by}
+use Rattle.club_core.proofs.Challenged.{IsLaterChallenge, WasOpened, was-opened, was-withdrawn, was-answered}
+use Rattle.club_core.proofs.Later.{Begins, IsLater, IsLaterAny, IsLaterGame, later-trans, next-later, fold-later, is-next, offer-accepts, accept-accepts, resign-accepts, claim-accepts, caller-later}
 
 none-found : (f : ℕ → Reply) (o : Option ℕ) → option_map f o ≡ None → o ≡ None
 none-found f None is = refl
@@ -176,6 +184,82 @@ module _ {DM SM : Type 0} (s t : State DM SM) (moment again : ℕ) where
       let same : (pairing.event == pairing.event && pairing.first == pairing.first && pairing.second == pairing.second) ≡ true =
       and-true _ _ (and-true _ _ (eq-eqb pairing.event pairing.event refl) (eq-eqb pairing.first pairing.first refl)) (eq-eqb pairing.second pairing.second refl) in
       rw (by.0, in_event, has_first, has_second, under, same, was.answer) refl
+
+-- a challenge that was put stands from then on, and only an open one is changed
+put-later : {DM SM : Type 0} (s t : State DM SM) (moment : ℕ) (new : Challenge) → IsLater (with_challenge s moment new) t → (c : Challenge) × (challenge_under t.challenges new.member new.number ≡ Some c) × IsLaterChallenge new c
+put-later s t moment new later =
+    let itself = ap (λ b. if b then Some new else challenge_under s.challenges new.member new.number) (key-under new.member new.number new refl refl) in
+    later.challenges new.member new.number new (under-put s.challenges new new.member new.number ∙ itself)
+
+-- a challenge that was closed stays so
+closed-stays : {DM SM : Type 0} (s t : State DM SM) (moment member number : ℕ) (old : Challenge) (standing : Standing) → challenge_under s.challenges member number ≡ Some old → is_open standing ≡ false → IsLater (with_challenge s moment (standing_as old standing)) t → challenge_under t.challenges member number ≡ Some (standing_as old standing)
+closed-stays s t moment member number old standing found closed later =
+    let key = under-key member number old (under-found s.challenges member number old found) in
+    let (c, stands, is_later) = put-later s t moment (standing_as old standing) later in
+    under-same t.challenges _ _ member number _ key.0 key.1 (stands ∙ ap Some (is_later.closed closed))
+
+-- the challenge that was opened, whatever became of it, is the one that is asked for again
+asks-again : (number : ℕ) (first : Bool) (new c : Challenge) → new.number ≡ number → new.first ≡ first → c ≡ standing_as new c.standing → (asks_same new.event (Some new.other) first c ≡ true) × (c.number ≡ number)
+asks-again number first new c has_number has_sides asks = (
+  and-true _ _
+      (and-true _ _ (eq-eqb new.event c.event (sym (ap (λ u. u.event) asks))) (eq-eqb new.other c.other (sym (ap (λ u. u.other) asks))))
+      ((booleans_Decides first c.first).1 (sym (ap (λ u. u.first) asks ∙ has_sides))),
+  ap (λ u. u.number) asks ∙ has_number,
+)
+
+module _ {DM SM : Type 0} (s t : State DM SM) (moment again : ℕ) where
+  opened-again : (id number : ℕ) (event other : List ℕ) (first : Bool) (under : Option Challenge) (new : Challenge) (reply : Reply) → WasOpened id number (find_id (has_event_name event) s.events) (find_id (has_member_name other) s.members) first under new reply → IsLater (with_challenge s moment new) t → map_outcome (with_challenge t again) (opening_step t.members t.events (challenge_under t.challenges id number) id number event other first) ≡ repeated reply
+  opened-again id number event other first under new reply was since =
+      let (c, stands, is_later) = put-later s t moment new since in
+      let in_event : find_id (has_event_name event) t.events ≡ Some new.event = find-later _ s.events t.events _ since.events was.in_event in
+      let to_member : find_id (has_member_name other) t.members ≡ Some new.other = find-later _ s.members t.members _ since.members was.to_member in
+      let found : challenge_under t.challenges id number ≡ Some c = under-same t.challenges _ _ id number c was.by_caller was.has_number stands in
+      let (same, numbered) = asks-again number first new c was.has_number was.has_sides is_later.asks in
+      rw (in_event, to_member, found, same, numbered, was.answer) refl
+
+  opening-again : (id number : ℕ) (event other : List ℕ) (first : Bool) (after : State DM SM) (reply : Reply) → map_outcome (with_challenge s moment) (opening_step s.members s.events (challenge_under s.challenges id number) id number event other first) ≡ accepted after reply → IsLater after t → map_outcome (with_challenge t again) (opening_step t.members t.events (challenge_under t.challenges id number) id number event other first) ≡ repeated reply
+  opening-again id number event other first after reply is later =
+      let (new, step_is, after_is) = map-accepted (with_challenge s moment) (opening_step s.members s.events (challenge_under s.challenges id number) id number event other first) after reply is in
+      opened-again id number event other first (challenge_under s.challenges id number) new reply
+      (was-opened id number (find_id (has_event_name event) s.events) (find_id (has_member_name other) s.members) first (challenge_under s.challenges id number) new reply step_is)
+      (rw (← after_is) at later)
+
+  withdrawn-again : (id number : ℕ) (old : Challenge) (reply : Reply) → challenge_under s.challenges id number ≡ Some old → challenge_withdrawn old.number ≡ reply → IsLater (with_challenge s moment (standing_as old Withdrawn)) t → map_outcome (with_challenge t again) (withdrawal_step (challenge_under t.challenges id number)) ≡ repeated reply
+  withdrawn-again id number old reply found answer since =
+      rw (closed-stays s t moment id number old Withdrawn found refl since) (ap repeated answer)
+
+  withdrawal-again : (id number : ℕ) (after : State DM SM) (reply : Reply) → map_outcome (with_challenge s moment) (withdrawal_step (challenge_under s.challenges id number)) ≡ accepted after reply → IsLater after t → map_outcome (with_challenge t again) (withdrawal_step (challenge_under t.challenges id number)) ≡ repeated reply
+  withdrawal-again id number after reply is later =
+      let (new, step_is, after_is) = map-accepted (with_challenge s moment) (withdrawal_step (challenge_under s.challenges id number)) after reply is in
+      let was = was-withdrawn (challenge_under s.challenges id number) new reply step_is in
+      withdrawn-again id number was.old reply was.found was.answer (rw (← after_is, ← was.stands) at later)
+
+-- the answer that closed a challenge is given again
+answered-again : {DM SM : Type 0} (s t : State DM SM) (moment again : ℕ) (challenger : List ℕ) (member number id : ℕ) (accept : Bool) (old : Challenge) (standing : Standing) (reply : Reply) → find_id (has_member_name challenger) s.members ≡ Some member → challenge_under s.challenges member number ≡ Some old → (old.other == id) ≡ true → is_open standing ≡ false → repeat_of_answer old.number standing accept ≡ Some reply → IsLater (with_challenge s moment (standing_as old standing)) t → map_outcome (with_answer t again accept) (answer_step (challenge_by t.challenges (find_id (has_member_name challenger) t.members) number) (length t.games) id accept) ≡ repeated reply
+answered-again s t moment again challenger member number id accept old standing reply by_member found to_caller closed repeats since =
+    let by : find_id (has_member_name challenger) t.members ≡ Some member = find-later _ s.members t.members _ since.members by_member in
+    rw (by, closed-stays s t moment member number old standing found closed since, to_caller, repeats) refl
+
+module _ {DM SM : Type 0} (s t : State DM SM) (moment again : ℕ) where
+  answer-again : (challenger : List ℕ) (number id : ℕ) (accept : Bool) (after : State DM SM) (reply : Reply) → map_outcome (with_answer s moment accept) (answer_step (challenge_by s.challenges (find_id (has_member_name challenger) s.members) number) (length s.games) id accept) ≡ accepted after reply → IsLater after t → map_outcome (with_answer t again accept) (answer_step (challenge_by t.challenges (find_id (has_member_name challenger) t.members) number) (length t.games) id accept) ≡ repeated reply
+  answer-again challenger number id false after reply is later =
+      let by = find_id (has_member_name challenger) s.members in
+      let (new, step_is, after_is) = map-accepted (with_answer s moment false) (answer_step (challenge_by s.challenges by number) (length s.games) id false) after reply is in
+      let was = was-answered (challenge_by s.challenges by number) (length s.games) id false new reply step_is in
+      let (member, by_is, found) = found-by s.challenges by number was.old was.found in
+      let same = accepted-same (standing_as was.old Refused) new (challenge_refused was.old.number) reply was.gives in
+      answered-again s t moment again challenger member number id false was.old Refused reply by_is found was.to_caller refl (ap Some same.1)
+      (rw (← after_is, ← same.0) at later)
+  answer-again challenger number id true after reply is later =
+      let by = find_id (has_member_name challenger) s.members in
+      let (new, step_is, after_is) = map-accepted (with_answer s moment true) (answer_step (challenge_by s.challenges by number) (length s.games) id true) after reply is in
+      let was = was-answered (challenge_by s.challenges by number) (length s.games) id true new reply step_is in
+      let (member, by_is, found) = found-by s.challenges by number was.old was.found in
+      let next = length s.games + 1 in
+      let same = accepted-same (standing_as was.old (Accepted next)) new (challenge_accepted was.old.number next) reply was.gives in
+      let played : State DM SM = with_imported s moment (challenge_game s moment was.old) in
+      answered-again played t moment again challenger member number id true was.old (Accepted next) reply by_is found was.to_caller refl (ap Some same.1)
+      (rw (← after_is, ← same.0) at later)
 
 -- the answer to a move shows nothing of later entries
 reply-same : {P M E T : Type 0} (laws : GameRules P M E T) (terms : Terms) (a b : Game M) (ply : ℕ) (m : M) → a.start ≡ b.start → take (ply - 1) a.entries ≡ take (ply - 1) b.entries → take ply a.entries ≡ take ply b.entries → reply_of_move laws terms a ply m ≡ reply_of_move laws terms b ply m
@@ -376,6 +460,12 @@ module _ {DP DM DE DT SP SM SE ST : Type 0} (kinds : ClubRules DP DM DE DT SP SM
   command-again s t moment again who (import_record given) after reply legal is since kept still = import_again s t moment again who given after reply is since kept
   command-again s t moment again who (on_game id command) after reply legal is since kept still = on-game-again s t moment again id who command (place s.games id) after reply legal refl is since still
   command-again s t moment again who sweep after reply legal is since kept still = absurd still
+  command-again s t moment again Officer (open_challenge number event other first) after reply legal is since kept still = cc
+  command-again s t moment again (Member id) (open_challenge number event other first) after reply legal is since kept still = opening-again s t moment again id number event other first after reply is since
+  command-again s t moment again Officer (withdraw_challenge number) after reply legal is since kept still = cc
+  command-again s t moment again (Member id) (withdraw_challenge number) after reply legal is since kept still = withdrawal-again s t moment again id number after reply is since
+  command-again s t moment again Officer (answer_challenge challenger number accept) after reply legal is since kept still = cc
+  command-again s t moment again (Member id) (answer_challenge challenger number accept) after reply legal is since kept still = answer-again s t moment again challenger number id accept after reply is since
 
   found-later : (o : Option ℕ) (who : Caller) → caller_found o ≡ Some who → (id : ℕ) × (o ≡ Some id) × (Member id ≡ who)
   found-later None who is = cc

@@ -1,17 +1,14 @@
 -- A view that shows a legal game is sound.
-use Rattle.std.proofs.Common.{◌≡◌, ℕ, ◌+◌, ◌*◌, ◌≤◌, List, [], ◌∷◌, length, map, Option, Some, None, Ok, true, ap, sym, ◌∙◌, arith}
-use Rattle.std.specs.Prelude.{IsTrue, IfSome, nat_le}
-use Rattle.std.proofs.lemmas.Bool.Decides.{nat_tests}
+use Rattle.std.proofs.Common.{◌≡◌, ℕ, ◌≤◌, length, map, Option, Some, None, Ok, ap, arith}
+use Rattle.std.specs.Prelude.{IsTrue, IfSome}
 use Rattle.std.proofs.lemmas.List.{length-map}
-use Rattle.squares.specs.declared.sides.Side.{Side}
-use Rattle.squares.specs.declared.sides.Side.TheVariants.{First, Second}
-use Rattle.squares.specs.Sides.{other}
+use Rattle.squares.specs.declared.sides.Side.TheVariants.{First}
 use Rattle.club_rules.specs.GameRules.{GameRules}
 use Rattle.club_core.specs.declared.rows.Asked.{Asked}
 use Rattle.club_core.specs.declared.rows.GameView.{GameView}
 use Rattle.club_core.specs.Limits.{is_budget, is_increment, most_plies}
 use Rattle.club_core.specs.Events.{Terms}
-use Rattle.club_core.specs.Game.{Game, Clocks, spend, spend_all, clocks_of, moves_of}
+use Rattle.club_core.specs.Game.{Game, clocks_of, moves_of}
 use Rattle.club_core.specs.Legal.{IsLegalGame}
 use Rattle.club_core.specs.Step.{move_at}
 use Rattle.club_core.specs.View.{IsAsked, Shows, ShowsPly, IsSound, terms_of}

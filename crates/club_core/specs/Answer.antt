@@ -5,6 +5,9 @@ use Rattle.club_core.specs.declared.answers.Answer.{Answer}
 use Rattle.club_core.specs.declared.answers.Answer.TheVariants as answer
 use Rattle.club_core.specs.declared.answers.Outcome as given_outcome
 use Rattle.club_core.specs.declared.answers.Outcome.TheVariants as given
+use Rattle.club_core.specs.declared.challenges.Challenge.{Challenge}
+use Rattle.club_core.specs.declared.challenges.ChallengeDecision.{ChallengeDecision}
+use Rattle.club_core.specs.declared.challenges.ChallengeDecision.TheVariants as challenge
 use Rattle.club_core.specs.declared.members.Member as given_member
 use Rattle.club_core.specs.declared.events.Event as given_event
 use Rattle.club_core.specs.declared.requests.AddEvent as given_command
@@ -20,13 +23,13 @@ use Rattle.club_core.specs.declared.seats.Pairing as given_pairing
 use Rattle.club_core.specs.declared.seats.KeyedGame as given_keyed
 use Rattle.club_core.specs.declared.seats.Seating as given_seating
 use Rattle.club_core.specs.declared.seats.Seating.TheVariants as seating
-use Rattle.club_core.specs.Outcome.{Reply, MoveReply, member_added, event_added, game_seated, moved, draw_offered, game_ended, games_swept, Outcome, accepted, repeated, refused, map_outcome}
+use Rattle.club_core.specs.Outcome.{Reply, MoveReply, member_added, event_added, game_seated, moved, draw_offered, game_ended, games_swept, challenge_opened, challenge_withdrawn, challenge_refused, challenge_accepted, Outcome, accepted, repeated, refused, map_outcome}
 use Rattle.club_core.specs.Members.{Member}
 use Rattle.club_core.specs.Events.{Event}
 use Rattle.club_core.specs.Seats.{Pairing, KeyedGame}
 use Rattle.club_core.specs.Imports.{Import}
 use Rattle.club_core.specs.Step.{GameCommand, move, offer_draw, accept_draw, resign, claim_time}
-use Rattle.club_core.specs.State.{Command, add_member, add_event, seat, import_record, on_game, sweep, Who, officer, key_holder, Request}
+use Rattle.club_core.specs.State.{Command, add_member, add_event, seat, import_record, on_game, sweep, open_challenge, withdraw_challenge, answer_challenge, Who, officer, key_holder, Request}
 
 abbrev pub move_reply_of : Moved → MoveReply
 move_reply_of m = record { ply = m.ply; text = string_bytes m.text; left = m.left; position = string_bytes m.position; end = m.end }
@@ -39,6 +42,10 @@ reply_of (answer.Moved m) = moved (move_reply_of m)
 reply_of (answer.Offered ply) = draw_offered ply
 reply_of (answer.Ended end result) = game_ended end result
 reply_of (answer.Swept count) = games_swept count
+reply_of (answer.ChallengeOpened number) = challenge_opened number
+reply_of (answer.ChallengeWithdrawn number) = challenge_withdrawn number
+reply_of (answer.ChallengeRefused number) = challenge_refused number
+reply_of (answer.ChallengeAccepted number game) = challenge_accepted number game
 
 -- what is answered, without what stands after it
 abbrev pub outcome_of : given_outcome.Outcome → Outcome (Unit {0})
@@ -81,6 +88,12 @@ seating_of (seating.Starts k) = accepted (pairing_of k.pairing) (game_seated k.g
 seating_of (seating.Repeated id) = repeated (game_seated id)
 seating_of (seating.Refused refusal) = refused refusal
 
+-- the outcome that a decision on a challenge stands for, with the challenge as it is to stand
+abbrev pub challenge_outcome_of : ChallengeDecision → Outcome Challenge
+challenge_outcome_of (challenge.Accepted new a) = accepted new (reply_of a)
+challenge_outcome_of (challenge.Repeated a) = repeated (reply_of a)
+challenge_outcome_of (challenge.Refused refusal) = refused refusal
+
 -- a command on a game, its text being the bytes that were given
 abbrev pub game_command_of : given_game.GameCommand → GameCommand
 game_command_of (given_does.Move ply text) = move ply (string_bytes text)
@@ -110,6 +123,9 @@ command_of (given_is.Seat c) = seat (string_bytes c.key) (string_bytes c.event) 
 command_of (given_is.Import c) = import_record (import_of c)
 command_of (given_is.OnGame c) = on_game c.game (game_command_of c.command)
 command_of given_is.Sweep = sweep
+command_of (given_is.Challenge c) = open_challenge c.number (string_bytes c.event) (string_bytes c.other) c.first
+command_of (given_is.Withdraw c) = withdraw_challenge c.number
+command_of (given_is.Answer c) = answer_challenge (string_bytes c.challenger) c.number c.accept
 
 abbrev pub request_of : given_request.Request → Request
 request_of r = record { who = who_of r.who; command = command_of r.command; moment = r.moment }

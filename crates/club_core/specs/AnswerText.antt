@@ -27,6 +27,11 @@ answer_text (answer.Moved moved) = moved_text moved
 answer_text (answer.Offered ply) = codes "offer ply " ++ decimal ply
 answer_text (answer.Ended end result) = codes "end " ++ outside_text end ++ codes " " ++ score_text result
 answer_text (answer.Swept count) = codes "sweep " ++ decimal count
+answer_text (answer.ChallengeOpened number) = codes "challenge " ++ decimal number ++ codes " open"
+answer_text (answer.ChallengeWithdrawn number) = codes "challenge " ++ decimal number ++ codes " withdrawn"
+answer_text (answer.ChallengeRefused number) = codes "challenge " ++ decimal number ++ codes " refused"
+answer_text (answer.ChallengeAccepted number game) =
+    codes "challenge " ++ (decimal number ++ (codes " accepted game " ++ decimal game))
 
 abbrev pub outcome_text : Outcome → List ℕ
 outcome_text (outcome.Accepted answer) = codes "accepted " ++ answer_text answer

@@ -4,7 +4,7 @@ use Rattle.club_core.specs.ClubRules.{ClubRules}
 use Rattle.club_core.specs.Limits.{last_moment}
 use Rattle.club_core.specs.Outcome.{Reply, accepted, repeated}
 use Rattle.club_core.specs.Step.{GameCommand, move, offer_draw, accept_draw, resign, claim_time}
-use Rattle.club_core.specs.State.{AnyGame, draughts, shogi, State, Command, add_member, add_event, seat, import_record, on_game, sweep, Request, place, is_accepted, step, next, fold, accepted_of}
+use Rattle.club_core.specs.State.{AnyGame, draughts, shogi, State, Command, add_member, add_event, seat, import_record, on_game, sweep, open_challenge, withdraw_challenge, answer_challenge, Request, place, is_accepted, step, next, fold, accepted_of}
 use Rattle.club_core.specs.LegalState.{IsLegalState}
 
 -- no move came since that command, where it is an offer of a draw: its ply is still the next one
@@ -28,6 +28,9 @@ module _ {DM SM : Type 0} where
   StillRepeats s (seat key event first second) = Unit {0}
   StillRepeats s (import_record given) = Unit {0}
   StillRepeats s sweep = ⊥
+  StillRepeats s (open_challenge number event other first) = Unit {0}
+  StillRepeats s (withdraw_challenge number) = Unit {0}
+  StillRepeats s (answer_challenge challenger number accept) = Unit {0}
 
 module _ {DP DM DE DT SP SM SE ST : Type 0} (rules : ClubRules DP DM DE DT SP SM SE ST) where
   -- folding the accepted requests alone gives the same state

@@ -1,16 +1,19 @@
 -- A legal state of the club: its games are legal, its values and counts keep their limits, and what is named exists.
-use Rattle.std.specs.Prelude.{◌≡◌, ◌+◌, ◌<◌, ◌≤◌, ℕ, List, length, Option, Some, IsTrue, IsSome, IfSome, slice_get}
+use Rattle.std.specs.Prelude.{◌≡◌, ◌≢◌, ◌+◌, ◌<◌, ◌≤◌, ℕ, List, length, Option, Some, IsTrue, IsSome, IfSome, slice_get}
 use Rattle.club_rules.specs.declared.names.GameKind.{GameKind}
 use Rattle.club_rules.specs.declared.names.GameKind.TheVariants.{Draughts, Shogi}
 use Rattle.club_rules.specs.GameRules.{GameRules}
 use Rattle.club_core.specs.ClubRules.{ClubRules}
+use Rattle.club_core.specs.declared.challenges.Challenge.{Challenge}
+use Rattle.club_core.specs.declared.challenges.Standing.TheVariants.{Accepted}
 use Rattle.club_core.specs.declared.rows.OutsideEnd.TheVariants.{Time}
-use Rattle.club_core.specs.Limits.{last_moment, most_members, most_events, most_games, is_name, is_member_key, is_budget, is_increment}
+use Rattle.club_core.specs.Limits.{last_moment, most_members, most_events, most_games, is_name, is_member_key, is_challenge_number, is_budget, is_increment}
 use Rattle.club_core.specs.Members.{Member}
 use Rattle.club_core.specs.Events.{Event}
+use Rattle.club_core.specs.Challenges.{goes_by, pairing_for}
 use Rattle.club_core.specs.Game.{Game, clocks_of, left_of, turn_of}
 use Rattle.club_core.specs.Legal.{IsLegalGame}
-use Rattle.club_core.specs.State.{AnyGame, draughts, shogi, State, place, key_of}
+use Rattle.club_core.specs.State.{AnyGame, draughts, shogi, State, place, key_of, pairing_of}
 
 -- each element is so
 abbrev pub Each : {A : Type 0} → (A → Type 0) → List A → Type 0
@@ -54,6 +57,17 @@ module _ {DP DM DE DT SP SM SE ST : Type 0} (rules : ClubRules DP DM DE DT SP SM
   IsLegalIn s (draughts game) = IsGameOf rules.draughts Draughts s game
   IsLegalIn s (shogi game) = IsGameOf rules.shogi Shogi s game
 
+-- a challenge of a member to another, to a game of an event
+pub record IsLegalChallenge {DM SM : Type 0} (s : State DM SM) (c : Challenge) : Type 0 where
+  pub number : IsTrue (is_challenge_number c.number)
+  pub member : IsSome (place s.members c.member)
+  pub other : IsSome (place s.members c.other)
+  pub apart : c.member ≢ c.other
+  pub event : IsSome (place s.events c.event)
+  -- one that was accepted names a game of that event, of those two on those sides
+  pub accepted : (id : ℕ) → c.standing ≡ Accepted id →
+      (game : AnyGame DM SM) × (place s.games id ≡ Some game) × (pairing_of game ≡ pairing_for c)
+
 pub record IsLegalState {DP DM DE DT SP SM SE ST : Type 0} (rules : ClubRules DP DM DE DT SP SM SE ST) (s : State DM SM) : Type 0 where
   pub last : s.last ≤ last_moment
   pub members : Each IsLegalMember s.members
@@ -66,3 +80,5 @@ pub record IsLegalState {DP DM DE DT SP SM SE ST : Type 0} (rules : ClubRules DP
   pub games : Each (IsLegalIn rules s) s.games
   pub game_count : length s.games ≤ most_games
   pub game_keys : AreApartIfAny (λ g. key_of g) s.games
+  pub challenges : Each (IsLegalChallenge s) s.challenges
+  pub challenge_numbers : AreApart goes_by s.challenges

@@ -6,6 +6,7 @@ pub mod Members
 pub mod ClubRules
 pub mod Events
 pub mod Seats
+pub mod Challenges
 pub mod Game
 pub mod Legal
 pub mod Imports

@@ -25,6 +25,10 @@ most_text_bytes = 200
 abbrev pub most_record_bytes : ℕ
 most_record_bytes = 65536
 
+-- the greatest number of a challenge
+abbrev pub greatest_challenge : ℕ
+greatest_challenge = 9999
+
 -- the last moment, in Unix seconds: the end of the year 9999
 abbrev pub last_moment : ℕ
 last_moment = 253402300799
@@ -40,6 +44,10 @@ is_name text = nat_le 1 (length text) && nat_le (length text) 24 && list_all is_
 -- a member's key: 8 to 64 letters and digits
 abbrev pub is_member_key : List ℕ → Bool
 is_member_key text = nat_le 8 (length text) && nat_le (length text) 64 && list_all is_ascii_alphanumeric text
+
+-- a number under which a member may challenge another
+abbrev pub is_challenge_number : ℕ → Bool
+is_challenge_number number = nat_le 1 number && nat_le number greatest_challenge
 
 -- the seconds that each player of a game starts with
 abbrev pub is_budget : ℕ → Bool

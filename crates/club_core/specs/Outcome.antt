@@ -26,6 +26,12 @@ pub data Reply : Type 0 where
   game_ended : OutsideEnd → Score → Reply
   -- so many games were ended by time
   games_swept : (count : ℕ) → Reply
+  -- the number of a challenge is its challenger's
+  challenge_opened : (number : ℕ) → Reply
+  challenge_withdrawn : (number : ℕ) → Reply
+  challenge_refused : (number : ℕ) → Reply
+  -- the challenge was accepted, and started that game
+  challenge_accepted : (number game : ℕ) → Reply
 
 -- accepted with what stands after it, repeated, or refused
 pub data Outcome (S : Type 0) : Type 0 where
@@ -55,3 +61,8 @@ unless_repeat None outcome = outcome
 abbrev pub by_officer : {S : Type 0} → Caller → Outcome S → Outcome S
 by_officer Officer outcome = outcome
 by_officer (Member id) outcome = refused NotAllowed
+
+-- a command that members alone give
+abbrev pub by_member : {S : Type 0} → Caller → (ℕ → Outcome S) → Outcome S
+by_member Officer outcome = refused NotAllowed
+by_member (Member id) outcome = outcome id

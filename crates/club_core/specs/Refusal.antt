@@ -5,13 +5,14 @@ use Rattle.club_rules.specs.RecordRefusal.{record_refusal_number, record_refusal
 use Rattle.club_rules.specs.declared.refusals.MoveRefusal.{MoveRefusal}
 use Rattle.club_rules.specs.declared.refusals.MoveRefusal.TheVariants.{Ambiguous}
 use Rattle.club_core.specs.declared.refusals.Refusal.{Refusal}
-use Rattle.club_core.specs.declared.refusals.Refusal.TheVariants.{UnknownKey, NotAllowed, UnknownEvent, UnknownGame, NotAPlayer, NotInThisGame, GameOver, WrongPly, Conflict, NotYourTurn, OutOfTime, TimeLeft, NoOffer, NameTaken, BadValue, Full, Play, Record}
+use Rattle.club_core.specs.declared.refusals.Refusal.TheVariants.{UnknownKey, NotAllowed, UnknownEvent, UnknownGame, UnknownChallenge, NotAPlayer, NotInThisGame, GameOver, WrongPly, Conflict, NotYourTurn, OutOfTime, TimeLeft, NoOffer, NameTaken, BadValue, Full, Play, Record}
 
 abbrev pub refusal_number : Refusal → ℕ
 refusal_number UnknownKey = 50
 refusal_number NotAllowed = 51
 refusal_number UnknownEvent = 52
 refusal_number UnknownGame = 53
+refusal_number UnknownChallenge = 54
 refusal_number NotAPlayer = 55
 refusal_number NotInThisGame = 63
 refusal_number GameOver = 56
@@ -32,6 +33,7 @@ refusal_name UnknownKey = codes "UnknownKey"
 refusal_name NotAllowed = codes "NotAllowed"
 refusal_name UnknownEvent = codes "UnknownEvent"
 refusal_name UnknownGame = codes "UnknownGame"
+refusal_name UnknownChallenge = codes "UnknownChallenge"
 refusal_name NotAPlayer = codes "NotAPlayer"
 refusal_name NotInThisGame = codes "NotInThisGame"
 refusal_name GameOver = codes "GameOver"
@@ -60,6 +62,7 @@ refusal_tail UnknownKey = []
 refusal_tail NotAllowed = []
 refusal_tail UnknownEvent = []
 refusal_tail UnknownGame = []
+refusal_tail UnknownChallenge = []
 refusal_tail NotAPlayer = []
 refusal_tail NotInThisGame = []
 refusal_tail GameOver = []

@@ -1,17 +1,19 @@
--- The club: its members, its events and its games of two kinds, and what a request does to them.
+-- The club: its members, its events, its games of two kinds and its challenges, and what a request does to them.
 use Rattle.std.specs.Prelude.{ℕ, zero, suc, ◌-◌, List, [], ◌∷◌, ◌++◌, length, map, count_by, Option, Some, None, Bool, true, false, max, if◌then◌else◌, slice_get, slice_set}
 use Rattle.std.specs.Str.{bytes_eq}
 use Rattle.club_rules.specs.declared.names.GameKind.{GameKind}
 use Rattle.club_rules.specs.declared.names.GameKind.TheVariants.{Draughts, Shogi}
 use Rattle.club_core.specs.ClubRules.{ClubRules}
+use Rattle.club_core.specs.declared.challenges.Challenge.{Challenge}
 use Rattle.club_core.specs.declared.requests.Caller.{Caller}
 use Rattle.club_core.specs.declared.requests.Caller.TheVariants.{Officer, Member}
 use Rattle.club_core.specs.declared.refusals.Refusal.TheVariants.{UnknownKey}
-use Rattle.club_core.specs.Outcome.{Outcome, games_swept, accepted, repeated, refused, map_outcome, by_officer}
+use Rattle.club_core.specs.Outcome.{Outcome, games_swept, accepted, repeated, refused, map_outcome, by_officer, by_member}
 use Rattle.club_core.specs.Members as members
 use Rattle.club_core.specs.Members.{find_id, member_step}
 use Rattle.club_core.specs.Events.{Terms, Event, has_event_name, event_kind, event_step}
 use Rattle.club_core.specs.Seats.{Pairing, KeyedGame, has_member_name, seat_step}
+use Rattle.club_core.specs.Challenges.{challenge_under, challenge_by, put_challenge, pairing_for, opening_step, withdrawal_step, answer_step}
 use Rattle.club_core.specs.Game.{Game}
 use Rattle.club_rules.specs.GameRules.{GameRules}
 use Rattle.club_rules.specs.Records.{GameRecords}
@@ -30,9 +32,11 @@ pub record State (DM SM : Type 0) : Type 0 where
   pub members : List members.Member
   pub events : List Event
   pub games : List (AnyGame DM SM)
+  -- in the order in which they were opened, which no command looks at
+  pub challenges : List Challenge
 
 abbrev pub opening_state : {DM SM : Type 0} → State DM SM
-opening_state = record { last = 0; members = []; events = []; games = [] }
+opening_state = record { last = 0; members = []; events = []; games = []; challenges = [] }
 
 pub data Command : Type 0 where
   add_member : (name key : List ℕ) → Command
@@ -41,6 +45,9 @@ pub data Command : Type 0 where
   import_record : Import → Command
   on_game : (id : ℕ) → GameCommand → Command
   sweep : Command
+  open_challenge : (number : ℕ) → (event other : List ℕ) → (first : Bool) → Command
+  withdraw_challenge : (number : ℕ) → Command
+  answer_challenge : (challenger : List ℕ) → (number : ℕ) → (accept : Bool) → Command
 
 -- who gives a command: the officer, or one who shows a member's key
 pub data Who : Type 0 where
@@ -172,6 +179,18 @@ module _ {DM SM : Type 0} (s : State DM SM) (moment : ℕ) where
   abbrev pub with_game : ℕ → AnyGame DM SM → State DM SM
   with_game id game = record s { last = moment; games = slice_set s.games (id - 1) game }
 
+  abbrev pub with_challenge : Challenge → State DM SM
+  with_challenge c = record s { last = moment; challenges = put_challenge s.challenges c }
+
+  -- the game that a challenge starts has no key
+  abbrev pub challenge_game : Challenge → AnyGame DM SM
+  challenge_game c = seated_as (kind_at (place s.events c.event)) None (pairing_for c) moment
+
+-- the challenge as it was answered, and the game that it starts where it was accepted
+abbrev pub with_answer : {DM SM : Type 0} → State DM SM → ℕ → Bool → Challenge → State DM SM
+with_answer s moment false c = with_challenge s moment c
+with_answer s moment true c = with_challenge (with_imported s moment (challenge_game s moment c)) moment c
+
 abbrev pub import_looked_up : {DM SM P M E T : Type 0} →
     GameRules P M E T → GameRecords M → State DM SM → Import → Option (Game M) → Outcome (Imported M)
 import_looked_up rules records s given old =
@@ -232,6 +251,19 @@ module _ {DP DM DE DT SP SM SE ST : Type 0} (rules : ClubRules DP DM DE DT SP SM
       by_officer who (import_as s moment given (event_kind s.events given.event))
   step_command s moment who (on_game id command) = step_game s moment id who command (place s.games id)
   step_command s moment who sweep = by_officer who (step_sweep s moment)
+  step_command s moment who (open_challenge number event other first) =
+      by_member who
+      (λ caller. map_outcome (with_challenge s moment)
+      (opening_step s.members s.events (challenge_under s.challenges caller number) caller number event other first))
+  step_command s moment who (withdraw_challenge number) =
+      by_member who
+      (λ caller. map_outcome (with_challenge s moment) (withdrawal_step (challenge_under s.challenges caller number)))
+  step_command s moment who (answer_challenge challenger number accept) =
+      by_member who
+      (λ caller. map_outcome (with_answer s moment accept)
+      (answer_step
+      (challenge_by s.challenges (find_id (has_member_name challenger) s.members) number)
+      (length s.games) caller accept))
 
   abbrev pub step_by : State DM SM → ℕ → Option Caller → Command → Outcome (State DM SM)
   step_by s moment None command = refused UnknownKey

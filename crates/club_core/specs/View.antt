@@ -1,9 +1,9 @@
 -- When the rows and values that a command is decided over are those of a game, and when a decision is the step's outcome.
-use Rattle.std.specs.Prelude.{◌≡◌, ℕ, List, ◌+◌, ◌-◌, ◌<◌, ◌≤◌, ◌^◌, length, Option, Some, None, Ok, string_bytes, slice_get, IfSome}
+use Rattle.std.specs.Prelude.{◌≡◌, ℕ, ◌+◌, ◌-◌, ◌<◌, ◌≤◌, ◌^◌, length, Option, Some, None, Ok, string_bytes, slice_get, IfSome}
 use Rattle.std.specs.Option.{option_map}
 use Rattle.squares.specs.declared.sides.Side.{Side}
 use Rattle.club_rules.specs.GameRules.{GameRules}
-use Rattle.club_rules.specs.Line.{position_after, IsPlayedLine, line_track, times_stood, FirstStands}
+use Rattle.club_rules.specs.Line.{line_track, times_stood, FirstStands}
 use Rattle.club_core.specs.declared.rows.GameRow.{GameRow}
 use Rattle.club_core.specs.declared.rows.GameEnd.{GameEnd}
 use Rattle.club_core.specs.declared.rows.GameEnd.TheVariants.{Rule, Outside}
@@ -125,6 +125,10 @@ answer_with rules end (given.Game id) = given.Game id
 answer_with rules end (given.Offered ply) = given.Offered ply
 answer_with rules end (given.Ended by score) = given.Ended by score
 answer_with rules end (given.Swept count) = given.Swept count
+answer_with rules end (given.ChallengeOpened number) = given.ChallengeOpened number
+answer_with rules end (given.ChallengeWithdrawn number) = given.ChallengeWithdrawn number
+answer_with rules end (given.ChallengeRefused number) = given.ChallengeRefused number
+answer_with rules end (given.ChallengeAccepted number game) = given.ChallengeAccepted number game
 
 -- the decision with that end and that result
 abbrev pub concluded : {R P M E T : Type 0} →

@@ -30,6 +30,14 @@ pub enum Answer {
     Ended { end: OutsideEnd, result: Score },
     /// So many games were ended by time.
     Swept { count: u32 },
+    /// The challenge of that number of the caller's was opened.
+    ChallengeOpened { number: u32 },
+    /// The caller took the challenge back.
+    ChallengeWithdrawn { number: u32 },
+    /// The challenge, which has that number of its challenger's, was refused.
+    ChallengeRefused { number: u32 },
+    /// The challenge was accepted, and started that game.
+    ChallengeAccepted { number: u32, game: u32 },
 }
 
 /// What a command is answered: a repeat has the answer of the command that it repeats, and like a refusal it changes
@@ -42,8 +50,9 @@ pub enum Outcome {
 }
 
 /// Writes what is named, as `member 1`, `game 2` or `ply 3 32-28`, and after a move that ended the game ` end Repetition`.
-/// An offer of a draw is written as `offer ply 5`, an end from outside with its result, `end Agreed 1-1`, and a sweep with
-/// the number of games that it ended, `sweep 3`.
+/// An offer of a draw is written as `offer ply 5`, an end from outside with its result, `end Agreed 1-1`, a sweep with
+/// the number of games that it ended, `sweep 3`, and a challenge with what became of it, `challenge 3 open` or
+/// `challenge 3 accepted game 7`.
 impl fmt::Display for Answer {
     ghost use Rattle.std.specs.Prelude.{Some};
     ghost use Rattle.club_core.specs.AnswerText.{answer_text};
@@ -59,6 +68,12 @@ impl fmt::Display for Answer {
             Answer::Offered { ply } => write!(f, "offer ply {ply}"),
             Answer::Ended { end, result } => write!(f, "end {end} {result}"),
             Answer::Swept { count } => write!(f, "sweep {count}"),
+            Answer::ChallengeOpened { number } => write!(f, "challenge {number} open"),
+            Answer::ChallengeWithdrawn { number } => write!(f, "challenge {number} withdrawn"),
+            Answer::ChallengeRefused { number } => write!(f, "challenge {number} refused"),
+            Answer::ChallengeAccepted { number, game } => {
+                write!(f, "challenge {number} accepted game {game}")
+            }
         }
     }
 }

@@ -2,6 +2,7 @@
 #![tactic(auto)]
 
 pub mod answers;
+pub mod challenges;
 pub mod decisions;
 mod draws;
 mod endings;
@@ -20,14 +21,18 @@ pub mod settling;
 pub mod values;
 
 pub use answers::{Answer, Decision, Moved, Outcome};
+pub use challenges::{
+    Challenge, ChallengeDecision, Standing, answer_challenge, open_challenge, withdraw,
+};
 pub use decisions::{decide, refusal_without_game};
 pub use events::{Event, add_event};
 pub use members::{Member, add_member, identify};
 pub use refusals::Refusal;
 pub use requests::{
-    AddEvent, AddMember, Caller, Command, GameCommand, Import, OnGame, Request, Seat, Who,
+    AddEvent, AddMember, AnswerChallenge, Caller, Command, GameCommand, Import, OnGame,
+    OpenChallenge, Request, Seat, Who, Withdraw,
 };
 pub use rows::{Asked, GameEnd, GameRow, GameView, Made, Offer, OutsideEnd};
-pub use seats::{KeyedGame, Pairing, Seating, seat, seated_row};
+pub use seats::{KeyedGame, Pairing, Seating, keyless_row, seat, seated_row};
 pub use settling::{Settled, conclude, settle};
-pub use values::{is_member_key, is_name};
+pub use values::{is_challenge_number, is_member_key, is_name};

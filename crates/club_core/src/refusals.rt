@@ -18,6 +18,8 @@ pub enum Refusal {
     UnknownEvent,
     /// No game has the number.
     UnknownGame,
+    /// The member has no challenge of the number, or it is not to the caller.
+    UnknownChallenge,
     /// The member plays neither side of the game.
     NotAPlayer,
     /// The players of this game do not agree on draws.
@@ -26,7 +28,8 @@ pub enum Refusal {
     GameOver,
     /// The ply is 0 or not yet due, or for a draw not the next one.
     WrongPly,
-    /// Another move was played at the ply, another game or record stands under the key, or the other side has offered a draw.
+    /// Another move was played at the ply, another game, record or challenge stands under the key or the number, the
+    /// challenge is closed, or the other side has offered a draw.
     Conflict,
     /// The other side is to move, or for a claim the caller's own.
     NotYourTurn,
@@ -58,6 +61,7 @@ impl Refusal {
             Refusal::NotAllowed => 51,
             Refusal::UnknownEvent => 52,
             Refusal::UnknownGame => 53,
+            Refusal::UnknownChallenge => 54,
             Refusal::NotAPlayer => 55,
             Refusal::NotInThisGame => 63,
             Refusal::GameOver => 56,
@@ -84,6 +88,7 @@ impl Refusal {
             Refusal::NotAllowed => "NotAllowed",
             Refusal::UnknownEvent => "UnknownEvent",
             Refusal::UnknownGame => "UnknownGame",
+            Refusal::UnknownChallenge => "UnknownChallenge",
             Refusal::NotAPlayer => "NotAPlayer",
             Refusal::NotInThisGame => "NotInThisGame",
             Refusal::GameOver => "GameOver",

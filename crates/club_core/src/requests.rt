@@ -93,6 +93,30 @@ pub struct OnGame {
     pub command: GameCommand,
 }
 
+/// Challenges a member to a game of an event, both given by their names, under a number of the challenger's own.
+/// `first` says whether the challenger plays First.
+#[derive(Debug, Drop)]
+pub struct OpenChallenge {
+    pub number: u64,
+    pub event: String,
+    pub other: String,
+    pub first: bool,
+}
+
+/// Takes the caller's own challenge of that number back.
+#[derive(Debug, Drop)]
+pub struct Withdraw {
+    pub number: u64,
+}
+
+/// Accepts or refuses the challenge to the caller that the member of that name opened under that number.
+#[derive(Debug, Drop)]
+pub struct AnswerChallenge {
+    pub challenger: String,
+    pub number: u64,
+    pub accept: bool,
+}
+
 /// A command to the club.
 #[derive(Debug, Drop)]
 pub enum Command {
@@ -103,6 +127,9 @@ pub enum Command {
     OnGame(OnGame),
     /// Ends by time every running game whose side to move has used more seconds than it had left.
     Sweep,
+    Challenge(OpenChallenge),
+    Withdraw(Withdraw),
+    Answer(AnswerChallenge),
 }
 
 /// A command, with the one who gives it and the moment at which it came.

@@ -63,7 +63,7 @@ pub fn find_member(members: &[Member], name: &str) -> Option<u32>
 }
 
 /// Whether the id was found and is that one.
-fn is_id(found: Option<u32>, id: u32) -> bool
+pub fn is_id(found: Option<u32>, id: u32) -> bool
     ensures { result ≡ is_id found id }
 {
     match found {
@@ -203,14 +203,41 @@ pub fn seated_row<R: Rules>(
     ensures { IfOk result (λ row. (increment : ℕ) → IsRowOf R.rules (record { budget = budget; increment = increment })
         (seated (Some key.now) (pairing_of pairing) start) row) }
 {
+    let key = String::from_str(alloc, key)?;
+    started_row::<R>(alloc, Some(key), pairing, budget, start)
+}
+
+/// The row of a game without a key that starts at that moment, as one from a challenge does.
+pub fn keyless_row<R: Rules>(
+    alloc: Global,
+    pairing: Pairing,
+    budget: u64,
+    start: Moment,
+) -> Result<GameRow<R::End>, Memory>
+    ensures { IfOk result (λ row. (increment : ℕ) → IsRowOf R.rules (record { budget = budget; increment = increment })
+        (seated None (pairing_of pairing) start) row) }
+{
+    started_row::<R>(alloc, None, pairing, budget, start)
+}
+
+/// The row of a game that starts at that moment.
+fn started_row<R: Rules>(
+    alloc: Global,
+    key: Option<String>,
+    pairing: Pairing,
+    budget: u64,
+    start: Moment,
+) -> Result<GameRow<R::End>, Memory>
+    ensures { IfOk result (λ row. (increment : ℕ) → IsRowOf R.rules (record { budget = budget; increment = increment })
+        (seated (option_map (λ k. string_bytes k) key) (pairing_of pairing) start) row) }
+{
     let position = R::start();
     let end = R::judge(alloc, &position, &[])?;
     let score = score_of_end::<R>(end, R::turn(&position));
     let track = R::track_start(&position);
-    let key = String::from_str(alloc, key)?;
     let text = R::write_position(alloc, &position)?;
     Ok(GameRow {
-        key: Some(key),
+        key,
         event: pairing.event,
         first: pairing.first,
         second: pairing.second,

@@ -3,7 +3,7 @@
 ghost use Rattle.std.specs.Prelude.{◌≡◌};
 ghost use Rattle.std.specs.Char.{is_ascii_alphanumeric};
 ghost use Rattle.std.specs.List.{list_all};
-ghost use Rattle.club_core.specs.Limits.{is_name, is_name_byte, is_member_key, is_budget, is_increment};
+ghost use Rattle.club_core.specs.Limits.{is_name, is_name_byte, is_member_key, is_challenge_number, is_budget, is_increment};
 
 /// The most members of a club.
 pub const MOST_MEMBERS: usize = 200;
@@ -22,6 +22,9 @@ pub const MOST_TEXT_BYTES: usize = 200;
 
 /// The most bytes of a text of records.
 pub const MOST_RECORD_BYTES: usize = 65_536;
+
+/// The greatest number of a challenge.
+pub const GREATEST_CHALLENGE: u64 = 9_999;
 
 /// The longest budget, in seconds: 365 days.
 pub const LONGEST_BUDGET: u64 = 31_536_000;
@@ -60,6 +63,13 @@ pub fn is_member_key(text: &str) -> bool
     ensures { result ≡ is_member_key text.now }
 {
     8 <= text.len() && text.len() <= 64 && has_key_bytes(text.as_bytes())
+}
+
+/// Whether a number is one that a challenge may have: 1 to the greatest.
+pub fn is_challenge_number(number: u64) -> bool
+    ensures { result ≡ is_challenge_number number }
+{
+    1 <= number && number <= GREATEST_CHALLENGE
 }
 
 /// Whether a budget is from 1 second to the longest.

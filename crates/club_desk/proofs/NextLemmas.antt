@@ -1,20 +1,48 @@
--- What is behind a request: the state before it, or that after a member's command on a game.
+-- What is behind a request: the state before it, or that after a member's command.
 use Rattle.std.proofs.Common.{◌≡◌, ◌⊎◌, ◌≤◌, ℕ, List, Option, Some, None, Bool, true, false, refl, inl, inr}
-use Rattle.std.specs.Prelude.{if◌then◌else◌}
+use Rattle.std.specs.Prelude.{IfSome, option_map, option_and_then, if◌then◌else◌}
 use Rattle.club_core.specs.Limits.{last_moment}
-use Rattle.club_core.specs.State.{Request, key_holder, on_game as game_command}
+use Rattle.club_core.specs.State.{Command, Request, key_holder, withdraw_challenge, on_game as game_command}
 use Rattle.club_core.specs.Step.{GameCommand}
 use Rattle.club_rows.specs.Club.{ClubState}
 use Rattle.store.specs.Steps.{club_next}
 use Rattle.http_head.specs.Request as head
 use Rattle.http_head.specs.Request.{Seen, unfinished, refused, whole}
 use Rattle.http_desk.specs.Routes.{Asked, game_view, legal_moves, cross_table, on_game, challenge, withdraw, answer, asked_of}
-use Rattle.http_desk.specs.Shown as shown
-use Rattle.http_desk.specs.Shown.{ChallengeCommand}
-use Rattle.http_desk.specs.Desk.{Due, serve, serve_asked, serve_known, serve_page, serve_command, serve_challenge, command_given, state_behind}
-use Rattle.http_desk.specs.Bodies.{challenge_of, answer_of}
+use Rattle.http_desk.specs.Desk.{Due, serve, serve_asked, serve_known, serve_page, serve_command, command_given, state_behind}
+use Rattle.http_desk.specs.Bodies.{json_of, challenge_with, challenge_in, challenge_of, answer_with, answer_in, answer_of}
 use Rattle.club_desk.specs.Served.{served}
-use Rattle.club_desk.specs.Turns.{IsTurn}
+use Rattle.club_desk.specs.Turns.{IsMembers, IsTurn}
+
+-- ---- what paths and bodies give are commands of members
+
+turn_members : (id : ℕ) (command : Option GameCommand) → IfSome (option_map (game_command id) command) IsMembers
+turn_members id None = tt
+turn_members id (Some command) = tt
+
+opening_given : (n : ℕ) (event other : Option (List ℕ)) (first : Option Bool) → IfSome (challenge_with n event other first) IsMembers
+opening_given n None other first = tt
+opening_given n (Some event) None first = tt
+opening_given n (Some event) (Some other) None = tt
+opening_given n (Some event) (Some other) (Some first) = tt
+
+answer_given : (challenger : List ℕ) (n : ℕ) (accept : Option Bool) → IfSome (answer_with challenger n accept) IsMembers
+answer_given challenger n None = tt
+answer_given challenger n (Some accept) = tt
+
+given_by : {D : Type 0} (f : D → Option Command) → ((d : D) → IfSome (f d) IsMembers) → (o : Option D) → IfSome (option_and_then f o) IsMembers
+given_by f each None = tt
+given_by f each (Some d) = each d
+
+opening_members : (n : ℕ) (body : List ℕ) → IfSome (challenge_of n body) IsMembers
+unfolding challenge_of
+opening_members n body = given_by (challenge_in n) (λ d. opening_given n _ _ _) (json_of body)
+
+answer_members : (challenger : List ℕ) (n : ℕ) (body : List ℕ) → IfSome (answer_of challenger n body) IsMembers
+unfolding answer_of
+answer_members challenger n body = given_by (answer_in challenger n) (λ d. answer_given challenger n _) (json_of body)
+
+-- ---- what is behind a request
 
 module _ (s : ClubState) (moment : ℕ) (within : moment ≤ last_moment) where
   abbrev pub IsNext : ClubState → Type 0
@@ -24,27 +52,23 @@ module _ (s : ClubState) (moment : ℕ) (within : moment ≤ last_moment) where
   if_next true one other first second = first
   if_next false one other first second = second
 
-  command_next : (key : List ℕ) (id : ℕ) (command : Option GameCommand) → IsNext (serve_command served s moment key id command).0
-  command_next key id None = inl refl
-  command_next key id (Some command) =
+  command_next : (key : List ℕ) (id : ℕ) (command : Option Command) → IfSome command IsMembers → IsNext (serve_command served s moment key id command).0
+  command_next key id None members = inl refl
+  command_next key id (Some command) members =
       inr (
-        record { who = key_holder key; command = game_command id command; moment = moment },
-        record { key = key; game = id; command = command; is = refl; within = within },
+        record { who = key_holder key; command = command; moment = moment },
+        record { key = key; command = command; members = members; is = refl; within = within },
         refl,
       )
-
-  challenge_next : (key : List ℕ) (n : ℕ) (command : Option ChallengeCommand) → IsNext (serve_challenge served s moment key n command).0
-  challenge_next key n None = inl refl
-  challenge_next key n (Some command) = inl refl
 
   page_next : (key body : List ℕ) (asked : Asked) → IsNext (serve_page served s moment key body asked).0
   page_next key body (game_view id) = inl refl
   page_next key body (legal_moves id) = inl refl
   page_next key body (cross_table event) = inl refl
-  page_next key body (on_game id turn) = command_next key id (command_given turn body)
-  page_next key body (challenge n) = challenge_next key n (challenge_of n body)
-  page_next key body (withdraw n) = challenge_next key n (Some (shown.withdraw n))
-  page_next key body (answer member n) = challenge_next key n (answer_of member n body)
+  page_next key body (on_game id turn) = command_next key id _ (turn_members id (command_given turn body))
+  page_next key body (challenge n) = command_next key n _ (opening_members n body)
+  page_next key body (withdraw n) = command_next key n (Some (withdraw_challenge n)) tt
+  page_next key body (answer member n) = command_next key n _ (answer_members member n body)
 
   known_next : (key : Option (List ℕ)) (body : List ℕ) (asked : Asked) → IsNext (serve_known served s moment key body asked).0
   known_next None body asked = inl refl

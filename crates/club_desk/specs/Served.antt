@@ -1,9 +1,8 @@
 -- The club of a store, as the desk asks it.
-use Rattle.std.specs.Prelude.{◌≡◌, ℕ, Bool, true, false, List, Option, Err, is_some, string_bytes}
+use Rattle.std.specs.Prelude.{◌≡◌, ℕ, Bool, List, Option, is_some, string_bytes}
 use Rattle.std.specs.Option.{option_map}
 use Rattle.squares.specs.declared.sides.Side.{Side}
 use Rattle.squares.specs.declared.sides.Side.TheVariants.{First, Second}
-use Rattle.club_core.specs.declared.refusals.Refusal.TheVariants.{NotAllowed, UnknownKey}
 use Rattle.club_core.specs.Answer.{answered}
 use Rattle.club_core.specs.State.{key_holder, caller_of}
 use Rattle.club_rows.specs.Club.{ClubState}
@@ -12,10 +11,8 @@ use Rattle.store.specs.CrossTable.{AreTableRows}
 use Rattle.store.specs.Steps.{club_step, club_next}
 use Rattle.store.specs.Stored.{AreLegalRows}
 use Rattle.store.specs.Viewed.{IsViewed}
-use Rattle.http_desk.specs.declared.refusals.ChallengeRefusal.{ChallengeRefusal}
-use Rattle.http_desk.specs.declared.refusals.ChallengeRefusal.TheVariants as refusal
 use Rattle.http_desk.specs.Served.{Club}
-use Rattle.http_desk.specs.Shown.{GameShown, ChallengeCommand, make, withdraw, answer}
+use Rattle.http_desk.specs.Shown.{GameShown}
 use Rattle.http_desk.specs.ShownViews.{texts_view}
 
 -- the machine takes one who shows the key for a member
@@ -47,13 +44,6 @@ shown_of viewed =
 abbrev pub IsGame : ClubState → ℕ → Option GameShown → Type 0
 IsGame s id shown = (viewed : Option ViewedGame) × IsViewed s id viewed × (shown ≡ option_map shown_of viewed)
 
--- A command about a challenge, by a member or by nobody: no challenge stands, and none can be made.
-abbrev pub challenge_refusal : Bool → ChallengeCommand → ChallengeRefusal
-challenge_refusal false command = refusal.Club UnknownKey
-challenge_refusal true (make number event other first) = refusal.Club NotAllowed
-challenge_refusal true (withdraw number) = refusal.UnknownChallenge
-challenge_refusal true (answer member number accept) = refusal.UnknownChallenge
-
 abbrev pub served : Club ClubState
 served =
     record {
@@ -62,5 +52,4 @@ served =
       AreLegal = AreLegalRows;
       AreLines = AreTableRows;
       step = λ s request. (club_next s request, answered (club_step s request));
-      challenge = λ s key command moment. (s, Err (challenge_refusal (has_key s key) command));
     }

@@ -3,16 +3,28 @@ use Rattle.std.specs.Prelude.{◌≡◌, ◌≤◌, ℕ, List, [], ◌∷◌, �
 use Rattle.sqlite.specs.Tree.{Trees}
 use Rattle.sqlite.specs.State.{State}
 use Rattle.club_core.specs.Limits.{last_moment}
-use Rattle.club_core.specs.State.{Request, key_holder, on_game}
-use Rattle.club_core.specs.Step.{GameCommand}
+use Rattle.club_core.specs.State.{Command, add_member, add_event, seat, import_record, on_game, sweep}
+use Rattle.club_core.specs.State.{open_challenge, withdraw_challenge, answer_challenge, Request, key_holder}
 use Rattle.store.specs.Histories.{Session, IsReachable, IsHistory}
 
--- one who shows a key gives a command on a game
+-- a command that members give at the desk: one on a game, or one about a challenge
+abbrev pub IsMembers : Command → Type 0
+IsMembers (on_game game command) = ⊤
+IsMembers (open_challenge number event other first) = ⊤
+IsMembers (withdraw_challenge number) = ⊤
+IsMembers (answer_challenge challenger number accept) = ⊤
+IsMembers (add_member name key) = ⊥
+IsMembers (add_event event) = ⊥
+IsMembers (seat key event first second) = ⊥
+IsMembers (import_record given) = ⊥
+IsMembers sweep = ⊥
+
+-- one who shows a key gives such a command
 pub record IsTurn (request : Request) : Type 0 where
   pub key : List ℕ
-  pub game : ℕ
-  pub command : GameCommand
-  pub is : request ≡ record { who = key_holder key; command = on_game game command; moment = request.moment }
+  pub command : Command
+  pub members : IsMembers command
+  pub is : request ≡ record { who = key_holder key; command = command; moment = request.moment }
   pub within : request.moment ≤ last_moment
 
 -- each session has one request, which is such a command

@@ -3,18 +3,16 @@
 ghost use Rattle.std.specs.Prelude.{◌≡◌};
 
 use crate::faults::{told, told_all};
-use crate::shown::{challenge_refusal, found_shown};
+use crate::shown::found_shown;
 use clocks::Moment;
 use club_core::{Command, Outcome, Who};
-use http_desk::{
-    ChallengeCommand, ChallengeRefusal, ChallengeState, ClubFault, GameShown, ServedClub,
-};
+use http_desk::{ClubFault, GameShown, ServedClub};
 use sqlite::Alter;
 use std::alloc::Global;
 use store::Club;
 use store::laws::requests_keep_clubs;
 
-/// The club of a store. It has no challenges: none stands, and none can be made.
+/// The club of a store.
 #[derive(Drop)]
 pub struct DeskClub<S: Alter> {
     pub club: Club<S>,
@@ -74,19 +72,6 @@ impl<S: Alter> ServedClub for DeskClub<S> {
         let _within = moment.seconds();
         requests_keep_clubs();
         told_all(self.club.apply(alloc, who, command, moment))
-    }
-
-    fn apply_challenge(
-        &mut self,
-        alloc: Global,
-        key: &str,
-        command: &ChallengeCommand,
-        _moment: Moment,
-    ) -> Result<Result<ChallengeState, ChallengeRefusal>, ClubFault> {
-        match self.club.has_key(alloc, key) {
-            Ok(is_member) => Ok(Err(challenge_refusal(is_member, command))),
-            Err(fault) => Err(told(fault)),
-        }
     }
 
     ghost stays = { λ b s t stands. served_stays _ _ s t stands };

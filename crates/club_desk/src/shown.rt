@@ -1,12 +1,11 @@
-//! A game of the club as the desk shows it, and what is answered about challenges.
+//! A game of the club as the desk shows it.
 
 ghost use Rattle.std.specs.Prelude.{◌≡◌, IfErr, IfOk, string_bytes};
 ghost use Rattle.std.specs.Option.{option_map};
-ghost use Rattle.http_desk.specs.ShownViews.{challenge_view, found_view, game_view};
-ghost use Rattle.club_desk.specs.Served.{challenge_refusal, named, shown_of};
+ghost use Rattle.http_desk.specs.ShownViews.{found_view, game_view};
+ghost use Rattle.club_desk.specs.Served.{named, shown_of};
 
-use club_core::Refusal;
-use http_desk::{ChallengeCommand, ChallengeRefusal, ClubFault, GameShown};
+use http_desk::{ClubFault, GameShown};
 use squares::Side;
 use std::alloc::{AllocError, Global};
 use store::ViewedGame;
@@ -79,28 +78,5 @@ pub(crate) fn found_shown(
     match game_shown(alloc, viewed) {
         Ok(game) => Ok(Some(game)),
         Err(_) => Err(ClubFault::Memory),
-    }
-}
-
-// Why a command about a challenge is refused: no challenge stands, and none can be made.
-pub(crate) fn challenge_refusal(is_member: bool, command: &ChallengeCommand) -> ChallengeRefusal
-    ensures { result ≡ challenge_refusal is_member (challenge_view command.now) }
-{
-    if !is_member {
-        return ChallengeRefusal::Club(Refusal::UnknownKey);
-    }
-    match command {
-        ChallengeCommand::Make {
-            number: _,
-            event: _,
-            other: _,
-            first: _,
-        } => ChallengeRefusal::Club(Refusal::NotAllowed),
-        ChallengeCommand::Withdraw { number: _ } => ChallengeRefusal::UnknownChallenge,
-        ChallengeCommand::Answer {
-            member: _,
-            number: _,
-            accept: _,
-        } => ChallengeRefusal::UnknownChallenge,
     }
 }

@@ -17,6 +17,7 @@ use Rattle.club_rows.proofs.SameLemmas.{seventeen-parts, same-bytes}
 use Rattle.club_rows.proofs.WholeLemmas.{rows-count}
 use Rattle.club_rows.proofs.KindLemmas.{kinds-alike}
 use Rattle.club_rows.proofs.AlikeLemmas.{heads-alike, tails-alike, numbers-alike, games-alike}
+use Rattle.club_rows.proofs.ChallengeLemmas.{challenge-rows-alike}
 
 -- ---- lists of rows
 
@@ -167,4 +168,5 @@ module _ {DP DM DE DT SP SM SE ST : Type 0} (kinds : ClubRules DP DM DE DT SP SM
       (same 10 ∙ ap (λ es. numbered_from (row_of_game kinds es) 1 t.games) (sym events))
       (same 8 ∙ ap (λ es. gathered_from (rows_of_moves kinds es) 1 t.games) (sym events))
       in
-      λ i. record { last = last i; members = members i; events = events i; games = games i }
+      let challenges : s.challenges ≡ t.challenges = challenge-rows-alike s.challenges t.challenges (same 6) in
+      λ i. record { last = last i; members = members i; events = events i; games = games i; challenges = challenges i }

@@ -40,3 +40,19 @@ pairs-agree a b m t p q r s =
     rw (p, q, r, s)
     (and_from _ _ (equal_from (number m) (number m) refl refl (tied_itself value_cmp_total (number m)))
     (and_from _ _ (equal_from (Text t) (Text t) refl refl (tied_itself value_cmp_total (Text t))) refl))
+
+-- ---- keys of two numbers
+
+pub same-seconds : (a b : Row) (m n : ℕ) → column a 1 ≡ number m → column b 1 ≡ number n → same_key (0 ∷ 1 ∷ []) a b ≡ true → m ≡ n
+unfolding first_key
+same-seconds a b m n p q same =
+    let h = rw (p, q) at same in
+    let rest = (and_parts _ _ h).1 in
+    pos_same m n (equal_ints (pos m) (pos n) (and_parts _ _ rest).0)
+
+pub numbers-agree : (a b : Row) (m n : ℕ) → column a 0 ≡ number m → column b 0 ≡ number m → column a 1 ≡ number n → column b 1 ≡ number n → same_key (0 ∷ 1 ∷ []) a b ≡ true
+unfolding first_key
+numbers-agree a b m n p q r s =
+    rw (p, q, r, s)
+    (and_from _ _ (equal_from (number m) (number m) refl refl (tied_itself value_cmp_total (number m)))
+    (and_from _ _ (equal_from (number n) (number n) refl refl (tied_itself value_cmp_total (number n))) refl))

@@ -1,4 +1,5 @@
 pub mod AlikeLemmas
+pub mod ChallengeLemmas
 pub mod ClubsAlike
 pub mod KindLemmas
 pub mod LineLemmas

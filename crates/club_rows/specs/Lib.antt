@@ -1,3 +1,4 @@
+pub mod ChallengeRows
 pub mod Club
 pub mod EachOnce
 pub mod Listed

@@ -1,5 +1,5 @@
 -- The tables of a club: the rows that stand for a state, each column by what follows from the games.
-use Rattle.std.specs.Prelude.{ℕ, suc, pos, ◌+◌, ◌==◌, List, [], ◌∷◌, ◌++◌, length, if◌then◌else◌}
+use Rattle.std.specs.Prelude.{ℕ, suc, pos, ◌+◌, ◌==◌, Bool, true, false, List, [], ◌∷◌, ◌++◌, length, map, Option, Some, None, if◌then◌else◌}
 use Rattle.sqlite_value.specs.declared.value.Value.{Value}
 use Rattle.sqlite_value.specs.declared.value.Value.TheVariants.{Int, Text}
 use Rattle.sqlite.specs.Values.{or_null}
@@ -13,6 +13,9 @@ use Rattle.club_rules.specs.GameRules.{GameRules}
 use Rattle.club_core.specs.OutsideEnd.{outside_text}
 use Rattle.club_core.specs.ClubRules.{ClubRules}
 use Rattle.club_rules.specs.EndName.{end_text}
+use Rattle.club_core.specs.declared.challenges.Challenge.{Challenge}
+use Rattle.club_core.specs.declared.challenges.Standing.{Standing}
+use Rattle.club_core.specs.declared.challenges.Standing.TheVariants.{Open, Withdrawn, Refused, Accepted}
 use Rattle.club_core.specs.declared.rows.GameEnd.{GameEnd}
 use Rattle.club_core.specs.declared.rows.GameEnd.TheVariants.{Rule, Outside}
 use Rattle.club_core.specs.Members.{Member}
@@ -34,6 +37,18 @@ side_number Second = 1
 abbrev pub kind_number : GameKind → ℕ
 kind_number Draughts = 0
 kind_number Shogi = 1
+
+-- how a challenge stands
+abbrev pub standing_number : Standing → ℕ
+standing_number Open = 0
+standing_number Withdrawn = 1
+standing_number Refused = 2
+standing_number (Accepted game) = 3
+
+-- 1 where the challenger plays First
+abbrev pub first_number : Bool → ℕ
+first_number true = 1
+first_number false = 0
 
 -- the name of an end
 abbrev pub end_name_text : {P M E T : Type 0} → GameRules P M E T → GameEnd E → List ℕ
@@ -101,6 +116,24 @@ member_row id m = number id ∷ Text m.name ∷ Text m.key ∷ []
 abbrev pub event_row : ℕ → Event → Row
 event_row id e = number id ∷ Text e.name ∷ number (kind_number e.game) ∷ number e.terms.budget ∷ number e.terms.increment ∷ []
 
+-- the game that a challenge has started, if it was accepted
+abbrev pub game_started : Standing → Option ℕ
+game_started Open = None
+game_started Withdrawn = None
+game_started Refused = None
+game_started (Accepted game) = Some game
+
+abbrev pub challenge_row : Challenge → Row
+challenge_row c =
+    number c.member
+    ∷ number c.number
+    ∷ number c.event
+    ∷ number c.other
+    ∷ number (first_number c.first)
+    ∷ number (standing_number c.standing)
+    ∷ or_null number (game_started c.standing)
+    ∷ []
+
 -- the row of each element, the ids counting up from this one
 abbrev pub numbered_from : {A : Type 0} → (ℕ → A → Row) → ℕ → List A → List Row
 numbered_from row id [] = []
@@ -125,14 +158,15 @@ module _ {DP DM DE DT SP SM SE ST : Type 0} (rules : ClubRules DP DM DE DT SP SM
     rows_of_moves id (draughts g) = move_rows rules.draughts (terms_at (place events g.event)) id g
     rows_of_moves id (shogi g) = move_rows rules.shogi (terms_at (place events g.event)) id g
 
-  -- The rows of each table by its number: 0 meta, 1 members, 4 events, 8 moves, 10 games, 12 seen, 14 scores. Ids count from 1. Challenges have no row yet.
+  -- The rows of each table by its number: 0 meta, 1 members, 4 events, 6 challenges, 8 moves, 10 games, 12 seen, 14 scores. Ids count from 1.
   abbrev pub tables_of : State DM SM → Content
   tables_of s t =
       if t == 0 then (number 1 ∷ number 1 ∷ number s.last ∷ []) ∷ []
       else (if t == 1 then numbered_from member_row 1 s.members
       else (if t == 4 then numbered_from event_row 1 s.events
+      else (if t == 6 then map challenge_row s.challenges
       else (if t == 8 then gathered_from (rows_of_moves s.events) 1 s.games
       else (if t == 10 then numbered_from (row_of_game s.events) 1 s.games
       else (if t == 12 then gathered_from rows_of_seen 1 s.games
       else (if t == 14 then scores_in rules s.games
-      else []))))))
+      else [])))))))

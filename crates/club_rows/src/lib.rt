@@ -1,6 +1,7 @@
 //! Between the machine and its tables: a game's rows as the game that they show, and what is made of a game as rows.
 #![tactic(auto)]
 
+pub mod challenges;
 pub mod ends;
 pub mod kinds;
 pub mod laws;
@@ -15,6 +16,7 @@ pub mod seen;
 pub mod tally;
 pub mod view;
 
+pub use challenges::{challenge_of, challenge_row};
 pub use kinds::{kind_number, kind_of};
 pub use listing::legal_texts;
 pub use records::{move_row, record_of};

@@ -1,10 +1,11 @@
 use clocks::Moment;
 use club_core::{
-    Answer, Command, GameCommand, GameEnd, Moved, OnGame, Outcome, OutsideEnd, Refusal, Who,
+    Answer, AnswerChallenge, Command, GameCommand, GameEnd, Moved, OnGame, OpenChallenge, Outcome,
+    OutsideEnd, Refusal, Who, Withdraw,
 };
 use http_desk::{
-    ChallengeCommand, ChallengeRefusal, ChallengeState, Closed, ClubFault, Countdown, Deadline,
-    DeskFault, GameShown, ServedClub, answer, serve_one, status_of,
+    Closed, ClubFault, Countdown, Deadline, DeskFault, GameShown, ServedClub, answer, serve_one,
+    status_of,
 };
 use squares::Score;
 use std::alloc::Global;
@@ -79,6 +80,37 @@ fn first_move(alloc: Global) -> Result<Answer, ClubFault> {
 
 fn ends(end: OutsideEnd, score: Score) -> Answer {
     Answer::Ended { end, result: score }
+}
+
+// Anna's third challenge is to bert, to a game of the autumn as First.
+fn opened(challenge: &OpenChallenge) -> Outcome {
+    let is_known = challenge.event.as_bytes() == b"autumn".as_slice()
+        && challenge.other.as_bytes() == b"bert".as_slice();
+    if challenge.number == 3 && is_known && challenge.first {
+        Outcome::Accepted(Answer::ChallengeOpened { number: 3 })
+    } else {
+        Outcome::Refused(Refusal::BadValue)
+    }
+}
+
+fn withdrawn(number: u64) -> Outcome {
+    if number == 3 {
+        Outcome::Accepted(Answer::ChallengeWithdrawn { number: 3 })
+    } else {
+        Outcome::Refused(Refusal::UnknownChallenge)
+    }
+}
+
+// The third of bert's challenges, as the member challenged answers it.
+fn answered(answer: &AnswerChallenge) -> Outcome {
+    if answer.number != 3 || answer.challenger.as_bytes() != b"bert".as_slice() {
+        return Outcome::Refused(Refusal::UnknownChallenge);
+    }
+    if answer.accept {
+        Outcome::Accepted(Answer::ChallengeAccepted { number: 3, game: 7 })
+    } else {
+        Outcome::Accepted(Answer::ChallengeRefused { number: 3 })
+    }
 }
 
 impl Toy {
@@ -169,40 +201,11 @@ impl ServedClub for Toy {
     ) -> Result<Outcome, ClubFault> {
         match command {
             Command::OnGame(OnGame { game: _, command }) => self.on_game(alloc, command),
+            Command::Challenge(challenge) => Ok(opened(challenge)),
+            Command::Withdraw(Withdraw { number }) => Ok(withdrawn(*number)),
+            Command::Answer(answer) => Ok(answered(answer)),
             _ => Ok(Outcome::Refused(Refusal::NotAllowed)),
         }
-    }
-
-    fn apply_challenge(
-        &mut self,
-        _alloc: Global,
-        _key: &str,
-        command: &ChallengeCommand,
-        _moment: Moment,
-    ) -> Result<Result<ChallengeState, ChallengeRefusal>, ClubFault> {
-        let state = match command {
-            ChallengeCommand::Make {
-                number: _,
-                event: _,
-                other: _,
-                first: _,
-            } => ChallengeState::Open,
-            ChallengeCommand::Withdraw { number: 3 } => ChallengeState::Withdrawn,
-            ChallengeCommand::Withdraw { number: _ } => {
-                return Ok(Err(ChallengeRefusal::UnknownChallenge));
-            }
-            ChallengeCommand::Answer {
-                member: _,
-                number: _,
-                accept: true,
-            } => ChallengeState::Accepted(7),
-            ChallengeCommand::Answer {
-                member: _,
-                number: _,
-                accept: false,
-            } => ChallengeState::Refused,
-        };
-        Ok(Ok(state))
     }
 
     ghost stays = { λ b s t h. tt };
@@ -340,40 +343,34 @@ fn challenges_are_answered(rt: HostRuntime) -> Result<(), Fail> {
     says(&rt, "POST /challenges/3", made, "200 OK", stands_open)?;
     let withdrawn = "{\"challenge\":3,\"state\":\"withdrawn\"}";
     says(&rt, "POST /challenges/3/withdraw", "", "200 OK", withdrawn)?;
-    let unknown = "{\"error\":54,\"name\":\"UnknownChallenge\"}";
-    says(
-        &rt,
-        "POST /challenges/4/withdraw",
-        "",
-        "404 Not Found",
-        unknown,
-    )?;
+    let yes = "{\"accept\":true}";
     let accepted = "{\"challenge\":3,\"game\":7,\"state\":\"accepted\"}";
-    says(
-        &rt,
-        "POST /answers/bert/3",
-        "{\"accept\":true}",
-        "200 OK",
-        accepted,
-    )?;
+    says(&rt, "POST /answers/bert/3", yes, "200 OK", accepted)?;
+    let no = "{\"accept\":false}";
     let refused = "{\"challenge\":3,\"state\":\"refused\"}";
-    says(
-        &rt,
-        "POST /answers/bert/3",
-        "{\"accept\":false}",
-        "200 OK",
-        refused,
-    )?;
+    says(&rt, "POST /answers/bert/3", no, "200 OK", refused)
+}
+
+// By the club, which knows no other challenge, and by their bodies.
+#[test]
+fn commands_about_challenges_are_refused(rt: HostRuntime) -> Result<(), Fail> {
+    let none = "404 Not Found";
+    let unknown = "{\"error\":54,\"name\":\"UnknownChallenge\"}";
+    says(&rt, "POST /challenges/4/withdraw", "", none, unknown)?;
+    let yes = "{\"accept\":true}";
+    says(&rt, "POST /answers/bert/4", yes, none, unknown)?;
+    says(&rt, "POST /answers/cara/3", yes, none, unknown)?;
+    let as_second = "{\"event\":\"autumn\",\"first\":false,\"other\":\"bert\"}";
+    let unfit = "{\"error\":65,\"name\":\"BadValue\"}";
+    let unprocessable = "422 Unprocessable Entity";
+    says(&rt, "POST /challenges/3", as_second, unprocessable, unfit)?;
+    let wrong = "400 Bad Request";
     let bad = "{\"error\":81,\"name\":\"BadBody\"}";
-    says(
-        &rt,
-        "POST /answers/bert/3",
-        "{\"accept\":1}",
-        "400 Bad Request",
-        bad,
-    )?;
-    let headless = "{\"event\":\"autumn\",\"first\":true}";
-    says(&rt, "POST /challenges/3", headless, "400 Bad Request", bad)
+    let sideless = "{\"event\":\"autumn\",\"other\":\"bert\"}";
+    says(&rt, "POST /challenges/3", sideless, wrong, bad)?;
+    let memberless = "{\"event\":\"autumn\",\"first\":true}";
+    says(&rt, "POST /challenges/3", memberless, wrong, bad)?;
+    says(&rt, "POST /answers/bert/3", "{\"accept\":1}", wrong, bad)
 }
 
 #[test]

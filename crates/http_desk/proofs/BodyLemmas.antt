@@ -13,10 +13,10 @@ use Rattle.serde_json.specs.declared.value.Value.TheVariants as variants
 use Rattle.serde_json.specs.Written.{has_float, items_have_float}
 use Rattle.squares.specs.Sides.{score_text}
 use Rattle.club_rules.specs.EndName.{end_text}
-use Rattle.club_core.specs.Outcome.{MoveReply, Reply, member_added, event_added, game_seated, moved, draw_offered, game_ended, games_swept}
-use Rattle.http_desk.specs.Shown.{GameShown, end_name, ChallengeState, stands_open, withdrawn, refused, accepted}
+use Rattle.club_core.specs.Outcome.{MoveReply, Reply, member_added, event_added, game_seated, moved, draw_offered, game_ended, games_swept, challenge_opened, challenge_withdrawn, challenge_refused, challenge_accepted}
+use Rattle.http_desk.specs.Shown.{GameShown, end_name}
 use Rattle.http_desk.specs.ShownViews.{texts_view}
-use Rattle.http_desk.specs.Bodies.{texts, text_or_null, moves_data, number_data, lefts, game_front, game_object, game_data, moved_data, reply_data, state_data, json_of}
+use Rattle.http_desk.specs.Bodies.{texts, text_or_null, moves_data, number_data, lefts, game_front, game_object, game_data, moved_data, reply_data, json_of}
 
 pub view_text : (t : String Global) → view (variants.String t) ≡ string (string_bytes t)
 view_text t = search (rules, the_lemmas)
@@ -91,9 +91,7 @@ reply_float id (member_added added) = refl
 reply_float id (event_added added) = refl
 reply_float id (game_seated added) = refl
 reply_float id (games_swept count) = refl
-
-pub state_float : (n : ℕ) (state : ChallengeState) → has_float (state_data n state) ≡ false
-state_float n stands_open = refl
-state_float n withdrawn = refl
-state_float n refused = refl
-state_float n (accepted id) = refl
+reply_float id (challenge_opened n) = refl
+reply_float id (challenge_withdrawn n) = refl
+reply_float id (challenge_refused n) = refl
+reply_float id (challenge_accepted n game) = refl

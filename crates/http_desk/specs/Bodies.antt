@@ -7,8 +7,9 @@ use Rattle.serde_json.specs.Find.{get, as_str, as_bool}
 use Rattle.squares.specs.Sides.{score_text}
 use Rattle.club_rules.specs.EndName.{end_text}
 use Rattle.club_core.specs.OutsideEnd.{outside_text}
-use Rattle.club_core.specs.Outcome.{MoveReply, Reply, member_added, event_added, game_seated, moved, draw_offered, game_ended, games_swept}
-use Rattle.http_desk.specs.Shown.{GameShown, end_name, ChallengeCommand, make, answer, ChallengeState, stands_open, withdrawn, refused, accepted}
+use Rattle.club_core.specs.Outcome.{MoveReply, Reply, member_added, event_added, game_seated, moved, draw_offered, game_ended, games_swept, challenge_opened, challenge_withdrawn, challenge_refused, challenge_accepted}
+use Rattle.club_core.specs.State.{Command, open_challenge, answer_challenge}
+use Rattle.http_desk.specs.Shown.{GameShown, end_name}
 
 -- ---- replies: the keys of an object stand in byte order
 
@@ -87,16 +88,7 @@ added_data kind id = object (member kind (number_data id) no_members)
 abbrev pub swept_data : ℕ → Data
 swept_data count = object (member (codes "swept") (number_data count) no_members)
 
--- what a command on the game of that number is answered
-abbrev pub reply_data : ℕ → Reply → Data
-reply_data id (moved m) = moved_data id m
-reply_data id (draw_offered ply) = offered_data id ply
-reply_data id (game_ended end result) = ended_data id (outside_text end) (score_text result)
-reply_data id (member_added member_id) = added_data (codes "member") member_id
-reply_data id (event_added event_id) = added_data (codes "event") event_id
-reply_data id (game_seated game_id) = added_data (codes "game") game_id
-reply_data id (games_swept count) = swept_data count
-
+-- how a challenge stands, and the game that it has started
 abbrev pub stands_data : ℕ → List ℕ → Data
 stands_data n state = object (member (codes "challenge") (number_data n) (member (codes "state") (string state) no_members))
 
@@ -106,12 +98,19 @@ started_data n id = object
     (member (codes "game") (number_data id)
     (member (codes "state") (string (codes "accepted")) no_members)))
 
--- how the challenge of that number stands
-abbrev pub state_data : ℕ → ChallengeState → Data
-state_data n stands_open = stands_data n (codes "open")
-state_data n withdrawn = stands_data n (codes "withdrawn")
-state_data n refused = stands_data n (codes "refused")
-state_data n (accepted id) = started_data n id
+-- what a command is answered, one on a game being on that of this number
+abbrev pub reply_data : ℕ → Reply → Data
+reply_data id (moved m) = moved_data id m
+reply_data id (draw_offered ply) = offered_data id ply
+reply_data id (game_ended end result) = ended_data id (outside_text end) (score_text result)
+reply_data id (member_added member_id) = added_data (codes "member") member_id
+reply_data id (event_added event_id) = added_data (codes "event") event_id
+reply_data id (game_seated game_id) = added_data (codes "game") game_id
+reply_data id (games_swept count) = swept_data count
+reply_data id (challenge_opened n) = stands_data n (codes "open")
+reply_data id (challenge_withdrawn n) = stands_data n (codes "withdrawn")
+reply_data id (challenge_refused n) = stands_data n (codes "refused")
+reply_data id (challenge_accepted n game) = started_data n game
 
 -- each line with its line feed
 abbrev pub lined : List (List ℕ) → List ℕ
@@ -135,26 +134,26 @@ bool_in key data_read = option_and_then as_bool (get key data_read)
 unfoldable pub move_text : List ℕ → Option (List ℕ)
 move_text body = option_and_then (text_in (codes "move")) (json_of body)
 
-abbrev pub challenge_with : ℕ → Option (List ℕ) → Option (List ℕ) → Option Bool → Option ChallengeCommand
+abbrev pub challenge_with : ℕ → Option (List ℕ) → Option (List ℕ) → Option Bool → Option Command
 challenge_with n None other first = None
 challenge_with n (Some event) None first = None
 challenge_with n (Some event) (Some other) None = None
-challenge_with n (Some event) (Some other) (Some first) = Some (make n event other first)
+challenge_with n (Some event) (Some other) (Some first) = Some (open_challenge n event other first)
 
-abbrev pub challenge_in : ℕ → Data → Option ChallengeCommand
+abbrev pub challenge_in : ℕ → Data → Option Command
 challenge_in n d = challenge_with n (text_in (codes "event") d) (text_in (codes "other") d) (bool_in (codes "first") d)
 
 -- a challenge of that number
-unfoldable pub challenge_of : ℕ → List ℕ → Option ChallengeCommand
+unfoldable pub challenge_of : ℕ → List ℕ → Option Command
 challenge_of n body = option_and_then (challenge_in n) (json_of body)
 
-abbrev pub answer_with : List ℕ → ℕ → Option Bool → Option ChallengeCommand
+abbrev pub answer_with : List ℕ → ℕ → Option Bool → Option Command
 answer_with challenger n None = None
-answer_with challenger n (Some accept) = Some (answer challenger n accept)
+answer_with challenger n (Some accept) = Some (answer_challenge challenger n accept)
 
-abbrev pub answer_in : List ℕ → ℕ → Data → Option ChallengeCommand
+abbrev pub answer_in : List ℕ → ℕ → Data → Option Command
 answer_in challenger n d = answer_with challenger n (bool_in (codes "accept") d)
 
 -- an answer to that member's challenge of that number
-unfoldable pub answer_of : List ℕ → ℕ → List ℕ → Option ChallengeCommand
+unfoldable pub answer_of : List ℕ → ℕ → List ℕ → Option Command
 answer_of challenger n body = option_and_then (answer_in challenger n) (json_of body)

@@ -1,8 +1,7 @@
 -- A club that cannot be taken over: it knows no key and shows nothing.
-use Rattle.std.specs.Prelude.{Err, false}
+use Rattle.std.specs.Prelude.{false}
 use Rattle.club_core.specs.declared.refusals.Refusal.TheVariants.{UnknownKey}
 use Rattle.club_core.specs.Outcome.{refused}
-use Rattle.http_desk.specs.declared.refusals.ChallengeRefusal.TheVariants.{UnknownChallenge}
 use Rattle.http_desk.specs.Served.{Club}
 
 abbrev pub closed : Club (Unit {0})
@@ -12,5 +11,4 @@ closed = record {
   AreLegal = λ s game rows. ⊥;
   AreLines = λ s event lines. ⊥;
   step = λ s request. (s, refused UnknownKey);
-  challenge = λ s key command moment. (s, Err UnknownChallenge);
 }

@@ -1,24 +1,22 @@
 -- What the desk answers: by the club's state and by what the bytes amount to.
-use Rattle.std.specs.Prelude.{◌≡◌, ◌⊎◌, ℕ, Bool, ◌&&◌, List, [], Option, Some, None, Result, Ok, Err, codes, if◌then◌else◌}
+use Rattle.std.specs.Prelude.{◌≡◌, ◌⊎◌, ℕ, Bool, ◌&&◌, List, [], Option, Some, None, Result, Ok, Err, option_map, codes, if◌then◌else◌}
 use Rattle.std.specs.Str.{bytes_eq, is_utf8}
 use Rattle.serde_json.specs.Written.{compact_text}
 use Rattle.club_core.specs.declared.refusals.Refusal.TheVariants.{UnknownKey, UnknownEvent, UnknownGame}
 use Rattle.club_core.specs.Outcome.{Outcome, accepted, repeated, refused as declined}
-use Rattle.club_core.specs.State.{key_holder, on_game as game_command}
+use Rattle.club_core.specs.State.{Command, key_holder, withdraw_challenge, on_game as game_command}
 use Rattle.club_core.specs.Step as play
 use Rattle.http_head.specs.Request.{Request, Seen, unfinished, refused, whole, Sees, asks_head}
 use Rattle.http_desk.specs.declared.refusals.Method.{Method}
 use Rattle.http_desk.specs.declared.refusals.Method.TheVariants.{Get, Post}
-use Rattle.http_desk.specs.declared.refusals.ChallengeRefusal.{ChallengeRefusal}
 use Rattle.http_desk.specs.declared.refusals.Refusal.{Refusal}
-use Rattle.http_desk.specs.declared.refusals.Refusal.TheVariants.{Head, NoRoute, WrongMethod, BadBody, Club as OfClub, Challenge}
+use Rattle.http_desk.specs.declared.refusals.Refusal.TheVariants.{Head, NoRoute, WrongMethod, BadBody, Club as OfClub}
 use Rattle.http_desk.specs.declared.faults.ClubFault.{ClubFault}
 use Rattle.http_desk.specs.Faults.{club_fault_number, club_fault_name}
 use Rattle.http_desk.specs.Routes.{Turn, make_move, offer_draw, accept_draw, resign, claim_time, Asked, game_view, legal_moves, cross_table, on_game, challenge, withdraw, answer, asked_of, method_of}
 use Rattle.http_desk.specs.Reply.{refusal_reply, json_text_reply, plain_reply, fault_reply}
-use Rattle.http_desk.specs.Shown as shown
-use Rattle.http_desk.specs.Shown.{GameShown, ChallengeCommand, ChallengeState}
-use Rattle.http_desk.specs.Bodies.{game_data, moves_data, reply_data, state_data, lined, move_text, challenge_of, answer_of}
+use Rattle.http_desk.specs.Shown.{GameShown}
+use Rattle.http_desk.specs.Bodies.{game_data, moves_data, reply_data, lined, move_text, challenge_of, answer_of}
 use Rattle.http_desk.specs.Served.{Club, Serves}
 
 -- what a reply shows: JSON is its text
@@ -83,21 +81,11 @@ outcome_answer id (declined r) = refusal (OfClub r)
 abbrev pub told_outcome : {S : Type 0} → ℕ → S × Outcome (Unit {0}) → S × Due
 told_outcome id told = (told.0, this (outcome_answer id told.1))
 
-abbrev pub serve_command : {S : Type 0} → Club S → S → ℕ → List ℕ → ℕ → Option play.GameCommand → S × Due
+-- a command, if one is given
+abbrev pub serve_command : {S : Type 0} → Club S → S → ℕ → List ℕ → ℕ → Option Command → S × Due
 serve_command club s moment key id None = (s, this (refusal BadBody))
 serve_command club s moment key id (Some command) =
-    told_outcome id (club.step s (record { who = key_holder key; command = game_command id command; moment = moment }))
-
-abbrev pub challenge_answer : ℕ → Result ChallengeState ChallengeRefusal → Answer
-challenge_answer n (Ok state) = shows (compact_text (state_data n state))
-challenge_answer n (Err r) = refusal (Challenge r)
-
-abbrev pub told_challenge : {S : Type 0} → ℕ → S × Result ChallengeState ChallengeRefusal → S × Due
-told_challenge n told = (told.0, this (challenge_answer n told.1))
-
-abbrev pub serve_challenge : {S : Type 0} → Club S → S → ℕ → List ℕ → ℕ → Option ChallengeCommand → S × Due
-serve_challenge club s moment key n None = (s, this (refusal BadBody))
-serve_challenge club s moment key n (Some command) = told_challenge n (club.challenge s key command moment)
+    told_outcome id (club.step s (record { who = key_holder key; command = command; moment = moment }))
 
 -- ---- the answer
 
@@ -110,10 +98,11 @@ abbrev pub serve_page : {S : Type 0} → Club S → S → ℕ → List ℕ → L
 serve_page club s moment key body (game_view id) = (s, game_page id)
 serve_page club s moment key body (legal_moves id) = (s, legal_page id)
 serve_page club s moment key body (cross_table event) = (s, table_page event)
-serve_page club s moment key body (on_game id turn) = serve_command club s moment key id (command_given turn body)
-serve_page club s moment key body (challenge n) = serve_challenge club s moment key n (challenge_of n body)
-serve_page club s moment key body (withdraw n) = serve_challenge club s moment key n (Some (shown.withdraw n))
-serve_page club s moment key body (answer member n) = serve_challenge club s moment key n (answer_of member n body)
+serve_page club s moment key body (on_game id turn) =
+    serve_command club s moment key id (option_map (game_command id) (command_given turn body))
+serve_page club s moment key body (challenge n) = serve_command club s moment key n (challenge_of n body)
+serve_page club s moment key body (withdraw n) = serve_command club s moment key n (Some (withdraw_challenge n))
+serve_page club s moment key body (answer member n) = serve_command club s moment key n (answer_of member n body)
 
 abbrev pub serve_known : {S : Type 0} → Club S → S → ℕ → Option (List ℕ) → List ℕ → Asked → S × Due
 serve_known club s moment None body asked = (s, this (refusal (OfClub UnknownKey)))

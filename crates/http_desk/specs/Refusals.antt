@@ -4,10 +4,8 @@ use Rattle.http_head.specs.Refusals.{head_number, head_name, head_status}
 use Rattle.club_core.specs.declared.refusals.Refusal as of_club
 use Rattle.club_core.specs.declared.refusals.Refusal.TheVariants as club
 use Rattle.club_core.specs.Refusal as core
-use Rattle.http_desk.specs.declared.refusals.ChallengeRefusal.{ChallengeRefusal}
-use Rattle.http_desk.specs.declared.refusals.ChallengeRefusal.TheVariants as challenge
 use Rattle.http_desk.specs.declared.refusals.Refusal.{Refusal}
-use Rattle.http_desk.specs.declared.refusals.Refusal.TheVariants.{Head, NoRoute, WrongMethod, BadBody, Club, Challenge}
+use Rattle.http_desk.specs.declared.refusals.Refusal.TheVariants.{Head, NoRoute, WrongMethod, BadBody, Club}
 
 abbrev pub club_status : of_club.Refusal → ℕ
 club_status club.UnknownKey = 401
@@ -15,6 +13,7 @@ club_status club.NotAllowed = 403
 club_status club.NotAPlayer = 403
 club_status club.UnknownEvent = 404
 club_status club.UnknownGame = 404
+club_status club.UnknownChallenge = 404
 club_status club.GameOver = 409
 club_status club.WrongPly = 409
 club_status club.Conflict = 409
@@ -29,25 +28,12 @@ club_status club.BadValue = 422
 club_status (club.Play ply refusal) = 422
 club_status (club.Record refusal) = 422
 
-abbrev pub challenge_number : ChallengeRefusal → ℕ
-challenge_number challenge.UnknownChallenge = 54
-challenge_number (challenge.Club refusal) = core.refusal_number refusal
-
-abbrev pub challenge_name : ChallengeRefusal → List ℕ
-challenge_name challenge.UnknownChallenge = codes "UnknownChallenge"
-challenge_name (challenge.Club refusal) = core.refusal_name refusal
-
-abbrev pub challenge_status : ChallengeRefusal → ℕ
-challenge_status challenge.UnknownChallenge = 404
-challenge_status (challenge.Club refusal) = club_status refusal
-
 abbrev pub refusal_number : Refusal → ℕ
 refusal_number (Head refusal) = head_number refusal
 refusal_number NoRoute = 82
 refusal_number (WrongMethod method) = 83
 refusal_number BadBody = 81
 refusal_number (Club refusal) = core.refusal_number refusal
-refusal_number (Challenge refusal) = challenge_number refusal
 
 abbrev pub refusal_name : Refusal → List ℕ
 refusal_name (Head refusal) = head_name refusal
@@ -55,7 +41,6 @@ refusal_name NoRoute = codes "NoRoute"
 refusal_name (WrongMethod method) = codes "WrongMethod"
 refusal_name BadBody = codes "BadBody"
 refusal_name (Club refusal) = core.refusal_name refusal
-refusal_name (Challenge refusal) = challenge_name refusal
 
 abbrev pub refusal_status : Refusal → ℕ
 refusal_status (Head refusal) = head_status refusal
@@ -63,4 +48,3 @@ refusal_status NoRoute = 404
 refusal_status (WrongMethod method) = 405
 refusal_status BadBody = 400
 refusal_status (Club refusal) = club_status refusal
-refusal_status (Challenge refusal) = challenge_status refusal

@@ -6,9 +6,7 @@ use Rattle.serde_json.specs.Data.{Data, number, unsigned, string, object, member
 use Rattle.serde_json.specs.Written.{compact_text}
 use Rattle.http_desk.specs.declared.refusals.Method.TheVariants.{Get, Post}
 use Rattle.http_desk.specs.declared.refusals.Refusal.{Refusal}
-use Rattle.http_desk.specs.declared.refusals.Refusal.TheVariants.{Head, NoRoute, WrongMethod, BadBody, Club, Challenge}
-use Rattle.http_desk.specs.declared.refusals.ChallengeRefusal.{ChallengeRefusal}
-use Rattle.http_desk.specs.declared.refusals.ChallengeRefusal.TheVariants as challenge
+use Rattle.http_desk.specs.declared.refusals.Refusal.TheVariants.{Head, NoRoute, WrongMethod, BadBody, Club}
 use Rattle.club_core.specs.declared.refusals.Refusal as of_club
 use Rattle.club_core.specs.declared.refusals.Refusal.TheVariants as club
 use Rattle.http_desk.specs.Refusals.{refusal_number, refusal_name, refusal_status}
@@ -47,6 +45,7 @@ key_lines club.UnknownKey = codes "WWW-Authenticate: Member-Key\r\n"
 key_lines club.NotAllowed = []
 key_lines club.UnknownEvent = []
 key_lines club.UnknownGame = []
+key_lines club.UnknownChallenge = []
 key_lines club.NotAPlayer = []
 key_lines club.NotInThisGame = []
 key_lines club.GameOver = []
@@ -62,10 +61,6 @@ key_lines club.Full = []
 key_lines (club.Play ply refusal) = []
 key_lines (club.Record refusal) = []
 
-abbrev pub challenge_lines : ChallengeRefusal → List ℕ
-challenge_lines challenge.UnknownChallenge = []
-challenge_lines (challenge.Club refusal) = key_lines refusal
-
 abbrev pub further_lines : Refusal → List ℕ
 further_lines (Head refusal) = []
 further_lines NoRoute = []
@@ -73,7 +68,6 @@ further_lines (WrongMethod Get) = codes "Allow: GET\r\n"
 further_lines (WrongMethod Post) = codes "Allow: POST\r\n"
 further_lines BadBody = []
 further_lines (Club refusal) = key_lines refusal
-further_lines (Challenge refusal) = challenge_lines refusal
 
 -- a number and a name as JSON
 abbrev pub error_data : ℕ → List ℕ → Data

@@ -2,8 +2,7 @@
 use Rattle.std.specs.Prelude.{ℕ, Bool, List, Option, Result, Ok, Err}
 use Rattle.club_core.specs.Outcome.{Outcome}
 use Rattle.club_core.specs.State.{Request}
-use Rattle.http_desk.specs.declared.refusals.ChallengeRefusal.{ChallengeRefusal}
-use Rattle.http_desk.specs.Shown.{GameShown, ChallengeCommand, ChallengeState}
+use Rattle.http_desk.specs.Shown.{GameShown}
 
 -- what is asked of a club in a state: what it shows are relations, what it does are functions
 pub record Club (S : Type 0) : Type 1 where
@@ -17,8 +16,6 @@ pub record Club (S : Type 0) : Type 1 where
   pub AreLines : S → List ℕ → Option (List (List ℕ)) → Type 0
   -- the state after a request, and its answer
   pub step : S → Request → S × Outcome (Unit {0})
-  -- the same of a command about a challenge, by the one with the key, at the moment
-  pub challenge : S → List ℕ → ChallengeCommand → ℕ → S × Result ChallengeState ChallengeRefusal
 
 -- what a call leaves of a club in the state `s`: on Ok a right answer, and the club in the state `next`; on a fault one of the two states
 abbrev pub Serves : {S A F : Type 0} → (S → Type 0) → (S → S → Type 0) → S → S → (A → Type 0) → Result A F → Type 0

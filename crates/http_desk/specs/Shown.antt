@@ -1,5 +1,5 @@
--- What a club tells the desk, and what a member asks of it about challenges.
-use Rattle.std.specs.Prelude.{ℕ, Bool, List, Option}
+-- What a club tells the desk.
+use Rattle.std.specs.Prelude.{ℕ, List, Option}
 use Rattle.squares.specs.declared.sides.Score.{Score}
 use Rattle.club_rules.specs.declared.names.EndName.{EndName}
 use Rattle.club_rules.specs.EndName.{end_text}
@@ -25,16 +25,3 @@ pub record GameShown : Type 0 where
 abbrev pub end_name : GameEnd EndName → List ℕ
 end_name (Rule end) = end_text end
 end_name (Outside end) = outside_text end
-
--- a member's command about a challenge: each member numbers its own
-pub data ChallengeCommand : Type 0 where
-  make : (number : ℕ) → (event other : List ℕ) → (first : Bool) → ChallengeCommand
-  withdraw : (number : ℕ) → ChallengeCommand
-  answer : (member : List ℕ) → (number : ℕ) → (accept : Bool) → ChallengeCommand
-
--- how a challenge stands
-pub data ChallengeState : Type 0 where
-  stands_open : ChallengeState
-  withdrawn : ChallengeState
-  refused : ChallengeState
-  accepted : (game : ℕ) → ChallengeState

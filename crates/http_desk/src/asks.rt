@@ -2,11 +2,11 @@
 ghost use Rattle.std.specs.Prelude.{◌≡◌, ◌↔◌, IsTrue, IfOk, option_map, option_and_then, codes, string_bytes};
 ghost use Rattle.serde_json.specs.View.{view};
 ghost use Rattle.serde_json.specs.Errors.{IsMemory};
-ghost use Rattle.http_desk.specs.ShownViews.{challenge_view};
+ghost use Rattle.club_core.specs.Answer.{command_of};
 ghost use Rattle.http_desk.specs.Bodies.{json_of, text_in, bool_in, move_text, challenge_in, challenge_of, answer_in};
 ghost use Rattle.http_desk.specs.Bodies.{answer_of};
 
-use crate::served::ChallengeCommand;
+use club_core::{AnswerChallenge, Command, OpenChallenge};
 use serde_json::{Category, Error, Value};
 use std::alloc::{AllocError, Global};
 
@@ -62,12 +62,8 @@ pub fn move_text(alloc: Global, body: &[u8]) -> Result<Option<String>, AllocErro
 }
 
 // The challenge of that number that a value describes.
-fn challenge_in(
-    alloc: Global,
-    number: u32,
-    value: &Value,
-) -> Result<Option<ChallengeCommand>, AllocError>
-    ensures { IfOk result (λ c. option_map challenge_view c ≡ challenge_in number (view value.now)) }
+fn challenge_in(alloc: Global, number: u32, value: &Value) -> Result<Option<Command>, AllocError>
+    ensures { IfOk result (λ c. option_map command_of c ≡ challenge_in number (view value.now)) }
 {
     let Some(event) = text_in(value, "event") else {
         return Ok(None);
@@ -80,22 +76,18 @@ fn challenge_in(
     };
     let event = String::from_str(alloc, event)?;
     let other = String::from_str(alloc, other)?;
-    Ok(Some(ChallengeCommand::Make {
-        number,
+    Ok(Some(Command::Challenge(OpenChallenge {
+        number: u64::from(number),
         event,
         other,
         first,
-    }))
+    })))
 }
 
 /// A challenge of that number.
 #[tactic(auto, unfolding(crate::specs::Bodies::challenge_of))]
-pub fn challenge_of(
-    alloc: Global,
-    number: u32,
-    body: &[u8],
-) -> Result<Option<ChallengeCommand>, AllocError>
-    ensures { IfOk result (λ c. option_map challenge_view c ≡ challenge_of number body.now) }
+pub fn challenge_of(alloc: Global, number: u32, body: &[u8]) -> Result<Option<Command>, AllocError>
+    ensures { IfOk result (λ c. option_map command_of c ≡ challenge_of number body.now) }
 {
     match json_of(alloc, body)? {
         None => Ok(None),
@@ -109,18 +101,18 @@ fn answer_in(
     challenger: &str,
     number: u32,
     value: &Value,
-) -> Result<Option<ChallengeCommand>, AllocError>
-    ensures { IfOk result (λ c. option_map challenge_view c ≡ answer_in challenger.now number (view value.now)) }
+) -> Result<Option<Command>, AllocError>
+    ensures { IfOk result (λ c. option_map command_of c ≡ answer_in challenger.now number (view value.now)) }
 {
     let Some(accept) = bool_in(value, "accept") else {
         return Ok(None);
     };
-    let member = String::from_str(alloc, challenger)?;
-    Ok(Some(ChallengeCommand::Answer {
-        member,
-        number,
+    let challenger = String::from_str(alloc, challenger)?;
+    Ok(Some(Command::Answer(AnswerChallenge {
+        challenger,
+        number: u64::from(number),
         accept,
-    }))
+    })))
 }
 
 /// An answer to a member's challenge of that number.
@@ -130,8 +122,8 @@ pub fn answer_of(
     challenger: &str,
     number: u32,
     body: &[u8],
-) -> Result<Option<ChallengeCommand>, AllocError>
-    ensures { IfOk result (λ c. option_map challenge_view c ≡ answer_of challenger.now number body.now) }
+) -> Result<Option<Command>, AllocError>
+    ensures { IfOk result (λ c. option_map command_of c ≡ answer_of challenger.now number body.now) }
 {
     match json_of(alloc, body)? {
         None => Ok(None),

@@ -8,13 +8,13 @@ ghost use Rattle.club_rules.specs.EndName.{end_text};
 ghost use Rattle.club_core.specs.OutsideEnd.{outside_text};
 ghost use Rattle.club_core.specs.Answer.{move_reply_of, reply_of};
 ghost use Rattle.http_desk.specs.Shown.{end_name};
-ghost use Rattle.http_desk.specs.ShownViews.{texts_view, game_view, state_view};
+ghost use Rattle.http_desk.specs.ShownViews.{texts_view, game_view};
 ghost use Rattle.http_desk.specs.Bodies.{texts, text_or_null, moves_data, lefts, number_data, game_front, game_object};
 ghost use Rattle.http_desk.specs.Bodies.{game_data, moved_data, offered_data, ended_data, added_data, swept_data};
-ghost use Rattle.http_desk.specs.Bodies.{reply_data, stands_data, started_data, state_data, lined};
+ghost use Rattle.http_desk.specs.Bodies.{reply_data, stands_data, started_data, lined};
 
 use crate::reply::text_of;
-use crate::served::{ChallengeState, GameShown, end_name};
+use crate::served::{GameShown, end_name};
 use club_core::{Answer, GameEnd, Moved, OutsideEnd};
 use club_rules::EndName;
 use serde_json::{Map, Value, json, put};
@@ -234,30 +234,6 @@ fn swept_value(alloc: Global, count: u32) -> Result<Value, AllocError>
     json!(in alloc; {"swept": count})
 }
 
-// The answer to a command on a game.
-fn answer_value(alloc: Global, id: u32, answer: Answer) -> Result<Value, AllocError>
-    ensures { IfOk result (λ v. view v ≡ reply_data id (reply_of answer)) }
-{
-    match answer {
-        Answer::Moved(moved) => moved_value(alloc, id, moved),
-        Answer::Offered { ply } => offered_value(alloc, id, ply),
-        Answer::Ended { end, result } => ended_value(alloc, id, end, result),
-        Answer::Member(added) => member_value(alloc, added),
-        Answer::Event(added) => event_value(alloc, added),
-        Answer::Game(added) => seated_value(alloc, added),
-        Answer::Swept { count } => swept_value(alloc, count),
-    }
-}
-
-/// The answer to a command on the game of that number.
-#[tactic(auto, using(crate::proofs::BodyLemmas::reply_float))]
-pub fn answer_text(alloc: Global, id: u32, answer: Answer) -> Result<String, AllocError>
-    ensures { IfOk result (λ t. string_bytes t ≡ compact_text (reply_data id (reply_of answer))) }
-{
-    let value = answer_value(alloc, id, answer)?;
-    text_of(alloc, &value)
-}
-
 fn stands_value(alloc: Global, number: u32, state: &str) -> Result<Value, AllocError>
     ensures { IfOk result (λ v. view v ≡ stands_data number state.now) }
 {
@@ -270,23 +246,31 @@ fn started_value(alloc: Global, number: u32, game: u32) -> Result<Value, AllocEr
     json!(in alloc; {"challenge": number, "game": game, "state": "accepted"})
 }
 
-fn state_value(alloc: Global, number: u32, state: ChallengeState) -> Result<Value, AllocError>
-    ensures { IfOk result (λ v. view v ≡ state_data number (state_view state)) }
+// The answer to a command, one on a game being on that of this number.
+fn answer_value(alloc: Global, id: u32, answer: Answer) -> Result<Value, AllocError>
+    ensures { IfOk result (λ v. view v ≡ reply_data id (reply_of answer)) }
 {
-    match state {
-        ChallengeState::Open => stands_value(alloc, number, "open"),
-        ChallengeState::Withdrawn => stands_value(alloc, number, "withdrawn"),
-        ChallengeState::Refused => stands_value(alloc, number, "refused"),
-        ChallengeState::Accepted(game) => started_value(alloc, number, game),
+    match answer {
+        Answer::Moved(moved) => moved_value(alloc, id, moved),
+        Answer::Offered { ply } => offered_value(alloc, id, ply),
+        Answer::Ended { end, result } => ended_value(alloc, id, end, result),
+        Answer::Member(added) => member_value(alloc, added),
+        Answer::Event(added) => event_value(alloc, added),
+        Answer::Game(added) => seated_value(alloc, added),
+        Answer::Swept { count } => swept_value(alloc, count),
+        Answer::ChallengeOpened { number } => stands_value(alloc, number, "open"),
+        Answer::ChallengeWithdrawn { number } => stands_value(alloc, number, "withdrawn"),
+        Answer::ChallengeRefused { number } => stands_value(alloc, number, "refused"),
+        Answer::ChallengeAccepted { number, game } => started_value(alloc, number, game),
     }
 }
 
-/// How the challenge of that number stands.
-#[tactic(auto, using(crate::proofs::BodyLemmas::state_float))]
-pub fn state_text(alloc: Global, number: u32, state: ChallengeState) -> Result<String, AllocError>
-    ensures { IfOk result (λ t. string_bytes t ≡ compact_text (state_data number (state_view state))) }
+/// The answer to a command, one on a game being on that of this number.
+#[tactic(auto, using(crate::proofs::BodyLemmas::reply_float))]
+pub fn answer_text(alloc: Global, id: u32, answer: Answer) -> Result<String, AllocError>
+    ensures { IfOk result (λ t. string_bytes t ≡ compact_text (reply_data id (reply_of answer))) }
 {
-    let value = state_value(alloc, number, state)?;
+    let value = answer_value(alloc, id, answer)?;
     text_of(alloc, &value)
 }
 

@@ -1,8 +1,7 @@
 //! A club that cannot be taken over.
 
 use crate::faults::ClubFault;
-use crate::refusals::ChallengeRefusal;
-use crate::served::{ChallengeCommand, ChallengeState, GameShown, ServedClub};
+use crate::served::{GameShown, ServedClub};
 use clocks::Moment;
 use club_core::{Command, Outcome, Who};
 use std::alloc::Global;
@@ -56,16 +55,6 @@ impl ServedClub for Closed {
         _command: &Command,
         _moment: Moment,
     ) -> Result<Outcome, ClubFault> {
-        Err(self.fault)
-    }
-
-    fn apply_challenge(
-        &mut self,
-        _alloc: Global,
-        _key: &str,
-        _command: &ChallengeCommand,
-        _moment: Moment,
-    ) -> Result<Result<ChallengeState, ChallengeRefusal>, ClubFault> {
         Err(self.fault)
     }
 

@@ -2,30 +2,24 @@
 ghost use Rattle.std.specs.Prelude.{◌≡◌, IfOk, option_map, string_bytes};
 ghost use Rattle.serde_json.specs.Written.{compact_text};
 ghost use Rattle.club_core.specs.Answer.{command_of, game_command_of, outcome_of, reply_of, who_of};
-ghost use Rattle.club_core.specs.State.{key_holder, on_game};
+ghost use Rattle.club_core.specs.State.{key_holder, on_game, withdraw_challenge};
 ghost use Rattle.http_desk.specs.RouteViews.{turn_view};
-ghost use Rattle.http_desk.specs.ShownViews.{challenge_view, challenged_view};
 ghost use Rattle.http_desk.specs.Bodies.{reply_data};
-ghost use Rattle.http_desk.specs.Desk.{shows, command_given, outcome_answer, challenge_answer, serve_command};
-ghost use Rattle.http_desk.specs.Desk.{serve_challenge, ServesDue};
+ghost use Rattle.http_desk.specs.Desk.{shows, command_given, outcome_answer, serve_command, ServesDue};
 ghost use Rattle.http_desk.specs.DeskViews.{answer_view, command_view};
 
 use crate::asks::move_text;
-use crate::bodies::{answer_text, state_text};
+use crate::bodies::answer_text;
 use crate::desk::{Fault, Shown};
-use crate::refusals::{ChallengeRefusal, Refusal};
+use crate::refusals::Refusal;
 use crate::routes::Turn;
-use crate::served::{ChallengeCommand, ChallengeState, ServedClub};
+use crate::served::ServedClub;
 use clocks::Moment;
-use club_core::{Answer, Command, GameCommand, OnGame, Outcome, Who};
+use club_core::{Answer, Command, GameCommand, OnGame, Outcome, Who, Withdraw};
 use std::alloc::{AllocError, Global};
 
-// The command on a game that a path and a body give.
-pub(crate) fn command_given(
-    alloc: Global,
-    turn: Turn,
-    body: &[u8],
-) -> Result<Option<GameCommand>, AllocError>
+// What a path and a body give to do in a game.
+fn command_given(alloc: Global, turn: Turn, body: &[u8]) -> Result<Option<GameCommand>, AllocError>
     ensures { IfOk result (λ command. command_view command ≡ command_given (turn_view turn) body.now) }
 {
     match turn {
@@ -84,65 +78,50 @@ fn on_game(game: u32, command: GameCommand) -> Command
     })
 }
 
-// A command on a game, if one is given.
+// The command on the game of that number that a path and a body give.
+pub(crate) fn turn_given(
+    alloc: Global,
+    game: u32,
+    turn: Turn,
+    body: &[u8],
+) -> Result<Option<Command>, AllocError>
+    ensures { IfOk result (λ command.
+        option_map command_of command ≡ option_map (on_game game) (command_given (turn_view turn) body.now)) }
+{
+    match command_given(alloc, turn, body)? {
+        Some(command) => Ok(Some(on_game(game, command))),
+        None => Ok(None),
+    }
+}
+
+// The withdrawal of the challenge of that number.
+pub(crate) fn withdrawal(number: u32) -> Command
+    ensures { command_of result ≡ withdraw_challenge number }
+{
+    Command::Withdraw(Withdraw {
+        number: u64::from(number),
+    })
+}
+
+// A command, if one is given; a command on a game is on that of this number.
 pub(crate) fn serve_command<C: ServedClub>(
     alloc: Global,
     club: &mut C,
     key: &str,
-    game: u32,
-    command: Option<GameCommand>,
+    id: u32,
+    command: Option<Command>,
     moment: Moment,
 ) -> Result<Shown, Fault>
     ensures clean { C.IsClean club.new → C.IsClean club.old }
     ensures serves { C.IsClean club.new → (s : C.State) → C.Stands club.old s →
         ServesDue C.club (C.Stands club.new) (C.Leaves club.new) answer_view s
-        (serve_command C.club s moment key.now game (command_view command)) result }
+        (serve_command C.club s moment key.now id (option_map command_of command)) result }
 {
     let Some(command) = command else {
         return Ok(Shown::Refused(Refusal::BadBody));
     };
-    let command = on_game(game, command);
     let who = key_holder(alloc, key)?;
     let outcome = club.apply(alloc, &who, &command, moment)?;
-    let shown = outcome_shown(alloc, game, outcome)?;
-    Ok(shown)
-}
-
-// What a command about a challenge is answered.
-fn challenge_shown(
-    alloc: Global,
-    number: u32,
-    answer: Result<ChallengeState, ChallengeRefusal>,
-) -> Result<Shown, AllocError>
-    ensures { IfOk result (λ shown. answer_view shown ≡ challenge_answer number (challenged_view answer)) }
-{
-    match answer {
-        Ok(state) => {
-            let text = state_text(alloc, number, state)?;
-            Ok(Shown::Shows(text))
-        }
-        Err(refusal) => Ok(Shown::Refused(Refusal::Challenge(refusal))),
-    }
-}
-
-// A command about a challenge, if one is given.
-pub(crate) fn serve_challenge<C: ServedClub>(
-    alloc: Global,
-    club: &mut C,
-    key: &str,
-    number: u32,
-    command: Option<ChallengeCommand>,
-    moment: Moment,
-) -> Result<Shown, Fault>
-    ensures clean { C.IsClean club.new → C.IsClean club.old }
-    ensures serves { C.IsClean club.new → (s : C.State) → C.Stands club.old s →
-        ServesDue C.club (C.Stands club.new) (C.Leaves club.new) answer_view s
-        (serve_challenge C.club s moment key.now number (option_map challenge_view command)) result }
-{
-    let Some(command) = command else {
-        return Ok(Shown::Refused(Refusal::BadBody));
-    };
-    let answer = club.apply_challenge(alloc, key, &command, moment)?;
-    let shown = challenge_shown(alloc, number, answer)?;
+    let shown = outcome_shown(alloc, id, outcome)?;
     Ok(shown)
 }

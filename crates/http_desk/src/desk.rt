@@ -10,13 +10,13 @@ ghost use Rattle.http_desk.specs.Desk.{IsShutReply};
 ghost use Rattle.http_desk.specs.DeskViews.{answer_view, IsShutBy};
 
 use crate::asks::{answer_of, challenge_of};
-use crate::commands::{command_given, serve_challenge, serve_command};
+use crate::commands::{serve_command, turn_given, withdrawal};
 use crate::faults::{ClubFault, DeskFault};
 use crate::pages::{serve_game, serve_legal, serve_table};
 use crate::refusals::{Method, Refusal};
 use crate::reply::{fault_reply, json_text_reply, plain_reply, refusal_reply};
 use crate::routes::{Asked, asked_of, text_of};
-use crate::served::{ChallengeCommand, ServedClub};
+use crate::served::ServedClub;
 use clocks::Moment;
 use club_core::Refusal as ClubRefusal;
 use http_head::{Request, Seen, read_request};
@@ -91,20 +91,20 @@ fn serve_page<C: ServedClub>(
         Asked::LegalMoves(game) => serve_legal(alloc, club, game),
         Asked::CrossTable(event) => serve_table(alloc, club, event),
         Asked::OnGame(game, turn) => {
-            let command = command_given(alloc, turn, body)?;
+            let command = turn_given(alloc, game, turn, body)?;
             serve_command(alloc, club, key, game, command, moment)
         }
         Asked::Challenge(number) => {
             let command = challenge_of(alloc, number, body)?;
-            serve_challenge(alloc, club, key, number, command, moment)
+            serve_command(alloc, club, key, number, command, moment)
         }
         Asked::Withdraw(number) => {
-            let command = Some(ChallengeCommand::Withdraw { number });
-            serve_challenge(alloc, club, key, number, command, moment)
+            let command = Some(withdrawal(number));
+            serve_command(alloc, club, key, number, command, moment)
         }
         Asked::Answer(member, number) => {
             let command = answer_of(alloc, member, number, body)?;
-            serve_challenge(alloc, club, key, number, command, moment)
+            serve_command(alloc, club, key, number, command, moment)
         }
     }
 }

@@ -1,7 +1,6 @@
 //! What a request is refused for.
 ghost use Rattle.std.specs.Prelude.{◌≡◌};
-ghost use Rattle.http_desk.specs.Refusals.{club_status, challenge_number, challenge_name, challenge_status};
-ghost use Rattle.http_desk.specs.Refusals.{refusal_number, refusal_name, refusal_status};
+ghost use Rattle.http_desk.specs.Refusals.{club_status, refusal_number, refusal_name, refusal_status};
 
 use club_core::Refusal as ClubRefusal;
 use http_head::HeadRefusal;
@@ -13,15 +12,6 @@ pub enum Method {
     Post,
 }
 
-/// Why a command about a challenge is refused.
-#[derive(Clone, Copy, Debug, PartialEq, Eq)]
-pub enum ChallengeRefusal {
-    /// The member has no challenge of that number, or none to the caller.
-    UnknownChallenge,
-    /// What any command is refused for.
-    Club(ClubRefusal),
-}
-
 /// Why a request is refused: by its head, by its path or body, or by the club.
 #[derive(Clone, Copy, Debug, PartialEq, Eq)]
 pub enum Refusal {
@@ -31,7 +21,6 @@ pub enum Refusal {
     WrongMethod(Method),
     BadBody,
     Club(ClubRefusal),
-    Challenge(ChallengeRefusal),
 }
 
 // The status of what the club refuses.
@@ -44,6 +33,7 @@ fn club_status(refusal: ClubRefusal) -> u16
         ClubRefusal::NotAPlayer => 403,
         ClubRefusal::UnknownEvent => 404,
         ClubRefusal::UnknownGame => 404,
+        ClubRefusal::UnknownChallenge => 404,
         ClubRefusal::GameOver => 409,
         ClubRefusal::WrongPly => 409,
         ClubRefusal::Conflict => 409,
@@ -60,38 +50,6 @@ fn club_status(refusal: ClubRefusal) -> u16
     }
 }
 
-impl ChallengeRefusal {
-    // The number of the refusal.
-    fn number(self) -> u16
-        ensures { result ≡ challenge_number self }
-    {
-        match self {
-            ChallengeRefusal::UnknownChallenge => 54,
-            ChallengeRefusal::Club(refusal) => u16::from(refusal.number()),
-        }
-    }
-
-    // The name of the refusal.
-    fn name(self) -> &'static str
-        ensures { result.now ≡ challenge_name self }
-    {
-        match self {
-            ChallengeRefusal::UnknownChallenge => "UnknownChallenge",
-            ChallengeRefusal::Club(refusal) => refusal.name(),
-        }
-    }
-
-    // The status of its reply.
-    fn status(self) -> u16
-        ensures { result ≡ challenge_status self }
-    {
-        match self {
-            ChallengeRefusal::UnknownChallenge => 404,
-            ChallengeRefusal::Club(refusal) => club_status(refusal),
-        }
-    }
-}
-
 impl Refusal {
     /// The number by which a member knows the refusal.
     pub fn number(self) -> u16
@@ -103,7 +61,6 @@ impl Refusal {
             Refusal::WrongMethod(_) => 83,
             Refusal::BadBody => 81,
             Refusal::Club(refusal) => u16::from(refusal.number()),
-            Refusal::Challenge(refusal) => refusal.number(),
         }
     }
 
@@ -117,7 +74,6 @@ impl Refusal {
             Refusal::WrongMethod(_) => "WrongMethod",
             Refusal::BadBody => "BadBody",
             Refusal::Club(refusal) => refusal.name(),
-            Refusal::Challenge(refusal) => refusal.name(),
         }
     }
 
@@ -131,7 +87,6 @@ impl Refusal {
             Refusal::WrongMethod(_) => 405,
             Refusal::BadBody => 400,
             Refusal::Club(refusal) => club_status(refusal),
-            Refusal::Challenge(refusal) => refusal.status(),
         }
     }
 }

@@ -7,7 +7,7 @@ ghost use Rattle.http_desk.specs.Reply.{json_kind, status_line, type_line, lengt
 ghost use Rattle.http_desk.specs.Reply.{key_lines, further_lines, refusal_reply, error_data, fault_reply};
 ghost use Rattle.http_desk.specs.Reply.{json_text_reply, plain_reply};
 
-use crate::refusals::{ChallengeRefusal, Method, Refusal};
+use crate::refusals::{Method, Refusal};
 use club_core::Refusal as ClubRefusal;
 use http::StatusCode;
 use serde_json::{Value, json};
@@ -108,7 +108,6 @@ fn further_lines(refusal: Refusal) -> &'static str
         Refusal::WrongMethod(Method::Get) => "Allow: GET\r\n",
         Refusal::WrongMethod(Method::Post) => "Allow: POST\r\n",
         Refusal::Club(refusal) => key_lines(refusal),
-        Refusal::Challenge(ChallengeRefusal::Club(refusal)) => key_lines(refusal),
         _ => "",
     }
 }

@@ -2,11 +2,10 @@
 ghost use Rattle.std.specs.Prelude.{◌≡◌, Err};
 ghost use Rattle.club_core.specs.Answer.{command_of, outcome_of, who_of};
 ghost use Rattle.http_desk.specs.Shown.{end_name};
-ghost use Rattle.http_desk.specs.ShownViews.{challenge_view, challenged_view, found_view, rows_view};
+ghost use Rattle.http_desk.specs.ShownViews.{found_view, rows_view};
 ghost use Rattle.http_desk.specs.Served.{Club, Serves};
 
 use crate::faults::ClubFault;
-use crate::refusals::ChallengeRefusal;
 use clocks::Moment;
 use club_core::{Command, GameEnd, Outcome, Who};
 use club_rules::EndName;
@@ -39,37 +38,6 @@ pub fn end_name(end: GameEnd<EndName>) -> &'static str
         GameEnd::Rule(end) => end.name(),
         GameEnd::Outside(end) => end.name(),
     }
-}
-
-/// A member's command about a challenge. Each member numbers its own, and goes by its name.
-#[derive(Drop)]
-pub enum ChallengeCommand {
-    /// Challenges another member to a game of an event, as First or as Second.
-    Make {
-        number: u32,
-        event: String,
-        other: String,
-        first: bool,
-    },
-    Withdraw {
-        number: u32,
-    },
-    /// Answers the challenge of that number by that member.
-    Answer {
-        member: String,
-        number: u32,
-        accept: bool,
-    },
-}
-
-/// How a challenge stands.
-#[derive(Clone, Copy, Debug, PartialEq, Eq)]
-pub enum ChallengeState {
-    Open,
-    Withdrawn,
-    Refused,
-    /// The game of that number was started.
-    Accepted(u32),
 }
 
 /// A club that stands in a state. A call that fails leaves the state before it or the one after it. A club that is shut
@@ -138,23 +106,6 @@ pub trait ServedClub {
             (club.step s (record { who = who_of who.now; command = command_of command.now; moment = moment })).0
             (λ outcome. outcome_of outcome ≡
             (club.step s (record { who = who_of who.now; command = command_of command.now; moment = moment })).1)
-            result };
-
-    /// Gives the club a member's command about a challenge.
-    fn apply_challenge(
-        &mut self,
-        alloc: Global,
-        key: &str,
-        command: &ChallengeCommand,
-        moment: Moment,
-    ) -> Result<Result<ChallengeState, ChallengeRefusal>, ClubFault>
-        ensures clean { IsClean self.new → IsClean self.old }
-        ensures shut { (fault : ClubFault) → IsShut self.old fault →
-            (result ≡ Err fault) × IsShut self.new fault }
-        ensures serves { IsClean self.new → (s : State) → Stands self.old s →
-            Serves (Stands self.new) (Leaves self.new) s
-            (club.challenge s key.now (challenge_view command.now) moment).0
-            (λ answer. challenged_view answer ≡ (club.challenge s key.now (challenge_view command.now) moment).1)
             result };
 
     /// What stands is what is left, whichever the other state is.

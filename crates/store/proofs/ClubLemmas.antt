@@ -13,7 +13,7 @@ use Rattle.store_tables.specs.Content.{Keeps}
 use Rattle.store_tables.specs.Club.{Holds}
 use Rattle.store_tables.specs.Reading.{AreIds}
 use Rattle.store_tables.specs.Rows.{HaveIds}
-use Rattle.store_tables.specs.Tables.{meta, members, events, challenges, games}
+use Rattle.store_tables.specs.Tables.{meta, members, events, games}
 use Rattle.store_tables.specs.declared.names.Table.{Table}
 use Rattle.store_tables.specs.declared.names.Table.TheVariants.{Members, Events, Challenges, Moves, Games, Seen, Scores, Meta}
 use Rattle.store_tables.specs.declared.rows.Rows.{Rows}
@@ -21,7 +21,9 @@ use Rattle.store_tables.proofs.Laws.{in_order, one_list, places_rise}
 use Rattle.club_rows.specs.Club.{ClubGame, both_games, ClubState, IsClub}
 use Rattle.club_rows.specs.Tables.{member_row, event_row, numbered_from, row_of_game, tables_of}
 use Rattle.club_rows.proofs.TextLemmas.{members-typed, events-typed, moves-typed, games-typed}
+use Rattle.store.proofs.ChallengeRows.{challenges_typed}
 use Rattle.store.proofs.FoundLemmas.{moved}
+use Rattle.store.proofs.OnceLemmas.{challenges_are}
 use Rattle.club_rows.proofs.ScoreLemmas.{scores_typed}
 use Rattle.club_rows.proofs.SeenLemmas.{seen-typed}
 use Rattle.store.specs.Blames.{AreRead, HasTypes, NamesTable, NamesSchema}
@@ -89,7 +91,7 @@ begin_places row first xs k low = numbered_begin row first 1 xs k low ∙ ap (λ
 pub club_typed : (s : ClubState) → IsClub s → (t : Table) → HasTypes t (tables_of both_games s)
 club_typed s club Members = members-typed s club
 club_typed s club Events = events-typed s club
-club_typed s club Challenges = tt
+club_typed s club Challenges = challenges_typed s.challenges
 club_typed s club Moves = moves-typed s club
 club_typed s club Games = games-typed s club
 club_typed s club Seen = seen-typed s club
@@ -115,10 +117,6 @@ ids_read : (table : Definition) (rows wanted : List Row) (old new : State) → I
 ids_read table rows wanted old new read ids keeps places =
     one_list rows wanted (in_order rows read.sorted ids) (places_rise wanted places) (moved table old.now.trees rows wanted read.keeps keeps) (moved table old.now.trees wanted rows keeps read.keeps)
 
-none_read : {R : Type 0} (cells : R → Row) (rows : List R) → ((z : Row) → Has (map cells rows) z → ⊥) → rows ≡ []
-none_read cells [] none = refl
-none_read cells (r ∷ rs) none = absurd (none (cells r) (inl refl))
-
 one_last : (last moment : ℤ) (schema : ℤ) (id : ℤ) → Has ((Int (pos 1) ∷ Int (pos 1) ∷ Int moment ∷ []) ∷ []) (Int id ∷ Int schema ∷ Int last ∷ []) → last ≡ moment
 one_last last moment schema id (inl is) = cc
 one_last last moment schema id (inr none) = absurd none
@@ -133,6 +131,6 @@ club_read s club rows old new holds read ids =
       last = one_last rows.meta.last (pos s.last) rows.meta.schema rows.meta.id (moved (meta 0) db (meta_cells rows.meta ∷ []) (made 0) read.meta.keeps t.0.rows (meta_cells rows.meta) (inl refl));
       members = ids_read (members 1) (map member_cells rows.members.items) (made 1) old new read.members ids.members t.1.0.rows (begin_places member_row (λ n x. refl) s.members);
       events = ids_read (events 4) (map event_cells rows.events.items) (made 4) old new read.events ids.events t.1.1.0.rows (begin_places event_row (λ n x. refl) s.events);
-      challenges = none_read challenge_cells rows.challenges.items (moved (challenges 6) db (map challenge_cells rows.challenges.items) (made 6) read.challenges.keeps t.1.1.1.0.rows);
+      challenges = challenges_are s (map challenge_cells rows.challenges.items) old new holds read.challenges;
       games = ids_read (games 10) (map game_cells rows.games.items) (made 10) old new read.games ids.games t.1.1.1.1.1.0.rows (begin_places (row_of_game both_games s.events) (row_id s.events) s.games);
     }

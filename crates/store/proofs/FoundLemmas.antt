@@ -1,6 +1,6 @@
 -- What a command finds in the tables of a club.
 use Rattle.std.proofs.Common.{Result, Ok, Err, List, subst}
-use Rattle.std.specs.Result.{OnOk}
+use Rattle.std.specs.Result.{IfOk, OnOk}
 use Rattle.sqlite.specs.Order.{Row}
 use Rattle.sqlite.specs.Table.{Table as Definition}
 use Rattle.sqlite.specs.Tree.{Trees}
@@ -16,3 +16,8 @@ moved table db xs ys one two z h = let r = one.stored z h in subst (Has ys) r.2 
 pub on_ok : {T E : Type 0} (r : Result T E) (A B : Type 0) → (A → B) → OnOk r A → OnOk r B
 on_ok (Ok x) A B f h = f h
 on_ok (Err e) A B f h = tt
+
+-- what holds of one answer twice
+pub both_ok : {T E : Type 0} (r : Result T E) (P Q : T → Type 0) → IfOk r P → IfOk r Q → IfOk r (λ x. P x × Q x)
+both_ok (Ok x) P Q p q = (p, q)
+both_ok (Err e) P Q p q = tt

@@ -203,6 +203,8 @@ opening_legal = record {
   games = λ n x at. absurd (let h = at in cc);
   game_count = omega arith;
   game_keys = λ i j x y b at. absurd (let h = at in cc);
+  challenges = λ n x at. absurd (let h = at in cc);
+  challenge_numbers = λ i j x y at. absurd (let h = at in cc);
 }
 
 pub opening_led : (trees : Trees) → Leaves (tables opening_state) trees → IsReachable [] trees

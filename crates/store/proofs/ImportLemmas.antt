@@ -191,7 +191,7 @@ module _ {P M E T : Type 0} {laws : GameRules P M E T} {kind : GameKind} (k : Ki
         let moves = sym (k.moves s.events n new) in
         let seen = sym (k.seen n new) in
         let met : meetings_in both_games (k.into new) ≡ meetings (pos new.event) (pos new.first) (pos new.second) p.score = k.scores new ∙ met_ended laws new p.score p.ended in
-        game_more both_games s (k.into new) moment c new.event new.first new.second p.score p.scores met p.scores_are
+        game_more both_games s (k.into new) moment c new.event new.first new.second p.score p.scores is_club.challenge_numbers met p.scores_are
         (subst (λ r. PutsOnly c moment [] [] (r ∷ []) (rows_of_moves both_games s.events n (k.into new)) (rows_of_seen both_games n (k.into new)) p.scores) row
         (subst₂ (λ ms ps. PutsOnly c moment [] [] (game_row laws terms n new ∷ []) ms ps p.scores) moves seen numbered))
 

@@ -6,17 +6,20 @@ use Rattle.sqlite.specs.Order.{Row, column}
 use Rattle.sqlite_rules.specs.Lists.{Has}
 use Rattle.squares.specs.declared.sides.Score.{Score}
 use Rattle.club_rules.specs.GameRules.{GameRules}
+use Rattle.club_core.specs.Challenges.{goes_by}
 use Rattle.club_core.specs.ClubRules.{ClubRules}
 use Rattle.club_core.specs.Events.{Event, Terms}
 use Rattle.club_core.specs.Game.{Game}
+use Rattle.club_core.specs.LegalState.{AreApart}
 use Rattle.club_core.specs.State.{AnyGame, draughts, shogi, State, place, terms_at, with_imported}
 use Rattle.club_core.proofs.Lists.{got-append, get-append, at-last}
 use Rattle.club_rows.specs.Scores.{meetings, meetings_in, scores_in}
-use Rattle.club_rows.specs.Tables.{number, at_start, move_rows, member_row, event_row, numbered_from, row_of_game, rows_of_moves, rows_of_seen, tables_of}
+use Rattle.club_rows.specs.Tables.{number, at_start, move_rows, member_row, event_row, challenge_row, numbered_from, row_of_game, rows_of_moves, rows_of_seen, tables_of}
+use Rattle.club_rows.proofs.ChallengeLemmas.{challenges-unaltered}
 use Rattle.club_rows.proofs.GatheredLemmas.{gathered-added}
 use Rattle.club_rows.proofs.ScoreLemmas.{scores_added}
 use Rattle.club_rows.proofs.SeenLemmas.{seen-added}
-use Rattle.store_tables.specs.Cells.{meta_cells, challenge_cells}
+use Rattle.store_tables.specs.Cells.{meta_cells}
 use Rattle.store_tables.specs.Changed.{changed, maybe_row, AltersTables}
 use Rattle.store_tables.specs.Changes.{Alters}
 use Rattle.store_tables.specs.Content.{same_key}
@@ -110,17 +113,17 @@ module _ {DP DM DE DT SP SM SE ST : Type 0} (kinds : ClubRules DP DM DE DT SP SM
       (scores_added kinds games event first second score put.firsts put.seconds put.pair put.firsts_are put.seconds_are put.next new met)
 
   -- Where the rows of a game are put, the tables are those of the club with that game more.
-  pub game_more : (s : State DM SM) (new : AnyGame DM SM) (moment : ℕ) (c : Changes) (event first second : ℕ) (score : Score) (scores : List Row) → meetings_in kinds new ≡ meetings (pos event) (pos first) (pos second) score → PutsScores (scores_in kinds s.games) event first second score scores
+  pub game_more : (s : State DM SM) (new : AnyGame DM SM) (moment : ℕ) (c : Changes) (event first second : ℕ) (score : Score) (scores : List Row) → AreApart goes_by s.challenges → meetings_in kinds new ≡ meetings (pos event) (pos first) (pos second) score → PutsScores (scores_in kinds s.games) event first second score scores
       → PutsOnly c moment [] [] (row_of_game kinds s.events (1 + length s.games) new ∷ []) (rows_of_moves kinds s.events (1 + length s.games) new) (rows_of_seen kinds (1 + length s.games) new) scores
       → AreSame (changed c (tables_of kinds s)) (tables_of kinds (with_imported s moment new))
-  game_more s new moment c event first second score scores met put are =
+  game_more s new moment c event first second score scores apart met put are =
       let events = s.events in
       let games = s.games in
       tables_altered c (tables_of kinds s) (tables_of kinds (with_imported s moment new)) (record {
         meta = subst (λ l. Alters (0 ∷ []) l (meta_row s.last ∷ []) (meta_row moment ∷ [])) (sym (maybe_is c.meta (meta_row moment) are.meta)) (meta_altered s.last moment);
         members = rows_stay member_row (λ id x. refl) s.members _ are.members_are;
         events = rows_stay event_row (λ id x. refl) events _ are.events_are;
-        challenges = subst (λ l. Alters (0 ∷ 1 ∷ []) (map challenge_cells l) [] []) (sym are.challenges_are) (unaltered (0 ∷ 1 ∷ []) [] (λ z w h k same. absurd h));
+        challenges = subst (λ l. Alters (0 ∷ 1 ∷ []) l (map challenge_row s.challenges) (map challenge_row s.challenges)) (sym are.challenges_are) (challenges-unaltered s.challenges apart);
         moves = subst (λ l. Alters (0 ∷ 1 ∷ []) l (tables_of kinds s 8) (tables_of kinds (with_imported s moment new) 8)) (sym are.moves_are) (gathered-added (rows_of_moves kinds events) (moves_had kinds events) (moves_apart events) games new);
         games = subst (λ l. Alters (0 ∷ []) l (tables_of kinds s 10) (tables_of kinds (with_imported s moment new) 10)) (sym are.games_are) (row_more (row_of_game kinds events) (first_of_game kinds events) games new);
         seen = subst (λ l. Alters (0 ∷ 1 ∷ []) l (tables_of kinds s 12) (tables_of kinds (with_imported s moment new) 12)) (sym are.seen_are) (seen-added kinds games new);

@@ -1,4 +1,6 @@
 pub mod BlameLemmas
+pub mod ChallengedTables
+pub mod ChallengeRows
 pub mod ClubLemmas
 pub mod CrossTableLemmas
 pub mod EntryRows

@@ -31,12 +31,18 @@ abbrev pub meta_row : ℕ → Row
 meta_row last = number 1 ∷ number 1 ∷ number last ∷ []
 
 -- the content with these rows put, and the moment
-abbrev pub puts : ℕ → List Row → List Row → List Row → List Row → List Row → List Row → Content → Content
-puts moment members events games moves seen scores content =
+abbrev pub puts_all : ℕ → (members events challenges games moves seen scores : List Row) → Content → Content
+puts_all moment members events challenges games moves seen scores content =
     put_in 0 (0 ∷ []) (meta_row moment)
     (put_each 14 (0 ∷ 1 ∷ 2 ∷ []) scores
     (put_each 12 (0 ∷ 1 ∷ []) seen
-    (put_each 8 (0 ∷ 1 ∷ []) moves (put_each 10 (0 ∷ []) games (put_each 4 (0 ∷ []) events (put_each 1 (0 ∷ []) members content))))))
+    (put_each 8 (0 ∷ 1 ∷ []) moves
+    (put_each 10 (0 ∷ []) games
+    (put_each 6 (0 ∷ 1 ∷ []) challenges (put_each 4 (0 ∷ []) events (put_each 1 (0 ∷ []) members content)))))))
+
+-- and no challenge
+abbrev pub puts : ℕ → (members events games moves seen scores : List Row) → Content → Content
+puts moment members events games moves seen scores = puts_all moment members events [] games moves seen scores
 
 -- ---- the rows of the moves of a game
 
@@ -109,7 +115,7 @@ module _ {DP DM DE DT SP SM SE ST : Type 0} (kinds : ClubRules DP DM DE DT SP SM
   )
 
   -- a game more
-  no_moves : (events : List Event) (kind : GameKind) (key : Option (List ℕ)) (pairing : Pairing) (moment id : ℕ) → rows_of_moves kinds events id (seated_as kind key pairing moment) ≡ []
+  pub no_moves : (events : List Event) (kind : GameKind) (key : Option (List ℕ)) (pairing : Pairing) (moment id : ℕ) → rows_of_moves kinds events id (seated_as kind key pairing moment) ≡ []
   no_moves events Draughts key pairing moment id = refl
   no_moves events Shogi key pairing moment id = refl
 

@@ -1,4 +1,4 @@
--- The rows of positions and of scores that were read are those of the club, each once.
+-- The rows of challenges, of positions and of scores that were read are those of the club, each once.
 use Rattle.std.proofs.Common.{◌≡◌, ◌≢◌, ℕ, zero, suc, ◌&&◌, true, false, List, [], ◌∷◌, map, Some, refl, ap, sym, subst, ◌∙◌, Equal}
 use Rattle.std.specs.Prelude.{slice_get}
 use Rattle.std.specs.Cmp.{tied_itself}
@@ -22,17 +22,18 @@ use Rattle.sqlite_trees.specs.Tree.{IsAscending, rowid}
 use Rattle.sqlite_trees.proofs.ListLemmas.{all_both, ascending-map}
 use Rattle.sqlite_rules.specs.Lists.{Has}
 use Rattle.sqlite_rules.proofs.ListLemmas.{all_has, has_got}
-use Rattle.store_tables.specs.Cells.{IsText, IsSeen, IsScore}
+use Rattle.store_tables.specs.Cells.{IsText, IsChallenge, IsSeen, IsScore}
 use Rattle.store_tables.specs.Content.{AreApart, Keeps, cells}
 use Rattle.store_tables.specs.Contents.{Stores}
 use Rattle.store_tables.specs.Club.{Holds}
-use Rattle.store_tables.specs.Tables.{club_schema, seen, scores}
+use Rattle.store_tables.specs.Tables.{club_schema, challenges, seen, scores}
 use Rattle.store_tables.proofs.Laws.{pairs_turned, equal_from}
 use Rattle.club_rows.specs.Club.{both_games, ClubState, IsClub}
 use Rattle.club_rows.specs.EachOnce.{AreEachOnce}
 use Rattle.club_rows.specs.Tables.{tables_of}
 use Rattle.club_rows.proofs.ScoreLemmas.{scores_typed}
 use Rattle.store_sql.specs.Read.{IsReadAs}
+use Rattle.store.proofs.ChallengeRows.{challenges_typed}
 use Rattle.store.proofs.FoundLemmas.{moved}
 use Rattle.store.proofs.MoveOrderLemmas.{and_first, not_true, one_rowid, turned}
 
@@ -100,7 +101,7 @@ each_once table width key rows made old new keyed keeps read = record {
   once = at_once rows (shown_once table key (old.now.trees table.tree) rows read.apart keyed read.once);
 }
 
--- ---- positions and scores
+-- ---- challenges, positions and scores
 
 int_there : (v : Value) → IsInt v → is_null v ≡ false
 int_there v (n, is) = ap is_null is
@@ -113,6 +114,13 @@ seen_key trees sound typed = record {
   filled = λ r h. let is = typed r h in (int_there _ is.game, (text_there _ is.position, tt));
   shown = λ r s is. (ap (λ c. column c 0) is, (ap (λ c. column c 1) is, tt));
   unique = λ r h. not_true _ (and_first _ (all_has _ (trees 12) r (sound.obeys.rules Unique).1.1.1.1.1.1.0 h));
+}
+
+challenge_key : (trees : Trees) → IsSound club_schema trees → ((r : Row) → Has (trees 6) r → IsChallenge (cells (challenges 6) r)) → HasKey (challenges 6) (1 ∷ 2 ∷ []) (trees 6)
+challenge_key trees sound typed = record {
+  filled = λ r h. let is = typed r h in (int_there _ is.member, (int_there _ is.number, tt));
+  shown = λ r s is. (ap (λ c. column c 0) is, (ap (λ c. column c 1) is, tt));
+  unique = λ r h. not_true _ (and_first _ (all_has _ (trees 6) r (sound.obeys.rules Unique).1.1.1.0 h));
 }
 
 score_key : (trees : Trees) → IsSound club_schema trees → ((r : Row) → Has (trees 14) r → IsScore (cells (scores 14) r)) → HasKey (scores 14) (1 ∷ 2 ∷ 3 ∷ []) (trees 14)
@@ -130,3 +138,12 @@ scores_are s club rows old new holds read =
     let sound = subst (λ schema. IsSound schema old.now.trees) holds.schema holds.sound in
     let keyed = score_key old.now.trees sound (λ r h. all_has IsScore made (cells (scores 14) r) (scores_typed both_games s.games) (stored.rows.only r h)) in
     each_once (scores 14) 3 (1 ∷ 2 ∷ 3 ∷ []) rows made old new keyed stored.rows read
+
+-- so are those of challenges
+pub challenges_are : (s : ClubState) → (rows : List Row) (old new : State) → Holds old.now (tables_of both_games s) → IsReadAs (challenges 6) 2 rows old new → AreEachOnce rows (tables_of both_games s 6)
+challenges_are s rows old new holds read =
+    let made = tables_of both_games s 6 in
+    let stored : Stores (challenges 6) old.now.trees (tables_of both_games s) = holds.tables.1.1.1.0 in
+    let sound = subst (λ schema. IsSound schema old.now.trees) holds.schema holds.sound in
+    let keyed = challenge_key old.now.trees sound (λ r h. all_has IsChallenge made (cells (challenges 6) r) (challenges_typed s.challenges) (stored.rows.only r h)) in
+    each_once (challenges 6) 2 (1 ∷ 2 ∷ []) rows made old new keyed stored.rows read

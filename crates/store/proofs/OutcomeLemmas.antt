@@ -26,14 +26,14 @@ use Rattle.sqlite.specs.Order.{Row}
 use Rattle.store_tables.specs.declared.rows.Changes.{Changes}
 use Rattle.store.specs.declared.command.Decided.{Decided}
 use Rattle.club_rows.specs.Club.{both_games, ClubState, IsClub, tables}
-use Rattle.store.specs.Steps.{request, club_step, caller_step, started, started_seen, started_scores, AreSame, PutsOnly, IsDecided, changed_if}
+use Rattle.store.specs.Steps.{request, club_step, caller_step, started, started_seen, started_scores, AreSame, Puts, PutsOnly, IsDecided, changed_if}
 use Rattle.club_rules.specs.declared.names.GameKind.{GameKind}
 use Rattle.club_rules.specs.declared.names.GameKind.TheVariants.{Draughts, Shogi}
 use Rattle.club_rows.specs.Tables.{rows_of_seen}
 use Rattle.club_rows.proofs.SeenLemmas.{seen-start}
 use Rattle.store.proofs.PutSame.{same_itself}
-use Rattle.store.proofs.NextRows.{puts, member_next, event_next, seat_next}
-use Rattle.store.proofs.SameLemmas.{puts_changed}
+use Rattle.store.proofs.NextRows.{puts_all, puts, member_next, event_next, seat_next}
+use Rattle.store.proofs.SameLemmas.{all_changed}
 
 pub same_content : (s : ClubState) → AreSame (tables s) (tables s)
 same_content s = (same_itself _, (same_itself _, (same_itself _, (same_itself _, (same_itself _, (same_itself _, (same_itself _, (same_itself _, tt))))))))
@@ -53,12 +53,16 @@ none_decided s after d o is none answer not_accepted =
     }
 
 -- where a command is accepted, the rows that are put make the tables of the state after it
+pub all_decided : (s : ClubState) (after : Outcome ClubState) (new : ClubState) (o : given.Outcome) (c : Changes) (moment : ℕ) (members events challenges games moves seen scores : List Row) → outcome_of o ≡ answered after → state_after s after ≡ new
+    → Puts c moment members events challenges games moves seen scores → AreSame (puts_all moment members events challenges games moves seen scores (tables s)) (tables new) → IsDecided s after (record { outcome = o; changes = Some c })
+all_decided s after new o c moment members events challenges games moves seen scores answer stands are same = record {
+  answer = answer;
+  rows = subst (λ n. AreSame (changed_if (Some c) (tables s)) (tables n)) (sym stands) (subst (λ content. AreSame content (tables new)) (sym (all_changed c moment members events challenges games moves seen scores are (tables s))) same);
+}
+
 pub put_decided : (s : ClubState) (after : Outcome ClubState) (new : ClubState) (o : given.Outcome) (c : Changes) (moment : ℕ) (members events games moves seen scores : List Row) → outcome_of o ≡ answered after → state_after s after ≡ new → PutsOnly c moment members events games moves seen scores → AreSame (puts moment members events games moves seen scores (tables s)) (tables new)
     → IsDecided s after (record { outcome = o; changes = Some c })
-put_decided s after new o c moment members events games moves seen scores answer stands are same = record {
-  answer = answer;
-  rows = subst (λ n. AreSame (changed_if (Some c) (tables s)) (tables n)) (sym stands) (subst (λ content. AreSame content (tables new)) (sym (puts_changed c moment members events games moves seen scores are (tables s))) same);
-}
+put_decided s after new o c moment members events games moves seen scores answer stands are same = all_decided s after new o c moment members events [] games moves seen scores answer stands are same
 
 module _ {T : Type 0} (s : ClubState) (f : T → ClubState) where
   pub answered_mapped : (o : Outcome T) → answered (map_outcome f o) ≡ answered o
@@ -158,22 +162,22 @@ seat_same seating who key event first second members ms events es under u games 
     is ∙ (λ i. by_officer who (seat_step (m i) (e i) (k i) (c i) key event first second))
 
 -- a game that was just seated has one position
-one_seen : (kind : GameKind) (id : ℕ) (key : List ℕ) (pairing : Pairing) (moment : ℕ) → (row : Row) × (rows_of_seen both_games id (seated_as kind (Some key) pairing moment) ≡ row ∷ [])
-one_seen Draughts id key pairing moment = (_, seen-start both_games.draughts id (seated (Some key) pairing moment) refl)
-one_seen Shogi id key pairing moment = (_, seen-start both_games.shogi id (seated (Some key) pairing moment) refl)
+pub one_seen : (kind : GameKind) (id : ℕ) (key : Option (List ℕ)) (pairing : Pairing) (moment : ℕ) → (row : Row) × (rows_of_seen both_games id (seated_as kind key pairing moment) ≡ row ∷ [])
+one_seen Draughts id key pairing moment = (_, seen-start both_games.draughts id (seated key pairing moment) refl)
+one_seen Shogi id key pairing moment = (_, seen-start both_games.shogi id (seated key pairing moment) refl)
 
 pub seat_decided : (s : ClubState) (moment : ℕ) (who : Caller) (key event first second : List ℕ) (p : Pairing) (id : ℕ) (c : Changes) → IsClub s → accepted p (game_seated id) ≡ by_officer who (seat_step s.members s.events (game_under s.games key) (length s.games) key event first second)
-    → PutsOnly c moment [] [] (started s.events id key p moment ∷ []) [] (started_seen s.events id key p moment) [] → started_scores s.events key p moment ≡ []
+    → PutsOnly c moment [] [] (started s.events id (Some key) p moment ∷ []) [] (started_seen s.events id (Some key) p moment) [] → started_scores s.events (Some key) p moment ≡ []
     → IsDecided s (caller_step s moment who (seat key event first second)) (record { outcome = given_is.Accepted (answer_is.Game id); changes = Some c })
 seat_decided s moment who key event first second p id c club answer are running =
     let f = with_new_game s moment key in
     let step = seat_step s.members s.events (game_under s.games key) (length s.games) key event first second in
     let next : id ≡ length s.games + 1 = officer_id who (find_id (has_event_name event) s.events) (find_id (has_member_name first) s.members) (find_id (has_member_name second) s.members) (game_under s.games key) (length s.games) key p id answer in
     let same_id : id ≡ 1 + length s.games = omega (arith, next) in
-    let row : started s.events id key p moment ≡ started s.events (1 + length s.games) key p moment = ap (λ k. started s.events k key p moment) same_id in
-    let seen : started_seen s.events id key p moment ≡ started_seen s.events (1 + length s.games) key p moment = ap (λ k. started_seen s.events k key p moment) same_id in
-    let (first_seen, first_is) = one_seen (kind_at (place s.events p.event)) (1 + length s.games) key p moment in
-    put_decided s (caller_step s moment who (seat key event first second)) (f p) (given_is.Accepted (answer_is.Game id)) c moment [] [] (started s.events (1 + length s.games) key p moment ∷ []) [] (first_seen ∷ []) []
+    let row : started s.events id (Some key) p moment ≡ started s.events (1 + length s.games) (Some key) p moment = ap (λ k. started s.events k (Some key) p moment) same_id in
+    let seen : started_seen s.events id (Some key) p moment ≡ started_seen s.events (1 + length s.games) (Some key) p moment = ap (λ k. started_seen s.events k (Some key) p moment) same_id in
+    let (first_seen, first_is) = one_seen (kind_at (place s.events p.event)) (1 + length s.games) (Some key) p moment in
+    put_decided s (caller_step s moment who (seat key event first second)) (f p) (given_is.Accepted (answer_is.Game id)) c moment [] [] (started s.events (1 + length s.games) (Some key) p moment ∷ []) [] (first_seen ∷ []) []
     (ap answered answer ∙ sym (answered_officer s f who step))
     (officer_stands s f who step p (game_seated id) answer)
     (subst₂ (λ r l. PutsOnly c moment [] [] (r ∷ []) [] l []) row (seen ∙ first_is) are)

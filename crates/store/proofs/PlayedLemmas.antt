@@ -347,6 +347,10 @@ moved_answer (answer_is.Game id) r is = cc
 moved_answer (answer_is.Offered ply) r is = cc
 moved_answer (answer_is.Ended end result) r is = cc
 moved_answer (answer_is.Swept count) r is = cc
+moved_answer (answer_is.ChallengeOpened n) r is = cc
+moved_answer (answer_is.ChallengeWithdrawn n) r is = cc
+moved_answer (answer_is.ChallengeRefused n) r is = cc
+moved_answer (answer_is.ChallengeAccepted n game) r is = cc
 
 -- any other answer puts no move
 unmoved_rows : (id moment : ℕ) (answer : Answer) → ((r : MoveReply) → reply_of answer ≡ moved r → ⊥) → (answered_rows id answer moment ≡ []) × (left_answered answer ≡ 0)
@@ -357,6 +361,10 @@ unmoved_rows id moment (answer_is.Game n) unmoved = (refl, refl)
 unmoved_rows id moment (answer_is.Offered ply) unmoved = (refl, refl)
 unmoved_rows id moment (answer_is.Ended end result) unmoved = (refl, refl)
 unmoved_rows id moment (answer_is.Swept count) unmoved = (refl, refl)
+unmoved_rows id moment (answer_is.ChallengeOpened n) unmoved = (refl, refl)
+unmoved_rows id moment (answer_is.ChallengeWithdrawn n) unmoved = (refl, refl)
+unmoved_rows id moment (answer_is.ChallengeRefused n) unmoved = (refl, refl)
+unmoved_rows id moment (answer_is.ChallengeAccepted n game) unmoved = (refl, refl)
 
 module _ {P M E T : Type 0} (laws : GameRules P M E T) (are_rules : AreRules laws) (terms : Terms) (id : ℕ) (g : Game M) (moment : ℕ) (who : Caller) (command : GameCommand)
     (budget : IsTrue (is_budget terms.budget)) (increment : IsTrue (is_increment terms.increment)) (legal : IsLegalGame laws terms g) (table : List Row) where
@@ -615,30 +623,30 @@ module _ {P M E T : Type 0} {laws : GameRules P M E T} {kind : GameKind} (k : Ki
 
 -- ---- a game that starts
 
-pub seated_cells : {P M E T : Type 0} (laws : GameRules P M E T) (r : GameRecord) (row : GameRow E) (terms : Terms) (p : Pairing) (id : ℕ) (key : List ℕ) (moment : ℕ) → IsTrue (is_budget terms.budget)
-    → ((increment : ℕ) → IsRowOf laws (record { budget = terms.budget; increment = increment }) (seated (Some key) p moment) row)
+pub seated_cells : {P M E T : Type 0} (laws : GameRules P M E T) (r : GameRecord) (row : GameRow E) (terms : Terms) (p : Pairing) (id : ℕ) (key : Option (List ℕ)) (moment : ℕ) → IsTrue (is_budget terms.budget)
+    → ((increment : ℕ) → IsRowOf laws (record { budget = terms.budget; increment = increment }) (seated key p moment) row)
     → (row.left_first < 2 ^ 63 → row.left_second < 2 ^ 63 → (terms : Terms) (game : Game M) → IsRowOf laws terms game row → game_cells r ≡ game_row laws terms id game)
-    → game_cells r ≡ game_row laws terms id (seated (Some key) p moment)
+    → game_cells r ≡ game_row laws terms id (seated key p moment)
 seated_cells {P} {M} laws r row terms p id key moment legal shows cells =
     let is_row = shows terms.increment in
     let budget : terms.budget ≤ 31536000 = budget_most terms.budget legal in
     let first : row.left_first ≡ terms.budget = ap (λ c. c.left_first) is_row.clocks in
     let second : row.left_second ≡ terms.budget = ap (λ c. c.left_second) is_row.clocks in
-    let start : Game M = seated (Some key) p moment in
+    let start : Game M = seated key p moment in
     cells (omega (arith, first, budget)) (omega (arith, second, budget)) terms start is_row
 
-pub started_first : (events : List Event) (p : Pairing) (id : ℕ) (key : List ℕ) (moment : ℕ) (kind : GameKind) → kind_at (place events p.event) ≡ kind → started events id key p moment ≡ first_row kind (terms_at (place events p.event)) id key p moment
+pub started_first : (events : List Event) (p : Pairing) (id : ℕ) (key : Option (List ℕ)) (moment : ℕ) (kind : GameKind) → kind_at (place events p.event) ≡ kind → started events id key p moment ≡ first_row kind (terms_at (place events p.event)) id key p moment
 started_first events p id key moment kind is =
-    ap (λ k. row_of_game both_games events id (seated_as k (Some key) p moment)) is ∙ first kind
+    ap (λ k. row_of_game both_games events id (seated_as k key p moment)) is ∙ first kind
   where
-    first : (k : GameKind) → row_of_game both_games events id (seated_as k (Some key) p moment) ≡ first_row k (terms_at (place events p.event)) id key p moment
+    first : (k : GameKind) → row_of_game both_games events id (seated_as k key p moment) ≡ first_row k (terms_at (place events p.event)) id key p moment
     first Draughts = refl
     first Shogi = refl
 
-pub started_seen_first : (events : List Event) (p : Pairing) (id : ℕ) (key : List ℕ) (moment : ℕ) (kind : GameKind) → kind_at (place events p.event) ≡ kind → first_seen_rows kind id key p moment ≡ started_seen events id key p moment
-started_seen_first events p id key moment kind is = first kind ∙ ap (λ k. rows_of_seen both_games id (seated_as k (Some key) p moment)) (sym is)
+pub started_seen_first : (events : List Event) (p : Pairing) (id : ℕ) (key : Option (List ℕ)) (moment : ℕ) (kind : GameKind) → kind_at (place events p.event) ≡ kind → first_seen_rows kind id key p moment ≡ started_seen events id key p moment
+started_seen_first events p id key moment kind is = first kind ∙ ap (λ k. rows_of_seen both_games id (seated_as k key p moment)) (sym is)
   where
-    first : (k : GameKind) → first_seen_rows k id key p moment ≡ rows_of_seen both_games id (seated_as k (Some key) p moment)
+    first : (k : GameKind) → first_seen_rows k id key p moment ≡ rows_of_seen both_games id (seated_as k key p moment)
     first Draughts = refl
     first Shogi = refl
 

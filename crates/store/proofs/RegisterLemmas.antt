@@ -27,6 +27,7 @@ use Rattle.club_rows.specs.Scores.{scores_in}
 use Rattle.club_rows.specs.Tables.{rows_of_moves, rows_of_seen, tables_of}
 use Rattle.club_audit.specs.Audit.{HaveRegister}
 use Rattle.club_audit.specs.Standings.{AreGamesOf}
+use Rattle.club_audit.proofs.ChallengeLemmas.{challenges-of, club-challenges}
 use Rattle.club_audit.proofs.AuditLemmas.{game-elsewhere, keys-in, keys-of}
 use Rattle.club_audit.proofs.PlacedLemmas.{numbered-length}
 use Rattle.store.specs.Blames.{AreRead, NamesSchema, NamesTable}
@@ -52,7 +53,7 @@ register_of s rows club register =
     record {
       state = s;
       people = people_of s rows club register;
-      challenges = register.challenges;
+      challenges = club-challenges s rows club (people_of s rows club register) register.games register.challenges;
       few = omega (arith, same, most);
       keys = keys-in s s.games rows.games.items register.games club.game_keys;
     }
@@ -143,9 +144,11 @@ module _ (rows : Rows) (old mid after new : State) (opened : IsOpened old) (read
             games = λ n any at. game-elsewhere s found.games any (found.legal n any at);
             game_count = few;
             game_keys = keys-of s found.games rows.games.items rows_are register.keys;
+            challenges = challenges-of s rows people found.games rows_are register.challenges.legal;
+            challenge_numbers = register.challenges.numbers;
           },
           exactly_same (content_with rows scores.rows_of old.now.trees) (tables t) new
-              (same_by _ _ are_meta, (same_by _ _ people.members.rows_are, (same_by _ _ people.events.rows_are, (same_by _ _ (ap (map challenge_cells) register.challenges), (subst (λ (d : Trees). HaveSame (moves_in d) (tables_of both_games t 8)) trees_are are_moves, (same_by _ _ rows_are, (subst (λ (d : Trees). HaveSame (seen_in d) (tables_of both_games t 12)) trees_are are_seen, (are_scores.same, tt)))))))) exactly,
+              (same_by _ _ are_meta, (same_by _ _ people.members.rows_are, (same_by _ _ people.events.rows_are, (register.challenges.rows_are.same, (subst (λ (d : Trees). HaveSame (moves_in d) (tables_of both_games t 8)) trees_are are_moves, (same_by _ _ rows_are, (subst (λ (d : Trees). HaveSame (seen_in d) (tables_of both_games t 12)) trees_are are_seen, (are_scores.same, tt)))))))) exactly,
         )
 
 -- ---- what is blamed

@@ -1,12 +1,12 @@
 -- Contents whose tables have the same rows, and what rows that are put make of a content.
-use Rattle.std.proofs.Common.{◌≡◌, ℕ, List, [], ◌∷◌, map, Option, Some, None, ap, ◌∙◌}
+use Rattle.std.proofs.Common.{◌≡◌, ℕ, List, [], ◌∷◌, Option, Some, None, ap, ◌∙◌}
 use Rattle.std.specs.Option.{option_map}
 use Rattle.std.specs.List.{AllByRecursion}
 use Rattle.sqlite.specs.Order.{Row}
 use Rattle.sqlite.specs.Table.{Table}
 use Rattle.sqlite.specs.Tree.{Trees}
 use Rattle.sqlite.specs.State.{State}
-use Rattle.store_tables.specs.Cells.{meta_cells, challenge_cells}
+use Rattle.store_tables.specs.Cells.{meta_cells}
 use Rattle.store_tables.specs.Content.{Keeps}
 use Rattle.store_tables.specs.Contents.{Content, put_in, put_each, Stores, AreStored}
 use Rattle.store_tables.specs.Club.{Leaves, IsExactly}
@@ -14,8 +14,8 @@ use Rattle.store_tables.specs.Tables.{club_schema}
 use Rattle.store_tables.specs.declared.rows.MetaRow.{MetaRow}
 use Rattle.store_tables.specs.declared.rows.Changes.{Changes}
 use Rattle.store_tables.specs.Changed.{changed, put_maybe}
-use Rattle.store.specs.Steps.{HaveSame, AreSame, PutsOnly}
-use Rattle.store.proofs.NextRows.{puts, meta_row}
+use Rattle.store.specs.Steps.{HaveSame, AreSame, Puts, PutsOnly}
+use Rattle.store.proofs.NextRows.{puts_all, puts, meta_row}
 
 keeps_same : (table : Table) (db : Trees) (one other : List Row) → HaveSame one other → Keeps table db one → Keeps table db other
 keeps_same table db one other same keeps = record {
@@ -51,13 +51,17 @@ meta_put None row content is = cc
 meta_put (Some meta) row content is = let e : meta_cells meta ≡ row = cc in ap (λ r. put_in 0 (0 ∷ []) r content) e
 
 -- what rows to put make of a content
-pub puts_changed : (c : Changes) (moment : ℕ) (members events games moves seen scores : List Row) → PutsOnly c moment members events games moves seen scores → (content : Content) → changed c content ≡ puts moment members events games moves seen scores content
-puts_changed c moment members events games moves seen scores are content =
+pub all_changed : (c : Changes) (moment : ℕ) (members events challenges games moves seen scores : List Row) → Puts c moment members events challenges games moves seen scores
+    → (content : Content) → changed c content ≡ puts_all moment members events challenges games moves seen scores content
+all_changed c moment members events challenges games moves seen scores are content =
     meta_put c.meta (meta_row moment) _ are.meta
     ∙ (λ i. put_in 0 (0 ∷ []) (meta_row moment)
     (put_each 14 (0 ∷ 1 ∷ 2 ∷ []) (are.scores_are i)
     (put_each 12 (0 ∷ 1 ∷ []) (are.seen_are i)
     (put_each 8 (0 ∷ 1 ∷ []) (are.moves_are i)
     (put_each 10 (0 ∷ []) (are.games_are i)
-    (put_each 6 (0 ∷ 1 ∷ []) (map challenge_cells (are.challenges_are i))
+    (put_each 6 (0 ∷ 1 ∷ []) (are.challenges_are i)
     (put_each 4 (0 ∷ []) (are.events_are i) (put_each 1 (0 ∷ []) (are.members_are i) content))))))))
+
+pub puts_changed : (c : Changes) (moment : ℕ) (members events games moves seen scores : List Row) → PutsOnly c moment members events games moves seen scores → (content : Content) → changed c content ≡ puts moment members events games moves seen scores content
+puts_changed c moment members events games moves seen scores are content = all_changed c moment members events [] games moves seen scores are content

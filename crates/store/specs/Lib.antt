@@ -1,4 +1,5 @@
 pub mod Blames
+pub mod Challenged
 pub mod Clubs
 pub mod CrossTable
 pub mod Examined

@@ -6,8 +6,9 @@ use Rattle.store_tables.specs.declared.rows.Rows.{Rows}
 use Rattle.store_tables.specs.declared.names.Table.{Table}
 use Rattle.store_tables.specs.declared.names.Table.TheVariants.{Members, Events, Challenges, Moves, Games, Seen, Scores, Meta}
 use Rattle.club_rows.specs.Club.{both_games, ClubState, IsClub, tables}
-use Rattle.club_rows.specs.Tables.{event_row, member_row, numbered_from, row_of_game}
-use Rattle.store_tables.specs.Cells.{member_cells, event_cells, game_cells}
+use Rattle.club_rows.specs.EachOnce.{AreEachOnce}
+use Rattle.club_rows.specs.Tables.{challenge_row, event_row, member_row, numbered_from, row_of_game}
+use Rattle.store_tables.specs.Cells.{member_cells, event_cells, challenge_cells, game_cells}
 use Rattle.store.specs.declared.fault.OpenFault.{OpenFault}
 use Rattle.store.specs.declared.fault.OpenFault.TheVariants.{Damaged, Memory}
 
@@ -38,7 +39,7 @@ pub record IsRegisterOf (s : ClubState) (rows : Rows) : Type 0 where
   pub last : rows.meta.last ≡ pos s.last
   pub members : map member_cells rows.members.items ≡ numbered_from member_row 1 s.members
   pub events : map event_cells rows.events.items ≡ numbered_from event_row 1 s.events
-  pub challenges : rows.challenges.items ≡ []
+  pub challenges : AreEachOnce (map challenge_cells rows.challenges.items) (map challenge_row s.challenges)
   pub games : map game_cells rows.games.items ≡ numbered_from (row_of_game both_games s.events) 1 s.games
 
 -- Memory was refused, or a table is called damaged, and then these rows are of no legal club.

@@ -33,7 +33,7 @@ use Rattle.club_rows.specs.Scores.{Meeting, meetings_in}
 use Rattle.club_rows.specs.Seen.{seen_rows, IsSeenRow, IsFound}
 use Rattle.club_rows.specs.declared.scores.ScorePair.{ScorePair}
 use Rattle.club_rows.specs.Tables.{number, game_row, move_rows, row_of_game, rows_of_seen}
-use Rattle.store_tables.specs.Cells.{meta_cells, member_cells, event_cells, move_cells, game_cells, seen_cells, score_cells}
+use Rattle.store_tables.specs.Cells.{meta_cells, member_cells, event_cells, challenge_cells, move_cells, game_cells, seen_cells, score_cells}
 use Rattle.store_tables.specs.Contents.{Content, AreThose}
 use Rattle.store_tables.specs.Tables.{club_schema}
 use Rattle.store_tables.specs.declared.rows.Changes.{Changes}
@@ -73,15 +73,20 @@ abbrev pub AreSame : Content → Content → Type 0
 AreSame = changes.AreSame club_schema
 
 -- These rows are put, with the moment as that of the last accepted command, and no other.
-pub record PutsOnly (changes : Changes) (moment : ℕ) (members events games moves seen scores : List Row) : Type 0 where
+pub record Puts (changes : Changes) (moment : ℕ) (members events challenges games moves seen scores : List Row) : Type 0 where
   pub meta : option_map meta_cells changes.meta ≡ Some (number 1 ∷ number 1 ∷ number moment ∷ [])
   pub members_are : map member_cells changes.members.items ≡ members
   pub events_are : map event_cells changes.events.items ≡ events
-  pub challenges_are : changes.challenges.items ≡ []
+  pub challenges_are : map challenge_cells changes.challenges.items ≡ challenges
   pub games_are : map game_cells changes.games.items ≡ games
   pub moves_are : map move_cells changes.moves.items ≡ moves
   pub seen_are : map seen_cells changes.seen.items ≡ seen
   pub scores_are : map score_cells changes.scores.items ≡ scores
+
+-- and no challenge
+abbrev pub PutsOnly : Changes → ℕ → (members events games moves seen scores : List Row) → Type 0
+PutsOnly changes moment members events games moves seen scores =
+    Puts changes moment members events [] games moves seen scores
 
 -- the row of a position, where there is one
 abbrev pub seen_list : Option SeenRow → List Row
@@ -114,30 +119,30 @@ changed_if (Some changes) content = changed changes content
 
 -- ---- games that start
 
--- the row of a game of this kind and these terms that was just seated
-abbrev pub first_row : GameKind → Terms → ℕ → List ℕ → Pairing → ℕ → Row
-first_row Draughts terms id key pairing moment = game_row both_games.draughts terms id (seated (Some key) pairing moment)
-first_row Shogi terms id key pairing moment = game_row both_games.shogi terms id (seated (Some key) pairing moment)
+-- the row of a game of this kind and these terms that was just seated, under a key or under none
+abbrev pub first_row : GameKind → Terms → ℕ → Option (List ℕ) → Pairing → ℕ → Row
+first_row Draughts terms id key pairing moment = game_row both_games.draughts terms id (seated key pairing moment)
+first_row Shogi terms id key pairing moment = game_row both_games.shogi terms id (seated key pairing moment)
 
 -- the rows of the positions of a game of this kind that was just seated
-abbrev pub first_seen_rows : GameKind → ℕ → List ℕ → Pairing → ℕ → List Row
-first_seen_rows Draughts id key pairing moment = seen_rows both_games.draughts id (seated (Some key) pairing moment)
-first_seen_rows Shogi id key pairing moment = seen_rows both_games.shogi id (seated (Some key) pairing moment)
+abbrev pub first_seen_rows : GameKind → ℕ → Option (List ℕ) → Pairing → ℕ → List Row
+first_seen_rows Draughts id key pairing moment = seen_rows both_games.draughts id (seated key pairing moment)
+first_seen_rows Shogi id key pairing moment = seen_rows both_games.shogi id (seated key pairing moment)
 
 -- the rows of the positions of a game of one of these events that was just seated
-abbrev pub started_seen : List Event → ℕ → List ℕ → Pairing → ℕ → List Row
-started_seen events id key pairing moment = rows_of_seen both_games id (seated_as (kind_at (place events pairing.event)) (Some key) pairing moment)
+abbrev pub started_seen : List Event → ℕ → Option (List ℕ) → Pairing → ℕ → List Row
+started_seen events id key pairing moment = rows_of_seen both_games id (seated_as (kind_at (place events pairing.event)) key pairing moment)
 
 -- the meetings that a game of this kind that was just seated is: none, as it has not ended
-abbrev pub first_meetings : GameKind → List ℕ → Pairing → ℕ → List Meeting
-first_meetings kind key pairing moment = meetings_in both_games (seated_as kind (Some key) pairing moment)
+abbrev pub first_meetings : GameKind → Option (List ℕ) → Pairing → ℕ → List Meeting
+first_meetings kind key pairing moment = meetings_in both_games (seated_as kind key pairing moment)
 
-abbrev pub started_scores : List Event → List ℕ → Pairing → ℕ → List Meeting
+abbrev pub started_scores : List Event → Option (List ℕ) → Pairing → ℕ → List Meeting
 started_scores events key pairing moment = first_meetings (kind_at (place events pairing.event)) key pairing moment
 
 -- the row of a game of one of these events that was just seated
-abbrev pub started : List Event → ℕ → List ℕ → Pairing → ℕ → Row
-started events id key pairing moment = row_of_game both_games events id (seated_as (kind_at (place events pairing.event)) (Some key) pairing moment)
+abbrev pub started : List Event → ℕ → Option (List ℕ) → Pairing → ℕ → Row
+started events id key pairing moment = row_of_game both_games events id (seated_as (kind_at (place events pairing.event)) key pairing moment)
 
 -- ---- what is decided
 
@@ -150,6 +155,10 @@ answered_rows id (answer.Game n) moment = []
 answered_rows id (answer.Offered ply) moment = []
 answered_rows id (answer.Ended end result) moment = []
 answered_rows id (answer.Swept count) moment = []
+answered_rows id (answer.ChallengeOpened n) moment = []
+answered_rows id (answer.ChallengeWithdrawn n) moment = []
+answered_rows id (answer.ChallengeRefused n) moment = []
+answered_rows id (answer.ChallengeAccepted n game) moment = []
 
 -- the seconds that the answer to a move shows, and else none
 abbrev pub left_answered : Answer → ℕ
@@ -160,6 +169,10 @@ left_answered (answer.Game n) = 0
 left_answered (answer.Offered ply) = 0
 left_answered (answer.Ended end result) = 0
 left_answered (answer.Swept count) = 0
+left_answered (answer.ChallengeOpened n) = 0
+left_answered (answer.ChallengeWithdrawn n) = 0
+left_answered (answer.ChallengeRefused n) = 0
+left_answered (answer.ChallengeAccepted n game) = 0
 
 -- the rows of a table of positions tell what stood in this game
 abbrev pub TellsSeen : {P M E T : Type 0} → GameRules P M E T → ℕ → Game M → Content → Type 0

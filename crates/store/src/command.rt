@@ -25,6 +25,7 @@ ghost use Rattle.store.specs.Steps.{PutsOnly, IsDecided};
 ghost use Rattle.store.specs.Stored.{IsStoredGame, IsFoundGame};
 ghost use Rattle.store.specs.Whole.{IsWhole};
 
+use crate::challenges::{on_answer, on_challenge, on_withdraw};
 use crate::fault::CallFault;
 use crate::game::StoredGame;
 use crate::imports::read_known;
@@ -326,20 +327,21 @@ pub(crate) fn terms_of(event: &Event) -> Terms
     }
 }
 
-// The rows of a game of an event that starts.
-fn seated_rows(
+// The rows of a game of an event that starts, under a key or under none.
+pub(crate) fn seated_rows(
     alloc: Global,
     events: &[Event],
     new: KeyedGame,
-    key: &str,
+    key: Option<&str>,
     moment: Moment,
 ) -> Result<Changes, CallFault>
     ensures puts { IfOk result (λ changes. Each IsLegalEvent (events_of events.now) →
-        PutsOnly changes moment [] [] (started (events_of events.now) new.game key.now (pairing_of new.pairing) moment
-        ∷ []) []
-        (started_seen (events_of events.now) new.game key.now (pairing_of new.pairing) moment) []) }
+        PutsOnly changes moment [] []
+        (started (events_of events.now) new.game (option_map (λ k. k.now) key.entry) (pairing_of new.pairing) moment ∷ []) []
+        (started_seen (events_of events.now) new.game (option_map (λ k. k.now) key.entry) (pairing_of new.pairing) moment)
+        []) }
     ensures running { IfOk result (λ changes.
-        started_scores (events_of events.now) key.now (pairing_of new.pairing) moment ≡ []) }
+        started_scores (events_of events.now) (option_map (λ k. k.now) key.entry) (pairing_of new.pairing) moment ≡ []) }
 {
     let event = event_at(events, new.pairing.event)?;
     seat_in(alloc, event.game, terms_of(event), new, key, moment)
@@ -373,7 +375,7 @@ fn on_seat<S: Alter>(
     };
     match seat(members, events, under_key, games, caller, command) {
         Seating::Starts(new) => {
-            let changes = seated_rows(alloc, events, new, command.key.as_str(), moment)?;
+            let changes = seated_rows(alloc, events, new, Some(command.key.as_str()), moment)?;
             Ok(Decided {
                 outcome: Outcome::Accepted(Answer::Game(new.game)),
                 changes: Some(changes),
@@ -541,6 +543,9 @@ fn on_command<S: Alter>(
         Command::Import(command) => on_import(alloc, conn, caller, command, moment),
         Command::OnGame(command) => on_game(alloc, conn, caller, command, moment),
         Command::Sweep => on_sweep(alloc, conn, caller, moment),
+        Command::Challenge(command) => on_challenge(alloc, conn, caller, command, moment),
+        Command::Withdraw(command) => on_withdraw(alloc, conn, caller, command, moment),
+        Command::Answer(command) => on_answer(alloc, conn, caller, command, moment),
     }
 }
 

@@ -2,6 +2,7 @@
 
 ghost use Rattle.std.specs.Prelude.{◌≡◌, ◌≤◌, ◌<◌, ◌^◌, ℕ, List, [], ◌∷◌, length, map, Some, None, IfOk, OnOk, IsTrue};
 ghost use Rattle.std.specs.Prelude.{string_bytes};
+ghost use Rattle.std.specs.Option.{option_map};
 ghost use Rattle.club_core.specs.Answer.{pairing_of, game_command_of};
 ghost use Rattle.club_core.specs.Events as core;
 ghost use Rattle.club_core.specs.Game.{Game, clocks_of, result_of};
@@ -33,11 +34,11 @@ use crate::fault::CallFault;
 use crate::shown::{asked_view, view};
 use clocks::Moment;
 use club_core::{
-    Answer, Caller, Decision, GameCommand, GameRow, GameView, KeyedGame, Outcome, conclude, decide,
-    seated_row, settle,
+    Answer, Caller, Decision, GameCommand, GameRow, GameView, KeyedGame, Outcome, Pairing,
+    conclude, decide, keyless_row, seated_row, settle,
 };
 use club_rows::{ScorePair, Terms, first_seen, legal_texts, move_row, record_of};
-use club_rules::{GameKind, Rules};
+use club_rules::{GameKind, Memory, Rules};
 use sqlite::{Alter, Connection};
 use std::alloc::Global;
 use store_tables::{Changes, GameRecord, MoveRow, SeenRow};
@@ -51,22 +52,40 @@ pub(crate) struct StoredGame {
     pub row: GameRecord,
 }
 
+// The row of a game that starts, under a key or under none.
+fn first_row<R: Rules>(
+    alloc: Global,
+    key: Option<&str>,
+    pairing: Pairing,
+    budget: u64,
+    moment: Moment,
+) -> Result<GameRow<R::End>, Memory>
+    ensures { IfOk result (λ row. (increment : ℕ) →
+        IsRowOf R.rules (record { budget = budget; increment = increment })
+        (seated (option_map (λ k. k.now) key.entry) (pairing_of pairing) moment) row) }
+{
+    match key {
+        Some(key) => seated_row::<R>(alloc, key, pairing, budget, moment),
+        None => keyless_row::<R>(alloc, pairing, budget, moment),
+    }
+}
+
 // The rows of a game that starts by these terms.
 pub(crate) fn start<R: Rules>(
     alloc: Global,
     terms: Terms,
     new: KeyedGame,
-    key: &str,
+    key: Option<&str>,
     moment: Moment,
 ) -> Result<Changes, CallFault>
     ensures puts { IfOk result (λ changes. IsTrue (is_budget terms.budget) →
         PutsOnly changes moment [] [] (game_row R.rules (terms_given terms) new.game
-        (seated (Some key.now) (pairing_of new.pairing) moment) ∷ []) []
-        (seen_rows R.rules new.game (seated (Some key.now) (pairing_of new.pairing) moment)) []) }
+        (seated (option_map (λ k. k.now) key.entry) (pairing_of new.pairing) moment) ∷ []) []
+        (seen_rows R.rules new.game (seated (option_map (λ k. k.now) key.entry) (pairing_of new.pairing) moment)) []) }
     ensures running { IfOk result (λ changes.
-        result_of R.rules (seated (Some key.now) (pairing_of new.pairing) moment) ≡ None) }
+        result_of R.rules (seated (option_map (λ k. k.now) key.entry) (pairing_of new.pairing) moment) ≡ None) }
 {
-    let row = seated_row::<R>(alloc, key, new.pairing, terms.budget, moment)?;
+    let row = first_row::<R>(alloc, key, new.pairing, terms.budget, moment)?;
     // No game ends before its first move.
     if row.result.is_some() {
         return Err(CallFault::Store);
@@ -104,6 +123,10 @@ fn answered_moves(
         Answer::Offered { ply: _ } => {}
         Answer::Ended { end: _, result: _ } => {}
         Answer::Swept { count: _ } => {}
+        Answer::ChallengeOpened { number: _ } => {}
+        Answer::ChallengeWithdrawn { number: _ } => {}
+        Answer::ChallengeRefused { number: _ } => {}
+        Answer::ChallengeAccepted { number: _, game: _ } => {}
     }
     Ok(rows)
 }

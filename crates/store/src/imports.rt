@@ -85,7 +85,7 @@ fn keyed(under: &Option<StoredGame>) -> Result<Option<KeyedGame>, CallFault>
 }
 
 // How many games there are.
-fn games_in<S: Alter>(conn: &mut Connection<S>) -> Result<u32, CallFault>
+pub(crate) fn games_in<S: Alter>(conn: &mut Connection<S>) -> Result<u32, CallFault>
     ensures reads { OnlyReads (state S.Store conn.old) (state S.Store conn.new) }
     ensures kept { HasCleanDisk (state S.Store conn.new) → OnOk result (KeepsContent (state S.Store conn.old)
         (state S.Store conn.new)) }

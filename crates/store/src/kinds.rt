@@ -1,6 +1,7 @@
 //! The kinds of games: what is done in a game by the rules of its event's kind.
 
 ghost use Rattle.std.specs.Prelude.{◌≡◌, ◌⊎◌, ◌≤◌, ℕ, [], ◌∷◌, length, map, IfOk, OnOk, IsTrue, Some, string_bytes};
+ghost use Rattle.std.specs.Option.{option_map};
 ghost use Rattle.club_core.specs.Answer.{pairing_of, game_command_of, import_of};
 ghost use Rattle.club_core.specs.Events.{Event};
 ghost use Rattle.club_core.specs.Limits.{is_budget};
@@ -41,14 +42,15 @@ pub(crate) fn seat_in(
     kind: GameKind,
     terms: Terms,
     new: KeyedGame,
-    key: &str,
+    key: Option<&str>,
     moment: Moment,
 ) -> Result<Changes, CallFault>
     ensures puts { IfOk result (λ changes. IsTrue (is_budget terms.budget) →
-        PutsOnly changes moment [] [] (first_row kind (terms_given terms) new.game key.now
-        (pairing_of new.pairing) moment ∷ []) []
-        (first_seen_rows kind new.game key.now (pairing_of new.pairing) moment) []) }
-    ensures running { IfOk result (λ changes. first_meetings kind key.now (pairing_of new.pairing) moment ≡ []) }
+        PutsOnly changes moment [] [] (first_row kind (terms_given terms) new.game
+        (option_map (λ k. k.now) key.entry) (pairing_of new.pairing) moment ∷ []) []
+        (first_seen_rows kind new.game (option_map (λ k. k.now) key.entry) (pairing_of new.pairing) moment) []) }
+    ensures running { IfOk result (λ changes.
+        first_meetings kind (option_map (λ k. k.now) key.entry) (pairing_of new.pairing) moment ≡ []) }
 {
     match kind {
         GameKind::Draughts => start::<Draughts>(alloc, terms, new, key, moment),

@@ -2,6 +2,7 @@
 #![tactic(auto)]
 
 mod audit;
+mod challenges;
 mod club;
 mod command;
 mod counts;

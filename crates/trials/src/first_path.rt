@@ -179,7 +179,7 @@ fn the_rows_of_each_table(rt: HostRuntime) -> Result<(), Fail> {
         moves: two_moves(alloc)?,
         seen: three_positions(alloc)?,
         scores: Vec::new(alloc),
-        challenges: 0,
+        challenges: Vec::new(alloc),
     };
     assert!(rt; stored(alloc, &mut conn)? == wanted);
     Ok(())

@@ -249,6 +249,14 @@ fn told_after(alloc: Global, changes: &Changes, sql: &str) -> Result<String, Fai
 const DAMAGES: &str = "72 Damaged members@UPDATE members SET id = 3 WHERE id = 2
 72 Damaged members@UPDATE members SET key = 'short' WHERE id = 1
 72 Damaged events@UPDATE events SET budget = 0
+72 Damaged challenges@INSERT INTO challenges VALUES (1, 1, 1, 2, 1, 3, NULL)
+72 Damaged challenges@INSERT INTO challenges VALUES (1, 1, 1, 2, 0, 3, 1)
+72 Damaged challenges@INSERT INTO challenges VALUES (1, 1, 1, 2, 1, 0, 1)
+72 Damaged challenges@INSERT INTO challenges VALUES (1, 0, 1, 2, 1, 0, NULL)
+72 Damaged challenges@INSERT INTO challenges VALUES (1, 1, 2, 2, 1, 0, NULL)
+72 Damaged challenges@INSERT INTO challenges VALUES (1, 1, 1, 1, 1, 0, NULL)
+sound@INSERT INTO challenges VALUES (1, 9999, 1, 2, 1, 3, 1)
+sound@INSERT INTO challenges VALUES (2, 1, 1, 1, 0, 2, NULL)
 72 Damaged games@UPDATE games SET id = 2
 72 Damaged games@UPDATE games SET left1 = 539
 72 Damaged games@UPDATE games SET second = 1

@@ -3,7 +3,8 @@
 
 use clocks::Moment;
 use club_core::{
-    AddEvent, AddMember, Answer, Command, GameCommand, OnGame, Outcome, Request, Seat, Who,
+    AddEvent, AddMember, Answer, AnswerChallenge, Command, GameCommand, OnGame, OpenChallenge,
+    Outcome, Request, Seat, Who, Withdraw,
 };
 use club_rules::GameKind;
 use std::alloc::Global;
@@ -51,6 +52,26 @@ fn game_command(alloc: Global, words: &[&str]) -> Result<Command, Fail> {
     }
 }
 
+fn challenge_command(alloc: Global, words: &[&str]) -> Result<Command, Fail> {
+    match *words {
+        ["challenge", number, event, other, side] => Ok(Command::Challenge(OpenChallenge {
+            number: number.parse()?,
+            event: text(alloc, event)?,
+            other: text(alloc, other)?,
+            first: side == "first",
+        })),
+        ["withdraw", number] => Ok(Command::Withdraw(Withdraw {
+            number: number.parse()?,
+        })),
+        ["answer", challenger, number, word] => Ok(Command::Answer(AnswerChallenge {
+            challenger: text(alloc, challenger)?,
+            number: number.parse()?,
+            accept: word == "yes",
+        })),
+        _ => game_command(alloc, words),
+    }
+}
+
 fn command(alloc: Global, words: &[&str]) -> Result<Command, Fail> {
     match *words {
         ["member", name, key] => Ok(Command::AddMember(AddMember {
@@ -70,7 +91,7 @@ fn command(alloc: Global, words: &[&str]) -> Result<Command, Fail> {
             second: text(alloc, second)?,
         })),
         ["sweep"] => Ok(Command::Sweep),
-        _ => game_command(alloc, words),
+        _ => challenge_command(alloc, words),
     }
 }
 
@@ -87,10 +108,17 @@ pub(crate) fn request(alloc: Global, line: &str) -> Result<Request, Fail> {
     }
 }
 
-/// The outcome in a word, a sweep with the number of games that it ended, a refusal with its number and name.
+/// The outcome in a word, a sweep with the number of games that it ended, an accepted challenge with its game, a refusal
+/// with its number and name.
 pub(crate) fn told(alloc: Global, outcome: &Outcome) -> Result<String, Fail> {
     Ok(match outcome {
         Outcome::Accepted(Answer::Swept { count }) => format!(in alloc; "accepted {count}")?,
+        Outcome::Accepted(Answer::ChallengeAccepted { number: _, game }) => {
+            format!(in alloc; "accepted game {game}")?
+        }
+        Outcome::Repeated(Answer::ChallengeAccepted { number: _, game }) => {
+            format!(in alloc; "repeated game {game}")?
+        }
         Outcome::Accepted(_) => String::from_str(alloc, "accepted")?,
         Outcome::Repeated(_) => String::from_str(alloc, "repeated")?,
         Outcome::Refused(refusal) => format!(in alloc; "{refusal}")?,

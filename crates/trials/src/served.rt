@@ -79,7 +79,7 @@ fn a_move_at_the_desk(rt: HostRuntime) -> Result<(), Fail> {
     all_replied(&rt, &mut desk, script.as_str())
 }
 
-// The offer of a draw by its member's name, and challenges, of which the club has none.
+// The offer of a draw by its member's name, and a challenge that is accepted.
 #[test]
 fn an_offer_at_the_desk(rt: HostRuntime) -> Result<(), Fail> {
     let mut desk = DeskClub {
@@ -88,9 +88,12 @@ fn an_offer_at_the_desk(rt: HostRuntime) -> Result<(), Fail> {
     let script = format!(in rt.alloc();
         "keybert2 | POST /games/1/draw/2/offer | | 200 OK | {{\"draw\":\"offered\",\"game\":1,\"ply\":2}}\n\
         keyanna1 | GET /games/1 | | 200 OK | {OFFERED}\n\
-        keyanna1 | POST /challenges/1 | {{\"event\":\"autumn\",\"first\":true,\"other\":\"bert\"}} | 403 Forbidden \
-        | {{\"error\":51,\"name\":\"NotAllowed\"}}\n\
-        keyanna1 | POST /challenges/1/withdraw | | 404 Not Found | {{\"error\":54,\"name\":\"UnknownChallenge\"}}"
+        keyanna1 | POST /challenges/1/withdraw | | 404 Not Found | {{\"error\":54,\"name\":\"UnknownChallenge\"}}\n\
+        keyanna1 | POST /challenges/1 | {{\"event\":\"autumn\",\"first\":true,\"other\":\"bert\"}} | 200 OK \
+        | {{\"challenge\":1,\"state\":\"open\"}}\n\
+        keybert2 | POST /answers/anna/1 | {{\"accept\":true}} | 200 OK \
+        | {{\"challenge\":1,\"game\":2,\"state\":\"accepted\"}}\n\
+        keyanna1 | POST /challenges/1/withdraw | | 409 Conflict | {{\"error\":58,\"name\":\"Conflict\"}}"
     )?;
     all_replied(&rt, &mut desk, script.as_str())
 }

@@ -359,3 +359,45 @@ fn a_stopped_sweep_is_whole_or_none(rt: HostRuntime) -> Result<(), Fail> {
         },
     )
 }
+
+#[test]
+fn a_stopped_challenge_is_whole_or_none(rt: HostRuntime) -> Result<(), Fail> {
+    whole_or_none(
+        &rt,
+        Trial {
+            before: "1000 officer member anna keyanna1
+1000 officer member bert keybert2
+1000 officer event autumn draughts 60 5",
+            stopped: "1010 keyanna1 challenge 1 autumn bert first",
+        },
+    )
+}
+
+#[test]
+fn a_stopped_withdrawal_is_whole_or_none(rt: HostRuntime) -> Result<(), Fail> {
+    whole_or_none(
+        &rt,
+        Trial {
+            before: "1000 officer member anna keyanna1
+1000 officer member bert keybert2
+1000 officer event autumn draughts 60 5
+1010 keyanna1 challenge 1 autumn bert first",
+            stopped: "1020 keyanna1 withdraw 1",
+        },
+    )
+}
+
+// The challenge and its game stand together, or neither.
+#[test]
+fn a_stopped_answer_is_whole_or_none(rt: HostRuntime) -> Result<(), Fail> {
+    whole_or_none(
+        &rt,
+        Trial {
+            before: "1000 officer member anna keyanna1
+1000 officer member bert keybert2
+1000 officer event fuji shogi 60 5
+1010 keyanna1 challenge 1 fuji bert second",
+            stopped: "1020 keybert2 answer anna 1 yes",
+        },
+    )
+}

@@ -7,10 +7,11 @@ use std::alloc::Global;
 use std::test::Fail;
 use store::Club;
 use store_tables::{
-    EventRow, GameRecord, MemberRow, MetaRow, MoveRow, ScoreRow, SeenRow, TableRow, parse_all,
+    ChallengeRow, EventRow, GameRecord, MemberRow, MetaRow, MoveRow, ScoreRow, SeenRow, TableRow,
+    parse_all,
 };
 
-/// All rows, in the order of their keys; of challenges, which nothing writes yet, how many rows there are.
+/// All rows, in the order of their keys.
 #[derive(Debug, PartialEq, Drop)]
 pub struct Tables {
     pub meta: Vec<MetaRow>,
@@ -20,7 +21,7 @@ pub struct Tables {
     pub moves: Vec<MoveRow>,
     pub seen: Vec<SeenRow>,
     pub scores: Vec<ScoreRow>,
-    pub challenges: usize,
+    pub challenges: Vec<ChallengeRow>,
 }
 
 fn rows<S: Alter, T: TableRow>(
@@ -35,12 +36,6 @@ fn rows<S: Alter, T: TableRow>(
         Ok(found) => Ok(found),
         Err(_) => Err(Fail::new("a row of other types")),
     }
-}
-
-fn count<S: Alter>(conn: &mut Connection<S>, sql: &str) -> Result<usize, Fail>
-    ensures { conn.old.in_transaction ≡ false → conn.new.in_transaction ≡ false }
-{
-    Ok(conn.query_all(sql, &[])?.len())
 }
 
 /// The rows that stand in a database, those of `seen` in the order in which the positions first stood.
@@ -64,7 +59,11 @@ pub fn stored<S: Alter>(alloc: Global, conn: &mut Connection<S>) -> Result<Table
         conn,
         "SELECT game, ply, text, moment, left, position FROM moves ORDER BY game, ply",
     )?;
-    let challenges = count(conn, "SELECT member FROM challenges")?;
+    let challenges = rows(
+        alloc,
+        conn,
+        "SELECT member, number, event, other, first, state, game FROM challenges ORDER BY member, number",
+    )?;
     let seen = rows(
         alloc,
         conn,

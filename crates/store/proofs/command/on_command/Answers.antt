@@ -47,3 +47,18 @@ pub returns-in-Sweep-clause-step : goal.returns-in-Sweep-clause-step
 returns-in-Sweep-clause-step g c clean =
     IfOk-weaker c.on_sweep.result _ _ (λ d step s is_club later k.
     subst (λ x. IsDecided s (caller_step s c.args.moment c.args.caller (command_of x)) d) (sym c.in-Sweep.is) (step s is_club k)) (c.on_sweep.ensures.step clean)
+
+pub returns-in-Challenge-clause-step : goal.returns-in-Challenge-clause-step
+returns-in-Challenge-clause-step g c clean =
+    IfOk-weaker c.on_challenge.result _ _ (λ d step s is_club later k.
+    subst (λ x. IsDecided s (caller_step s c.args.moment c.args.caller (command_of x)) d) (sym c.in-Challenge.is) (step s is_club k)) (c.on_challenge.ensures.step clean)
+
+pub returns-in-Withdraw-clause-step : goal.returns-in-Withdraw-clause-step
+returns-in-Withdraw-clause-step g c clean =
+    IfOk-weaker c.on_withdraw.result _ _ (λ d step s is_club later k.
+    subst (λ x. IsDecided s (caller_step s c.args.moment c.args.caller (command_of x)) d) (sym c.in-Withdraw.is) (step s is_club k)) (c.on_withdraw.ensures.step clean)
+
+pub returns-in-Answer-clause-step : goal.returns-in-Answer-clause-step
+returns-in-Answer-clause-step g c clean =
+    IfOk-weaker c.on_answer.result _ _ (λ d step s is_club later k.
+    subst (λ x. IsDecided s (caller_step s c.args.moment c.args.caller (command_of x)) d) (sym c.in-Answer.is) (step s is_club k)) (c.on_answer.ensures.step clean)

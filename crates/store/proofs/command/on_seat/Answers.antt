@@ -30,9 +30,9 @@ returns-in_ok-changes-in-Starts-clause-step g c clean s is_club ms es k =
     let p = pairing_of c.in-Starts.new.pairing in
     let legal = subst (Each IsLegalEvent) (sym es) is_club.events in
     let id = c.in-Starts.new.game in
-    let by_events = subst (λ e. PutsOnly c.in_ok-changes-in-Starts.changes c.args.moment [] [] (started e id c.as_str-in-Starts.result.now p c.args.moment ∷ []) [] (started_seen e id c.as_str-in-Starts.result.now p c.args.moment) []) es (c.in_ok-changes-in-Starts.ensures.puts legal) in
-    let are = subst (λ n. PutsOnly c.in_ok-changes-in-Starts.changes c.args.moment [] [] (started s.events id n p c.args.moment ∷ []) [] (started_seen s.events id n p c.args.moment) []) c.as_str-in-Starts.ensures.value by_events in
-    let running = ap (λ e. started_scores e key p c.args.moment) (sym es) ∙ (ap (λ n. started_scores (events_of c.args.events.now) n p c.args.moment) (sym c.as_str-in-Starts.ensures.value) ∙ c.in_ok-changes-in-Starts.ensures.running) in
+    let by_events = subst (λ e. PutsOnly c.in_ok-changes-in-Starts.changes c.args.moment [] [] (started e id (Some c.as_str-in-Starts.result.now) p c.args.moment ∷ []) [] (started_seen e id (Some c.as_str-in-Starts.result.now) p c.args.moment) []) es (c.in_ok-changes-in-Starts.ensures.puts legal) in
+    let are = subst (λ n. PutsOnly c.in_ok-changes-in-Starts.changes c.args.moment [] [] (started s.events id (Some n) p c.args.moment ∷ []) [] (started_seen s.events id (Some n) p c.args.moment) []) c.as_str-in-Starts.ensures.value by_events in
+    let running = ap (λ e. started_scores e (Some key) p c.args.moment) (sym es) ∙ (ap (λ n. started_scores (events_of c.args.events.now) (Some n) p c.args.moment) (sym c.as_str-in-Starts.ensures.value) ∙ c.in_ok-changes-in-Starts.ensures.running) in
     seat_decided s c.args.moment who key event first second p c.in-Starts.new.game c.in_ok-changes-in-Starts.changes is_club same are running
 
 pub returns-in-Repeated-clause-step : goal.returns-in-Repeated-clause-step

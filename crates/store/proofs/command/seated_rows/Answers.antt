@@ -1,4 +1,5 @@
 use Rattle.std.proofs.Common.{◌≡◌, [], ◌∷◌, Some, ap, sym, subst, subst₂, ◌∙◌}
+use Rattle.std.specs.Option.{option_map}
 use Rattle.std.specs.Prelude.{IsTrue}
 use Rattle.std.proofs.lemmas.Result.{IfOk-weaker}
 use Rattle.club_core.specs.Answer.{event_of, events_of, pairing_of}
@@ -14,6 +15,7 @@ use Rattle.store.proofs.command.seated_rows.Goals as goal
 pub returns-clause-puts : goal.returns-clause-puts
 returns-clause-puts c =
     IfOk-weaker c.seat_in.result _ _ (λ changes puts legal.
+    let key = option_map (λ k. k.now) c.args.key in
     let events = events_of c.args.events.now in
     let event = event_of c.in_ok-event.event.now in
     let pairing = pairing_of c.args.new.pairing in
@@ -21,13 +23,14 @@ returns-clause-puts c =
     let at : place events pairing.event ≡ Some event = c.in_ok-event.ensures in
     let terms : terms_given c.terms_of.result ≡ terms_at (place events pairing.event) = c.terms_of.ensures ∙ ap terms_at (sym at) in
     let budget = (in-place IsLegalEvent events pairing.event event legal at).budget in
-    let is = started_first events pairing id c.args.key.now c.args.moment event.game (ap kind_at at) in
-    let seen : first_seen_rows event.game id c.args.key.now pairing c.args.moment ≡ started_seen events id c.args.key.now pairing c.args.moment = started_seen_first events pairing id c.args.key.now c.args.moment event.game (ap kind_at at) in
+    let is = started_first events pairing id key c.args.moment event.game (ap kind_at at) in
+    let seen : first_seen_rows event.game id key pairing c.args.moment ≡ started_seen events id key pairing c.args.moment = started_seen_first events pairing id key c.args.moment event.game (ap kind_at at) in
     subst₂ (λ r l. PutsOnly changes c.args.moment [] [] (r ∷ []) [] l [])
-    (ap (λ t. first_row event.game t id c.args.key.now pairing c.args.moment) terms ∙ sym is) seen
+    (ap (λ t. first_row event.game t id key pairing c.args.moment) terms ∙ sym is) seen
     (puts (subst (λ t. IsTrue (is_budget t.budget)) (sym c.terms_of.ensures) budget))) c.seat_in.ensures.puts
 
 pub returns-clause-running : goal.returns-clause-running
 returns-clause-running c =
+    let key = option_map (λ k. k.now) c.args.key in
     IfOk-weaker c.seat_in.result _ _ (λ changes running.
-    ap (λ kind. first_meetings kind c.args.key.now (pairing_of c.args.new.pairing) c.args.moment) (ap kind_at c.in_ok-event.ensures) ∙ running) c.seat_in.ensures.running
+    ap (λ kind. first_meetings kind key (pairing_of c.args.new.pairing) c.args.moment) (ap kind_at c.in_ok-event.ensures) ∙ running) c.seat_in.ensures.running

@@ -1,0 +1,226 @@
+-- The challenges that rows show.
+use Rattle.std.proofs.Common.{◌≡◌, inl, inr, ℕ, zero, suc, ◌+◌, ◌<◌, ◌≤◌, ◌^◌, pos, List, [], ◌∷◌, length, map, Some, true, refl, ap, sym, subst, ◌∙◌, arith}
+use Rattle.std.specs.Prelude.{slice_get, nat_le}
+use Rattle.std.proofs.lemmas.Bool.{and_parts}
+use Rattle.std.proofs.lemmas.Option.{same_Some, slice_get_within}
+use Rattle.sqlite_rules.specs.Lists.{Has}
+use Rattle.club_core.specs.declared.challenges.Challenge.{Challenge}
+use Rattle.club_core.specs.declared.challenges.Standing.{Standing}
+use Rattle.club_core.specs.declared.challenges.Standing.TheVariants.{Open, Withdrawn, Refused, Accepted}
+use Rattle.club_core.specs.Challenges.{goes_by, pairing_for}
+use Rattle.club_core.specs.LegalState.{Each, AreApart, IsLegalChallenge}
+use Rattle.club_core.specs.Limits.{is_challenge_number}
+use Rattle.club_core.specs.Seats.{Pairing}
+use Rattle.club_core.specs.State.{draughts, shogi, place, terms_at, pairing_of}
+use Rattle.club_core.proofs.Lists.{map-at, map-got}
+use Rattle.club_core.proofs.Room.{le-true}
+use Rattle.store_tables.specs.Cells.{challenge_cells, game_cells, event_cells}
+use Rattle.store_tables.specs.declared.rows.ChallengeRow.{ChallengeRow}
+use Rattle.store_tables.specs.declared.rows.GameRecord.{GameRecord}
+use Rattle.store_tables.specs.declared.rows.Rows.{Rows}
+use Rattle.store_tables.proofs.Laws.{same_by}
+use Rattle.club_rows.specs.ChallengeRows.{HasShortGame, HasShortNumbers}
+use Rattle.club_rows.specs.Club.{both_games, ClubGame, ClubState, IsClub}
+use Rattle.club_rows.specs.EachOnce.{AreEachOnce}
+use Rattle.club_rows.specs.Tables.{challenge_row, event_row, numbered_from, row_of_game}
+use Rattle.club_rows.proofs.ChallengeLemmas.{challenge-had}
+use Rattle.club_rows.proofs.ToldLemmas.{columns-told, same-pos}
+use Rattle.club_audit.specs.Audit.{HasPeople}
+use Rattle.club_audit.specs.ChallengeAudit.{AreChallenges, HasItsGame, IsChallengeAmong, IsChallengeOf, IsRowOfPairing}
+use Rattle.club_audit.specs.ChallengeKeys.{key_in}
+use Rattle.club_audit.proofs.GameLemmas.{placed-some, some-placed, same-count}
+use Rattle.club_audit.proofs.PlacedLemmas.{each-cons, numbered-at, numbered-back, numbered-length}
+
+-- ---- lists
+
+row-has : (xs : List ChallengeRow) (n : ℕ) (x : ChallengeRow) → slice_get xs n ≡ Some x → Has (map challenge_cells xs) (challenge_cells x)
+row-has [] n x at = cc
+row-has (y ∷ ys) zero x at = inl (ap challenge_cells (same_Some x y (sym at)))
+row-has (y ∷ ys) (suc n) x at = inr (row-has ys n x at)
+
+placed-within : {A : Type 0} (xs : List A) (id : ℕ) (x : A) → place xs id ≡ Some x → id ≤ length xs
+placed-within xs zero x at = omega arith
+placed-within xs (suc n) x at = let within = slice_get_within xs n x at in omega (arith, within)
+
+-- ---- the game of a challenge
+
+accepted-same : (a b : ℕ) → ◌≡◌ {A = Standing} (Accepted a) (Accepted b) → a ≡ b
+accepted-same a b is = cc
+
+-- a game that an accepted challenge names, and whose row is of its event and its members, is the one
+pub its-game-found : (games : List GameRecord) (c : Challenge) (id : ℕ) (row : GameRecord) → c.standing ≡ Accepted id → place games id ≡ Some row → IsRowOfPairing row (pairing_for c) → HasItsGame games c
+its-game-found games c id row is at of = λ n stands. (row, subst (λ k. place games k ≡ Some row) (accepted-same id n (sym is ∙ stands)) at, of)
+
+-- ---- keys
+
+key-of-cells : (r s : ChallengeRow) → challenge_cells r ≡ challenge_cells s → key_in r ≡ key_in s
+key-of-cells r s same =
+    let member : r.member ≡ s.member = cc in
+    let own : r.number ≡ s.number = cc in
+    λ i. record { member = member i; number = own i }
+
+key-of-numbers : (r s : ChallengeRow) (c d : Challenge) → challenge_cells r ≡ challenge_row c → challenge_cells s ≡ challenge_row d → goes_by c ≡ goes_by d → key_in r ≡ key_in s
+key-of-numbers r s c d r_is s_is same =
+    let one : r.member ≡ pos c.member = cc in
+    let two : s.member ≡ pos d.member = cc in
+    let three : r.number ≡ pos c.number = cc in
+    let four : s.number ≡ pos d.number = cc in
+    let member : r.member ≡ s.member = one ∙ (ap (λ p. pos p.0) same ∙ sym two) in
+    let own : r.number ≡ s.number = three ∙ (ap (λ p. pos p.1) same ∙ sym four) in
+    λ i. record { member = member i; number = own i }
+
+numbers-of-key : (r s : ChallengeRow) (c d : Challenge) → challenge_cells r ≡ challenge_row c → challenge_cells s ≡ challenge_row d → key_in r ≡ key_in s → goes_by c ≡ goes_by d
+numbers-of-key r s c d r_is s_is same =
+    let one : r.member ≡ pos c.member = cc in
+    let two : s.member ≡ pos d.member = cc in
+    let three : r.number ≡ pos c.number = cc in
+    let four : s.number ≡ pos d.number = cc in
+    let member = same-pos c.member d.member (sym one ∙ (ap (λ k. k.member) same ∙ two)) in
+    let own = same-pos c.number d.number (sym three ∙ (ap (λ k. k.number) same ∙ four)) in
+    λ i. (member i, own i)
+
+-- ---- the rows of a club's challenges
+
+module _ (rows : Rows) where
+  -- rows, each of them that of a challenge, are the rows of a list
+  challenges-from : (rs : List ChallengeRow) → Each (IsChallengeOf rows) rs → (cs : List Challenge) × (map challenge_cells rs ≡ map challenge_row cs) × Each (IsChallengeAmong rows) cs
+  challenges-from [] each = ([], refl, λ n x at. cc)
+  challenges-from (r ∷ rs) each =
+      let one = each 0 r refl in
+      let rest = challenges-from rs (λ n x at. each (suc n) x at) in
+      let head = one.cells in
+      let tail = rest.1 in
+      (one.challenge ∷ rest.0, (λ i. head i ∷ tail i), each-cons (IsChallengeAmong rows) one.challenge rest.0 one.among rest.2)
+
+  pub challenges-are : Each (IsChallengeOf rows) rows.challenges.items → AreApart key_in rows.challenges.items → (cs : List Challenge) × AreChallenges cs rows
+  challenges-are each apart =
+      let rs = rows.challenges.items in
+      let (cs, same, legal) = challenges-from rs each in (
+        cs,
+        record {
+          rows_are = record {
+            same = same_by _ _ same;
+            once = λ i j z one two.
+                let (r, at, r_is) = map-got challenge_cells rs i z one in
+                let (s, there, s_is) = map-got challenge_cells rs j z two in
+                apart i j r s at there (key-of-cells r s (r_is ∙ sym s_is));
+          };
+          legal = legal;
+          numbers = λ i j c d one two alike.
+              let (r, at, r_is) = map-got challenge_cells rs i (challenge_row c) (ap (λ l. slice_get l i) same ∙ map-at challenge_row cs i c one) in
+              let (s, there, s_is) = map-got challenge_cells rs j (challenge_row d) (ap (λ l. slice_get l j) same ∙ map-at challenge_row cs j d two) in
+              apart i j r s at there (key-of-numbers r s c d r_is s_is alike);
+        },
+      )
+
+  module _ (cs : List Challenge) (are : AreChallenges cs rows) where
+    -- the challenge whose row stands there
+    shown-at : (n : ℕ) (r : ChallengeRow) → slice_get rows.challenges.items n ≡ Some r → (m : ℕ) × (c : Challenge) × (slice_get cs m ≡ Some c) × (challenge_cells r ≡ challenge_row c)
+    shown-at n r at = challenge-had cs (challenge_cells r) (are.rows_are.same.there (challenge_cells r) (row-has rows.challenges.items n r at))
+
+    pub numbers-apart : AreApart key_in rows.challenges.items
+    numbers-apart i j r s one two alike =
+        let (m, c, at, r_is) = shown-at i r one in
+        let (n, d, there, s_is) = shown-at j s two in
+        let place_is = are.numbers m n c d at there (numbers-of-key r s c d r_is s_is alike) in
+        let c_is : c ≡ d = same_Some c d (sym at ∙ (ap (slice_get cs) place_is ∙ there)) in
+        let cells_same : challenge_cells r ≡ challenge_cells s = r_is ∙ (ap challenge_row c_is ∙ sym s_is) in
+        are.rows_are.once i j (challenge_cells s) (map-at challenge_cells rows.challenges.items i r one ∙ ap Some cells_same) (map-at challenge_cells rows.challenges.items j s two)
+
+    module _ (members : length rows.members.items ≤ 200) (events : length rows.events.items ≤ 50) (games : length rows.games.items ≤ 5000) where
+      short-game : (s : Standing) → ((id : ℕ) → s ≡ Accepted id → id ≤ length rows.games.items) → HasShortGame s
+      short-game Open low = tt
+      short-game Withdrawn low = tt
+      short-game Refused low = tt
+      short-game (Accepted id) low = let least = low id refl in omega (arith, least, games)
+
+      short-number : (n : ℕ) → is_challenge_number n ≡ true → n < 2 ^ 32
+      short-number n is = let low = le-true n 9999 (and_parts (nat_le 1 n) (nat_le n 9999) is).1 in omega (arith, low)
+
+      short-numbers : (c : Challenge) → IsChallengeAmong rows c → HasShortNumbers c
+      short-numbers c among = record {
+        member = let low = among.member.1 in omega (arith, low, members);
+        own_number = short-number c.number among.number;
+        event = let low = among.event.1 in omega (arith, low, events);
+        other = let low = among.other.1 in omega (arith, low, members);
+        game = short-game c.standing (λ id is. let named = among.game id is in placed-within rows.games.items id named.0 named.1);
+      }
+
+      pub each-shown : Each (IsChallengeOf rows) rows.challenges.items
+      each-shown n r at =
+          let (m, c, there, is) = shown-at n r at in
+          let among = are.legal m c there in
+          record { challenge = c; cells = is; short = short-numbers c among; among = among }
+
+-- ---- the challenges of a club with these games
+
+pairing-same : (p q : Pairing) → pos p.event ≡ pos q.event → pos p.first ≡ pos q.first → pos p.second ≡ pos q.second → p ≡ q
+pairing-same p q one two three =
+    let event = same-pos p.event q.event one in
+    let first = same-pos p.first q.first two in
+    let second = same-pos p.second q.second three in
+    λ i. record { event = event i; first = first i; second = second i }
+
+module _ (s : ClubState) where
+  -- the row of a game has its event and its players
+  pairing-told : (id : ℕ) (row : GameRecord) (any : ClubGame) → game_cells row ≡ row_of_game both_games s.events id any → IsRowOfPairing row (pairing_of any)
+  pairing-told id row (draughts g) cells = let told = columns-told both_games.draughts (terms_at (place s.events g.event)) id g row cells in record { event = told.numbers.event; first = told.numbers.first; second = told.numbers.second }
+  pairing-told id row (shogi g) cells = let told = columns-told both_games.shogi (terms_at (place s.events g.event)) id g row cells in record { event = told.numbers.event; first = told.numbers.first; second = told.numbers.second }
+
+  module _ (rows : Rows) (people : HasPeople s rows) (games : List ClubGame) (rows_are : map game_cells rows.games.items ≡ numbered_from (row_of_game both_games s.events) 1 games) where
+    members-same : length rows.members.items ≡ length s.members
+    members-same = same-count s.members rows.members.items people.members
+
+    events-same : length rows.events.items ≡ length s.events
+    events-same = numbered-length event_cells event_row 1 rows.events.items s.events people.events.rows_are
+
+    game-named : (id : ℕ) (row : GameRecord) (p : Pairing) → place rows.games.items id ≡ Some row → IsRowOfPairing row p → (any : ClubGame) × (place games id ≡ Some any) × (pairing_of any ≡ p)
+    game-named zero row p at of = cc
+    game-named (suc n) row p at of =
+        let (any, there, cells) = numbered-at game_cells (row_of_game both_games s.events) 1 rows.games.items games rows_are n row at in
+        let told = pairing-told (1 + n) row any cells in
+        (any, there, pairing-same (pairing_of any) p (sym told.event ∙ of.event) (sym told.first ∙ of.first) (sym told.second ∙ of.second))
+
+    row-named : (id : ℕ) (any : ClubGame) (p : Pairing) → place games id ≡ Some any → pairing_of any ≡ p → (row : GameRecord) × (place rows.games.items id ≡ Some row) × IsRowOfPairing row p
+    row-named zero any p at of = cc
+    row-named (suc n) any p at of =
+        let (row, there, cells) = numbered-back game_cells (row_of_game both_games s.events) 1 rows.games.items games rows_are n any at in
+        (row, there, subst (IsRowOfPairing row) of (pairing-told (1 + n) row any cells))
+
+    -- challenges among the rows are legal in the club with the games of these rows
+    pub challenges-of : Each (IsChallengeAmong rows) s.challenges → Each (IsLegalChallenge (record s { games = games })) s.challenges
+    challenges-of each n c at =
+        let among = each n c at in
+        record {
+          number = among.number;
+          member = let high = among.member.1 in placed-some s.members c.member among.member.0 (omega (arith, high, members-same));
+          other = let high = among.other.1 in placed-some s.members c.other among.other.0 (omega (arith, high, members-same));
+          apart = among.apart;
+          event = let high = among.event.1 in placed-some s.events c.event among.event.0 (omega (arith, high, events-same));
+          accepted = λ id is. let (row, there, of) = among.game id is in game-named id row (pairing_for c) there of;
+        }
+
+    -- and the challenges of such a club are among them
+    pub challenges-among : Each (IsLegalChallenge (record s { games = games })) s.challenges → Each (IsChallengeAmong rows) s.challenges
+    challenges-among each n c at =
+        let legal = each n c at in
+        let member = some-placed s.members c.member legal.member in
+        let other = some-placed s.members c.other legal.other in
+        let event = some-placed s.events c.event legal.event in
+        record {
+          number = legal.number;
+          member = (member.0, let high = member.1 in omega (arith, high, members-same));
+          other = (other.0, let high = other.1 in omega (arith, high, members-same));
+          apart = legal.apart;
+          event = (event.0, let high = event.1 in omega (arith, high, events-same));
+          game = λ id is. let (any, there, of) = legal.accepted id is in row-named id any (pairing_for c) there of;
+        }
+
+-- the rows of a legal club's challenges, each once, are those that the audit lets pass
+pub club-challenges : (s : ClubState) (rows : Rows) → IsClub s → HasPeople s rows → map game_cells rows.games.items ≡ numbered_from (row_of_game both_games s.events) 1 s.games
+    → AreEachOnce (map challenge_cells rows.challenges.items) (map challenge_row s.challenges) → AreChallenges s.challenges rows
+club-challenges s rows club people games_are rows_are = record {
+  rows_are = rows_are;
+  legal = challenges-among s rows people s.games games_are club.challenges;
+  numbers = club.challenge_numbers;
+}

@@ -1,0 +1,52 @@
+-- What the rows of challenges are tested for: those of the challenges of a legal club.
+use Rattle.std.specs.Prelude.{◌≡◌, ◌≢◌, ◌<◌, ◌≤◌, ℕ, pos, List, map, length, Some, IsTrue}
+use Rattle.club_core.specs.declared.challenges.Challenge.{Challenge}
+use Rattle.club_core.specs.declared.challenges.Standing.TheVariants.{Accepted}
+use Rattle.club_core.specs.Challenges.{goes_by, pairing_for}
+use Rattle.club_core.specs.LegalState.{Each, AreApart}
+use Rattle.club_core.specs.Limits.{is_challenge_number}
+use Rattle.club_core.specs.Seats.{Pairing}
+use Rattle.club_core.specs.State.{place}
+use Rattle.store_tables.specs.Cells.{challenge_cells}
+use Rattle.store_tables.specs.declared.rows.ChallengeRow.{ChallengeRow}
+use Rattle.store_tables.specs.declared.rows.GameRecord.{GameRecord}
+use Rattle.store_tables.specs.declared.rows.Rows.{Rows}
+use Rattle.club_rows.specs.ChallengeRows.{HasShortNumbers}
+use Rattle.club_rows.specs.EachOnce.{AreEachOnce}
+use Rattle.club_rows.specs.Tables.{challenge_row}
+
+-- the game's row is of this event and of these players, each on this side
+pub record IsRowOfPairing (game : GameRecord) (pairing : Pairing) : Type 0 where
+  pub event : game.event ≡ pos pairing.event
+  pub first : game.first ≡ pos pairing.first
+  pub second : game.second ≡ pos pairing.second
+
+-- a challenge that was accepted names one of the games, of its event and between its two members on their sides
+abbrev pub HasItsGame : List GameRecord → Challenge → Type 0
+HasItsGame games c = (id : ℕ) → c.standing ≡ Accepted id → (game : GameRecord) × (place games id ≡ Some game) × IsRowOfPairing game (pairing_for c)
+
+-- the id is that of one of these
+abbrev pub IsIdAmong : {A : Type 0} → List A → ℕ → Type 0
+IsIdAmong xs id = (0 < id) × (id ≤ length xs)
+
+-- the challenge is one of a club with these rows of members, events and games
+pub record IsChallengeAmong (rows : Rows) (c : Challenge) : Type 0 where
+  pub number : IsTrue (is_challenge_number c.number)
+  pub member : IsIdAmong rows.members.items c.member
+  pub other : IsIdAmong rows.members.items c.other
+  pub apart : c.member ≢ c.other
+  pub event : IsIdAmong rows.events.items c.event
+  pub game : HasItsGame rows.games.items c
+
+-- the row is that of such a challenge
+pub record IsChallengeOf (rows : Rows) (row : ChallengeRow) : Type 0 where
+  pub challenge : Challenge
+  pub cells : challenge_cells row ≡ challenge_row challenge
+  pub short : HasShortNumbers challenge
+  pub among : IsChallengeAmong rows challenge
+
+-- The rows are those of these challenges, each once and in whatever order, and they are challenges of a legal club.
+pub record AreChallenges (challenges : List Challenge) (rows : Rows) : Type 0 where
+  pub rows_are : AreEachOnce (map challenge_cells rows.challenges.items) (map challenge_row challenges)
+  pub legal : Each (IsChallengeAmong rows) challenges
+  pub numbers : AreApart goes_by challenges

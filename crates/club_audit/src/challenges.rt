@@ -1,0 +1,152 @@
+//! Whether the rows of challenges are those of a legal club.
+
+ghost use Rattle.std.specs.Prelude.{◌≡◌, ◌<◌, ◌≤◌, List, length, true, false, IfOk, Option};
+ghost use Rattle.std.specs.Option.{option_map};
+ghost use Rattle.club_core.specs.declared.challenges.Challenge as core;
+ghost use Rattle.club_core.specs.Answer.{pairing_of};
+ghost use Rattle.club_core.specs.LegalState.{Each, AreApart};
+ghost use Rattle.club_core.specs.Limits.{most_members, most_events, most_games};
+ghost use Rattle.club_core.specs.State.{place};
+ghost use Rattle.club_audit.specs.ChallengeAudit.{AreChallenges, HasItsGame, IsChallengeAmong, IsChallengeOf};
+ghost use Rattle.club_audit.specs.ChallengeAudit.{IsRowOfPairing};
+ghost use Rattle.club_audit.specs.ChallengeKeys.{key_in};
+
+use club_core::{Challenge, Pairing, Standing, is_challenge_number};
+use club_rows::challenge_of;
+use club_rules::Memory;
+use std::alloc::Global;
+use std::collections::HashSet;
+use store_tables::{ChallengeRow, GameRecord, Rows};
+
+// What a row of a challenge goes by: its member, and the member's number for it.
+#[derive(Clone, Copy, PartialEq, Eq, Hash)]
+struct ChallengeKey {
+    member: i64,
+    number: i64,
+}
+
+fn key_in(row: &ChallengeRow) -> ChallengeKey
+    ensures { result ≡ key_in row.now }
+{
+    ChallengeKey {
+        member: row.member,
+        number: row.number,
+    }
+}
+
+// Whether the id is that of one of so many.
+fn is_id(id: u32, count: usize) -> bool
+    ensures sound { result ≡ true → (0 < id) × (id ≤ count) }
+    ensures complete { 0 < id → id ≤ count → result ≡ true }
+{
+    0 < id && id as usize <= count
+}
+
+// The row of the game of an id, if there is one.
+fn game_at(games: &[GameRecord], id: u32) -> Option<&GameRecord>
+    ensures { option_map (λ r. r.now) result ≡ place games.now id }
+{
+    if id == 0 {
+        return None;
+    }
+    games.get(id as usize - 1)
+}
+
+// Whether the game's row is of that event and of those players, each on that side.
+fn is_row_of_pairing(game: &GameRecord, pairing: Pairing) -> bool
+    ensures sound { result ≡ true → IsRowOfPairing game.now (pairing_of pairing) }
+    ensures complete { IsRowOfPairing game.now (pairing_of pairing) → result ≡ true }
+{
+    game.event == i64::from(pairing.event)
+        && game.first == i64::from(pairing.first)
+        && game.second == i64::from(pairing.second)
+}
+
+// Whether a challenge, where it was accepted, names a game of its event between its members on their sides.
+fn has_its_game(games: &[GameRecord], challenge: &Challenge) -> bool
+    ensures sound { result ≡ true → HasItsGame games.now challenge.now }
+    ensures complete { HasItsGame games.now challenge.now → result ≡ true }
+{
+    match challenge.standing {
+        Standing::Accepted { game } => match game_at(games, game) {
+            Some(row) => is_row_of_pairing(row, challenge.pairing()),
+            None => false,
+        },
+        _ => true,
+    }
+}
+
+// Whether the challenge is one of a club with these members, events and games.
+fn is_challenge(rows: &Rows, challenge: &Challenge) -> bool
+    ensures sound { result ≡ true → IsChallengeAmong rows.now challenge.now }
+    ensures complete { IsChallengeAmong rows.now challenge.now → result ≡ true }
+{
+    if !is_challenge_number(u64::from(challenge.number)) {
+        return false;
+    }
+    if challenge.member == challenge.other {
+        return false;
+    }
+    if !is_id(challenge.member, rows.members.as_slice().len()) {
+        return false;
+    }
+    if !is_id(challenge.other, rows.members.as_slice().len()) {
+        return false;
+    }
+    if !is_id(challenge.event, rows.events.as_slice().len()) {
+        return false;
+    }
+    has_its_game(rows.games.as_slice(), challenge)
+}
+
+// Whether the row is that of such a challenge.
+fn is_challenge_row(rows: &Rows, row: &ChallengeRow) -> bool
+    ensures sound { result ≡ true → IsChallengeOf rows.now row.now }
+    ensures complete { IsChallengeOf rows.now row.now → result ≡ true }
+{
+    match challenge_of(row) {
+        Some(challenge) => is_challenge(rows, &challenge),
+        None => false,
+    }
+}
+
+// Whether each of the rows is that of such a challenge.
+fn are_each_challenges(rows: &Rows, challenges: &[ChallengeRow]) -> bool
+    ensures sound { result ≡ true → Each (IsChallengeOf rows.now) challenges.now }
+    ensures complete { Each (IsChallengeOf rows.now) challenges.now → result ≡ true }
+{
+    for row in challenges {
+        if !is_challenge_row(rows, row) {
+            return false;
+        }
+    }
+    true
+}
+
+// Whether two challenges of one member have one number.
+fn share_number(alloc: Global, challenges: &[ChallengeRow]) -> Result<bool, Memory>
+    ensures apart { IfOk result (λ shared. shared ≡ false → AreApart key_in challenges.now) }
+    ensures shared { IfOk result (λ shared. shared ≡ true → ¬ AreApart key_in challenges.now) }
+{
+    let mut keys = HashSet::new(alloc);
+    for row in challenges {
+        if !keys.insert(key_in(row))? {
+            return Ok(true);
+        }
+    }
+    Ok(false)
+}
+
+/// Whether the rows of challenges are those of a club with these members, events and games.
+pub(crate) fn are_challenges(alloc: Global, rows: &Rows) -> Result<bool, Memory>
+    ensures sound { IfOk result (λ are. are ≡ true → (cs : List core.Challenge) × AreChallenges cs rows.now) }
+    ensures complete { IfOk result (λ are. length rows.now.members.items ≤ most_members →
+        length rows.now.events.items ≤ most_events → length rows.now.games.items ≤ most_games →
+        (cs : List core.Challenge) → AreChallenges cs rows.now → are ≡ true) }
+{
+    if !are_each_challenges(rows, &rows.challenges) {
+        return Ok(false);
+    }
+    let shared = share_number(alloc, &rows.challenges)?;
+    Ok(!shared)
+}

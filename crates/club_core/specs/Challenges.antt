@@ -1,0 +1,151 @@
+-- Challenges between members: what opening one does, withdrawing it, and answering it.
+use Rattle.std.specs.Prelude.{ℕ, ◌+◌, List, [], ◌∷◌, Option, Some, None, Bool, true, false, not, is_some, ◌&&◌, nat_le, ◌==◌, if◌then◌else◌}
+use Rattle.std.proofs.Math.Bool.{beq}
+use Rattle.club_core.specs.declared.challenges.Challenge.{Challenge}
+use Rattle.club_core.specs.declared.challenges.Standing.{Standing}
+use Rattle.club_core.specs.declared.challenges.Standing.TheVariants.{Open, Withdrawn, Refused, Accepted}
+use Rattle.club_core.specs.declared.refusals.Refusal.{Refusal}
+use Rattle.club_core.specs.declared.refusals.Refusal.TheVariants.{UnknownEvent, UnknownChallenge, Conflict, BadValue, Full}
+use Rattle.club_core.specs.Limits.{most_games, is_challenge_number}
+use Rattle.club_core.specs.Outcome.{Reply, challenge_opened, challenge_withdrawn, challenge_refused, challenge_accepted, Outcome, accepted, refused, first_refusal, unless, unless_repeat}
+use Rattle.club_core.specs.Members.{Member, find_id}
+use Rattle.club_core.specs.Events.{Event, has_event_name}
+use Rattle.club_core.specs.Seats.{Pairing, has_member_name, is_id, are_two}
+
+-- what a challenge goes by: its member, and the member's number for it
+abbrev pub goes_by : Challenge → ℕ × ℕ
+goes_by c = (c.member, c.number)
+
+-- the challenge is that of a member under a number
+abbrev pub is_under : ℕ → ℕ → Challenge → Bool
+is_under member number c = c.member == member && c.number == number
+
+abbrev pub challenge_under : List Challenge → ℕ → ℕ → Option Challenge
+challenge_under [] member number = None
+challenge_under (c ∷ cs) member number = if is_under member number c then Some c else challenge_under cs member number
+
+-- the challenge of the member that was found, if one was
+abbrev pub challenge_by : List Challenge → Option ℕ → ℕ → Option Challenge
+challenge_by cs None number = None
+challenge_by cs (Some member) number = challenge_under cs member number
+
+-- the challenges with this one: in the place of that of its member and its number, and else at the end
+abbrev pub put_challenge : List Challenge → Challenge → List Challenge
+put_challenge [] new = new ∷ []
+put_challenge (c ∷ cs) new = if is_under new.member new.number c then new ∷ cs else c ∷ put_challenge cs new
+
+abbrev pub is_open : Standing → Bool
+is_open Open = true
+is_open Withdrawn = false
+is_open Refused = false
+is_open (Accepted game) = false
+
+abbrev pub standing_as : Challenge → Standing → Challenge
+standing_as c standing = record c { standing = standing }
+
+-- the event and the sides of the game that a challenge is to
+abbrev pub pairing_for : Challenge → Pairing
+pairing_for c =
+    if c.first
+    then record { event = c.event; first = c.member; second = c.other }
+    else record { event = c.event; first = c.other; second = c.member }
+
+-- a challenge is to the same event and the same member, with the same sides
+abbrev pub asks_same : ℕ → Option ℕ → Bool → Challenge → Bool
+asks_same event other first c = event == c.event && is_id other c.other && beq first c.first
+
+-- the same challenge stands under the number, whatever became of it
+abbrev pub repeat_of_opening : ℕ → Option ℕ → Bool → Option Challenge → Option Reply
+repeat_of_opening event other first None = None
+repeat_of_opening event other first (Some c) = if asks_same event other first c then Some (challenge_opened c.number) else None
+
+module _ (caller number : ℕ) (other : Option ℕ) (under : Option Challenge) where
+  abbrev pub opening_tests : List (Bool × Refusal)
+  opening_tests =
+      (is_some under, Conflict)
+      ∷ (not (is_challenge_number number && are_two (Some caller) other), BadValue)
+      ∷ []
+
+  abbrev pub opening_refusal : Option Refusal
+  opening_refusal = first_refusal opening_tests
+
+-- a new challenge to a member that was found
+abbrev pub opens : ℕ → ℕ → ℕ → Option ℕ → Bool → Outcome Challenge
+opens caller number event None first = refused BadValue
+opens caller number event (Some other) first =
+    accepted
+    (record { member = caller; number = number; event = event; other = other; first = first; standing = Open })
+    (challenge_opened number)
+
+-- by the event and the member that the names stand for, and the caller's challenge under the number
+abbrev pub opening_found : ℕ → ℕ → Option ℕ → Option ℕ → Bool → Option Challenge → Outcome Challenge
+opening_found caller number None other first under = refused UnknownEvent
+opening_found caller number (Some event) other first under =
+    unless_repeat (repeat_of_opening event other first under)
+    (unless (opening_refusal caller number other under)
+    (opens caller number event other first))
+
+-- a member challenges another to a game of an event; `first` says whether the challenger plays First
+abbrev pub opening_step : List Member → List Event → Option Challenge →
+    ℕ → ℕ → List ℕ → List ℕ → Bool → Outcome Challenge
+opening_step members events under caller number event other first =
+    opening_found caller number
+    (find_id (has_event_name event) events)
+    (find_id (has_member_name other) members)
+    first under
+
+-- the challenge was withdrawn before
+abbrev pub repeat_of_withdrawal : ℕ → Standing → Option Reply
+repeat_of_withdrawal number Open = None
+repeat_of_withdrawal number Withdrawn = Some (challenge_withdrawn number)
+repeat_of_withdrawal number Refused = None
+repeat_of_withdrawal number (Accepted game) = None
+
+abbrev pub withdrawal_tests : Standing → List (Bool × Refusal)
+withdrawal_tests standing = (not (is_open standing), Conflict) ∷ []
+
+abbrev pub withdrawal_refusal : Standing → Option Refusal
+withdrawal_refusal standing = first_refusal (withdrawal_tests standing)
+
+-- a challenger takes an open challenge back
+abbrev pub withdrawal_step : Option Challenge → Outcome Challenge
+withdrawal_step None = refused UnknownChallenge
+withdrawal_step (Some c) =
+    unless_repeat (repeat_of_withdrawal c.number c.standing)
+    (unless (withdrawal_refusal c.standing)
+    (accepted (standing_as c Withdrawn) (challenge_withdrawn c.number)))
+
+-- the challenge was answered so before
+abbrev pub repeat_of_answer : ℕ → Standing → Bool → Option Reply
+repeat_of_answer number Open accept = None
+repeat_of_answer number Withdrawn accept = None
+repeat_of_answer number Refused true = None
+repeat_of_answer number Refused false = Some (challenge_refused number)
+repeat_of_answer number (Accepted game) true = Some (challenge_accepted number game)
+repeat_of_answer number (Accepted game) false = None
+
+module _ (standing : Standing) (games : ℕ) (accept : Bool) where
+  abbrev pub answer_tests : List (Bool × Refusal)
+  answer_tests =
+      (not (is_open standing), Conflict)
+      ∷ (accept && nat_le most_games games, Full)
+      ∷ []
+
+  abbrev pub answer_refusal : Option Refusal
+  answer_refusal = first_refusal answer_tests
+
+-- an open challenge is refused, or starts the next game
+abbrev pub answers : Challenge → ℕ → Bool → Outcome Challenge
+answers c games false = accepted (standing_as c Refused) (challenge_refused c.number)
+answers c games true = accepted (standing_as c (Accepted (games + 1))) (challenge_accepted c.number (games + 1))
+
+-- the member challenged answers, by the challenge that was found and the number of games
+abbrev pub answer_step : Option Challenge → ℕ → ℕ → Bool → Outcome Challenge
+answer_step None games caller accept = refused UnknownChallenge
+answer_step (Some c) games caller accept =
+    if c.other == caller
+    then
+    unless_repeat (repeat_of_answer c.number c.standing accept)
+    (unless (answer_refusal c.standing games accept)
+    (answers c games accept))
+    else refused UnknownChallenge

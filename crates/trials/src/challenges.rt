@@ -1,0 +1,121 @@
+//! Challenges between members, each with what it must come to, the rows that they leave, and stops within them.
+
+use crate::commands::{opened, serve_at_once};
+use crate::scripts::{request, told};
+use crate::tables::lines_of;
+use club_core::Request;
+use sqlite::MemStore;
+use std::alloc::Global;
+use std::process::Abort;
+use std::test::Fail;
+use store::Club;
+
+const THREE_MEMBERS: &str = "1000 officer member anna keyanna1 = accepted
+1000 officer member bert keybert2 = accepted
+1000 officer member cara keycara3 = accepted
+1000 officer event autumn draughts 60 0 = accepted";
+
+// A club of three members and an event, after these requests.
+fn after<R: Abort + AllocGlobal>(rt: &R, script: &str) -> Result<Club<MemStore>, Fail> {
+    let club = serve_at_once(rt, opened(rt.alloc())?, THREE_MEMBERS)?;
+    serve_at_once(rt, club, script)
+}
+
+fn requests_of(alloc: Global, script: &str) -> Result<Vec<Request>, Fail> {
+    let mut requests = Vec::new(alloc);
+    for line in script.lines() {
+        let (asked, _) = line.split_once('=').ok_or("an outcome")?;
+        requests.push(request(alloc, asked)?)?;
+    }
+    Ok(requests)
+}
+
+// The same club after these requests, which are given by one call.
+fn after_run<R: Abort + AllocGlobal>(rt: &R, script: &str) -> Result<Club<MemStore>, Fail> {
+    let mut club = serve_at_once(rt, opened(rt.alloc())?, THREE_MEMBERS)?;
+    let run = club.run(rt.alloc(), &requests_of(rt.alloc(), script)?);
+    assert!(rt; run.fault == None);
+    assert!(rt; run.outcomes.len() == script.lines().count());
+    for (line, outcome) in script.lines().zip(run.outcomes.iter()) {
+        let (_, wanted) = line.split_once('=').ok_or("an outcome")?;
+        assert!(rt;
+            told(rt.alloc(), outcome)?.as_str() == wanted.trim(),
+            "{line}"
+        );
+    }
+    Ok(club)
+}
+
+const ROWS: &str =
+    "SELECT member || ' ' || number || ' ' || event || ' ' || other || ' ' || first || ' ' || state \
+    || ' ' || coalesce(game, '-') FROM challenges ORDER BY member, number";
+
+const GAMES: &str =
+    "SELECT id || ' ' || coalesce(key, '-') || ' ' || first || ' ' || second || ' ' || start FROM games ORDER BY id";
+
+const ACCEPTED: &str = "1001 keyanna1 challenge 0 autumn bert first = 65 BadValue
+1001 keyanna1 challenge 1 autumn anna first = 65 BadValue
+1001 keyanna1 challenge 1 autumn bert first = accepted
+1001 keyanna1 challenge 1 autumn bert second = 58 Conflict
+1002 keycara3 answer anna 1 yes = 54 UnknownChallenge
+1003 keybert2 answer anna 1 yes = accepted game 1
+1004 keybert2 answer anna 1 yes = repeated game 1
+1004 keybert2 answer anna 1 no = 58 Conflict
+1004 keyanna1 withdraw 1 = 58 Conflict
+1004 keyanna1 challenge 1 autumn bert first = repeated
+1005 keyanna1 move 1 1 32-28 = accepted
+1006 keybert2 resign 1 = accepted";
+
+#[test]
+fn an_accepted_challenge_starts_its_game(rt: HostRuntime) -> Result<(), Fail> {
+    let club = after(&rt, ACCEPTED)?;
+    assert!(rt; lines_of(rt.alloc(), club, ROWS)?.as_str() == "1 1 1 2 1 3 1;");
+    let club = after_run(&rt, ACCEPTED)?;
+    assert!(rt; lines_of(rt.alloc(), club, GAMES)?.as_str() == "1 - 1 2 1003;");
+    Ok(())
+}
+
+const CLOSED: &str = "1001 officer challenge 2 autumn bert first = 51 NotAllowed
+1001 officer withdraw 2 = 51 NotAllowed
+1001 officer answer anna 2 yes = 51 NotAllowed
+1001 keydora44 withdraw 2 = 50 UnknownKey
+1001 keyanna1 challenge 2 winter bert first = 52 UnknownEvent
+1001 keyanna1 challenge 2 autumn dora first = 65 BadValue
+1001 keyanna1 withdraw 2 = 54 UnknownChallenge
+1001 keyanna1 answer dora 2 yes = 54 UnknownChallenge
+1001 keyanna1 challenge 1 autumn bert first = accepted
+1001 keybert2 challenge 1 autumn anna second = accepted
+1001 keybert2 withdraw 1 = accepted
+1001 keybert2 withdraw 1 = repeated
+1001 keyanna1 answer bert 1 yes = 58 Conflict
+1001 keybert2 challenge 1 autumn anna second = repeated
+1001 keycara3 challenge 9999 autumn anna second = accepted
+1001 keycara3 challenge 10000 autumn anna second = 65 BadValue
+1001 keyanna1 answer cara 9999 no = accepted
+1001 keyanna1 answer cara 9999 no = repeated
+1001 keyanna1 answer cara 9999 yes = 58 Conflict
+1001 keycara3 withdraw 9999 = 58 Conflict
+1002 keycara3 challenge 3 autumn bert second = accepted
+1002 keyanna1 answer cara 3 no = 54 UnknownChallenge
+1003 keybert2 answer cara 3 yes = accepted game 1
+1003 keycara3 move 1 1 32-28 = 59 NotYourTurn
+1003 keybert2 move 1 1 32-28 = accepted";
+
+#[test]
+fn challenges_are_closed_once(rt: HostRuntime) -> Result<(), Fail> {
+    let club = after(&rt, CLOSED)?;
+    let rows = "1 1 1 2 1 0 -;2 1 1 1 0 1 -;3 3 1 2 0 3 1;3 9999 1 1 0 2 -;";
+    assert!(rt; lines_of(rt.alloc(), club, ROWS)?.as_str() == rows);
+    let club = after(&rt, CLOSED)?;
+    assert!(rt; lines_of(rt.alloc(), club, GAMES)?.as_str() == "1 - 2 3 1003;");
+    Ok(())
+}
+
+// A game from a challenge counts as any other.
+#[test]
+fn a_game_from_a_challenge_is_counted(rt: HostRuntime) -> Result<(), Fail> {
+    let club = after(&rt, ACCEPTED)?;
+    let sums = "SELECT member || ' ' || opponent || ' ' || points FROM scores ORDER BY member";
+    assert!(rt; lines_of(rt.alloc(), club, sums)?.as_str() == "1 2 2;2 1 0;");
+    Ok(())
+}
