@@ -1,4 +1,5 @@
-//! Trials of the club: values written out by hand against what the public calls below the store answer. It has tests alone.
+//! Trials of the club: values written out by hand against what the public calls below the store answer. It has tests
+//! alone.
 #![tactic(auto)]
 
 #[cfg(test)]
@@ -21,3 +22,5 @@ mod score_rows;
 mod seen_rows;
 #[cfg(test)]
 mod table_lines;
+#[cfg(test)]
+mod words;

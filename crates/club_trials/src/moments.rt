@@ -1,5 +1,4 @@
 use clocks::{CivilTime, Clock, Moment, OutOfTime, civil};
-use std::test::Fail;
 
 fn shown(seconds: u64) -> Option<CivilTime> {
     Some(civil(Moment::new(seconds)?))
@@ -29,6 +28,7 @@ fn moments_have_dates_in_utc(rt: HostRuntime) {
 }
 
 // A budget of 60 seconds and an increment of 5: a move after 60 seconds is in time and leaves 5, one after 61 is not.
+// A deadline is the last second in time, and of two moments the later counts.
 #[test]
 fn a_move_takes_seconds_and_adds_the_increment(rt: HostRuntime) {
     let clock = Clock {
@@ -41,24 +41,14 @@ fn a_move_takes_seconds_and_adds_the_increment(rt: HostRuntime) {
         increment: 5,
     };
     assert!(rt; clock.spend(60) == Ok(after));
-}
-
-#[test]
-fn a_deadline_is_the_last_second_in_time(rt: HostRuntime) {
-    let clock = Clock {
-        left: 60,
-        increment: 5,
-    };
     let deadline = Moment::new(1060).map(|since| clock.deadline(since));
     assert!(rt; deadline == Some(1120));
     assert!(rt; Moment::new(1000).map(|m| m.seconds()) == Some(1000));
+    assert!(rt; later(900, 5000) == Some(5000));
+    assert!(rt; later(5000, 900) == Some(5000));
 }
 
-#[test]
-fn the_later_moment_counts(rt: HostRuntime) -> Result<(), Fail> {
-    let early = Moment::new(900).ok_or("in range")?;
-    let late = Moment::new(5000).ok_or("in range")?;
-    assert!(rt; early.later(late).seconds() == 5000);
-    assert!(rt; late.later(early).seconds() == 5000);
-    Ok(())
+// The seconds of the later moment.
+fn later(one: u64, other: u64) -> Option<u64> {
+    Some(Moment::new(one)?.later(Moment::new(other)?).seconds())
 }

@@ -20,10 +20,6 @@ pub(crate) const START: &str =
 pub(crate) const AFTER_32_28: &str =
     "B:W28,31,33,34,35,36,37,38,39,40,41,42,43,44,45,46,47,48,49,50:B1,2,3,4,5,6,7,8,9,10,11,12,13,14,15,16,17,18,19,20";
 
-pub(crate) fn text(alloc: Global, letters: &str) -> Result<String, Fail> {
-    Ok(String::from_str(alloc, letters)?)
-}
-
 fn terms() -> Terms {
     Terms {
         budget: 60,
@@ -40,7 +36,7 @@ pub(crate) fn row(
 ) -> Result<GameRecord, Fail> {
     Ok(GameRecord {
         id: 1,
-        key: Some(text(alloc, "g1")?),
+        key: Some(String::from_str(alloc, "g1")?),
         event: 1,
         first: 1,
         second: 2,
@@ -53,7 +49,7 @@ pub(crate) fn row(
         offer_ply: None,
         end: None,
         result: None,
-        position: text(alloc, position)?,
+        position: String::from_str(alloc, position)?,
         track_a: 0,
         track_b: 0,
     })
@@ -64,10 +60,10 @@ pub(crate) fn first_move(alloc: Global) -> Result<MoveRow, Fail> {
     Ok(MoveRow {
         game: 1,
         ply: 1,
-        text: text(alloc, "32-28")?,
+        text: String::from_str(alloc, "32-28")?,
         moment: 1060,
         left: 5,
-        position: text(alloc, AFTER_32_28)?,
+        position: String::from_str(alloc, AFTER_32_28)?,
     })
 }
 
@@ -87,11 +83,6 @@ fn shown(
     }
 }
 
-/// The rows of a ply and of the one before it.
-fn rows(at: Option<MoveRow>, before: Option<MoveRow>) -> PlyRows {
-    PlyRows { at, before }
-}
-
 /// What a move of the officer's does at that moment.
 fn decided(
     alloc: Global,
@@ -105,7 +96,7 @@ fn decided(
     let moment = Moment::new(seconds).ok_or("in range")?;
     let command = GameCommand::Move {
         ply,
-        text: text(alloc, letters)?,
+        text: String::from_str(alloc, letters)?,
     };
     let later = moment.later(view.row.since);
     Ok(decide(alloc, view, Caller::Officer, &command, later)?)
@@ -128,30 +119,37 @@ fn told(alloc: Global, decision: Decision<Draughts>) -> Result<String, Fail> {
     }
 }
 
-/// What a move of the officer's comes to in the game after its first move, asked of a ply whose rows these are.
-fn comes_to(
-    alloc: Global,
-    rows: PlyRows,
-    ply: u64,
-    letters: &str,
-    seconds: u64,
-) -> Result<String, Fail> {
+/// The rows of a ply and of the one before it, where the first was played and no other.
+fn rows(alloc: Global, ply: u64) -> Result<PlyRows, Fail> {
+    let played = Some(first_move(alloc)?);
+    Ok(match ply {
+        1 => PlyRows {
+            at: played,
+            before: None,
+        },
+        _ => PlyRows {
+            at: None,
+            before: played,
+        },
+    })
+}
+
+/// What a move of the officer's comes to in the game after its first move, as its first or second ply.
+fn comes_to(alloc: Global, ply: u64, letters: &str, seconds: u64) -> Result<String, Fail> {
     let game = row(alloc, 1, 1060, AFTER_32_28)?;
     let moves = [first_move(alloc)?];
-    let view = shown(alloc, &game, &moves, ply, &rows)?;
+    let view = shown(alloc, &game, &moves, ply, &rows(alloc, ply)?)?;
     told(alloc, decided(alloc, &view, ply, letters, seconds)?)
 }
 
 #[test]
 fn the_first_move_makes_its_rows(rt: HostRuntime) -> Result<(), Fail> {
     let alloc = rt.alloc();
-    let view = shown(
-        alloc,
-        &row(alloc, 0, 1000, START)?,
-        &[],
-        1,
-        &rows(None, None),
-    )?;
+    let unplayed = PlyRows {
+        at: None,
+        before: None,
+    };
+    let view = shown(alloc, &row(alloc, 0, 1000, START)?, &[], 1, &unplayed)?;
     let (row_after, answer) = match decided(alloc, &view, 1, "32-28", 1060)? {
         Decision::Accepted {
             row,
@@ -172,48 +170,15 @@ fn the_first_move_makes_its_rows(rt: HostRuntime) -> Result<(), Fail> {
     Ok(())
 }
 
+// The last second is in time, and a ply that was played is repeated.
 #[test]
-fn the_last_second_is_in_time(rt: HostRuntime) -> Result<(), Fail> {
+fn moves_come_to_their_outcomes(rt: HostRuntime) -> Result<(), Fail> {
     let alloc = rt.alloc();
-    let late = comes_to(
-        alloc,
-        rows(None, Some(first_move(alloc)?)),
-        2,
-        "19-23",
-        1122,
-    )?;
-    assert!(rt; late.as_str() == "60 OutOfTime");
-    let in_time = comes_to(
-        alloc,
-        rows(None, Some(first_move(alloc)?)),
-        2,
-        "19-23",
-        1120,
-    )?;
-    assert!(rt; in_time.as_str() == "accepted 5");
-    Ok(())
-}
-
-#[test]
-fn a_ply_that_was_played_is_repeated(rt: HostRuntime) -> Result<(), Fail> {
-    let alloc = rt.alloc();
-    let again = comes_to(
-        alloc,
-        rows(Some(first_move(alloc)?), None),
-        1,
-        "032-28",
-        5000,
-    )?;
-    let wanted = format!(in alloc; "repeated 32-28 5 {AFTER_32_28}")?;
-    assert!(rt; again.as_str() == wanted.as_str());
-    let other = comes_to(
-        alloc,
-        rows(Some(first_move(alloc)?), None),
-        1,
-        "33-28",
-        5000,
-    )?;
-    assert!(rt; other.as_str() == "58 Conflict");
+    assert!(rt; comes_to(alloc, 2, "19-23", 1122)?.as_str() == "60 OutOfTime");
+    assert!(rt; comes_to(alloc, 2, "19-23", 1120)?.as_str() == "accepted 5");
+    let repeated = format!(in alloc; "repeated 32-28 5 {AFTER_32_28}")?;
+    assert!(rt; comes_to(alloc, 1, "032-28", 5000)?.as_str() == repeated.as_str());
+    assert!(rt; comes_to(alloc, 1, "33-28", 5000)?.as_str() == "58 Conflict");
     Ok(())
 }
 
@@ -226,7 +191,7 @@ pub(crate) fn stood_once(
 ) -> Result<SeenRow, Fail> {
     Ok(SeenRow {
         game,
-        position: text(alloc, position)?,
+        position: String::from_str(alloc, position)?,
         count: 1,
         first_ply,
     })
@@ -236,17 +201,17 @@ pub(crate) fn stood_once(
 pub(crate) fn club(alloc: Global, game: GameRecord, last: i64) -> Result<Rows, Fail> {
     let anna = MemberRow {
         id: 1,
-        name: text(alloc, "anna")?,
-        key: text(alloc, "keyanna1")?,
+        name: String::from_str(alloc, "anna")?,
+        key: String::from_str(alloc, "keyanna1")?,
     };
     let bert = MemberRow {
         id: 2,
-        name: text(alloc, "bert")?,
-        key: text(alloc, "keybert2")?,
+        name: String::from_str(alloc, "bert")?,
+        key: String::from_str(alloc, "keybert2")?,
     };
     let autumn = EventRow {
         id: 1,
-        name: text(alloc, "autumn")?,
+        name: String::from_str(alloc, "autumn")?,
         game: 0,
         budget: 60,
         increment: 5,
@@ -283,13 +248,13 @@ pub(crate) fn wrong_at(
     Ok(wrong_game(alloc, rows, place, game, moves, seen, last)?)
 }
 
-/// The first wrong table of the club with this game, of whose moves this is the first, and with the positions after 32-28.
-fn wrong(
-    alloc: Global,
-    game: GameRecord,
-    last: i64,
-    played: MoveRow,
-) -> Result<Option<Table>, Fail> {
+/// The first wrong table of the club with the positions after 32-28, where its game has that row and the first move
+/// that text.
+fn wrong(alloc: Global, game: GameRecord, last: i64, letters: &str) -> Result<Option<Table>, Fail> {
+    let played = MoveRow {
+        text: String::from_str(alloc, letters)?,
+        ..first_move(alloc)?
+    };
     let seen = [
         stood_once(alloc, 1, START, 0)?,
         stood_once(alloc, 1, AFTER_32_28, 1)?,
@@ -297,68 +262,77 @@ fn wrong(
     wrong_at(alloc, &club(alloc, game, last)?, 0, &[played], &seen)
 }
 
-#[test]
-fn the_wrong_table_of_a_game_is_named(rt: HostRuntime) -> Result<(), Fail> {
-    let alloc = rt.alloc();
-    let good = row(alloc, 1, 1060, AFTER_32_28)?;
-    assert!(rt; wrong(alloc, good, 1060, first_move(alloc)?)? == None);
-    let early = row(alloc, 1, 1060, AFTER_32_28)?;
-    assert!(rt; wrong(alloc, early, 1059, first_move(alloc)?)? == Some(Table::Meta));
-    let behind = row(alloc, 0, 1000, START)?;
-    assert!(rt; wrong(alloc, behind, 1060, first_move(alloc)?)? == Some(Table::Games));
-    let illegal = MoveRow {
-        text: text(alloc, "32-27")?,
-        ..first_move(alloc)?
-    };
-    let game = row(alloc, 1, 1060, AFTER_32_28)?;
-    assert!(rt; wrong(alloc, game, 1060, illegal)? == Some(Table::Moves));
-    Ok(())
+/// The same where the game's row is that after its first move.
+fn wrong_after(alloc: Global, last: i64, letters: &str) -> Result<Option<Table>, Fail> {
+    wrong(alloc, row(alloc, 1, 1060, AFTER_32_28)?, last, letters)
+}
+
+/// The same where the game's row is that before its first move.
+fn wrong_before(alloc: Global, last: i64, letters: &str) -> Result<Option<Table>, Fail> {
+    wrong(alloc, row(alloc, 0, 1000, START)?, last, letters)
+}
+
+/// The wrong table of a club in which the second member has that name.
+fn wrong_members(alloc: Global, name: &str) -> Result<Option<Table>, Fail> {
+    let mut rows = club(alloc, row(alloc, 1, 1060, AFTER_32_28)?, 1060)?;
+    rows.members = vec![in alloc;
+        member(alloc, 1, "anna", "keyanna1")?,
+        member(alloc, 2, name, "keybert2")?,
+    ]?;
+    Ok(wrong_register(alloc, &rows)?)
 }
 
 /// A member with that id, name and key.
 fn member(alloc: Global, id: i64, name: &str, key: &str) -> Result<MemberRow, Fail> {
     Ok(MemberRow {
         id,
-        name: text(alloc, name)?,
-        key: text(alloc, key)?,
+        name: String::from_str(alloc, name)?,
+        key: String::from_str(alloc, key)?,
     })
 }
 
-#[test]
-fn rows_that_do_not_fit_together_are_named(rt: HostRuntime) -> Result<(), Fail> {
-    let alloc = rt.alloc();
-    let mut namesakes = club(alloc, row(alloc, 1, 1060, AFTER_32_28)?, 1060)?;
-    assert!(rt; wrong_register(alloc, &namesakes)? == None);
-    namesakes.members = vec![in alloc;
-        member(alloc, 1, "anna", "keyanna1")?,
-        member(alloc, 2, "anna", "keybert2")?,
-    ]?;
-    assert!(rt; wrong_register(alloc, &namesakes)? == Some(Table::Members));
-    let mut alone = club(alloc, row(alloc, 1, 1060, AFTER_32_28)?, 1060)?;
-    alone.members = vec![in alloc; member(alloc, 1, "anna", "keyanna1")?]?;
-    assert!(rt; wrong_at(alloc, &alone, 0, &[first_move(alloc)?], &[])? == Some(Table::Games));
-    Ok(())
+/// The wrong table of a game of two members, one of whom is missing.
+fn wrong_alone(alloc: Global) -> Result<Option<Table>, Fail> {
+    let mut rows = club(alloc, row(alloc, 1, 1060, AFTER_32_28)?, 1060)?;
+    rows.members = vec![in alloc; member(alloc, 1, "anna", "keyanna1")?]?;
+    wrong_at(alloc, &rows, 0, &[first_move(alloc)?], &[])
 }
 
+/// A club with a second game, which has that key.
+fn two_games(alloc: Global, key: Option<String>) -> Result<Rows, Fail> {
+    let mut rows = club(alloc, row(alloc, 1, 1060, AFTER_32_28)?, 1060)?;
+    rows.games.push(GameRecord {
+        id: 2,
+        key,
+        ..row(alloc, 0, 1000, START)?
+    })?;
+    Ok(rows)
+}
+
+/// The wrong table of a club with a second game of that key.
+fn wrong_keys(alloc: Global, key: Option<String>) -> Result<Option<Table>, Fail> {
+    Ok(wrong_register(alloc, &two_games(alloc, key)?)?)
+}
+
+/// The wrong table of the second game, which has no key.
+fn wrong_second(alloc: Global) -> Result<Option<Table>, Fail> {
+    let rows = two_games(alloc, None)?;
+    wrong_at(alloc, &rows, 1, &[], &[stood_once(alloc, 2, START, 0)?])
+}
+
+// Two members of one name, and a key that names two games, are seen.
 #[test]
-fn a_key_names_one_game(rt: HostRuntime) -> Result<(), Fail> {
+fn the_wrong_table_is_named(rt: HostRuntime) -> Result<(), Fail> {
     let alloc = rt.alloc();
-    let mut two = club(alloc, row(alloc, 1, 1060, AFTER_32_28)?, 1060)?;
-    let first = row(alloc, 1, 1060, AFTER_32_28)?;
-    let second = GameRecord {
-        id: 2,
-        ..row(alloc, 0, 1000, START)?
-    };
-    two.games = vec![in alloc; first, second]?;
-    assert!(rt; wrong_register(alloc, &two)? == Some(Table::Games));
-    let first = row(alloc, 1, 1060, AFTER_32_28)?;
-    let other = GameRecord {
-        id: 2,
-        key: None,
-        ..row(alloc, 0, 1000, START)?
-    };
-    two.games = vec![in alloc; first, other]?;
-    assert!(rt; wrong_register(alloc, &two)? == None);
-    assert!(rt; wrong_at(alloc, &two, 1, &[], &[stood_once(alloc, 2, START, 0)?])? == None);
+    assert!(rt; wrong_after(alloc, 1060, "32-28")? == None);
+    assert!(rt; wrong_after(alloc, 1059, "32-28")? == Some(Table::Meta));
+    assert!(rt; wrong_before(alloc, 1060, "32-28")? == Some(Table::Games));
+    assert!(rt; wrong_after(alloc, 1060, "32-27")? == Some(Table::Moves));
+    assert!(rt; wrong_members(alloc, "bert")? == None);
+    assert!(rt; wrong_members(alloc, "anna")? == Some(Table::Members));
+    assert!(rt; wrong_alone(alloc)? == Some(Table::Games));
+    assert!(rt; wrong_keys(alloc, Some(String::from_str(alloc, "g1")?))? == Some(Table::Games));
+    assert!(rt; wrong_keys(alloc, None)? == None);
+    assert!(rt; wrong_second(alloc)? == None);
     Ok(())
 }

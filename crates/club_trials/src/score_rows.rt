@@ -1,6 +1,6 @@
 //! What anna and bert, the members 1 and 2, score in event 1: bert wins the first game, as Second; the next is drawn.
 
-use crate::one_game::{AFTER_32_28, row as game_row, text};
+use crate::one_game::{AFTER_32_28, row as game_row};
 use club_audit::scores_are;
 use club_rows::{ScorePair, score_after};
 use squares::Score;
@@ -19,6 +19,31 @@ fn row(member: i64, opponent: i64, sums: (i64, i64, i64, i64)) -> ScoreRow {
         wins,
         draws,
         losses,
+    }
+}
+
+/// The rows of lines with a member, an opponent, points, wins, draws and losses.
+fn rows(alloc: Global, texts: &str) -> Result<Vec<ScoreRow>, Fail> {
+    let mut rows = Vec::new(alloc);
+    for text in texts.lines() {
+        rows.push(row_of(alloc, text)?)?;
+    }
+    Ok(rows)
+}
+
+fn row_of(alloc: Global, text: &str) -> Result<ScoreRow, Fail> {
+    let parts: Vec<&str> = text.split(' ').collect(alloc)?;
+    match *parts.as_slice() {
+        [member, opponent, points, wins, draws, losses] => {
+            let sums = (
+                points.parse()?,
+                wins.parse()?,
+                draws.parse()?,
+                losses.parse()?,
+            );
+            Ok(row(member.parse()?, opponent.parse()?, sums))
+        }
+        _ => Err(Fail::new("no row")),
     }
 }
 
@@ -78,51 +103,37 @@ fn sums_that_do_not_fit_give_no_rows(rt: HostRuntime) -> Result<(), Fail> {
 }
 
 /// Whether the rows are the scores of the two games, between which another one runs.
-fn are_scores(alloc: Global, rows: &[ScoreRow]) -> Result<bool, Fail> {
+fn are_scores(alloc: Global, texts: &str) -> Result<bool, Fail> {
     let games = [
         game(alloc, 1, Some("0-2"))?,
         game(alloc, 2, None)?,
         game(alloc, 3, Some("1-1"))?,
     ];
-    Ok(scores_are(alloc, &games, rows)?)
+    Ok(scores_are(alloc, &games, &rows(alloc, texts)?)?)
 }
 
-#[test]
-fn the_rows_of_both_stand_in_any_order(rt: HostRuntime) -> Result<(), Fail> {
-    let alloc = rt.alloc();
-    let anna = || row(1, 2, (1, 0, 1, 1));
-    let bert = || row(2, 1, (3, 1, 1, 0));
-    assert!(rt; are_scores(alloc, &[anna(), bert()])?);
-    assert!(rt; are_scores(alloc, &[bert(), anna()])?);
-    Ok(())
-}
-
-#[test]
-fn a_row_that_lacks_or_differs_is_seen(rt: HostRuntime) -> Result<(), Fail> {
-    let alloc = rt.alloc();
-    let anna = || row(1, 2, (1, 0, 1, 1));
-    let bert = || row(2, 1, (3, 1, 1, 0));
-    assert!(rt; !are_scores(alloc, &[anna()])?);
-    assert!(rt; !are_scores(alloc, &[anna(), bert(), bert()])?);
-    assert!(rt; !are_scores(alloc, &[anna(), row(2, 1, (2, 1, 1, 0))])?);
-    assert!(rt; !are_scores(alloc, &[anna(), bert(), row(3, 1, (0, 0, 0, 0))])?);
-    Ok(())
-}
-
-#[test]
-fn an_ended_game_wants_its_scores(rt: HostRuntime) -> Result<(), Fail> {
-    let alloc = rt.alloc();
-    let resigned = GameRecord {
-        end: Some(text(alloc, "Resigned")?),
-        result: Some(text(alloc, "2-0")?),
+/// Whether the rows are the scores of a game that Second resigned.
+fn are_of_resigned(alloc: Global, texts: &str) -> Result<bool, Fail> {
+    let games = [GameRecord {
+        end: Some(String::from_str(alloc, "Resigned")?),
+        result: Some(String::from_str(alloc, "2-0")?),
         ..game_row(alloc, 1, 1060, AFTER_32_28)?
-    };
-    let games = [resigned];
-    let won = || row(1, 2, (2, 1, 0, 0));
-    let lost = || row(2, 1, (0, 0, 0, 1));
-    assert!(rt; !scores_are(alloc, &games, &[])?);
-    assert!(rt; scores_are(alloc, &games, &[won(), lost()])?);
-    let turned = [row(1, 2, (0, 0, 0, 1)), row(2, 1, (2, 1, 0, 0))];
-    assert!(rt; !scores_are(alloc, &games, &turned)?);
+    }];
+    Ok(scores_are(alloc, &games, &rows(alloc, texts)?)?)
+}
+
+// The rows of both stand in any order; one that lacks, differs or is too many is seen.
+#[test]
+fn rows_are_those_of_the_games(rt: HostRuntime) -> Result<(), Fail> {
+    let alloc = rt.alloc();
+    assert!(rt; are_scores(alloc, "1 2 1 0 1 1\n2 1 3 1 1 0")?);
+    assert!(rt; are_scores(alloc, "2 1 3 1 1 0\n1 2 1 0 1 1")?);
+    assert!(rt; !are_scores(alloc, "1 2 1 0 1 1")?);
+    assert!(rt; !are_scores(alloc, "1 2 1 0 1 1\n2 1 3 1 1 0\n2 1 3 1 1 0")?);
+    assert!(rt; !are_scores(alloc, "1 2 1 0 1 1\n2 1 2 1 1 0")?);
+    assert!(rt; !are_scores(alloc, "1 2 1 0 1 1\n2 1 3 1 1 0\n3 1 0 0 0 0")?);
+    assert!(rt; !are_of_resigned(alloc, "")?);
+    assert!(rt; are_of_resigned(alloc, "1 2 2 1 0 0\n2 1 0 0 0 1")?);
+    assert!(rt; !are_of_resigned(alloc, "1 2 0 0 0 1\n2 1 2 1 0 0")?);
     Ok(())
 }

@@ -1,7 +1,7 @@
+use crate::words::told;
 use cross_tables::{
-    Cell, Scored, Standing, Standings, StandingsFault, Sums, cell_of, cells_of, header, line,
+    Scored, Standing, Standings, StandingsFault, Sums, cell_of, cells_of, header, line,
 };
-use squares::Memory;
 use std::alloc::Global;
 use std::test::Fail;
 
@@ -22,72 +22,86 @@ fn scored(member: u32, opponent: u32, sums: Sums) -> Scored {
     }
 }
 
-// Whether the line at this index, that of the member of this name, is this text.
-fn reads(
-    alloc: Global,
-    rows: &[Scored],
-    index: u8,
-    name: &str,
-    text: &str,
-) -> Result<bool, Memory> {
-    let Ok(standings) = Standings::of_rows(alloc, rows) else {
-        return Ok(false);
+// A row: a member, an opponent, points, wins, draws and losses.
+fn row(alloc: Global, text: &str) -> Result<Scored, Fail> {
+    let parts: Vec<&str> = text.split_whitespace().collect(alloc)?;
+    match *parts.as_slice() {
+        [member, opponent, points, wins, draws, losses] => {
+            let scored_sums = sums(
+                points.parse()?,
+                wins.parse()?,
+                draws.parse()?,
+                losses.parse()?,
+            );
+            Ok(scored(member.parse()?, opponent.parse()?, scored_sums))
+        }
+        _ => Err(Fail::new("no row")),
+    }
+}
+
+fn rows(alloc: Global, texts: &str) -> Result<Vec<Scored>, Fail> {
+    let mut rows = Vec::new(alloc);
+    for text in texts.split(',') {
+        rows.push(row(alloc, text)?)?;
+    }
+    Ok(rows)
+}
+
+fn name(member: u32) -> &'static str {
+    match member {
+        1 => "anna",
+        2 => "bert",
+        3 => "cara",
+        _ => "dirk",
+    }
+}
+
+// The lines of the table of so many rows, each with a line feed.
+fn table(alloc: Global, texts: &str) -> Result<String, Fail> {
+    let rows = rows(alloc, texts)?;
+    let Ok(standings) = Standings::of_rows(alloc, &rows) else {
+        return Err(Fail::new("sums that do not fit"));
     };
-    let Some(standing) = standings.at(usize::from(index)) else {
-        return Ok(false);
-    };
-    let cells = cells_of(alloc, standing.member, &standings, rows)?;
-    let shown = line(alloc, u64::from(index) + 1, name, &standing.sums, &cells)?;
-    Ok(shown.as_str() == text)
+    let mut text = String::new(alloc);
+    for index in 0..8_u8 {
+        let Some(standing) = standings.at(usize::from(index)) else {
+            return Ok(text);
+        };
+        let cells = cells_of(alloc, standing.member, &standings, &rows)?;
+        let place = u64::from(index) + 1;
+        let shown = line(alloc, place, name(standing.member), &standing.sums, &cells)?;
+        text.push_str(shown.as_str())?;
+        text.push_str("\n")?;
+    }
+    Ok(text)
 }
 
 // Anna and bert drew.
-#[test]
-fn a_draw_leaves_both_on_one_point(rt: HostRuntime) -> Result<(), Fail> {
-    let drew = sums(1, 0, 1, 0);
-    let rows = [scored(1, 2, drew), scored(2, 1, drew)];
-    let anna = "  1 anna                         1     1     0     1     0     -     1";
-    let bert = "  2 bert                         1     1     0     1     0     1     -";
-    let first = header(rt.alloc(), "spring")?;
-    assert!(rt; first.as_str() == "Event spring");
-    assert!(rt; reads(rt.alloc(), &rows, 0, "anna", anna)?);
-    assert!(rt; reads(rt.alloc(), &rows, 1, "bert", bert)?);
-    assert!(rt; !reads(rt.alloc(), &rows, 2, "cara", bert)?);
-    Ok(())
-}
+const DRAW: &str = "  1 anna                         1     1     0     1     0     -     1
+  2 bert                         1     1     0     1     0     1     -
+";
 
 // Bert beat anna.
-#[test]
-fn a_win_comes_first(rt: HostRuntime) -> Result<(), Fail> {
-    let rows = [
-        scored(1, 2, sums(0, 0, 0, 1)),
-        scored(2, 1, sums(2, 1, 0, 0)),
-    ];
-    let bert = "  1 bert                         2     1     1     0     0     -     2";
-    let anna = "  2 anna                         0     1     0     0     1     0     -";
-    assert!(rt; reads(rt.alloc(), &rows, 0, "bert", bert)?);
-    assert!(rt; reads(rt.alloc(), &rows, 1, "anna", anna)?);
-    Ok(())
-}
+const WIN: &str = "  1 bert                         2     1     1     0     0     -     2
+  2 anna                         0     1     0     0     1     0     -
+";
 
 // Anna (1) and bert (2) drew twice, and cara (3) beat dirk (4): three have two points, one of them by a win.
+const FOUR: &str =
+    "  1 cara                         2     1     1     0     0     -     .     .     2
+  2 anna                         2     2     0     2     0     .     -     2     .
+  3 bert                         2     2     0     2     0     .     2     -     .
+  4 dirk                         0     1     0     0     1     0     .     .     -
+";
+
 #[test]
 fn points_then_wins_then_ids_order(rt: HostRuntime) -> Result<(), Fail> {
-    let drew_twice = sums(2, 0, 2, 0);
-    let rows = [
-        scored(4, 3, sums(0, 0, 0, 1)),
-        scored(2, 1, drew_twice),
-        scored(3, 4, sums(2, 1, 0, 0)),
-        scored(1, 2, drew_twice),
-    ];
-    let cara = "  1 cara                         2     1     1     0     0     -     .     .     2";
-    let anna = "  2 anna                         2     2     0     2     0     .     -     2     .";
-    let bert = "  3 bert                         2     2     0     2     0     .     2     -     .";
-    let dirk = "  4 dirk                         0     1     0     0     1     0     .     .     -";
-    assert!(rt; reads(rt.alloc(), &rows, 0, "cara", cara)?);
-    assert!(rt; reads(rt.alloc(), &rows, 1, "anna", anna)?);
-    assert!(rt; reads(rt.alloc(), &rows, 2, "bert", bert)?);
-    assert!(rt; reads(rt.alloc(), &rows, 3, "dirk", dirk)?);
+    let alloc = rt.alloc();
+    assert!(rt; header(alloc, "spring")?.as_str() == "Event spring");
+    assert!(rt; table(alloc, "1 2 1 0 1 0, 2 1 1 0 1 0")?.as_str() == DRAW);
+    assert!(rt; table(alloc, "1 2 0 0 0 1, 2 1 2 1 0 0")?.as_str() == WIN);
+    let four = "4 3 0 0 0 1, 2 1 2 0 2 0, 3 4 2 1 0 0, 1 2 2 0 2 0";
+    assert!(rt; table(alloc, four)?.as_str() == FOUR);
     Ok(())
 }
 
@@ -134,14 +148,12 @@ fn a_sum_that_does_not_fit_is_refused(rt: HostRuntime) -> Result<(), Fail> {
 
 #[test]
 fn cells_are_written(rt: HostRuntime) -> Result<(), Fail> {
+    let alloc = rt.alloc();
     let rows = [scored(1, 2, sums(3, 1, 1, 0))];
-    let oneself = format!(in rt.alloc(); "{}", cell_of(1, 1, &rows))?;
-    assert!(rt; oneself.as_str() == "-");
-    let points = format!(in rt.alloc(); "{}", cell_of(1, 2, &rows))?;
-    assert!(rt; points.as_str() == "3");
-    let unplayed = format!(in rt.alloc(); "{}", cell_of(1, 3, &rows))?;
-    assert!(rt; unplayed.as_str() == ".");
-    let full = format!(in rt.alloc(); "{}", StandingsFault::TooMany)?;
-    assert!(rt; full.as_str() == "a sum of scores does not fit");
+    assert!(rt; told(alloc, &cell_of(1, 1, &rows))?.as_str() == "-");
+    assert!(rt; told(alloc, &cell_of(1, 2, &rows))?.as_str() == "3");
+    assert!(rt; told(alloc, &cell_of(1, 3, &rows))?.as_str() == ".");
+    let full = StandingsFault::TooMany;
+    assert!(rt; told(alloc, &full)?.as_str() == "a sum of scores does not fit");
     Ok(())
 }

@@ -1,0 +1,10 @@
+//! What is displayed, as a text.
+
+use std::alloc::Global;
+use std::fmt::Display;
+use std::test::Fail;
+
+/// The text of a value.
+pub(crate) fn told<D: Display>(alloc: Global, value: &D) -> Result<String, Fail> {
+    Ok(format!(in alloc; "{value}")?)
+}
