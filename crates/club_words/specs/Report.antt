@@ -85,6 +85,9 @@ with_text text (command.Seat c) = command.Seat c
 with_text text (command.Import c) = command.Import (record c { text = text })
 with_text text (command.OnGame c) = command.OnGame c
 with_text text command.Sweep = command.Sweep
+with_text text (command.Challenge c) = command.Challenge c
+with_text text (command.Withdraw c) = command.Withdraw c
+with_text text (command.Answer c) = command.Answer c
 
 abbrev pub task_with : Vec ℕ Global → Task → Task
 task_with text task.Init = task.Init
