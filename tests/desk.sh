@@ -42,7 +42,7 @@ for row in sqlite3.connect("c.db").execute(sys.argv[1]):
 }
 
 asks() { # KEY METHOD PATH BODY: the reply's status and its body
-    local key=$1 method=$2 path=$3 body=$4
+    local key=$1 method=$2 path=$3 body=${4:-}
     if [ "$method" = GET ]; then
         curl -s -m 30 -w ' %{http_code}' -H "Member-Key: $key" "http://127.0.0.1:$port$path"
     else
@@ -258,7 +258,8 @@ reads '1|1|32-28
 1|2|19-23
 1|3|28x19
 3|1|33-28
-3|2|19-23' 'SELECT game, ply, text FROM moves WHERE game <> 2 ORDER BY game, ply'
+3|2|19-23
+6|1|32-28' 'SELECT game, ply, text FROM moves WHERE game <> 2 ORDER BY game, ply'
 reads '12' 'SELECT count(*) FROM moves WHERE game = 2'
 officer 0 'sound' verify
 exit $bad
