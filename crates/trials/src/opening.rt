@@ -4,6 +4,7 @@ use clocks::Moment;
 use club_core::{AddMember, Answer, Command, Outcome, Refusal, Request, Who};
 use sqlite::{Connection, Error, MemStore};
 use std::alloc::Global;
+use std::process::Abort;
 use std::test::Fail;
 use store::{Club, OpenFault, StoreFault, Table, adopt, create, resume};
 use store_sql::{
@@ -82,9 +83,9 @@ fn add_people(alloc: Global, changes: &mut Changes) -> Result<(), Error> {
     Ok(())
 }
 
-// A challenge, a position and a score.
-fn add_counts(alloc: Global, changes: &mut Changes) -> Result<(), Error> {
-    changes.challenges.push(ChallengeRow {
+/// Anna's challenge to bert that started the game.
+fn accepted() -> ChallengeRow {
+    ChallengeRow {
         member: 1,
         number: 7,
         event: 1,
@@ -92,7 +93,12 @@ fn add_counts(alloc: Global, changes: &mut Changes) -> Result<(), Error> {
         first: 1,
         state: 3,
         game: Some(1),
-    })?;
+    }
+}
+
+// A challenge, a position and a score.
+fn add_counts(alloc: Global, changes: &mut Changes) -> Result<(), Error> {
+    changes.challenges.push(accepted())?;
     changes.seen.push(seen(alloc, AFTER_32_28, 1)?)?;
     changes.scores.push(ScoreRow {
         event: 1,
@@ -250,11 +256,18 @@ const DAMAGES: &str = "72 Damaged members@UPDATE members SET id = 3 WHERE id = 2
 72 Damaged members@UPDATE members SET key = 'short' WHERE id = 1
 72 Damaged events@UPDATE events SET budget = 0
 72 Damaged challenges@INSERT INTO challenges VALUES (1, 1, 1, 2, 1, 3, NULL)
+72 Damaged challenges@INSERT INTO challenges VALUES (1, 1, 1, 2, 1, 3, 2)
 72 Damaged challenges@INSERT INTO challenges VALUES (1, 1, 1, 2, 0, 3, 1)
+72 Damaged challenges@INSERT INTO challenges VALUES (2, 1, 1, 1, 1, 3, 1)
 72 Damaged challenges@INSERT INTO challenges VALUES (1, 1, 1, 2, 1, 0, 1)
+72 Damaged challenges@INSERT INTO challenges VALUES (1, 1, 1, 2, 1, 4, NULL)
+72 Damaged challenges@INSERT INTO challenges VALUES (1, 1, 1, 2, 2, 0, NULL)
 72 Damaged challenges@INSERT INTO challenges VALUES (1, 0, 1, 2, 1, 0, NULL)
+72 Damaged challenges@INSERT INTO challenges VALUES (1, 10000, 1, 2, 1, 0, NULL)
 72 Damaged challenges@INSERT INTO challenges VALUES (1, 1, 2, 2, 1, 0, NULL)
 72 Damaged challenges@INSERT INTO challenges VALUES (1, 1, 1, 1, 1, 0, NULL)
+72 Damaged challenges@INSERT INTO challenges VALUES (1, 1, 1, 3, 1, 0, NULL)
+72 Damaged challenges@INSERT INTO challenges VALUES (3, 1, 1, 2, 1, 0, NULL)
 sound@INSERT INTO challenges VALUES (1, 9999, 1, 2, 1, 3, 1)
 sound@INSERT INTO challenges VALUES (2, 1, 1, 1, 0, 2, NULL)
 72 Damaged games@UPDATE games SET id = 2
@@ -274,17 +287,40 @@ sound@INSERT INTO challenges VALUES (2, 1, 1, 1, 0, 2, NULL)
 70 Foreign@DROP TABLE scores
 sound@CREATE TABLE other (x INTEGER)";
 
-#[test]
-fn wrong_tables_are_named(rt: HostRuntime) -> Result<(), Fail> {
-    let changes = whole_day(rt.alloc())?;
-    for case in DAMAGES.lines() {
+/// Each statement of the cases, on these rows, leaves what is said of it.
+fn all_named<R: Abort + AllocGlobal>(rt: &R, changes: &Changes, cases: &str) -> Result<(), Fail> {
+    for case in cases.lines() {
         let (wanted, sql) = case.split_once('@').ok_or("a statement")?;
         assert!(rt;
-            told_after(rt.alloc(), &changes, sql)?.as_str() == wanted,
+            told_after(rt.alloc(), changes, sql)?.as_str() == wanted,
             "{case}"
         );
     }
     Ok(())
+}
+
+// The same where the game is that of an accepted challenge.
+const DAMAGES_OF_A_CHALLENGE: &str = "sound@UPDATE challenges SET number = 9999
+sound@UPDATE games SET key = NULL
+sound@UPDATE challenges SET state = 2, game = NULL
+72 Damaged challenges@DELETE FROM games
+72 Damaged challenges@UPDATE games SET first = 2, second = 1
+72 Damaged challenges@UPDATE games SET event = 2
+72 Damaged challenges@UPDATE challenges SET game = 2
+72 Damaged challenges@UPDATE challenges SET game = NULL
+72 Damaged challenges@UPDATE challenges SET state = 1
+72 Damaged challenges@UPDATE challenges SET first = 0
+72 Damaged challenges@DELETE FROM members WHERE id = 2
+72 Damaged challenges@DELETE FROM events
+72 Damaged members@UPDATE members SET id = 3 WHERE id = 2
+72 Damaged events@UPDATE events SET id = 2";
+
+#[test]
+fn wrong_tables_are_named(rt: HostRuntime) -> Result<(), Fail> {
+    let mut changes = whole_day(rt.alloc())?;
+    all_named(&rt, &changes, DAMAGES)?;
+    changes.challenges.push(accepted())?;
+    all_named(&rt, &changes, DAMAGES_OF_A_CHALLENGE)
 }
 
 /// A move of a game that there is not.
@@ -309,14 +345,7 @@ const SEVERAL_DAMAGES: &str = "72 Damaged moves@UPDATE games SET left1 = 539
 fn the_first_of_several_wrong_tables_is_named(rt: HostRuntime) -> Result<(), Fail> {
     let mut changes = whole_day(rt.alloc())?;
     changes.moves.push(move_of_no_game(rt.alloc())?)?;
-    for case in SEVERAL_DAMAGES.lines() {
-        let (wanted, sql) = case.split_once('@').ok_or("a statement")?;
-        assert!(rt;
-            told_after(rt.alloc(), &changes, sql)?.as_str() == wanted,
-            "{case}"
-        );
-    }
-    Ok(())
+    all_named(&rt, &changes, SEVERAL_DAMAGES)
 }
 
 fn is_told(alloc: Global, fault: OpenFault, wanted: &str) -> Result<bool, Fail> {

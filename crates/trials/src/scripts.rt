@@ -52,13 +52,24 @@ fn game_command(alloc: Global, words: &[&str]) -> Result<Command, Fail> {
     }
 }
 
+// Whether the word is the one or the other, of which it must be one.
+fn is_the_one(word: &str, one: &str, other: &str) -> Result<bool, Fail> {
+    if word == one {
+        return Ok(true);
+    }
+    if word == other {
+        return Ok(false);
+    }
+    Err(Fail::new("no such word"))
+}
+
 fn challenge_command(alloc: Global, words: &[&str]) -> Result<Command, Fail> {
     match *words {
         ["challenge", number, event, other, side] => Ok(Command::Challenge(OpenChallenge {
             number: number.parse()?,
             event: text(alloc, event)?,
             other: text(alloc, other)?,
-            first: side == "first",
+            first: is_the_one(side, "first", "second")?,
         })),
         ["withdraw", number] => Ok(Command::Withdraw(Withdraw {
             number: number.parse()?,
@@ -66,7 +77,7 @@ fn challenge_command(alloc: Global, words: &[&str]) -> Result<Command, Fail> {
         ["answer", challenger, number, word] => Ok(Command::Answer(AnswerChallenge {
             challenger: text(alloc, challenger)?,
             number: number.parse()?,
-            accept: word == "yes",
+            accept: is_the_one(word, "accept", "refuse")?,
         })),
         _ => game_command(alloc, words),
     }
@@ -108,19 +119,24 @@ pub(crate) fn request(alloc: Global, line: &str) -> Result<Request, Fail> {
     }
 }
 
-/// The outcome in a word, a sweep with the number of games that it ended, an accepted challenge with its game, a refusal
-/// with its number and name.
-pub(crate) fn told(alloc: Global, outcome: &Outcome) -> Result<String, Fail> {
-    Ok(match outcome {
-        Outcome::Accepted(Answer::Swept { count }) => format!(in alloc; "accepted {count}")?,
-        Outcome::Accepted(Answer::ChallengeAccepted { number: _, game }) => {
-            format!(in alloc; "accepted game {game}")?
-        }
-        Outcome::Repeated(Answer::ChallengeAccepted { number: _, game }) => {
-            format!(in alloc; "repeated game {game}")?
-        }
-        Outcome::Accepted(_) => String::from_str(alloc, "accepted")?,
-        Outcome::Repeated(_) => String::from_str(alloc, "repeated")?,
-        Outcome::Refused(refusal) => format!(in alloc; "{refusal}")?,
+// The word, with the number of games that a sweep ended, or with the whole answer about a challenge.
+fn told_answer(alloc: Global, word: &str, answer: &Answer) -> Result<String, Fail> {
+    Ok(match answer {
+        Answer::Swept { count } => format!(in alloc; "{word} {count}")?,
+        Answer::ChallengeOpened { .. }
+        | Answer::ChallengeWithdrawn { .. }
+        | Answer::ChallengeRefused { .. }
+        | Answer::ChallengeAccepted { .. } => format!(in alloc; "{word} {answer}")?,
+        _ => String::from_str(alloc, word)?,
     })
+}
+
+/// The outcome in a word, a sweep with the number of games that it ended, a challenge with its number and what became of
+/// it, a refusal with its number and name.
+pub(crate) fn told(alloc: Global, outcome: &Outcome) -> Result<String, Fail> {
+    match outcome {
+        Outcome::Accepted(answer) => told_answer(alloc, "accepted", answer),
+        Outcome::Repeated(answer) => told_answer(alloc, "repeated", answer),
+        Outcome::Refused(refusal) => Ok(format!(in alloc; "{refusal}")?),
+    }
 }

@@ -79,7 +79,7 @@ fn a_move_at_the_desk(rt: HostRuntime) -> Result<(), Fail> {
     all_replied(&rt, &mut desk, script.as_str())
 }
 
-// The offer of a draw by its member's name, and a challenge that is accepted.
+// The offer of a draw by its member's name, a challenge that is accepted, and one that is withdrawn.
 #[test]
 fn an_offer_at_the_desk(rt: HostRuntime) -> Result<(), Fail> {
     let mut desk = DeskClub {
@@ -93,7 +93,10 @@ fn an_offer_at_the_desk(rt: HostRuntime) -> Result<(), Fail> {
         | {{\"challenge\":1,\"state\":\"open\"}}\n\
         keybert2 | POST /answers/anna/1 | {{\"accept\":true}} | 200 OK \
         | {{\"challenge\":1,\"game\":2,\"state\":\"accepted\"}}\n\
-        keyanna1 | POST /challenges/1/withdraw | | 409 Conflict | {{\"error\":58,\"name\":\"Conflict\"}}"
+        keyanna1 | POST /challenges/1/withdraw | | 409 Conflict | {{\"error\":58,\"name\":\"Conflict\"}}\n\
+        keybert2 | POST /challenges/1 | {{\"event\":\"autumn\",\"first\":false,\"other\":\"anna\"}} | 200 OK \
+        | {{\"challenge\":1,\"state\":\"open\"}}\n\
+        keybert2 | POST /challenges/1/withdraw | | 200 OK | {{\"challenge\":1,\"state\":\"withdrawn\"}}"
     )?;
     all_replied(&rt, &mut desk, script.as_str())
 }

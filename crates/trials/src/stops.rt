@@ -397,7 +397,7 @@ fn a_stopped_answer_is_whole_or_none(rt: HostRuntime) -> Result<(), Fail> {
 1000 officer member bert keybert2
 1000 officer event fuji shogi 60 5
 1010 keyanna1 challenge 1 fuji bert second",
-            stopped: "1020 keybert2 answer anna 1 yes",
+            stopped: "1020 keybert2 answer anna 1 accept",
         },
     )
 }
