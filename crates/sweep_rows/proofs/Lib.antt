@@ -1,3 +1,4 @@
+pub mod FewLemmas
 pub mod LateGames
 pub mod PlacedIds
 pub mod StandingLemmas

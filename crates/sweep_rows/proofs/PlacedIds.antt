@@ -1,5 +1,5 @@
 -- Rows with an id for each place of a list, and those of the elements that pass a test.
-use Rattle.std.proofs.Common.{◌≡◌, ℕ, zero, suc, ◌+◌, ◌<◌, List, [], ◌∷◌, ◌++◌, length, map, take, drop, get_or, pos, Option, Some, None, Bool, true, false, cond, ◌&&◌, refl, ap, sym, subst, subst₂, ◌∙◌, arith, add-one, inl, inr, ◌⊎◌, true≢false, append_assoc}
+use Rattle.std.proofs.Common.{◌≡◌, ℕ, zero, suc, ◌+◌, List, [], ◌∷◌, ◌++◌, length, map, take, drop, pos, Some, Bool, true, false, cond, ◌&&◌, refl, ap, sym, subst, subst₂, ◌∙◌, arith, add-one, inl, inr, append_assoc}
 use Rattle.std.specs.Prelude.{slice_get, count_by, if◌then◌else◌}
 use Rattle.std.specs.Cmp.{tied_itself}
 use Rattle.std.proofs.lemmas.Bool.{cases_Bool, and_parts, and_from}

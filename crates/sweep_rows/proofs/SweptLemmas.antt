@@ -1,10 +1,11 @@
 -- A sweep, game by game: the rows so far, and the scores of the club in which these games have ended.
-use Rattle.std.proofs.Common.{◌≡◌, ◌≢◌, ℕ, zero, suc, ◌+◌, ◌<◌, ◌≤◌, List, [], ◌∷◌, ◌++◌, length, map, take, drop, pos, Option, Some, None, Bool, true, false, refl, ap, sym, subst, subst₂, ◌∙◌, arith, inl, inr, append_assoc}
-use Rattle.std.specs.Prelude.{slice_get, is_some, count_by}
+use Rattle.std.proofs.Common.{◌≡◌, ◌≢◌, ℕ, ◌+◌, ◌≤◌, ◌^◌, List, [], ◌∷◌, ◌++◌, length, map, take, drop, pos, Option, Some, None, Bool, false, refl, ap, sym, subst, ◌∙◌, arith, inl, inr, append_assoc, length-append}
+use Rattle.std.specs.Prelude.{slice_get, count_by}
 use Rattle.std.specs.List.{flat_map}
 use Rattle.std.proofs.Math.Seq.{take-length}
 use Rattle.std.proofs.lemmas.Grind.{flat_map-append}
 use Rattle.std.proofs.lemmas.List.{append-nil, length-map, map-append}
+use Rattle.std.proofs.lemmas.List.Sums.{count_by-le-length}
 use Rattle.sqlite.specs.Order.{Row, column}
 use Rattle.squares.specs.declared.sides.Score.{Score}
 use Rattle.squares.specs.declared.sides.Side.{Side}
@@ -15,20 +16,19 @@ use Rattle.store_tables.specs.Content.{put}
 use Rattle.store_tables.specs.declared.rows.GameRecord.{GameRecord}
 use Rattle.store_tables.specs.declared.rows.ScoreRow.{ScoreRow}
 use Rattle.store_tables.proofs.Laws.{same_itself, same_then, put_had, put_kept, altered}
-use Rattle.club_core.specs.LegalState.{IsLegalIn}
 use Rattle.club_core.specs.State.{draughts, shogi, pairing_of, is_late_any, swept_any, with_swept}
 use Rattle.club_rows.specs.Club.{ClubGame, ClubState, IsClub, both_games, tables}
 use Rattle.club_rows.specs.Scores.{Meeting, meetings, meetings_in, score_rows, scores_in}
-use Rattle.club_rows.specs.Tables.{number, numbered_from, gathered_from, row_of_game}
+use Rattle.club_rows.specs.Tables.{number, gathered_from, row_of_game}
 use Rattle.club_rows.specs.declared.scores.Pair.{Pair}
 use Rattle.club_rows.specs.declared.scores.Sums.{Sums}
 use Rattle.sweep_rows.specs.Ended.{cells_lost}
-use Rattle.sweep_rows.specs.Standing.{AreStanding, HasPlayers, PutsRows}
+use Rattle.sweep_rows.specs.Standing.{AreShort, AreStanding, HasPlayers, PutsRows}
 use Rattle.sweep_rows.specs.Swept.{IsSwept}
 use Rattle.sweep_rows.specs.declared.swept.SweptRows.{SweptRows}
-use Rattle.sweep_rows.proofs.LateGames.{IsLost, TellsLate, tells_late, apart, in_time_stays}
+use Rattle.sweep_rows.proofs.FewLemmas.{meets_few, parts_length, players_short}
+use Rattle.sweep_rows.proofs.LateGames.{IsFoundLate, IsLostIn, TellsLateIn, tells_late, apart, in_time_stays}
 use Rattle.sweep_rows.proofs.PlacedIds.{numbered_at, numbered_length, take_next, drop_next, drop_all, taken_length, gathered_last, row_if, row_if_passes, row_if_fails, passing_count, passing_alter}
-use Rattle.sweep_rows.proofs.StandingLemmas.{stand_same}
 
 -- ---- rows that are put in two turns
 
@@ -79,6 +79,16 @@ module _ (s : ClubState) (moment : ℕ) where
   abbrev met : ℕ → List Meeting
   met n = meets (map after (take n s.games)) ++ meets (drop n s.games)
 
+-- where the game ends so, the rows of its players' scores are put
+abbrev pub Puts : GameRecord → Score → (sums sums_now : Pair → Option Sums) → (changed changed_now : List ScoreRow) → Type 0
+Puts game score sums sums_now changed changed_now =
+    (event first second : ℕ) (left right : List Meeting) → HasPlayers game event first second → first ≢ second → AreStanding sums (score_rows (left ++ right))
+    → PutsRows (score_rows (left ++ right)) (score_rows (left ++ (meetings (pos event) (pos first) (pos second) score ++ right))) sums_now changed changed_now
+
+-- where they are not, the sums are those of very many games
+abbrev pub AreMany : GameRecord → (Pair → Option Sums) → Type 0
+AreMany game sums = (event first second : ℕ) (ms : List Meeting) → HasPlayers game event first second → AreShort event first second → AreStanding sums (score_rows ms) → 2 ^ 61 ≤ length ms
+
 -- what was made of the first games, and what stands then
 pub record IsSweptTo (s : ClubState) (moment n : ℕ) (ended : List GameRecord) (changed : List ScoreRow) (sums : Pair → Option Sums) : Type 0 where
   pub ended_are : map game_cells ended ≡ ended_rows s moment (take n s.games)
@@ -93,12 +103,34 @@ module _ (s : ClubState) (moment : ℕ) where
     standing = stand;
   }
 
-  module _ (is_club : IsClub s) (games : List GameRecord) (rows_are : map game_cells games ≡ tables s 10) (n : ℕ) (game : GameRecord) (at : slice_get games n ≡ Some game) where
+  -- the meetings of a club are few
+  met_short : IsClub s → (n : ℕ) → length (met s moment n) ≤ 10000
+  met_short is_club n =
+      let games : length s.games ≤ 5000 = is_club.game_count in
+      let taken = meets_few (map (after s moment) (take n s.games)) in
+      let left = meets_few (drop n s.games) in
+      let long = length-map (take n s.games) (after s moment) in
+      let parts = parts_length n s.games in
+      let both = length-append (meets s moment (map (after s moment) (take n s.games))) (meets s moment (drop n s.games)) in
+      omega (arith, games, taken, left, long, parts, both)
+
+  -- the games that end are no more than those of the club
+  pub ended_few : IsClub s → (n : ℕ) (ended : List GameRecord) (changed : List ScoreRow) (sums : Pair → Option Sums) → IsSweptTo s moment n ended changed sums → length ended ≤ 5000
+  ended_few is_club n ended changed sums now =
+      let games : length s.games ≤ 5000 = is_club.game_count in
+      let counted : length ended ≡ count_by (late s moment) (take n s.games) =
+      sym (length-map ended game_cells) ∙ (ap length now.ended_are ∙ passing_count (row s moment) (late s moment) (after s moment) 1 (take n s.games)) in
+      let few = count_by-le-length (late s moment) (take n s.games) in
+      let parts = parts_length n s.games in
+      omega (arith, games, counted, few, parts)
+
+  module _ (is_club : IsClub s) (games : List GameRecord) (rows_are : map game_cells games ≡ tables s 10) (n : ℕ) (game : GameRecord) (at : slice_get games n ≡ Some game)
+      (found : Option Side) (told : IsFoundLate game moment found) where
     abbrev Here : Type 0
     Here = (g : ClubGame) × (slice_get s.games n ≡ Some g) × (game_cells game ≡ row s moment (1 + n) g)
 
     -- the game of the row
-    pub game_here : Here
+    game_here : Here
     game_here = numbered_at (row s moment) game_cells 1 games s.games rows_are n game at
 
     module _ (g : ClubGame) (stands : slice_get s.games n ≡ Some g) (cells : game_cells game ≡ row s moment (1 + n) g) where
@@ -124,11 +156,11 @@ module _ (s : ClubState) (moment : ℕ) where
           ∙ (gathered_last (row_if (row s moment) (late s moment) (after s moment)) 1 (take n s.games) g
           ∙ ap (λ k. ended_rows s moment (take n s.games) ++ row_if (row s moment) (late s moment) (after s moment) (1 + k) g) (taken_length s.games n g stands))
 
-      pub tells : TellsLate s moment (1 + n) g game
-      tells = tells_late s moment (1 + n) g game (is_club.games n g stands) cells
+      tells : TellsLateIn s moment (1 + n) g game found
+      tells = tells_late s moment (1 + n) g game found (is_club.games n g stands) cells told
 
       -- a game that is not late stays
-      pub stays_next : (ended : List GameRecord) (changed : List ScoreRow) (sums : Pair → Option Sums) → late s moment g ≡ false → IsSweptTo s moment n ended changed sums → IsSweptTo s moment (n + 1) ended changed sums
+      stays_next : (ended : List GameRecord) (changed : List ScoreRow) (sums : Pair → Option Sums) → late s moment g ≡ false → IsSweptTo s moment n ended changed sums → IsSweptTo s moment (n + 1) ended changed sums
       stays_next ended changed sums in_time now =
           let same : met s moment n ≡ met s moment (n + 1) = met_here ∙ (ap (λ x. before ++ (meetings_in both_games x ++ later)) (sym (in_time_stays s moment (1 + n) g in_time)) ∙ sym met_then) in
           record {
@@ -138,41 +170,50 @@ module _ (s : ClubState) (moment : ℕ) where
           }
 
       -- a game that is late ends
-      pub ends_next : (side : Side) (lost : GameRecord) (ended ended_now : List GameRecord) (changed changed_now : List ScoreRow) (sums sums_now : Pair → Option Sums)
-          → IsLost s moment (1 + n) g game side → game_cells lost ≡ cells_lost game (loses side) → ended_now ≡ ended ++ lost ∷ []
-          → ((event first second : ℕ) (before_them after_them : List Meeting) → HasPlayers game event first second → first ≢ second → AreStanding sums (score_rows (before_them ++ after_them))
-          → PutsRows (score_rows (before_them ++ after_them)) (score_rows (before_them ++ (meetings (pos event) (pos first) (pos second) (loses side) ++ after_them))) sums_now changed changed_now)
+      ends_next : (side : Side) (lost : GameRecord) (ended ended_now : List GameRecord) (changed changed_now : List ScoreRow) (sums sums_now : Pair → Option Sums)
+          → IsLostIn s moment (1 + n) g game side → game_cells lost ≡ cells_lost game (loses side) → ended_now ≡ ended ++ lost ∷ [] → Puts game (loses side) sums sums_now changed changed_now
           → IsSweptTo s moment n ended changed sums → IsSweptTo s moment (n + 1) ended_now changed_now sums_now
       ends_next side lost ended ended_now changed changed_now sums sums_now is_lost lost_is pushed puts now =
           let was : met s moment n ≡ before ++ later = met_here ∙ ap (λ ms. before ++ (ms ++ later)) is_lost.running in
           let then : met s moment (n + 1) ≡ before ++ (meetings (pos (pairing_of g).event) (pos (pairing_of g).first) (pos (pairing_of g).second) (loses side) ++ later) = met_then ∙ ap (λ ms. before ++ (ms ++ later)) is_lost.meets in
           let stood = subst (λ ms. AreStanding sums (score_rows ms)) was now.standing in
-          let put_them = puts (pairing_of g).event (pairing_of g).first (pairing_of g).second before later is_lost.players (apart s moment (1 + n) g (is_club.games n g stands)) stood in
+          let put_them = puts (pairing_of g).event (pairing_of g).first (pairing_of g).second before later is_lost.has (apart s moment (1 + n) g (is_club.games n g stands)) stood in
           let one : map game_cells ended_now ≡ map game_cells ended ++ game_cells lost ∷ [] = ap (map game_cells) pushed ∙ map-append game_cells ended (lost ∷ []) in
           record {
             ended_are =
                 one
                 ∙ (ap (λ l. l ++ game_cells lost ∷ []) now.ended_are
                 ∙ (ap (λ (r : Row). ended_rows s moment (take n s.games) ++ r ∷ []) (lost_is ∙ is_lost.cells)
-                ∙ (ap (λ l. ended_rows s moment (take n s.games) ++ l) (sym (row_if_passes (row s moment) (late s moment) (after s moment) (1 + n) g is_lost.late)) ∙ sym ended_then)));
+                ∙ (ap (λ l. ended_rows s moment (take n s.games) ++ l) (sym (row_if_passes (row s moment) (late s moment) (after s moment) (1 + n) g is_lost.late_is)) ∙ sym ended_then)));
             changed_are = subst (λ ms. HaveSame (put_rows (0 ∷ 1 ∷ 2 ∷ []) (map score_cells changed_now) (scores_in both_games s.games)) (score_rows ms)) (sym then)
                 (put_on (0 ∷ 1 ∷ 2 ∷ []) (scores_in both_games s.games) (score_rows (before ++ later)) _ (map score_cells changed) put_them.rows (map score_cells changed_now) put_them.more
                 (subst (λ ms. HaveSame (put_rows (0 ∷ 1 ∷ 2 ∷ []) (map score_cells changed) (scores_in both_games s.games)) (score_rows ms)) was now.changed_are) put_them.makes);
             standing = subst (λ ms. AreStanding sums_now (score_rows ms)) (sym then) put_them.standing;
           }
 
-      -- the same by the score that was worked out
-      pub ends_so : (score : Score) (side : Side) (lost : GameRecord) (ended ended_now : List GameRecord) (changed changed_now : List ScoreRow) (sums sums_now : Pair → Option Sums)
-          → score ≡ loses side → IsLost s moment (1 + n) g game side → game_cells lost ≡ cells_lost game score → ended_now ≡ ended ++ lost ∷ []
-          → ((event first second : ℕ) (before_them after_them : List Meeting) → HasPlayers game event first second → first ≢ second → AreStanding sums (score_rows (before_them ++ after_them))
-          → PutsRows (score_rows (before_them ++ after_them)) (score_rows (before_them ++ (meetings (pos event) (pos first) (pos second) score ++ after_them))) sums_now changed changed_now)
-          → IsSweptTo s moment n ended changed sums → IsSweptTo s moment (n + 1) ended_now changed_now sums_now
-      ends_so score side lost ended ended_now changed changed_now sums sums_now is is_lost lost_is pushed puts now =
-          ends_next side lost ended ended_now changed changed_now sums sums_now is_lost (lost_is ∙ ap (cells_lost game) is) pushed
-          (λ event first second before_them after_them has differ stand.
-          subst (λ sc. PutsRows (score_rows (before_them ++ after_them)) (score_rows (before_them ++ (meetings (pos event) (pos first) (pos second) sc ++ after_them))) sums_now changed changed_now) is
-          (puts event first second before_them after_them has differ stand))
-          now
+      -- the sums of its players fit
+      fit_here : (side : Side) (ended : List GameRecord) (changed : List ScoreRow) (sums : Pair → Option Sums) → IsLostIn s moment (1 + n) g game side → AreMany game sums → IsSweptTo s moment n ended changed sums → ⊥
+      fit_here side ended changed sums is_lost many now =
+          let long = many (pairing_of g).event (pairing_of g).first (pairing_of g).second (met s moment n) is_lost.has (players_short s is_club g (is_club.games n g stands)) now.standing in
+          let short = met_short is_club n in
+          omega (arith, long, short)
+
+    -- by the side that was found late, or none
+    pub stays_told : (ended : List GameRecord) (changed : List ScoreRow) (sums : Pair → Option Sums) → found ≡ None → IsSweptTo s moment n ended changed sums → IsSweptTo s moment (n + 1) ended changed sums
+    stays_told ended changed sums none now = let (g, stands, cells) = game_here in stays_next g stands cells ended changed sums ((tells g stands cells).in_time none) now
+
+    pub ends_told : (score : Score) (side : Side) (lost : GameRecord) (ended ended_now : List GameRecord) (changed changed_now : List ScoreRow) (sums sums_now : Pair → Option Sums)
+        → found ≡ Some side → score ≡ loses side → game_cells lost ≡ cells_lost game score → ended_now ≡ ended ++ lost ∷ [] → Puts game score sums sums_now changed changed_now
+        → IsSweptTo s moment n ended changed sums → IsSweptTo s moment (n + 1) ended_now changed_now sums_now
+    ends_told score side lost ended ended_now changed changed_now sums sums_now late is lost_is pushed puts now =
+        let (g, stands, cells) = game_here in
+        ends_next g stands cells side lost ended ended_now changed changed_now sums sums_now ((tells g stands cells).lost side late) (lost_is ∙ ap (cells_lost game) is) pushed
+        (subst (λ sc. Puts game sc sums sums_now changed changed_now) is puts) now
+
+    pub fits_told : (side : Side) (ended : List GameRecord) (changed : List ScoreRow) (sums : Pair → Option Sums) → found ≡ Some side → AreMany game sums → IsSweptTo s moment n ended changed sums → ⊥
+    fits_told side ended changed sums late many now =
+        let (g, stands, cells) = game_here in
+        fit_here g stands cells side ended changed sums ((tells g stands cells).lost side late) many now
 
   -- all games were looked at
   pub swept_all : (games : List GameRecord) (n : ℕ) (rows : SweptRows) (sums : Pair → Option Sums) → map game_cells games ≡ tables s 10 → n ≡ length games → rows.count ≡ length rows.games.items → IsSweptTo s moment n rows.games.items rows.scores.items sums → IsSwept s moment rows

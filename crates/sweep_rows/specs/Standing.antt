@@ -1,5 +1,5 @@
 -- The sums of pairs of players as they stand, and the rows that are put where a game ends.
-use Rattle.std.specs.Prelude.{◌≡◌, ◌++◌, ℕ, pos, List, [], ◌∷◌, map, Option}
+use Rattle.std.specs.Prelude.{◌≡◌, ◌++◌, ◌<◌, ◌^◌, ℕ, pos, List, [], ◌∷◌, map, Option}
 use Rattle.std.specs.Option.{option_map}
 use Rattle.sqlite.specs.Order.{Row}
 use Rattle.store_tables.specs.Cells.{score_cells}
@@ -19,6 +19,12 @@ pub record HasPlayers (row : GameRecord) (event first second : ℕ) : Type 0 whe
   pub event_is : row.event ≡ pos event
   pub first_is : row.first ≡ pos first
   pub second_is : row.second ≡ pos second
+
+-- ids of 32 bits
+pub record AreShort (event first second : ℕ) : Type 0 where
+  pub event_fits : event < 2 ^ 32
+  pub first_fits : first < 2 ^ 32
+  pub second_fits : second < 2 ^ 32
 
 -- rows were added to those that are put; they make of the table what it is now, and the sums stand for that
 pub record PutsRows (was now : List Row) (sums : Pair → Option Sums) (old new : List ScoreRow) : Type 0 where

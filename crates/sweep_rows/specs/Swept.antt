@@ -3,7 +3,7 @@ use Rattle.std.specs.Prelude.{◌≡◌, ℕ, [], ◌∷◌, map, count_by}
 use Rattle.store_tables.specs.Cells.{game_cells, score_cells}
 use Rattle.store_tables.specs.Changes.{HaveSame, put_rows}
 use Rattle.club_core.specs.State.{is_late_any, with_swept}
-use Rattle.club_rows.specs.Club.{ClubState, IsClub, both_games, tables}
+use Rattle.club_rows.specs.Club.{ClubState, both_games, tables}
 use Rattle.sweep_rows.specs.declared.swept.SweptRows.{SweptRows}
 
 -- So many games end by time at that moment; the rows, put in their order, make of the tables of games and of scores those of

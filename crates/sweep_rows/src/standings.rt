@@ -1,6 +1,7 @@
 //! The sums of pairs of players as they stand while games end one after another.
 
-ghost use Rattle.std.specs.Prelude.{◌≡◌, ◌≢◌, ◌++◌, ◌∷◌, ℕ, [], List, Some, pos, cond, map, IfOk, IfSome, OnOk};
+ghost use Rattle.std.specs.Prelude.{◌≡◌, ◌≢◌, ◌≤◌, ◌^◌, ◌++◌, ◌∷◌, ℕ, [], List, Some, None, pos, cond, length, map};
+ghost use Rattle.std.specs.Prelude.{IfOk, IfSome, OnOk, IsErrOf};
 ghost use Rattle.std.specs.Option.{option_map};
 ghost use Rattle.sqlite.specs.Order.{Row};
 ghost use Rattle.store_tables.specs.Cells.{score_cells};
@@ -8,7 +9,7 @@ ghost use Rattle.store_tables.specs.Changes.{HaveSame};
 ghost use Rattle.club_rows.specs.NextScores.{row_with, sums_found};
 ghost use Rattle.club_rows.specs.Scores.{Meeting, meetings, same_pair, score_rows};
 ghost use Rattle.club_rows.specs.declared.scores.Pair as given_pair;
-ghost use Rattle.sweep_rows.specs.Standing.{AreStanding, HasPlayers, PutsRows};
+ghost use Rattle.sweep_rows.specs.Standing.{AreShort, AreStanding, HasPlayers, PutsRows};
 ghost use Rattle.club_rows.specs.Pairs.{firsts_pair, pair_in, seconds_pair, sums_at};
 
 use crate::fault::SweepFault;
@@ -31,7 +32,9 @@ pub struct Players {
 
 // Those of the row, if each is an id.
 fn players_of(game: &GameRecord) -> Option<Players>
-    ensures { IfSome result (λ players. HasPlayers game.now players.event players.first players.second) }
+    ensures some { IfSome result (λ players. HasPlayers game.now players.event players.first players.second) }
+    ensures none { result ≡ None → (event first second : ℕ) → HasPlayers game.now event first second →
+        ¬ AreShort event first second }
 {
     Some(Players {
         event: id(game.event)?,
@@ -101,12 +104,16 @@ pub fn put_scores(
     game: &GameRecord,
     score: Score,
 ) -> Result<(), SweepFault>
-    ensures { OnOk result ((event first second : ℕ) (before after : List Meeting) →
+    ensures puts { OnOk result ((event first second : ℕ) (before after : List Meeting) →
         HasPlayers game.now event first second → first ≢ second →
         AreStanding (λ pair. sums_at standings.old pair) (score_rows (before ++ after)) →
         PutsRows (score_rows (before ++ after))
         (score_rows (before ++ (meetings (pos event) (pos first) (pos second) score ++ after)))
         (λ pair. sums_at standings.new pair) changed.old.items changed.new.items) }
+    // Short ids are read, and only the sums of very many games do not fit.
+    ensures unfit { IsErrOf result SweepFault.Unfit → (event first second : ℕ) (ms : List Meeting) →
+        HasPlayers game.now event first second → AreShort event first second →
+        AreStanding (λ pair. sums_at standings.old pair) (score_rows ms) → 2 ^ 61 ≤ length ms }
 {
     let Some(players) = players_of(game) else {
         return Err(SweepFault::Unfit);

@@ -1,6 +1,6 @@
 //! All rows that a sweep puts.
 
-ghost use Rattle.std.specs.Prelude.{◌≡◌, map, IfOk};
+ghost use Rattle.std.specs.Prelude.{◌≡◌, map, IfOk, IsErrOf};
 ghost use Rattle.store_tables.specs.Cells.{game_cells, score_cells};
 ghost use Rattle.store_tables.specs.Changes.{HaveSame};
 ghost use Rattle.club_rows.specs.Club.{ClubState, IsClub, tables};
@@ -36,8 +36,11 @@ pub fn swept_rows(
     scores: &[ScoreRow],
     moment: Moment,
 ) -> Result<SweptRows, SweepFault>
-    ensures { IfOk result (λ rows. (s : ClubState) → IsClub s → map game_cells games.now ≡ tables s 10 →
+    ensures rows { IfOk result (λ rows. (s : ClubState) → IsClub s → map game_cells games.now ≡ tables s 10 →
         HaveSame (map score_cells scores.now) (tables s 14) → IsSwept s moment rows) }
+    // No rows of a club are unfit: memory alone may be refused for them.
+    ensures unfit { IsErrOf result SweepFault.Unfit → (s : ClubState) → IsClub s →
+        map game_cells games.now ≡ tables s 10 → ¬ HaveSame (map score_cells scores.now) (tables s 14) }
 {
     let mut standings = standings_of(alloc, scores)?;
     let mut ended = Vec::new(alloc);

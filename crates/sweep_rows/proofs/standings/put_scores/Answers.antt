@@ -7,8 +7,8 @@ use Rattle.club_rows.specs.Pairs.{sums_at}
 use Rattle.sweep_rows.proofs.StandingLemmas.{firsts_are, seconds_are, next_read, both_put}
 use Rattle.sweep_rows.proofs.standings.put_scores.Goals as goal
 
-pub returns-in_ok-put-in-Some-rows-2 : goal.returns-in_ok-put-in-Some-rows-2
-returns-in_ok-put-in-Some-rows-2 c = λ event first second before after has apart stand.
+pub returns-in_ok-put-in-Some-rows-2-clause-puts : goal.returns-in_ok-put-in-Some-rows-2-clause-puts
+returns-in_ok-put-in-Some-rows-2-clause-puts c = λ event first second before after has apart stand.
     let game = c.args.game.now in
     let one = pair_of event first second in
     let other = pair_of event second first in
@@ -17,7 +17,7 @@ returns-in_ok-put-in-Some-rows-2 c = λ event first second before after has apar
     let stands : Pair → Option ScoreRow = λ p. option_map (row_with p) (sums_at c.args.standings.now p) in
     let firsts_is : option_map (λ r. r.now) c.as_ref.result ≡ stands one = firsts ∙ (c.row_of-firsts.ensures ∙ ap stands (c.firsts_pair.ensures ∙ firsts_are game event first second has)) in
     let seconds_is : option_map (λ r. r.now) c.as_ref-2.result ≡ stands other = seconds ∙ (c.row_of-seconds.ensures ∙ ap stands (c.seconds_pair.ensures ∙ seconds_are game event first second has)) in
-    let next = next_read c.args.score _ _ c.in-Some-rows.pair game event first second _ _ _ has c.in-Some.ensures c.in-Some-rows.ensures.some apart in
+    let next = next_read c.args.score _ _ c.in-Some-rows.pair game event first second _ _ _ has c.in-Some.ensures.some c.in-Some-rows.ensures.some apart in
     both_put before after event first second c.args.score c.in-Some-rows.pair
     (λ p. sums_at c.args.standings.now p) (λ p. sums_at c.put.new.standings p) (λ p. sums_at c.put-in-Some-rows.new.standings p)
     c.args.changed.now.items c.put.new.changed.items c.put-in-Some-rows.new.changed.items
