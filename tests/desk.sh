@@ -41,6 +41,15 @@ for row in sqlite3.connect("c.db").execute(sys.argv[1]):
     verdict "sqlite3 $2" "$1" "$got"
 }
 
+changes() { # SQL: sqlite3 changes the file so.
+    if command -v sqlite3 > /dev/null 2>&1; then
+        sqlite3 c.db "$1"
+    else
+        python3 -c 'import sqlite3, sys
+with sqlite3.connect("c.db") as db: db.execute(sys.argv[1])' "$1"
+    fi
+}
+
 asks() { # KEY METHOD PATH BODY: the reply's status and its body
     local key=$1 method=$2 path=$3 body=${4:-}
     if [ "$method" = GET ]; then
@@ -62,6 +71,7 @@ gets() { # STATUS TEXT KEY METHOD PATH [BODY]: the reply has this status, and th
 }
 
 serves() { # WORD..: the desk is started, and listens
+    rm -f listening
     "$club" c.db serve --log "$@" "$port" > listening 2> log &
     desk=$!
     for _ in $(seq 300); do
@@ -214,41 +224,55 @@ gets 200 '{"end":"Resigned","game":3,"result":"0-2"}' keybert2 POST /games/3/res
 kill "$desk"
 wait "$desk" 2> /dev/null
 desk=
+verdict 'the crowd was served' yes "$([ "$(wc -l < log)" -gt 6 ] && echo yes)"
 verdict 'none of the crowd was turned away' 0 "$(grep -c -v ' 200$' log)"
 
-# Challenges: opened, repeated, withdrawn, refused, and one that is accepted and starts a game.
-serves --count 24
+# Challenges: opened, repeated, withdrawn, refused, and one that is accepted and starts a game, which counts as any other.
+serves --count 36
 first='{"event":"autumn","first":true,"other":"bert"}'
 second='{"event":"autumn","first":false,"other":"bert"}'
-gets 422 '{"error":65,"name":"BadValue"}' keyanna1 POST /challenges/0 "$first"
-gets 422 '{"error":65,"name":"BadValue"}' keyanna1 POST /challenges/1 '{"event":"autumn","first":true,"other":"anna"}'
-gets 422 '{"error":65,"name":"BadValue"}' keyanna1 POST /challenges/10000 "$first"
-gets 404 '{"error":52,"name":"UnknownEvent"}' keyanna1 POST /challenges/1 '{"event":"winter","first":true,"other":"bert"}'
+gets 401 '{"error":50,"name":"UnknownKey"}' keynone4 POST /challenges/1 "$second"
+gets 405 '{"error":83,"name":"WrongMethod"}' keyanna1 GET /challenges/1
+gets 404 '{"error":82,"name":"NoRoute"}' keyanna1 POST /challenges/0000000001 "$second"
 gets 400 '{"error":81,"name":"BadBody"}' keyanna1 POST /challenges/1 '{"event":"autumn","other":"bert"}'
+gets 404 '{"error":52,"name":"UnknownEvent"}' keyanna1 POST /challenges/0 '{"event":"winter","first":true,"other":"bert"}'
+gets 422 '{"error":65,"name":"BadValue"}' keyanna1 POST /challenges/0 "$second"
+gets 422 '{"error":65,"name":"BadValue"}' keyanna1 POST /challenges/10000 "$second"
+gets 422 '{"error":65,"name":"BadValue"}' keyanna1 POST /challenges/1 '{"event":"autumn","first":true,"other":"anna"}'
+gets 422 '{"error":65,"name":"BadValue"}' keyanna1 POST /challenges/1 '{"event":"autumn","first":true,"other":"nobody"}'
 gets 200 '{"challenge":1,"state":"open"}' keyanna1 POST /challenges/1 "$second"
 gets 200 '{"challenge":1,"state":"open"}' keyanna1 POST /challenges/1 "$second"
 gets 409 '{"error":58,"name":"Conflict"}' keyanna1 POST /challenges/1 "$first"
 gets 404 '{"error":54,"name":"UnknownChallenge"}' keycara3 POST /answers/anna/1 '{"accept":true}'
 gets 404 '{"error":54,"name":"UnknownChallenge"}' keybert2 POST /answers/anna/2 '{"accept":true}'
+gets 404 '{"error":54,"name":"UnknownChallenge"}' keybert2 POST /answers/nobody/1 '{"accept":true}'
 gets 400 '{"error":81,"name":"BadBody"}' keybert2 POST /answers/anna/1 '{"accept":"yes"}'
 gets 200 '{"challenge":1,"game":6,"state":"accepted"}' keybert2 POST /answers/anna/1 '{"accept":true}'
 gets 200 '{"challenge":1,"game":6,"state":"accepted"}' keybert2 POST /answers/anna/1 '{"accept":true}'
 gets 409 '{"error":58,"name":"Conflict"}' keybert2 POST /answers/anna/1 '{"accept":false}'
 gets 409 '{"error":58,"name":"Conflict"}' keyanna1 POST /challenges/1/withdraw
-gets 200 '"first":"bert","game":6' keyanna1 GET /games/6
-gets 200 '"move":"32-28","ply":1' keybert2 POST /games/6/moves/1 '{"move":"32-28"}'
 gets 200 '{"challenge":2,"state":"open"}' keyanna1 POST /challenges/2 "$first"
 gets 200 '{"challenge":2,"state":"withdrawn"}' keyanna1 POST /challenges/2/withdraw
 gets 200 '{"challenge":2,"state":"withdrawn"}' keyanna1 POST /challenges/2/withdraw
 gets 409 '{"error":58,"name":"Conflict"}' keybert2 POST /answers/anna/2 '{"accept":true}'
+gets 200 '{"challenge":2,"state":"open"}' keyanna1 POST /challenges/2 "$first"
 gets 200 '{"challenge":1,"state":"open"}' keybert2 POST /challenges/1 '{"event":"fuji","first":true,"other":"cara"}'
 gets 200 '{"challenge":1,"state":"refused"}' keycara3 POST /answers/bert/1 '{"accept":false}'
-gets 405 '{"error":83,"name":"WrongMethod"}' keyanna1 GET /challenges/1
+gets 200 '{"challenge":1,"state":"refused"}' keycara3 POST /answers/bert/1 '{"accept":false}'
+gets 409 '{"error":58,"name":"Conflict"}' keycara3 POST /answers/bert/1 '{"accept":true}'
+gets 409 '{"error":58,"name":"Conflict"}' keybert2 POST /challenges/1/withdraw
+gets 200 '{"challenge":9999,"state":"open"}' keybert2 POST /challenges/9999 '{"event":"autumn","first":true,"other":"anna"}'
+gets 200 '"first":"bert","game":6' keyanna1 GET /games/6
+gets 409 '{"error":59,"name":"NotYourTurn"}' keyanna1 POST /games/6/moves/1 '{"move":"32-28"}'
+gets 200 '"move":"32-28","ply":1' keybert2 POST /games/6/moves/1 '{"move":"32-28"}'
+gets 200 '{"end":"Resigned","game":6,"result":"2-0"}' keyanna1 POST /games/6/resign
+gets 200 '  1 bert                         3     3     1     1     1     -     0     3' keyanna1 GET /events/autumn/table
 ends 0
 reads '1|1|1|2|0|3|6
 1|2|1|2|1|1|
-2|1|2|3|1|2|' 'SELECT * FROM challenges ORDER BY 1, 2'
-reads '||2|1' "SELECT key, '', first, second FROM games WHERE id = 6"
+2|1|2|3|1|2|
+2|9999|1|1|1|0|' 'SELECT * FROM challenges ORDER BY 1, 2'
+reads '1|1|2|1' 'SELECT "key" IS NULL, event, first, second FROM games WHERE id = 6'
 
 reads 'ok' 'PRAGMA integrity_check'
 reads '1|3|Agreed|1-1
@@ -262,4 +286,8 @@ reads '1|1|32-28
 6|1|32-28' 'SELECT game, ply, text FROM moves WHERE game <> 2 ORDER BY game, ply'
 reads '12' 'SELECT count(*) FROM moves WHERE game = 2'
 officer 0 'sound' verify
+
+# Last, the game of the accepted challenge goes, and the file is no club's any more.
+changes 'DELETE FROM games WHERE id = 6'
+officer 3 'store 72 Damaged challenges' verify
 exit $bad

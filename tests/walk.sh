@@ -302,15 +302,20 @@ with sqlite3.connect(sys.argv[2]) as db: db.execute(sys.argv[1])' "$1" "$2"
     fi
 }
 
-# found STATUS TEXT SQL: the file of the swept game, changed so and not otherwise, is found so.
+# found STATUS TEXT SQL: the whole file, changed so and not otherwise, is found so.
+whole=worked.db # that of the swept game
 found() {
-    copies worked.db broken.db
+    copies "$whole" broken.db
     changes "$3" broken.db
     says "$1" "$2" --now 2000 broken.db verify
 }
 found 3 'store 72 Damaged members' "UPDATE members SET name = 'abcdefghijklmnopqrstuvwxy' WHERE id = 1"
 found 3 'store 72 Damaged events' 'UPDATE events SET budget = 0'
 found 3 'store 72 Damaged challenges' 'INSERT INTO challenges VALUES (1, 1, 1, 2, 1, 3, NULL)'
+found 3 'store 72 Damaged challenges' 'INSERT INTO challenges VALUES (1, 1, 1, 2, 1, 3, 2)'
+found 3 'store 72 Damaged challenges' 'INSERT INTO challenges VALUES (1, 1, 1, 2, 0, 3, 1)'
+found 3 'store 72 Damaged challenges' 'INSERT INTO challenges VALUES (1, 1, 1, 2, 1, 2, 1)'
+found 0 'sound' 'INSERT INTO challenges VALUES (1, 1, 1, 2, 1, 0, NULL)'
 found 3 'store 72 Damaged moves' 'DELETE FROM moves WHERE ply = 1'
 found 3 'store 72 Damaged moves' "UPDATE moves SET text = '032-28' WHERE ply = 1"
 found 3 'store 72 Damaged games' 'DELETE FROM moves WHERE ply = 2'
@@ -320,6 +325,17 @@ found 3 'store 72 Damaged scores' 'DELETE FROM scores WHERE member = 1'
 found 3 'store 72 Damaged meta' 'UPDATE meta SET last = 1125'
 found 0 'sound' 'UPDATE meta SET last = 1126'
 found 3 'store 71 Schema 9' 'UPDATE meta SET schema = 9'
+# The same game, as that of an accepted challenge, which is not found without it.
+copies worked.db challenged.db
+changes 'INSERT INTO challenges VALUES (1, 1, 1, 2, 1, 3, 1)' challenged.db
+whole=challenged.db
+found 0 'sound' 'UPDATE games SET "key" = NULL'
+found 0 'sound' 'DELETE FROM challenges'
+found 3 'store 72 Damaged challenges' 'DELETE FROM games'
+found 3 'store 72 Damaged challenges' 'UPDATE games SET first = 2, second = 1'
+found 3 'store 72 Damaged challenges' 'UPDATE challenges SET game = NULL'
+found 3 'store 72 Damaged challenges' 'UPDATE challenges SET state = 1'
+found 3 'store 72 Damaged games' 'UPDATE games SET left1 = 6'
 rm -f broken.db*
 : > broken.db
 says 3 'store 70 Foreign' --now 2000 broken.db verify
