@@ -1,4 +1,5 @@
--- The date and the time of day of a moment in UTC: days of 86,400 seconds on the proleptic Gregorian calendar (ISO 8601).
+-- The date and the time of day of a moment in UTC: days of 86,400 seconds on the proleptic Gregorian calendar (ISO
+-- 8601).
 use Rattle.std.specs.Prelude.{◌≡◌, ℕ, ◌/◌, ◌%◌, pos}
 use Rattle.jiff_core.specs.Calendar.{IsCivilDate, days_from_civil}
 use Rattle.clocks.specs.declared.dates.CivilTime.{CivilTime}

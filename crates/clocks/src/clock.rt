@@ -43,7 +43,8 @@ impl Clock {
         })
     }
 
-    /// The last second, in Unix seconds, at which a move is in time whose seconds run from `since`. It may lie past every
+    /// The last second, in Unix seconds, at which a move is in time whose seconds run from `since`. It may lie past
+    /// every
     /// moment.
     pub fn deadline(self, since: Moment) -> u64
         requires { since + self.left < 2 ^ 64 }

@@ -6,7 +6,7 @@ use Rattle.store.specs.Histories.{Session, IsReachable}
 use Rattle.sessions.specs.Finds.{IsFoundIn}
 use Rattle.club_desk.specs.Turns.{AreTurns}
 
--- the sessions, with commands of members on games added, led to these tables
+-- the sessions, with commands of members added, led to these tables
 pub record IsReachedBy (sessions : List Session) (found : Trees) : Type 0 where
   pub turns : List Session
   pub are_turns : AreTurns turns

@@ -24,7 +24,7 @@ use std::time::Duration;
 /// A stretch of serving over the files of a path, which hold at first what `S` stands for: opens them, takes the club
 /// over, serves those who come until the desk is to give way, and closes. Gives the fault that further ones are to be
 /// told, or why the files were not opened; and the files where they were. Where sessions led to whatever an opening
-/// finds in the files, they lead, with commands of members on games added, to whatever an opening finds in them after
+/// finds in the files, they lead, with commands of members added, to whatever an opening finds in them after
 /// it, of whatever a stop leaves.
 pub fn stretch<S: Start, V: Visits>(
     rt: &HostRuntime,

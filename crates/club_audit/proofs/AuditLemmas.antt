@@ -14,7 +14,8 @@ use Rattle.club_rows.proofs.ToldLemmas.{columns-told}
 
 -- ---- lists
 
-pub take-got : {A : Type 0} (xs : List A) (i : ℕ) (x : A) → slice_get xs i ≡ Some x → take (suc i) xs ≡ take i xs ++ x ∷ []
+pub take-got : {A : Type 0} (xs : List A) (i : ℕ) (x : A) → slice_get xs i ≡ Some x
+    → take (suc i) xs ≡ take i xs ++ x ∷ []
 take-got [] i x at = cc
 take-got (y ∷ ys) zero x at = ap (λ z. z ∷ []) (same_Some y x at)
 take-got (y ∷ ys) (suc i) x at = ap (λ zs. y ∷ zs) (take-got ys i x at)
@@ -23,25 +24,33 @@ take-got (y ∷ ys) (suc i) x at = ap (λ zs. y ∷ zs) (take-got ys i x at)
 
 module _ (s : ClubState) where
   -- the row of a game has its id
-  pub id-told : (id : ℕ) (row : GameRecord) (any : ClubGame) → game_cells row ≡ row_of_game both_games s.events id any → row.id ≡ pos id
-  id-told id row (draughts g) cells = let told = columns-told both_games.draughts (terms_at (place s.events g.event)) id g row cells in told.numbers.id
-  id-told id row (shogi g) cells = let told = columns-told both_games.shogi (terms_at (place s.events g.event)) id g row cells in told.numbers.id
+  pub id-told : (id : ℕ) (row : GameRecord) (any : ClubGame) → game_cells row ≡ row_of_game both_games s.events id any
+      → row.id ≡ pos id
+  id-told id row (draughts g) cells = let told =
+      columns-told both_games.draughts (terms_at (place s.events g.event)) id g row cells in told.numbers.id
+  id-told id row (shogi g) cells = let told =
+      columns-told both_games.shogi (terms_at (place s.events g.event)) id g row cells in told.numbers.id
 
 -- ---- keys
 
 abbrev pub key_in : GameRecord → Option (List ℕ)
 key_in r = option_map (λ s. string_bytes s) r.key
 
-module _ (s : ClubState) (games : List ClubGame) (rows : List GameRecord) (rows_are : map game_cells rows ≡ numbered_from (row_of_game both_games s.events) 1 games) where
-  key-told : (id : ℕ) (row : GameRecord) (any : ClubGame) → game_cells row ≡ row_of_game both_games s.events id any → key_in row ≡ key_of any
-  key-told id row (draughts g) cells = let told = columns-told both_games.draughts (terms_at (place s.events g.event)) id g row cells in told.key
-  key-told id row (shogi g) cells = let told = columns-told both_games.shogi (terms_at (place s.events g.event)) id g row cells in told.key
+module _ (s : ClubState) (games : List ClubGame) (rows : List GameRecord)
+    (rows_are : map game_cells rows ≡ numbered_from (row_of_game both_games s.events) 1 games) where
+  key-told : (id : ℕ) (row : GameRecord) (any : ClubGame) → game_cells row ≡ row_of_game both_games s.events id any
+      → key_in row ≡ key_of any
+  key-told id row (draughts g) cells = let told =
+      columns-told both_games.draughts (terms_at (place s.events g.event)) id g row cells in told.key
+  key-told id row (shogi g) cells = let told =
+      columns-told both_games.shogi (terms_at (place s.events g.event)) id g row cells in told.key
 
   -- keys of the games are apart where those of the rows are
   pub keys-of : AreApartIfAny key_in rows → AreApartIfAny key_of games
   keys-of apart i j x y b one two first second =
       let (r, here, cells) = numbered-back game_cells (row_of_game both_games s.events) 1 rows games rows_are i x one in
-      let (q, there, cells') = numbered-back game_cells (row_of_game both_games s.events) 1 rows games rows_are j y two in
+      let (q, there, cells') = numbered-back game_cells (row_of_game both_games s.events) 1 rows games rows_are j y two
+      in
       apart i j r q b here there (key-told (1 + i) r x cells ∙ first) (key-told (1 + j) q y cells' ∙ second)
 
   pub keys-in : AreApartIfAny key_of games → AreApartIfAny key_in rows
@@ -53,7 +62,8 @@ module _ (s : ClubState) (games : List ClubGame) (rows : List GameRecord) (rows_
 -- ---- games of another club
 
 -- a game of a club is a game of a club with the same members and events
-pub game-elsewhere : (s : ClubState) (games : List ClubGame) (any : ClubGame) → IsLegalIn both_games s any → IsLegalIn both_games (record s { games = games }) any
+pub game-elsewhere : (s : ClubState) (games : List ClubGame) (any : ClubGame) → IsLegalIn both_games s any
+    → IsLegalIn both_games (record s { games = games }) any
 game-elsewhere s games (draughts g) of = record {
   event = of.event;
   in_event = of.in_event;

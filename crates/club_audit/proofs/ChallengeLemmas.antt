@@ -1,5 +1,6 @@
 -- The challenges that rows show.
-use Rattle.std.proofs.Common.{◌≡◌, inl, inr, ℕ, zero, suc, ◌+◌, ◌<◌, ◌≤◌, ◌^◌, pos, List, [], ◌∷◌, length, map, Some, true, refl, ap, sym, subst, ◌∙◌, arith}
+use Rattle.std.proofs.Common.{◌≡◌, inl, inr, ℕ, zero, suc, ◌+◌, ◌<◌, ◌≤◌, ◌^◌, pos, List, [], ◌∷◌, length, map, Some}
+use Rattle.std.proofs.Common.{true, refl, ap, sym, subst, ◌∙◌, arith}
 use Rattle.std.specs.Prelude.{slice_get, nat_le}
 use Rattle.std.proofs.lemmas.Bool.{and_parts}
 use Rattle.std.proofs.lemmas.Option.{same_Some, slice_get_within}
@@ -33,7 +34,8 @@ use Rattle.club_audit.proofs.PlacedLemmas.{each-cons, numbered-at, numbered-back
 
 -- ---- lists
 
-row-has : (xs : List ChallengeRow) (n : ℕ) (x : ChallengeRow) → slice_get xs n ≡ Some x → Has (map challenge_cells xs) (challenge_cells x)
+row-has : (xs : List ChallengeRow) (n : ℕ) (x : ChallengeRow) → slice_get xs n ≡ Some x
+    → Has (map challenge_cells xs) (challenge_cells x)
 row-has [] n x at = cc
 row-has (y ∷ ys) zero x at = inl (ap challenge_cells (same_Some x y (sym at)))
 row-has (y ∷ ys) (suc n) x at = inr (row-has ys n x at)
@@ -48,8 +50,10 @@ accepted-same : (a b : ℕ) → ◌≡◌ {A = Standing} (Accepted a) (Accepted 
 accepted-same a b is = cc
 
 -- a game that an accepted challenge names, and whose row is of its event and its members, is the one
-pub its-game-found : (games : List GameRecord) (c : Challenge) (id : ℕ) (row : GameRecord) → c.standing ≡ Accepted id → place games id ≡ Some row → IsRowOfPairing row (pairing_for c) → HasItsGame games c
-its-game-found games c id row is at of = λ n stands. (row, subst (λ k. place games k ≡ Some row) (accepted-same id n (sym is ∙ stands)) at, of)
+pub its-game-found : (games : List GameRecord) (c : Challenge) (id : ℕ) (row : GameRecord) → c.standing ≡ Accepted id
+    → place games id ≡ Some row → IsRowOfPairing row (pairing_for c) → HasItsGame games c
+its-game-found games c id row is at of =
+    λ n stands. (row, subst (λ k. place games k ≡ Some row) (accepted-same id n (sym is ∙ stands)) at, of)
 
 -- ---- keys
 
@@ -59,7 +63,8 @@ key-of-cells r s same =
     let own : r.number ≡ s.number = cc in
     λ i. record { member = member i; number = own i }
 
-key-of-numbers : (r s : ChallengeRow) (c d : Challenge) → challenge_cells r ≡ challenge_row c → challenge_cells s ≡ challenge_row d → goes_by c ≡ goes_by d → key_in r ≡ key_in s
+key-of-numbers : (r s : ChallengeRow) (c d : Challenge) → challenge_cells r ≡ challenge_row c
+    → challenge_cells s ≡ challenge_row d → goes_by c ≡ goes_by d → key_in r ≡ key_in s
 key-of-numbers r s c d r_is s_is same =
     let one : r.member ≡ pos c.member = cc in
     let two : s.member ≡ pos d.member = cc in
@@ -69,7 +74,8 @@ key-of-numbers r s c d r_is s_is same =
     let own : r.number ≡ s.number = three ∙ (ap (λ p. pos p.1) same ∙ sym four) in
     λ i. record { member = member i; number = own i }
 
-numbers-of-key : (r s : ChallengeRow) (c d : Challenge) → challenge_cells r ≡ challenge_row c → challenge_cells s ≡ challenge_row d → key_in r ≡ key_in s → goes_by c ≡ goes_by d
+numbers-of-key : (r s : ChallengeRow) (c d : Challenge) → challenge_cells r ≡ challenge_row c
+    → challenge_cells s ≡ challenge_row d → key_in r ≡ key_in s → goes_by c ≡ goes_by d
 numbers-of-key r s c d r_is s_is same =
     let one : r.member ≡ pos c.member = cc in
     let two : s.member ≡ pos d.member = cc in
@@ -83,16 +89,21 @@ numbers-of-key r s c d r_is s_is same =
 
 module _ (rows : Rows) where
   -- rows, each of them that of a challenge, are the rows of a list
-  challenges-from : (rs : List ChallengeRow) → Each (IsChallengeOf rows) rs → (cs : List Challenge) × (map challenge_cells rs ≡ map challenge_row cs) × Each (IsChallengeAmong rows) cs
+  challenges-from : (rs : List ChallengeRow) → Each (IsChallengeOf rows) rs → (cs : List Challenge)
+      × (map challenge_cells rs ≡ map challenge_row cs) × Each (IsChallengeAmong rows) cs
   challenges-from [] each = ([], refl, λ n x at. cc)
   challenges-from (r ∷ rs) each =
       let one = each 0 r refl in
       let rest = challenges-from rs (λ n x at. each (suc n) x at) in
       let head = one.cells in
-      let tail = rest.1 in
-      (one.challenge ∷ rest.0, (λ i. head i ∷ tail i), each-cons (IsChallengeAmong rows) one.challenge rest.0 one.among rest.2)
+      let tail = rest.1 in (
+        one.challenge ∷ rest.0,
+        (λ i. head i ∷ tail i),
+        each-cons (IsChallengeAmong rows) one.challenge rest.0 one.among rest.2,
+      )
 
-  pub challenges-are : Each (IsChallengeOf rows) rows.challenges.items → AreApart key_in rows.challenges.items → (cs : List Challenge) × AreChallenges cs rows
+  pub challenges-are : Each (IsChallengeOf rows) rows.challenges.items → AreApart key_in rows.challenges.items
+      → (cs : List Challenge) × AreChallenges cs rows
   challenges-are each apart =
       let rs = rows.challenges.items in
       let (cs, same, legal) = challenges-from rs each in (
@@ -107,16 +118,20 @@ module _ (rows : Rows) where
           };
           legal = legal;
           numbers = λ i j c d one two alike.
-              let (r, at, r_is) = map-got challenge_cells rs i (challenge_row c) (ap (λ l. slice_get l i) same ∙ map-at challenge_row cs i c one) in
-              let (s, there, s_is) = map-got challenge_cells rs j (challenge_row d) (ap (λ l. slice_get l j) same ∙ map-at challenge_row cs j d two) in
+              let (r, at, r_is) = map-got challenge_cells rs i (challenge_row c)
+              (ap (λ l. slice_get l i) same ∙ map-at challenge_row cs i c one) in
+              let (s, there, s_is) = map-got challenge_cells rs j (challenge_row d)
+              (ap (λ l. slice_get l j) same ∙ map-at challenge_row cs j d two) in
               apart i j r s at there (key-of-numbers r s c d r_is s_is alike);
         },
       )
 
   module _ (cs : List Challenge) (are : AreChallenges cs rows) where
     -- the challenge whose row stands there
-    shown-at : (n : ℕ) (r : ChallengeRow) → slice_get rows.challenges.items n ≡ Some r → (m : ℕ) × (c : Challenge) × (slice_get cs m ≡ Some c) × (challenge_cells r ≡ challenge_row c)
-    shown-at n r at = challenge-had cs (challenge_cells r) (are.rows_are.same.there (challenge_cells r) (row-has rows.challenges.items n r at))
+    shown-at : (n : ℕ) (r : ChallengeRow) → slice_get rows.challenges.items n ≡ Some r → (m : ℕ) × (c : Challenge)
+        × (slice_get cs m ≡ Some c) × (challenge_cells r ≡ challenge_row c)
+    shown-at n r at = challenge-had cs (challenge_cells r)
+        (are.rows_are.same.there (challenge_cells r) (row-has rows.challenges.items n r at))
 
     pub numbers-apart : AreApart key_in rows.challenges.items
     numbers-apart i j r s one two alike =
@@ -125,9 +140,12 @@ module _ (rows : Rows) where
         let place_is = are.numbers m n c d at there (numbers-of-key r s c d r_is s_is alike) in
         let c_is : c ≡ d = same_Some c d (sym at ∙ (ap (slice_get cs) place_is ∙ there)) in
         let cells_same : challenge_cells r ≡ challenge_cells s = r_is ∙ (ap challenge_row c_is ∙ sym s_is) in
-        are.rows_are.once i j (challenge_cells s) (map-at challenge_cells rows.challenges.items i r one ∙ ap Some cells_same) (map-at challenge_cells rows.challenges.items j s two)
+        are.rows_are.once i j (challenge_cells s)
+        (map-at challenge_cells rows.challenges.items i r one ∙ ap Some cells_same)
+        (map-at challenge_cells rows.challenges.items j s two)
 
-    module _ (members : length rows.members.items ≤ 200) (events : length rows.events.items ≤ 50) (games : length rows.games.items ≤ 5000) where
+    module _ (members : length rows.members.items ≤ 200) (events : length rows.events.items ≤ 50)
+        (games : length rows.games.items ≤ 5000) where
       short-game : (s : Standing) → ((id : ℕ) → s ≡ Accepted id → id ≤ length rows.games.items) → HasShortGame s
       short-game Open low = tt
       short-game Withdrawn low = tt
@@ -143,7 +161,8 @@ module _ (rows : Rows) where
         own_number = short-number c.number among.number;
         event = let low = among.event.1 in omega (arith, low, events);
         other = let low = among.other.1 in omega (arith, low, members);
-        game = short-game c.standing (λ id is. let named = among.game id is in placed-within rows.games.items id named.0 named.1);
+        game = short-game c.standing (λ id is. let named = among.game id is in
+            placed-within rows.games.items id named.0 named.1);
       }
 
       pub each-shown : Each (IsChallengeOf rows) rows.challenges.items
@@ -154,7 +173,8 @@ module _ (rows : Rows) where
 
 -- ---- the challenges of a club with these games
 
-pairing-same : (p q : Pairing) → pos p.event ≡ pos q.event → pos p.first ≡ pos q.first → pos p.second ≡ pos q.second → p ≡ q
+pairing-same : (p q : Pairing) → pos p.event ≡ pos q.event → pos p.first ≡ pos q.first → pos p.second ≡ pos q.second
+    → p ≡ q
 pairing-same p q one two three =
     let event = same-pos p.event q.event one in
     let first = same-pos p.first q.first two in
@@ -163,45 +183,64 @@ pairing-same p q one two three =
 
 module _ (s : ClubState) where
   -- the row of a game has its event and its players
-  pairing-told : (id : ℕ) (row : GameRecord) (any : ClubGame) → game_cells row ≡ row_of_game both_games s.events id any → IsRowOfPairing row (pairing_of any)
-  pairing-told id row (draughts g) cells = let told = columns-told both_games.draughts (terms_at (place s.events g.event)) id g row cells in record { event = told.numbers.event; first = told.numbers.first; second = told.numbers.second }
-  pairing-told id row (shogi g) cells = let told = columns-told both_games.shogi (terms_at (place s.events g.event)) id g row cells in record { event = told.numbers.event; first = told.numbers.first; second = told.numbers.second }
+  pairing-told : (id : ℕ) (row : GameRecord) (any : ClubGame) → game_cells row ≡ row_of_game both_games s.events id any
+      → IsRowOfPairing row (pairing_of any)
+  pairing-told id row (draughts g) cells = let told =
+      columns-told both_games.draughts (terms_at (place s.events g.event)) id g row cells in
+      record { event = told.numbers.event; first = told.numbers.first; second = told.numbers.second }
+  pairing-told id row (shogi g) cells = let told =
+      columns-told both_games.shogi (terms_at (place s.events g.event)) id g row cells in
+      record { event = told.numbers.event; first = told.numbers.first; second = told.numbers.second }
 
-  module _ (rows : Rows) (people : HasPeople s rows) (games : List ClubGame) (rows_are : map game_cells rows.games.items ≡ numbered_from (row_of_game both_games s.events) 1 games) where
+  module _ (rows : Rows) (people : HasPeople s rows) (games : List ClubGame)
+      (rows_are : map game_cells rows.games.items ≡ numbered_from (row_of_game both_games s.events) 1 games) where
     members-same : length rows.members.items ≡ length s.members
     members-same = same-count s.members rows.members.items people.members
 
     events-same : length rows.events.items ≡ length s.events
     events-same = numbered-length event_cells event_row 1 rows.events.items s.events people.events.rows_are
 
-    game-named : (id : ℕ) (row : GameRecord) (p : Pairing) → place rows.games.items id ≡ Some row → IsRowOfPairing row p → (any : ClubGame) × (place games id ≡ Some any) × (pairing_of any ≡ p)
+    game-named : (id : ℕ) (row : GameRecord) (p : Pairing) → place rows.games.items id ≡ Some row → IsRowOfPairing row p
+        → (any : ClubGame) × (place games id ≡ Some any) × (pairing_of any ≡ p)
     game-named zero row p at of = cc
     game-named (suc n) row p at of =
-        let (any, there, cells) = numbered-at game_cells (row_of_game both_games s.events) 1 rows.games.items games rows_are n row at in
-        let told = pairing-told (1 + n) row any cells in
-        (any, there, pairing-same (pairing_of any) p (sym told.event ∙ of.event) (sym told.first ∙ of.first) (sym told.second ∙ of.second))
+        let (any, there, cells) = numbered-at game_cells (row_of_game both_games s.events) 1 rows.games.items games
+        rows_are n row at in
+        let told = pairing-told (1 + n) row any cells in (
+          any,
+          there,
+          pairing-same (pairing_of any) p (sym told.event ∙ of.event) (sym told.first ∙ of.first)
+              (sym told.second ∙ of.second),
+        )
 
-    row-named : (id : ℕ) (any : ClubGame) (p : Pairing) → place games id ≡ Some any → pairing_of any ≡ p → (row : GameRecord) × (place rows.games.items id ≡ Some row) × IsRowOfPairing row p
+    row-named : (id : ℕ) (any : ClubGame) (p : Pairing) → place games id ≡ Some any → pairing_of any ≡ p
+        → (row : GameRecord) × (place rows.games.items id ≡ Some row) × IsRowOfPairing row p
     row-named zero any p at of = cc
     row-named (suc n) any p at of =
-        let (row, there, cells) = numbered-back game_cells (row_of_game both_games s.events) 1 rows.games.items games rows_are n any at in
+        let (row, there, cells) = numbered-back game_cells (row_of_game both_games s.events) 1 rows.games.items games
+        rows_are n any at in
         (row, there, subst (IsRowOfPairing row) of (pairing-told (1 + n) row any cells))
 
     -- challenges among the rows are legal in the club with the games of these rows
-    pub challenges-of : Each (IsChallengeAmong rows) s.challenges → Each (IsLegalChallenge (record s { games = games })) s.challenges
+    pub challenges-of : Each (IsChallengeAmong rows) s.challenges
+        → Each (IsLegalChallenge (record s { games = games })) s.challenges
     challenges-of each n c at =
         let among = each n c at in
         record {
           number = among.number;
-          member = let high = among.member.1 in placed-some s.members c.member among.member.0 (omega (arith, high, members-same));
-          other = let high = among.other.1 in placed-some s.members c.other among.other.0 (omega (arith, high, members-same));
+          member = let high = among.member.1 in
+              placed-some s.members c.member among.member.0 (omega (arith, high, members-same));
+          other = let high = among.other.1 in
+              placed-some s.members c.other among.other.0 (omega (arith, high, members-same));
           apart = among.apart;
-          event = let high = among.event.1 in placed-some s.events c.event among.event.0 (omega (arith, high, events-same));
+          event = let high = among.event.1 in
+              placed-some s.events c.event among.event.0 (omega (arith, high, events-same));
           accepted = λ id is. let (row, there, of) = among.game id is in game-named id row (pairing_for c) there of;
         }
 
     -- and the challenges of such a club are among them
-    pub challenges-among : Each (IsLegalChallenge (record s { games = games })) s.challenges → Each (IsChallengeAmong rows) s.challenges
+    pub challenges-among : Each (IsLegalChallenge (record s { games = games })) s.challenges
+        → Each (IsChallengeAmong rows) s.challenges
     challenges-among each n c at =
         let legal = each n c at in
         let member = some-placed s.members c.member legal.member in
@@ -217,8 +256,10 @@ module _ (s : ClubState) where
         }
 
 -- the rows of a legal club's challenges, each once, are those that the audit lets pass
-pub club-challenges : (s : ClubState) (rows : Rows) → IsClub s → HasPeople s rows → map game_cells rows.games.items ≡ numbered_from (row_of_game both_games s.events) 1 s.games
-    → AreEachOnce (map challenge_cells rows.challenges.items) (map challenge_row s.challenges) → AreChallenges s.challenges rows
+pub club-challenges : (s : ClubState) (rows : Rows) → IsClub s → HasPeople s rows
+    → map game_cells rows.games.items ≡ numbered_from (row_of_game both_games s.events) 1 s.games
+    → AreEachOnce (map challenge_cells rows.challenges.items) (map challenge_row s.challenges)
+    → AreChallenges s.challenges rows
 club-challenges s rows club people games_are rows_are = record {
   rows_are = rows_are;
   legal = challenges-among s rows people s.games games_are club.challenges;

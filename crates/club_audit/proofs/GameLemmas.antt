@@ -1,5 +1,6 @@
 -- A game of the club that its rows show.
-use Rattle.std.proofs.Common.{◌≡◌, ℕ, zero, suc, pos, ◌+◌, ◌<◌, ◌≤◌, List, [], ◌∷◌, length, map, Option, Some, None, refl, ap, sym, subst, ◌∙◌, arith}
+use Rattle.std.proofs.Common.{◌≡◌, ℕ, zero, suc, pos, ◌+◌, ◌<◌, ◌≤◌, List, [], ◌∷◌, length, map, Option, Some, None}
+use Rattle.std.proofs.Common.{refl, ap, sym, subst, ◌∙◌, arith}
 use Rattle.std.specs.Prelude.{slice_get, IsSome}
 use Rattle.std.specs.Option.{option_map}
 use Rattle.std.proofs.lemmas.Option.{same_Some, slice_get-map}
@@ -15,7 +16,8 @@ use Rattle.club_core.specs.declared.rows.OutsideEnd.{OutsideEnd}
 use Rattle.club_core.specs.declared.rows.OutsideEnd.TheVariants.{Time}
 use Rattle.club_core.specs.Members.{Member}
 use Rattle.club_core.specs.Events.{Event, Terms}
-use Rattle.club_core.specs.Game.{Entry, Game, Clocks, clocks_of, end_with, left_of, moments_of, opening_clocks, rule_end, spend, spend_all, turn_of}
+use Rattle.club_core.specs.Game.{Entry, Game, Clocks, clocks_of, end_with, left_of, moments_of, opening_clocks}
+use Rattle.club_core.specs.Game.{rule_end, spend, spend_all, turn_of}
 use Rattle.club_core.specs.Legal.{IsTimely, IsLegalGame}
 use Rattle.club_core.specs.LegalState.{Each, IsGameOf}
 use Rattle.club_core.specs.State.{draughts, shogi, place, kind_at, terms_at}
@@ -28,7 +30,8 @@ use Rattle.store_tables.specs.declared.rows.MemberRow.{MemberRow}
 use Rattle.store_tables.specs.declared.rows.MoveRow.{MoveRow}
 use Rattle.store_tables.specs.declared.rows.Rows.{Rows}
 use Rattle.store_tables.specs.Cells.{member_cells}
-use Rattle.club_audit.specs.Audit.{AreMembers, AreEvents, GivesTerms, HasPeople, NamesEvent, IsWithin, EndsBy, HaveGame, IsGameAt}
+use Rattle.club_audit.specs.Audit.{AreMembers, AreEvents, GivesTerms, HasPeople, NamesEvent, IsWithin, EndsBy, HaveGame}
+use Rattle.club_audit.specs.Audit.{IsGameAt}
 use Rattle.club_rows.specs.Club.{ClubGame, ClubState, both_games}
 use Rattle.club_rows.specs.Replay.{terms_with}
 use Rattle.club_rows.specs.Shown.{AreRowsOf}
@@ -67,7 +70,8 @@ module _ (members : List Member) (rows : List MemberRow) (are : AreMembers membe
   same-count = numbered-length member_cells member_row 1 rows members are.rows_are
 
 module _ (events : List Event) (rows : List EventRow) (are : AreEvents events rows) where
-  pub event-at : (id : ℕ) (row : EventRow) → place rows id ≡ Some row → (e : Event) × (place events id ≡ Some e) × EventParts id e row
+  pub event-at : (id : ℕ) (row : EventRow) → place rows id ≡ Some row → (e : Event) × (place events id ≡ Some e)
+      × EventParts id e row
   event-at zero row at = cc
   event-at (suc n) row at =
       let (e, stands, cells) = numbered-at event_cells event_row 1 rows events are.rows_are n row at in
@@ -76,7 +80,8 @@ module _ (events : List Event) (rows : List EventRow) (are : AreEvents events ro
       one-more : (n : ℕ) → 1 + n ≡ suc n
       one-more n = omega arith
 
-  pub event-back : (id : ℕ) (e : Event) → place events id ≡ Some e → (row : EventRow) × (place rows id ≡ Some row) × EventParts id e row
+  pub event-back : (id : ℕ) (e : Event) → place events id ≡ Some e → (row : EventRow) × (place rows id ≡ Some row)
+      × EventParts id e row
   event-back zero e at = cc
   event-back (suc n) e at =
       let (row, stands, cells) = numbered-back event_cells event_row 1 rows events are.rows_are n e at in
@@ -87,40 +92,48 @@ module _ (events : List Event) (rows : List EventRow) (are : AreEvents events ro
 
 -- ---- moments
 
-moments-below : (increment : ℕ) (side : Side) (ms : List ℕ) (c : Clocks) → IsTimely increment side ms c → (n m : ℕ) → slice_get ms n ≡ Some m → m ≤ (spend_all increment side ms c).since
+moments-below : (increment : ℕ) (side : Side) (ms : List ℕ) (c : Clocks) → IsTimely increment side ms c → (n m : ℕ)
+    → slice_get ms n ≡ Some m → m ≤ (spend_all increment side ms c).since
 moments-below increment side [] c timely n m at = cc
 moments-below increment side (x ∷ ms) c timely zero m at =
     let same : x ≡ m = same_Some x m at in
     let rest = since-rises increment (other side) ms (spend increment side x c) timely.2 in
     let here = spend-since increment side x c in
     omega (arith, rest, here, same)
-moments-below increment side (x ∷ ms) c timely (suc n) m at = moments-below increment (other side) ms (spend increment side x c) timely.2 n m at
+moments-below increment side (x ∷ ms) c timely (suc n) m at =
+    moments-below increment (other side) ms (spend increment side x c) timely.2 n m at
 
-since-within : (increment : ℕ) (side : Side) (ms : List ℕ) (c : Clocks) (last : ℕ) → c.since ≤ last → ((n m : ℕ) → slice_get ms n ≡ Some m → m ≤ last) → (spend_all increment side ms c).since ≤ last
+since-within : (increment : ℕ) (side : Side) (ms : List ℕ) (c : Clocks) (last : ℕ) → c.since ≤ last
+    → ((n m : ℕ) → slice_get ms n ≡ Some m → m ≤ last) → (spend_all increment side ms c).since ≤ last
 since-within increment side [] c last within each = within
 since-within increment side (m ∷ ms) c last within each =
     let here = spend-since increment side m c in
     let first = each 0 m refl in
-    since-within increment (other side) ms (spend increment side m c) last (omega (arith, here, first)) (λ n x at. each (suc n) x at)
+    since-within increment (other side) ms (spend increment side m c) last (omega (arith, here, first))
+    (λ n x at. each (suc n) x at)
 
-moment-in : {M : Type 0} (es : List (Entry M)) (n m : ℕ) → slice_get (map (λ e. e.moment) es) n ≡ Some m → (e : Entry M) × (slice_get es n ≡ Some e) × (e.moment ≡ m)
+moment-in : {M : Type 0} (es : List (Entry M)) (n m : ℕ) → slice_get (map (λ e. e.moment) es) n ≡ Some m → (e : Entry M)
+    × (slice_get es n ≡ Some e) × (e.moment ≡ m)
 moment-in [] n m at = cc
 moment-in (e ∷ es) zero m at = (e, refl, same_Some e.moment m at)
 moment-in (e ∷ es) (suc n) m at = moment-in es n m at
 
 -- ---- the end
 
-outside-end : {E : Type 0} (e : Option E) (o : Option OutsideEnd) (end : OutsideEnd) → e ≡ None → o ≡ Some end → end_with e o ≡ Some (Outside end)
+outside-end : {E : Type 0} (e : Option E) (o : Option OutsideEnd) (end : OutsideEnd) → e ≡ None → o ≡ Some end
+    → end_with e o ≡ Some (Outside end)
 outside-end e o end none some = rw (none, some) refl
 
-end-outside : {E : Type 0} (e : Option E) (o : Option OutsideEnd) (end : OutsideEnd) → end_with e o ≡ Some (Outside end) → o ≡ Some end
+end-outside : {E : Type 0} (e : Option E) (o : Option OutsideEnd) (end : OutsideEnd) → end_with e o ≡ Some (Outside end)
+    → o ≡ Some end
 end-outside (Some e) o end is = cc
 end-outside None (Some o) end is = cc
 end-outside None None end is = cc
 
 -- ---- one game by its view
 
-module _ {R P M E T : Type 0} (rules : GameRules P M E T) (terms : Terms) (game : Game M) (view : GameView R P M E T) (shows : Shows rules game view) (terms_are : terms_of view ≡ terms) where
+module _ {R P M E T : Type 0} (rules : GameRules P M E T) (terms : Terms) (game : Game M) (view : GameView R P M E T)
+    (shows : Shows rules game view) (terms_are : terms_of view ≡ terms) where
   row-of : IsRowOf rules terms game view.row
   row-of = subst (λ t. IsRowOf rules t game view.row) terms_are shows.row
 
@@ -132,12 +145,15 @@ module _ {R P M E T : Type 0} (rules : GameRules P M E T) (terms : Terms) (game 
       let rises = since-rises terms.increment First (moments_of game) (opening_clocks game terms) legal.timely in
       omega (arith, rises, since-is, within)
 
-  pub entries-within : (last : ℕ) → IsLegalGame rules terms game → view.row.since ≤ last → Each (λ e. e.moment ≤ last) game.entries
+  pub entries-within : (last : ℕ) → IsLegalGame rules terms game → view.row.since ≤ last
+      → Each (λ e. e.moment ≤ last) game.entries
   entries-within last legal within n e at =
-      let below = moments-below terms.increment First (moments_of game) (opening_clocks game terms) legal.timely n e.moment (slice_get-map (λ x. x.moment) game.entries n ∙ ap (option_map (λ x. x.moment)) at) in
+      let below = moments-below terms.increment First (moments_of game) (opening_clocks game terms) legal.timely n
+      e.moment (slice_get-map (λ x. x.moment) game.entries n ∙ ap (option_map (λ x. x.moment)) at) in
       omega (arith, below, since-is, within)
 
-  left-is : left_of (rules.turn view.position) (clocks_in view.row) ≡ left_of (turn_of rules game) (clocks_of game terms)
+  left-is : left_of (rules.turn view.position) (clocks_in view.row)
+      ≡ left_of (turn_of rules game) (clocks_of game terms)
   left-is = λ i. left_of (rules.turn (shows.position i)) (row-of.clocks i)
 
   -- a game whose view is within the last moment ends by it
@@ -146,21 +162,27 @@ module _ {R P M E T : Type 0} (rules : GameRules P M E T) (terms : Terms) (game 
     start = start-within last legal within.since;
     entries = entries-within last legal within.since;
     lost_by_time = λ lost.
-        let late = within.lost_by_time (row-of.end ∙ outside-end (rule_end rules game) game.outside Time (legal.outside_alone (some-is game.outside Time lost)) lost) in
+        let late = within.lost_by_time (row-of.end
+        ∙ outside-end (rule_end rules game) game.outside Time (legal.outside_alone (some-is game.outside Time lost))
+        lost) in
         subst (λ n. n < last) (λ i. since-is i + left-is i) late;
   }
 
   pub view-within : (last : ℕ) → EndsBy rules terms last game → IsWithin rules view last
   view-within last ends = record {
     since =
-        let most = since-within terms.increment First (moments_of game) (opening_clocks game terms) last ends.start (λ n m at. let (e, stands, is) = moment-in game.entries n m at in subst (λ k. k ≤ last) is (ends.entries n e stands)) in
+        let most = since-within terms.increment First (moments_of game) (opening_clocks game terms) last ends.start
+        (λ n m at. let (e, stands, is) = moment-in game.entries n m at in
+        subst (λ k. k ≤ last) is (ends.entries n e stands)) in
         omega (arith, most, since-is);
-    lost_by_time = λ end. subst (λ n. n < last) (λ i. sym since-is i + sym left-is i) (ends.lost_by_time (end-outside (rule_end rules game) game.outside Time (sym row-of.end ∙ end)));
+    lost_by_time = λ end. subst (λ n. n < last) (λ i. sym since-is i + sym left-is i)
+        (ends.lost_by_time (end-outside (rule_end rules game) game.outside Time (sym row-of.end ∙ end)));
   }
 
 -- ---- a game of the club
 
-terms-are : (e : Event) (row : EventRow) (id budget increment : ℕ) → EventParts id e row → GivesTerms row budget increment → e.terms ≡ terms_with budget increment
+terms-are : (e : Event) (row : EventRow) (id budget increment : ℕ) → EventParts id e row
+    → GivesTerms row budget increment → e.terms ≡ terms_with budget increment
 terms-are e row id budget increment parts gives =
     let b : e.terms.budget ≡ budget = same-pos _ _ (sym parts.budget_is ∙ gives.budget_is) in
     let i : e.terms.increment ≡ increment = same-pos _ _ (sym parts.increment_is ∙ gives.increment_is) in
@@ -170,10 +192,14 @@ terms-are e row id budget increment parts gives =
 abbrev pub HasKind : EventRow → GameKind → Type 0
 HasKind row kind = row.game ≡ pos (kind_number kind)
 
-module _ (s : ClubState) (rows : Rows) (people : HasPeople s rows) (index : ℕ) (row : GameRecord) (moves : List MoveRow) where
+module _ (s : ClubState) (rows : Rows) (people : HasPeople s rows) (index : ℕ) (row : GameRecord)
+    (moves : List MoveRow) where
   -- the rows of a game of one kind that is played in an event of this kind are those of a game of the club
-  pub game-shown : {P M E T : Type 0} {rules : GameRules P M E T} {kind : GameKind} → Kind rules kind → (event first second : ℕ) (e : EventRow) (budget increment : ℕ) → NamesEvent rows row event first second e → GivesTerms e budget increment → HasKind e kind → row.id ≡ pos (index + 1)
-      → HaveGame rules (terms_with budget increment) s.last row moves → (g : ClubGame) × IsGameAt s (index + 1) row moves g
+  pub game-shown : {P M E T : Type 0} {rules : GameRules P M E T} {kind : GameKind} → Kind rules kind
+      → (event first second : ℕ) (e : EventRow) (budget increment : ℕ) → NamesEvent rows row event first second e
+      → GivesTerms e budget increment → HasKind e kind → row.id ≡ pos (index + 1)
+      → HaveGame rules (terms_with budget increment) s.last row moves → (g : ClubGame)
+      × IsGameAt s (index + 1) row moves g
   game-shown {rules = rules} {kind = kind} k event first second e budget increment named gives has_kind id_is have =
       let terms = terms_with budget increment in
       let game = have.game in
@@ -195,30 +221,40 @@ module _ (s : ClubState) (rows : Rows) (people : HasPeople s rows) (index : ℕ)
             in_event = stands;
             of_kind = kinds-alike known.game kind (same-pos _ _ (sym parts.game_is ∙ has_kind));
             legal = subst (λ t. IsLegalGame rules t game) (sym same) are.legal;
-            first = subst (λ n. IsSome (place s.members n)) (sym first_same) (placed-some s.members first named.first_low (omega (arith, named.first_high, count)));
-            second = subst (λ n. IsSome (place s.members n)) (sym second_same) (placed-some s.members second named.second_low (omega (arith, named.second_high, count)));
+            first = subst (λ n. IsSome (place s.members n)) (sym first_same)
+                (placed-some s.members first named.first_low (omega (arith, named.first_high, count)));
+            second = subst (λ n. IsSome (place s.members n)) (sym second_same)
+                (placed-some s.members second named.second_low (omega (arith, named.second_high, count)));
             key = are.fits.key;
             start = have.within.start;
             entries = have.within.entries;
-            lost_by_time = subst (λ t. game.outside ≡ Some Time → (clocks_of game t).since + left_of (turn_of rules game) (clocks_of game t) < s.last) (sym same) have.within.lost_by_time;
+            lost_by_time =
+                subst
+                (λ t. game.outside ≡ Some Time → (clocks_of game t).since + left_of (turn_of rules game)
+                (clocks_of game t) < s.last) (sym same) have.within.lost_by_time;
           });
-          row_is = are.row ∙ ((λ i. game_row rules (sym by i) (id_same i) game) ∙ sym (k.row s.events (index + 1) game));
-          moves_are = are.moves ∙ ((λ i. move_rows rules (sym by i) (id_same i) game) ∙ sym (k.moves s.events (index + 1) game));
+          row_is = are.row
+              ∙ ((λ i. game_row rules (sym by i) (id_same i) game) ∙ sym (k.row s.events (index + 1) game));
+          moves_are = are.moves
+              ∙ ((λ i. move_rows rules (sym by i) (id_same i) game) ∙ sym (k.moves s.events (index + 1) game));
         },
       )
 
   -- what the rows tell of a game of one kind
-  module _ {P M E T : Type 0} {rules : GameRules P M E T} {kind : GameKind} (k : Kind rules kind) (g : Game M) (is : IsGameAt s (index + 1) row moves (k.into g)) where
+  module _ {P M E T : Type 0} {rules : GameRules P M E T} {kind : GameKind} (k : Kind rules kind) (g : Game M)
+      (is : IsGameAt s (index + 1) row moves (k.into g)) where
     abbrev pub of-game : IsGameOf rules kind s g
     of-game = k.legal s g is.legal
 
     told-at : IsToldBy rules (index + 1) g row
-    told-at = columns-told rules (terms_at (place s.events g.event)) (index + 1) g row (is.row_is ∙ k.row s.events (index + 1) g)
+    told-at = columns-told rules (terms_at (place s.events g.event)) (index + 1) g row
+        (is.row_is ∙ k.row s.events (index + 1) g)
 
     -- the game's event has a row, and its players exist
     pub names-event : (e : EventRow) × NamesEvent rows row g.event g.first g.second e
     names-event =
-        let (e, stands, parts) = event-back s.events rows.events.items people.events g.event of-game.event of-game.in_event in
+        let (e, stands, parts) = event-back s.events rows.events.items people.events g.event of-game.event
+        of-game.in_event in
         let count = same-count s.members rows.members.items people.members in
         let one = some-placed s.members g.first of-game.first in
         let two = some-placed s.members g.second of-game.second in (
@@ -240,7 +276,8 @@ module _ (s : ClubState) (rows : Rows) (people : HasPeople s rows) (index : ℕ)
       named-parts : EventParts g.event of-game.event e
       named-parts =
           let same : event ≡ g.event = same-pos _ _ (sym named.event_is ∙ told-at.numbers.event) in
-          let (known, at, parts) = event-at s.events rows.events.items people.events g.event e (subst (λ n. place rows.events.items n ≡ Some e) same named.row_is) in
+          let (known, at, parts) = event-at s.events rows.events.items people.events g.event e
+          (subst (λ n. place rows.events.items n ≡ Some e) same named.row_is) in
           subst (λ x. EventParts g.event x e) (same_Some known of-game.event (sym at ∙ of-game.in_event)) parts
 
       -- the event gives seconds
@@ -248,7 +285,13 @@ module _ (s : ClubState) (rows : Rows) (people : HasPeople s rows) (index : ℕ)
       gives-terms =
           let parts = named-parts in
           let legal = in-place _ s.events g.event of-game.event people.events.legal of-game.in_event in
-          record { budget_is = parts.budget_is; increment_is = parts.increment_is; has_budget = legal.budget; has_increment = legal.increment }
+          record {
+            budget_is = parts.budget_is;
+            increment_is = parts.increment_is;
+            has_budget =
+                legal.budget;
+            has_increment = legal.increment;
+          }
 
       pub has-kind : HasKind e kind
       has-kind = named-parts.game_is ∙ ap (λ x. pos (kind_number x)) of-game.of_kind
@@ -283,7 +326,8 @@ module _ (s : ClubState) (rows : Rows) (people : HasPeople s rows) (index : ℕ)
                 entries = λ n x at. let most : x.moment ≤ s.last = of-game.entries n x at in omega (arith, most, last);
               };
               row = is.row_is ∙ (k.row s.events (index + 1) g ∙ ap (λ t. game_row rules t (index + 1) g) by-terms);
-              moves = is.moves_are ∙ (k.moves s.events (index + 1) g ∙ ap (λ t. move_rows rules t (index + 1) g) by-terms);
+              moves = is.moves_are
+                  ∙ (k.moves s.events (index + 1) g ∙ ap (λ t. move_rows rules t (index + 1) g) by-terms);
             }
 
         -- the game ends by the club's last moment
@@ -291,17 +335,21 @@ module _ (s : ClubState) (rows : Rows) (people : HasPeople s rows) (index : ℕ)
         in-time = record {
           start = of-game.start;
           entries = of-game.entries;
-          lost_by_time = subst (λ t. g.outside ≡ Some Time → (clocks_of g t).since + left_of (turn_of rules g) (clocks_of g t) < s.last) known-terms of-game.lost_by_time;
+          lost_by_time =
+              subst (λ t. g.outside ≡ Some Time → (clocks_of g t).since + left_of (turn_of rules g) (clocks_of g t)
+              < s.last) known-terms of-game.lost_by_time;
         }
 
   -- ---- a game of either kind
 
-  pub any-names : (g : ClubGame) → IsGameAt s (index + 1) row moves g → (event first second : ℕ) × (e : EventRow) × NamesEvent rows row event first second e
+  pub any-names : (g : ClubGame) → IsGameAt s (index + 1) row moves g → (event first second : ℕ) × (e : EventRow)
+      × NamesEvent rows row event first second e
   any-names (draughts g) is = let (e, named) = names-event in_draughts g is in (g.event, g.first, g.second, e, named)
   any-names (shogi g) is = let (e, named) = names-event in_shogi g is in (g.event, g.first, g.second, e, named)
 
   module _ (event first second : ℕ) (e : EventRow) (named : NamesEvent rows row event first second e) where
-    pub any-gives : (g : ClubGame) → IsGameAt s (index + 1) row moves g → (budget increment : ℕ) × GivesTerms e budget increment
+    pub any-gives : (g : ClubGame) → IsGameAt s (index + 1) row moves g → (budget increment : ℕ)
+        × GivesTerms e budget increment
     any-gives (draughts g) is = (_, _, gives-terms in_draughts g is event first second e named)
     any-gives (shogi g) is = (_, _, gives-terms in_shogi g is event first second e named)
 
@@ -309,27 +357,40 @@ module _ (s : ClubState) (rows : Rows) (people : HasPeople s rows) (index : ℕ)
     any-kind (draughts g) is = (Draughts, has-kind in_draughts g is event first second e named)
     any-kind (shogi g) is = (Shogi, has-kind in_shogi g is event first second e named)
 
-    any-event : (g : ClubGame) → IsGameAt s (index + 1) row moves g → (known : Event) × (place s.events (event_in g) ≡ Some known) × (e.game ≡ pos (kind_number known.game))
-    any-event (draughts g) is = (is.legal.event, is.legal.in_event, (named-parts in_draughts g is event first second e named).game_is)
-    any-event (shogi g) is = (is.legal.event, is.legal.in_event, (named-parts in_shogi g is event first second e named).game_is)
+    any-event : (g : ClubGame) → IsGameAt s (index + 1) row moves g → (known : Event)
+        × (place s.events (event_in g) ≡ Some known) × (e.game ≡ pos (kind_number known.game))
+    any-event (draughts g) is =
+        (is.legal.event, is.legal.in_event, (named-parts in_draughts g is event first second e named).game_is)
+    any-event (shogi g) is =
+        (is.legal.event, is.legal.in_event, (named-parts in_shogi g is event first second e named).game_is)
 
     -- in an event of this kind the game is of this kind
-    pub game-in : {P M E T : Type 0} {rules : GameRules P M E T} {kind : GameKind} (k : Kind rules kind) → (g : ClubGame) → IsGameAt s (index + 1) row moves g → HasKind e kind → (game : Game M) × (g ≡ k.into game)
+    pub game-in : {P M E T : Type 0} {rules : GameRules P M E T} {kind : GameKind} (k : Kind rules kind)
+        → (g : ClubGame) → IsGameAt s (index + 1) row moves g → HasKind e kind → (game : Game M) × (g ≡ k.into game)
     game-in {kind = kind} k g is has_kind =
         let (known, at, game_is) = any-event g is in
         k.back s g is.legal (ap kind_at at ∙ kinds-alike known.game kind (same-pos _ _ (sym game_is ∙ has_kind)))
 
     -- and its rows are those of a game of this kind
-    pub rows-in : {P M E T : Type 0} {rules : GameRules P M E T} {kind : GameKind} → Kind rules kind → (g : ClubGame) → IsGameAt s (index + 1) row moves g → (budget increment : ℕ) → GivesTerms e budget increment → HasKind e kind → index < 5000
-        → (game : Game M) × AreRowsOf rules (terms_with budget increment) (index + 1) row moves game × EndsBy rules (terms_with budget increment) s.last game
+    pub rows-in : {P M E T : Type 0} {rules : GameRules P M E T} {kind : GameKind} → Kind rules kind → (g : ClubGame)
+        → IsGameAt s (index + 1) row moves g → (budget increment : ℕ) → GivesTerms e budget increment → HasKind e kind
+        → index < 5000
+        → (game : Game M) × AreRowsOf rules (terms_with budget increment) (index + 1) row moves game
+        × EndsBy rules (terms_with budget increment) s.last game
     rows-in k g is budget increment gives has_kind low =
         let (game, same) = game-in k g is has_kind in
-        let one = subst (IsGameAt s (index + 1) row moves) same is in
-        (game, rows-of k game one event first second e named budget increment gives low, in-time k game one event first second e named budget increment gives)
+        let one = subst (IsGameAt s (index + 1) row moves) same is in (
+          game,
+          rows-of k game one event first second e named budget increment gives low,
+          in-time k game one event first second e named budget increment gives,
+        )
 
     -- its moves are few, and its positions have their rows
-    pub seen-in : {P M E T : Type 0} {rules : GameRules P M E T} {kind : GameKind} → Kind rules kind → (g : ClubGame) → IsGameAt s (index + 1) row moves g → HasKind e kind
-        → (terms : Terms) × (game : Game M) × (length game.entries ≤ 600) × (map move_cells moves ≡ move_rows rules terms (index + 1) game) × (rows_of_seen both_games (index + 1) g ≡ seen_rows rules (index + 1) game)
+    pub seen-in : {P M E T : Type 0} {rules : GameRules P M E T} {kind : GameKind} → Kind rules kind → (g : ClubGame)
+        → IsGameAt s (index + 1) row moves g → HasKind e kind
+        → (terms : Terms) × (game : Game M) × (length game.entries ≤ 600)
+        × (map move_cells moves ≡ move_rows rules terms (index + 1) game)
+        × (rows_of_seen both_games (index + 1) g ≡ seen_rows rules (index + 1) game)
     seen-in k g is has_kind =
         let (game, same) = game-in k g is has_kind in
         let one = subst (IsGameAt s (index + 1) row moves) same is in (

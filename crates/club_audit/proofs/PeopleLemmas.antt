@@ -1,5 +1,6 @@
 -- The members and the events that rows show.
-use Rattle.std.proofs.Common.{◌≡◌, ◌≢◌, ℕ, suc, pos, ◌+◌, ◌≤◌, List, [], ◌∷◌, length, Some, ap, sym, subst, ◌∙◌, arith, inl, inr}
+use Rattle.std.proofs.Common.{◌≡◌, ◌≢◌, ℕ, suc, pos, ◌+◌, ◌≤◌, List, [], ◌∷◌, length, Some, ap, sym, subst, ◌∙◌, arith}
+use Rattle.std.proofs.Common.{inl, inr}
 use Rattle.std.specs.Prelude.{ℤ, slice_get, string_bytes}
 use Rattle.std.proofs.lemmas.Bool.{cases_eq}
 use Rattle.sqlite_value.specs.declared.value.Value.TheVariants.{Int, Text}
@@ -37,12 +38,16 @@ pub record MemberParts (id : ℕ) (m : Member) (r : MemberRow) : Type 0 where
 pub member-parts : (id : ℕ) (m : Member) (r : MemberRow) → member_cells r ≡ member_row id m → MemberParts id m r
 member-parts id m r is = record { id_is = cc; name_is = cc; key_is = cc }
 
-pub member-cells : (id : ℕ) (r : MemberRow) → r.id ≡ pos id → member_cells r ≡ member_row id (record { name = string_bytes r.name; key = string_bytes r.key })
+pub member-cells : (id : ℕ) (r : MemberRow) → r.id ≡ pos id
+    → member_cells r ≡ member_row id (record { name = string_bytes r.name; key = string_bytes r.key })
 member-cells id r is = ap (λ n. Int n ∷ Text (string_bytes r.name) ∷ Text (string_bytes r.key) ∷ []) is
 
-pub members-from : (rows : List MemberRow) → length rows ≤ 200 → ((k : ℕ) (r : MemberRow) → slice_get rows k ≡ Some r → IsMemberAt rows k r) → (ms : List Member) × AreMembers ms rows
+pub members-from : (rows : List MemberRow) → length rows ≤ 200
+    → ((k : ℕ) (r : MemberRow) → slice_get rows k ≡ Some r → IsMemberAt rows k r) → (ms : List Member)
+    × AreMembers ms rows
 members-from rows few each =
-    let made = numbered-of member_cells member_row IsLegalMember 1 rows (λ k r at. let is = each k r at in (is.member, subst (λ n. member_cells r ≡ member_row n is.member) (next-is k) is.cells, is.legal)) in
+    let made = numbered-of member_cells member_row IsLegalMember 1 rows (λ k r at. let is = each k r at in
+    (is.member, subst (λ n. member_cells r ≡ member_row n is.member) (next-is k) is.cells, is.legal)) in
     let ms = made.0 in (
       ms,
       record {
@@ -54,31 +59,47 @@ members-from rows few each =
             let b = numbered-back member_cells member_row 1 rows ms made.1 j y two in
             let p = member-parts _ x a.0 a.2 in
             let q = member-parts _ y b.0 b.2 in
-            ((each i a.0 a.1).others j b.0 b.1).name (apart-ids i j a.0.id b.0.id (p.id_is ∙ ap pos (suc-is i)) (q.id_is ∙ ap pos (suc-is j)) apart) (q.name_is ∙ (sym same ∙ sym p.name_is)));
+            ((each i a.0 a.1).others j b.0 b.1).name
+            (apart-ids i j a.0.id b.0.id (p.id_is ∙ ap pos (suc-is i)) (q.id_is ∙ ap pos (suc-is j)) apart)
+            (q.name_is ∙ (sym same ∙ sym p.name_is)));
         keys = λ i j x y one two same. same-by i j (λ apart.
             let a = numbered-back member_cells member_row 1 rows ms made.1 i x one in
             let b = numbered-back member_cells member_row 1 rows ms made.1 j y two in
             let p = member-parts _ x a.0 a.2 in
             let q = member-parts _ y b.0 b.2 in
-            ((each i a.0 a.1).others j b.0 b.1).key (apart-ids i j a.0.id b.0.id (p.id_is ∙ ap pos (suc-is i)) (q.id_is ∙ ap pos (suc-is j)) apart) (q.key_is ∙ (sym same ∙ sym p.key_is)));
+            ((each i a.0 a.1).others j b.0 b.1).key
+            (apart-ids i j a.0.id b.0.id (p.id_is ∙ ap pos (suc-is i)) (q.id_is ∙ ap pos (suc-is j)) apart)
+            (q.key_is ∙ (sym same ∙ sym p.key_is)));
       },
     )
 
 pub members-count : (ms : List Member) (rows : List MemberRow) → AreMembers ms rows → length rows ≤ 200
 members-count ms rows are = omega (arith, numbered-length member_cells member_row 1 rows ms are.rows_are, are.count)
 
-pub members-at : (ms : List Member) (rows : List MemberRow) → AreMembers ms rows → (k : ℕ) (r : MemberRow) → slice_get rows k ≡ Some r → IsMemberAt rows k r
+pub members-at : (ms : List Member) (rows : List MemberRow) → AreMembers ms rows → (k : ℕ) (r : MemberRow)
+    → slice_get rows k ≡ Some r → IsMemberAt rows k r
 members-at ms rows are k r at =
     let (m, stands, cells) = numbered-at member_cells member_row 1 rows ms are.rows_are k r at in
     let p = member-parts _ m r cells in
-    let place = λ (j : ℕ) (o : MemberRow) (there : slice_get rows j ≡ Some o). numbered-at member_cells member_row 1 rows ms are.rows_are j o there in
+    let place = λ (j : ℕ) (o : MemberRow) (there : slice_get rows j ≡ Some o).
+    numbered-at member_cells member_row 1 rows ms are.rows_are j o there in
     record {
       member = m;
       cells = subst (λ n. member_cells r ≡ member_row n m) (sym (next-is k)) cells;
       legal = are.legal k m stands;
       others = λ j o there. let (n, stands', cells') = place j o there in let q = member-parts _ n o cells' in record {
-        name = λ other same. other (q.id_is ∙ (ap (λ i. pos (1 + i)) (are.names j k n m stands' stands (sym q.name_is ∙ (same ∙ p.name_is))) ∙ sym p.id_is));
-        key = λ other same. other (q.id_is ∙ (ap (λ i. pos (1 + i)) (are.keys j k n m stands' stands (sym q.key_is ∙ (same ∙ p.key_is))) ∙ sym p.id_is));
+        name =
+            λ other same.
+            other
+            (q.id_is
+            ∙ (ap (λ i. pos (1 + i)) (are.names j k n m stands' stands (sym q.name_is ∙ (same ∙ p.name_is)))
+            ∙ sym p.id_is));
+        key =
+            λ other same.
+            other
+            (q.id_is
+            ∙ (ap (λ i. pos (1 + i)) (are.keys j k n m stands' stands (sym q.key_is ∙ (same ∙ p.key_is)))
+            ∙ sym p.id_is));
       };
     }
 
@@ -95,15 +116,20 @@ pub event-parts : (id : ℕ) (e : Event) (r : EventRow) → event_cells r ≡ ev
 event-parts id e r is = record { id_is = cc; name_is = cc; game_is = cc; budget_is = cc; increment_is = cc }
 
 abbrev pub event_told : EventRow → GameKind → ℕ → ℕ → Event
-event_told r kind budget increment = record { name = string_bytes r.name; game = kind; terms = record { budget = budget; increment = increment } }
+event_told r kind budget increment =
+    record { name = string_bytes r.name; game = kind; terms = record { budget = budget; increment = increment } }
 
-pub event-cells : (id budget increment : ℕ) (kind : GameKind) (r : EventRow) → r.id ≡ pos id → r.game ≡ pos (kind_number kind) → r.budget ≡ pos budget → r.increment ≡ pos increment → event_cells r ≡ event_row id (event_told r kind budget increment)
+pub event-cells : (id budget increment : ℕ) (kind : GameKind) (r : EventRow) → r.id ≡ pos id
+    → r.game ≡ pos (kind_number kind) → r.budget ≡ pos budget → r.increment ≡ pos increment
+    → event_cells r ≡ event_row id (event_told r kind budget increment)
 event-cells id budget increment kind r id_is game_is budget_is increment_is =
     λ i. Int (id_is i) ∷ Text (string_bytes r.name) ∷ Int (game_is i) ∷ Int (budget_is i) ∷ Int (increment_is i) ∷ []
 
-pub events-from : (rows : List EventRow) → length rows ≤ 50 → ((k : ℕ) (r : EventRow) → slice_get rows k ≡ Some r → IsEventAt rows k r) → (es : List Event) × AreEvents es rows
+pub events-from : (rows : List EventRow) → length rows ≤ 50
+    → ((k : ℕ) (r : EventRow) → slice_get rows k ≡ Some r → IsEventAt rows k r) → (es : List Event) × AreEvents es rows
 events-from rows few each =
-    let made = numbered-of event_cells event_row IsLegalEvent 1 rows (λ k r at. let is = each k r at in (is.event, subst (λ n. event_cells r ≡ event_row n is.event) (next-is k) is.cells, is.legal)) in
+    let made = numbered-of event_cells event_row IsLegalEvent 1 rows (λ k r at. let is = each k r at in
+    (is.event, subst (λ n. event_cells r ≡ event_row n is.event) (next-is k) is.cells, is.legal)) in
     let es = made.0 in (
       es,
       record {
@@ -115,18 +141,22 @@ events-from rows few each =
             let b = numbered-back event_cells event_row 1 rows es made.1 j y two in
             let p = event-parts _ x a.0 a.2 in
             let q = event-parts _ y b.0 b.2 in
-            (each i a.0 a.1).others j b.0 b.1 (apart-ids i j a.0.id b.0.id (p.id_is ∙ ap pos (suc-is i)) (q.id_is ∙ ap pos (suc-is j)) apart) (q.name_is ∙ (sym same ∙ sym p.name_is)));
+            (each i a.0 a.1).others j b.0 b.1
+            (apart-ids i j a.0.id b.0.id (p.id_is ∙ ap pos (suc-is i)) (q.id_is ∙ ap pos (suc-is j)) apart)
+            (q.name_is ∙ (sym same ∙ sym p.name_is)));
       },
     )
 
 pub events-count : (es : List Event) (rows : List EventRow) → AreEvents es rows → length rows ≤ 50
 events-count es rows are = omega (arith, numbered-length event_cells event_row 1 rows es are.rows_are, are.count)
 
-pub events-at : (es : List Event) (rows : List EventRow) → AreEvents es rows → (k : ℕ) (r : EventRow) → slice_get rows k ≡ Some r → IsEventAt rows k r
+pub events-at : (es : List Event) (rows : List EventRow) → AreEvents es rows → (k : ℕ) (r : EventRow)
+    → slice_get rows k ≡ Some r → IsEventAt rows k r
 events-at es rows are k r at =
     let (e, stands, cells) = numbered-at event_cells event_row 1 rows es are.rows_are k r at in
     let p = event-parts _ e r cells in
-    let place = λ (j : ℕ) (o : EventRow) (there : slice_get rows j ≡ Some o). numbered-at event_cells event_row 1 rows es are.rows_are j o there in
+    let place = λ (j : ℕ) (o : EventRow) (there : slice_get rows j ≡ Some o).
+    numbered-at event_cells event_row 1 rows es are.rows_are j o there in
     record {
       event = e;
       cells = subst (λ n. event_cells r ≡ event_row n e) (sym (next-is k)) cells;
@@ -134,5 +164,8 @@ events-at es rows are k r at =
       others = λ j o there other same.
           let (n, stands', cells') = place j o there in
           let q = event-parts _ n o cells' in
-          other (q.id_is ∙ (ap (λ i. pos (1 + i)) (are.names j k n e stands' stands (sym q.name_is ∙ (same ∙ p.name_is))) ∙ sym p.id_is));
+          other
+          (q.id_is
+          ∙ (ap (λ i. pos (1 + i)) (are.names j k n e stands' stands (sym q.name_is ∙ (same ∙ p.name_is)))
+          ∙ sym p.id_is));
     }

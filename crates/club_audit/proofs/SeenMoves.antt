@@ -1,5 +1,6 @@
 -- The texts of a game's positions, by the rows of its moves.
-use Rattle.std.proofs.Common.{◌≡◌, ℕ, suc, ◌+◌, ◌≤◌, List, [], ◌∷◌, ◌++◌, length, map, take, Some, refl, ap, sym, ◌∙◌, arith, length-take-le}
+use Rattle.std.proofs.Common.{◌≡◌, ℕ, suc, ◌+◌, ◌≤◌, List, [], ◌∷◌, ◌++◌, length, map, take, Some, refl, ap, sym, ◌∙◌}
+use Rattle.std.proofs.Common.{arith, length-take-le}
 use Rattle.std.specs.Prelude.{slice_get, string_bytes}
 use Rattle.std.proofs.lemmas.List.{length-map}
 use Rattle.sqlite_value.specs.declared.value.Value.{Value}
@@ -22,10 +23,13 @@ abbrev text_in : MoveRow → List ℕ
 text_in row = string_bytes row.position
 
 -- the texts up to a row, and with it
-pub texts-step : (start : List ℕ) (moves : List MoveRow) (k : ℕ) (row : MoveRow) → slice_get moves k ≡ Some row → texts_in start (take (k + 1) moves) ≡ texts_in start (take k moves) ++ string_bytes row.position ∷ []
-texts-step start moves k row at = ap (texts_in start) (take-got moves k row at) ∙ ap (λ ts. start ∷ ts) (map-more text_in (take k moves) row)
+pub texts-step : (start : List ℕ) (moves : List MoveRow) (k : ℕ) (row : MoveRow) → slice_get moves k ≡ Some row
+    → texts_in start (take (k + 1) moves) ≡ texts_in start (take k moves) ++ string_bytes row.position ∷ []
+texts-step start moves k row at = ap (texts_in start) (take-got moves k row at)
+    ∙ ap (λ ts. start ∷ ts) (map-more text_in (take k moves) row)
 
-pub texts-length : (start : List ℕ) (moves : List MoveRow) (k : ℕ) → k ≤ length moves → length (texts_in start (take k moves)) ≡ k + 1
+pub texts-length : (start : List ℕ) (moves : List MoveRow) (k : ℕ) → k ≤ length moves
+    → length (texts_in start (take k moves)) ≡ k + 1
 texts-length start moves k low = ap suc (length-map (take k moves) text_in ∙ length-take-le k moves low) ∙ omega arith
 
 heads : (x y : Row) (xs ys : List Row) → x ∷ xs ≡ y ∷ ys → (x ≡ y) × (xs ≡ ys)
@@ -35,24 +39,32 @@ text_same : (a b : List ℕ) → ◌≡◌ {A = Value} (Text a) (Text b) → a �
 text_same a b is = cc
 
 module _ {P M E T : Type 0} (rules : GameRules P M E T) (terms : Terms) (id : ℕ) where
-  last-more : (game : Game M) (e : Entry M) → last_position rules (with_entry game e) ≡ rules.play (last_position rules game) e.made
-  last-more game e = ap (position_after rules rules.start) (map-more (λ (x : Entry M). x.made) game.entries e) ∙ position_after-append rules rules.start (moves_of game) e.made
+  last-more : (game : Game M) (e : Entry M)
+      → last_position rules (with_entry game e) ≡ rules.play (last_position rules game) e.made
+  last-more game e = ap (position_after rules rules.start) (map-more (λ (x : Entry M). x.made) game.entries e)
+      ∙ position_after-append rules rules.start (moves_of game) e.made
 
-  rows-texts : (game : Game M) (es : List (Entry M)) (moves : List MoveRow) → map move_cells moves ≡ entry_rows rules terms id game es
-      → texts_in (rules.write_position (last_position rules game)) moves ≡ map rules.write_position (positions rules (last_position rules game) (map (λ x. x.made) es))
+  rows-texts : (game : Game M) (es : List (Entry M)) (moves : List MoveRow)
+      → map move_cells moves ≡ entry_rows rules terms id game es
+      → texts_in (rules.write_position (last_position rules game)) moves
+      ≡ map rules.write_position (positions rules (last_position rules game) (map (λ x. x.made) es))
   rows-texts game [] [] are = refl
   rows-texts game [] (r ∷ rs) are = cc
   rows-texts game (e ∷ es) [] are = cc
   rows-texts game (e ∷ es) (r ∷ rs) are =
-      let (first, rest) = heads (move_cells r) (entry_row rules terms id game e) (map move_cells rs) (entry_rows rules terms id (with_entry game e) es) are in
-      let text : string_bytes r.position ≡ rules.write_position (last_position rules (with_entry game e)) = text_same _ _ (ap (λ c. column c 5) first) in
+      let (first, rest) = heads (move_cells r) (entry_row rules terms id game e) (map move_cells rs)
+      (entry_rows rules terms id (with_entry game e) es) are in
+      let text : string_bytes r.position ≡ rules.write_position (last_position rules (with_entry game e)) =
+      text_same _ _ (ap (λ c. column c 5) first) in
       ap (λ ts. rules.write_position (last_position rules game) ∷ ts)
       (ap (λ t. t ∷ map text_in rs) text
       ∙ (rows-texts (with_entry game e) es rs rest
       ∙ ap (λ p. map rules.write_position (positions rules p (map (λ (x : Entry M). x.made) es))) (last-more game e)))
 
   -- the start's text and those of the rows of a game's moves are the texts of its positions
-  pub texts-told : (game : Game M) (moves : List MoveRow) (start : List ℕ) → map move_cells moves ≡ move_rows rules terms id game → start ≡ rules.write_position rules.start → texts_in start moves ≡ texts_of rules game
+  pub texts-told : (game : Game M) (moves : List MoveRow) (start : List ℕ)
+      → map move_cells moves ≡ move_rows rules terms id game → start ≡ rules.write_position rules.start
+      → texts_in start moves ≡ texts_of rules game
   texts-told game moves start are is = ap (λ t. texts_in t moves) is ∙ rows-texts (at_start game) game.entries moves are
 
   rows-length : (game : Game M) (es : List (Entry M)) → length (entry_rows rules terms id game es) ≡ length es
@@ -60,5 +72,7 @@ module _ {P M E T : Type 0} (rules : GameRules P M E T) (terms : Terms) (id : �
   rows-length game (e ∷ es) = ap suc (rows-length (with_entry game e) es)
 
   -- there are as many rows as entries
-  pub moves-count : (game : Game M) (moves : List MoveRow) → map move_cells moves ≡ move_rows rules terms id game → length moves ≡ length game.entries
-  moves-count game moves are = sym (length-map moves move_cells) ∙ (ap length are ∙ rows-length (at_start game) game.entries)
+  pub moves-count : (game : Game M) (moves : List MoveRow) → map move_cells moves ≡ move_rows rules terms id game
+      → length moves ≡ length game.entries
+  moves-count game moves are = sym (length-map moves move_cells)
+      ∙ (ap length are ∙ rows-length (at_start game) game.entries)

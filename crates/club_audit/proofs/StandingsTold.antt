@@ -1,5 +1,6 @@
 -- The meetings that the rows of a club's games tell.
-use Rattle.std.proofs.Common.{◌≡◌, ℕ, suc, ◌*◌, ◌<◌, ◌≤◌, ◌^◌, List, [], ◌∷◌, length, map, pos, Option, Some, None, refl, sym, arith, length-append}
+use Rattle.std.proofs.Common.{◌≡◌, ℕ, suc, ◌*◌, ◌<◌, ◌≤◌, ◌^◌, List, [], ◌∷◌, length, map, pos, Option, Some, None}
+use Rattle.std.proofs.Common.{refl, sym, arith, length-append}
 use Rattle.std.specs.List.{flat_map}
 use Rattle.sqlite.specs.Order.{Row}
 use Rattle.squares.specs.declared.sides.Score.{Score}
@@ -15,26 +16,43 @@ use Rattle.club_rows.specs.Tables.{numbered_from, row_of_game}
 use Rattle.club_rows.proofs.ToldLemmas.{IsToldBy, columns-told}
 use Rattle.club_rules.specs.GameRules.{GameRules}
 
-tells : {P M E T : Type 0} (rules : GameRules P M E T) (id : ℕ) (game : Game M) (row : GameRecord) → IsToldBy rules id game row → Tells row (meetings_if (pos game.event) (pos game.first) (pos game.second) (result_of rules game))
+tells : {P M E T : Type 0} (rules : GameRules P M E T) (id : ℕ) (game : Game M) (row : GameRecord)
+    → IsToldBy rules id game row → Tells row
+    (meetings_if (pos game.event) (pos game.first) (pos game.second) (result_of rules game))
 tells rules id game row told =
     let event = sym told.numbers.event in
     let first = sym told.numbers.first in
     let second = sym told.numbers.second in
-    record { score = result_of rules game; result = told.result; met = λ i. meetings_if (event i) (first i) (second i) (result_of rules game) }
+    record {
+      score = result_of rules game;
+      result = told.result;
+      met =
+          λ i. meetings_if (event i) (first i) (second i) (result_of rules game);
+    }
 
 module _ (events : List Event) where
-  game-tells : (id : ℕ) (any : ClubGame) (row : GameRecord) → game_cells row ≡ row_of_game both_games events id any → Tells row (meetings_in both_games any)
-  game-tells id (draughts g) row cells = tells both_games.draughts id g row (columns-told both_games.draughts (terms_at (place events g.event)) id g row cells)
-  game-tells id (shogi g) row cells = tells both_games.shogi id g row (columns-told both_games.shogi (terms_at (place events g.event)) id g row cells)
+  game-tells : (id : ℕ) (any : ClubGame) (row : GameRecord) → game_cells row ≡ row_of_game both_games events id any
+      → Tells row (meetings_in both_games any)
+  game-tells id (draughts g) row cells = tells both_games.draughts id g row
+      (columns-told both_games.draughts (terms_at (place events g.event)) id g row cells)
+  game-tells id (shogi g) row cells = tells both_games.shogi id g row
+      (columns-told both_games.shogi (terms_at (place events g.event)) id g row cells)
 
-  pub games-told : (id : ℕ) (rows : List GameRecord) (games : List ClubGame) → map game_cells rows ≡ numbered_from (row_of_game both_games events) id games → AreTold rows (flat_map (meetings_in both_games) games)
+  pub games-told : (id : ℕ) (rows : List GameRecord) (games : List ClubGame)
+      → map game_cells rows ≡ numbered_from (row_of_game both_games events) id games
+      → AreTold rows (flat_map (meetings_in both_games) games)
   games-told id [] [] are = refl
   games-told id [] (any ∷ games) are = cc
   games-told id (row ∷ rows) [] are = cc
   games-told id (row ∷ rows) (any ∷ games) are =
       let cells : game_cells row ≡ row_of_game both_games events id any = heads are in
-      let rest : map game_cells rows ≡ numbered_from (row_of_game both_games events) (suc id) games = tails are in
-      (meetings_in both_games any, flat_map (meetings_in both_games) games, game-tells id any row cells, games-told (suc id) rows games rest, refl)
+      let rest : map game_cells rows ≡ numbered_from (row_of_game both_games events) (suc id) games = tails are in (
+        meetings_in both_games any,
+        flat_map (meetings_in both_games) games,
+        game-tells id any row cells,
+        games-told (suc id) rows games rest,
+        refl,
+      )
     where
       heads : {x y : Row} {xs ys : List Row} → ◌≡◌ {A = List Row} (x ∷ xs) (y ∷ ys) → x ≡ y
       heads is = cc
@@ -43,7 +61,8 @@ module _ (events : List Event) where
       tails is = cc
 
 -- a game is met by two at most
-few-met : (score : Option Score) (event first second : ℕ) → length (meetings_if (pos event) (pos first) (pos second) score) ≤ 2
+few-met : (score : Option Score) (event first second : ℕ)
+    → length (meetings_if (pos event) (pos first) (pos second) score) ≤ 2
 few-met None event first second = omega arith
 few-met (Some score) event first second = omega arith
 

@@ -95,18 +95,23 @@ pub record NamesEvent (rows : Rows) (game : GameRecord) (event first second : �
   pub second_high : second ≤ length rows.members.items
 
 -- the clocks run from no later than the last moment, and a side that lost by its time had run out of it before then
-pub record IsWithin {R P M E T : Type 0} (rules : GameRules P M E T) (view : GameView R P M E T) (last : ℕ) : Type 0 where
-  pub since : view.row.since ≤ last
-  pub lost_by_time : view.row.end ≡ Some (Outside Time) → view.row.since + left_of (rules.turn view.position) (clocks_in view.row) < last
+pub record IsWithin {R P M E T : Type 0} (rules : GameRules P M E T) (view : GameView R P M E T) (last : ℕ) : Type 0
+  where
+    pub since : view.row.since ≤ last
+    pub lost_by_time : view.row.end ≡ Some (Outside Time)
+        → view.row.since + left_of (rules.turn view.position) (clocks_in view.row) < last
 
 -- no moment of the game is above the last one, and a side that lost by its time had run out of it before then
-pub record EndsBy {P M E T : Type 0} (rules : GameRules P M E T) (terms : Terms) (last : ℕ) (game : Game M) : Type 0 where
-  pub start : game.start ≤ last
-  pub entries : Each (λ e. e.moment ≤ last) game.entries
-  pub lost_by_time : game.outside ≡ Some Time → (clocks_of game terms).since + left_of (turn_of rules game) (clocks_of game terms) < last
+pub record EndsBy {P M E T : Type 0} (rules : GameRules P M E T) (terms : Terms) (last : ℕ) (game : Game M) : Type 0
+  where
+    pub start : game.start ≤ last
+    pub entries : Each (λ e. e.moment ≤ last) game.entries
+    pub lost_by_time : game.outside ≡ Some Time
+        → (clocks_of game terms).since + left_of (turn_of rules game) (clocks_of game terms) < last
 
 -- the rows are those of some legal game of these rules and terms, up to the last moment
-pub record HaveGame {P M E T : Type 0} (rules : GameRules P M E T) (terms : Terms) (last : ℕ) (row : GameRecord) (moves : List MoveRow) : Type 0 where
+pub record HaveGame {P M E T : Type 0} (rules : GameRules P M E T) (terms : Terms) (last : ℕ) (row : GameRecord)
+    (moves : List MoveRow) : Type 0 where
   pub id : ℕ
   pub game : Game M
   pub are : AreRowsOf rules terms id row moves game
@@ -119,13 +124,15 @@ pub record IsGameAt (s : ClubState) (id : ℕ) (row : GameRecord) (moves : List 
   pub moves_are : map move_cells moves ≡ rows_of_moves both_games s.events id game
 
 -- the rows are all those of this game of the club, which has this id: of its positions each once, in whatever order
-pub record AreAllOf (s : ClubState) (id : ℕ) (row : GameRecord) (moves : List MoveRow) (seen : List SeenRow) (game : ClubGame) : Type 0 where
+pub record AreAllOf (s : ClubState) (id : ℕ) (row : GameRecord) (moves : List MoveRow) (seen : List SeenRow)
+    (game : ClubGame) : Type 0 where
   pub at : IsGameAt s id row moves game
   pub seen_are : AreEachOnce (map seen_cells seen) (rows_of_seen both_games id game)
 
 -- ---- a club but for the moves and the positions of its games
 
--- The rows are those of the members, the events and the challenges of a legal club; there are no more games than a club may
+-- The rows are those of the members, the events and the challenges of a legal club; there are no more games than a club
+-- may
 -- have, and no two with one key.
 pub record HaveRegister (rows : Rows) : Type 0 where
   pub state : ClubState

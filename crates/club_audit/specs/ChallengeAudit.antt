@@ -23,7 +23,8 @@ pub record IsRowOfPairing (game : GameRecord) (pairing : Pairing) : Type 0 where
 
 -- a challenge that was accepted names one of the games, of its event and between its two members on their sides
 abbrev pub HasItsGame : List GameRecord → Challenge → Type 0
-HasItsGame games c = (id : ℕ) → c.standing ≡ Accepted id → (game : GameRecord) × (place games id ≡ Some game) × IsRowOfPairing game (pairing_for c)
+HasItsGame games c = (id : ℕ) → c.standing ≡ Accepted id → (game : GameRecord) × (place games id ≡ Some game)
+    × IsRowOfPairing game (pairing_for c)
 
 -- the id is that of one of these
 abbrev pub IsIdAmong : {A : Type 0} → List A → ℕ → Type 0

@@ -33,7 +33,8 @@ pub record Tells (row : GameRecord) (ms : List Meeting) : Type 0 where
 -- those of all the games, one after another
 abbrev pub AreTold : List GameRecord → List Meeting → Type 0
 AreTold [] ms = ms ≡ []
-AreTold (row ∷ rows) ms = (own : List Meeting) × (rest : List Meeting) × Tells row own × AreTold rows rest × (ms ≡ own ++ rest)
+AreTold (row ∷ rows) ms = (own : List Meeting) × (rest : List Meeting) × Tells row own × AreTold rows rest
+    × (ms ≡ own ++ rest)
 
 -- ---- the sums of all pairs
 
@@ -60,4 +61,5 @@ without pair sums other = cond (same_pair pair other) None (sums other)
 -- each row takes the sums of its pair, and none are left
 abbrev pub Clears : (Pair → Option Sums) → List ScoreRow → Type 0
 Clears sums [] = (pair : Pair) → sums pair ≡ None
-Clears sums (row ∷ rows) = (sums (pair_in row) ≡ Some (sums_found (Some row))) × Clears (without (pair_in row) sums) rows
+Clears sums (row ∷ rows) = (sums (pair_in row) ≡ Some (sums_found (Some row)))
+    × Clears (without (pair_in row) sums) rows

@@ -9,7 +9,10 @@ use Rattle.club_core.specs.declared.refusals.Refusal.TheVariants.{UnknownChallen
 use Rattle.club_core.specs.Limits.{most_games, is_challenge_number}
 use Rattle.club_core.specs.Outcome.{Reply, challenge_opened, challenge_withdrawn, accepted}
 use Rattle.club_core.specs.Seats.{are_two}
-use Rattle.club_core.specs.Challenges.{is_open, standing_as, repeat_of_opening, opening_tests, opening_refusal, opens, opening_found, repeat_of_withdrawal, withdrawal_tests, withdrawal_refusal, withdrawal_step, repeat_of_answer, answer_tests, answer_refusal, answers, answer_step}
+use Rattle.club_core.specs.Challenges.{is_open, standing_as, repeat_of_opening, opening_tests, opening_refusal, opens}
+use Rattle.club_core.specs.Challenges.{opening_found, repeat_of_withdrawal, withdrawal_tests, withdrawal_refusal}
+use Rattle.club_core.specs.Challenges.{withdrawal_step, repeat_of_answer, answer_tests, answer_refusal, answers}
+use Rattle.club_core.specs.Challenges.{answer_step}
 use Rattle.club_core.proofs.Lists.{both-true}
 use Rattle.club_core.proofs.Legals.{none-holds, not-some}
 use Rattle.club_core.proofs.Accepts.{unless-accepted, accepted-same, if-accepted}
@@ -26,15 +29,22 @@ pub later-challenge-trans : (a b c : Challenge) → IsLaterChallenge a b → IsL
 later-challenge-trans a b c first second =
     record {
       asks = second.asks ∙ ap (λ u. standing_as u c.standing) first.asks;
-      closed = λ is. let same : b ≡ a = first.closed is in second.closed (ap (λ u. is_open u.standing) same ∙ is) ∙ same;
+      closed = λ is. let same : b ≡ a = first.closed is in
+          second.closed (ap (λ u. is_open u.standing) same ∙ is) ∙ same;
     }
 
 -- an open challenge may be closed
-pub closed-later : (c : Challenge) (standing : Standing) → is_open c.standing ≡ true → IsLaterChallenge c (standing_as c standing)
-closed-later c standing waits = record { asks = refl; closed = λ is. let both : true ≡ false = sym waits ∙ is in absurd cc }
+pub closed-later : (c : Challenge) (standing : Standing) → is_open c.standing ≡ true
+    → IsLaterChallenge c (standing_as c standing)
+closed-later c standing waits = record {
+  asks = refl;
+  closed = λ is. let both : true ≡ false = sym waits ∙ is in
+      absurd cc;
+}
 
 -- a challenge that was opened has the event and the member that were found, and a number that was free
-pub record WasOpened (caller number : ℕ) (event other : Option ℕ) (first : Bool) (under : Option Challenge) (new : Challenge) (reply : Reply) : Type 0 where
+pub record WasOpened (caller number : ℕ) (event other : Option ℕ) (first : Bool) (under : Option Challenge)
+    (new : Challenge) (reply : Reply) : Type 0 where
   pub in_event : event ≡ Some new.event
   pub to_member : other ≡ Some new.other
   pub by_caller : new.member ≡ caller
@@ -46,10 +56,16 @@ pub record WasOpened (caller number : ℕ) (event other : Option ℕ) (first : B
   pub apart : caller ≢ new.other
   pub answer : reply ≡ challenge_opened number
 
-opens-opened : (caller number event : ℕ) (other : Option ℕ) (first : Bool) (under : Option Challenge) (new : Challenge) (reply : Reply) → is_some under ≡ false → (is_challenge_number number && are_two (Some caller) other) ≡ true → opens caller number event other first ≡ accepted new reply → WasOpened caller number (Some event) other first under new reply
+opens-opened : (caller number event : ℕ) (other : Option ℕ) (first : Bool) (under : Option Challenge) (new : Challenge)
+    (reply : Reply) → is_some under ≡ false → (is_challenge_number number && are_two (Some caller) other) ≡ true
+    → opens caller number event other first ≡ accepted new reply
+    → WasOpened caller number (Some event) other first under new reply
 opens-opened caller number event None first under new reply fresh good is = cc
 opens-opened caller number event (Some to) first under new reply fresh good is =
-    let same = accepted-same (record { member = caller; number = number; event = event; other = to; first = first; standing = Open }) new (challenge_opened number) reply is in
+    let same =
+    accepted-same
+    (record { member = caller; number = number; event = event; other = to; first = first; standing = Open }) new
+    (challenge_opened number) reply is in
     let both = both-true (is_challenge_number number) (not (caller == to)) good in
     rw (← same.0)
     (record {
@@ -65,10 +81,13 @@ opens-opened caller number event (Some to) first under new reply fresh good is =
       answer = sym same.1;
     })
 
-pub was-opened : (caller number : ℕ) (event other : Option ℕ) (first : Bool) (under : Option Challenge) (new : Challenge) (reply : Reply) → opening_found caller number event other first under ≡ accepted new reply → WasOpened caller number event other first under new reply
+pub was-opened : (caller number : ℕ) (event other : Option ℕ) (first : Bool) (under : Option Challenge)
+    (new : Challenge) (reply : Reply) → opening_found caller number event other first under ≡ accepted new reply
+    → WasOpened caller number event other first under new reply
 was-opened caller number None other first under new reply is = cc
 was-opened caller number (Some event) other first under new reply is =
-    let parts = unless-accepted (repeat_of_opening event other first under) (opening_refusal caller number other under) (opens caller number event other first) new reply is in
+    let parts = unless-accepted (repeat_of_opening event other first under) (opening_refusal caller number other under)
+    (opens caller number event other first) new reply is in
     let tests = none-holds (opening_tests caller number other under) parts.1 in
     opens-opened caller number event other first under new reply tests.0 (not-false _ tests.1.0) parts.2
 
@@ -80,16 +99,19 @@ pub record WasWithdrawn (under : Option Challenge) (new : Challenge) (reply : Re
   pub stands : standing_as old Withdrawn ≡ new
   pub answer : challenge_withdrawn old.number ≡ reply
 
-pub was-withdrawn : (under : Option Challenge) (new : Challenge) (reply : Reply) → withdrawal_step under ≡ accepted new reply → WasWithdrawn under new reply
+pub was-withdrawn : (under : Option Challenge) (new : Challenge) (reply : Reply)
+    → withdrawal_step under ≡ accepted new reply → WasWithdrawn under new reply
 was-withdrawn None new reply is = cc
 was-withdrawn (Some c) new reply is =
-    let parts = unless-accepted (repeat_of_withdrawal c.number c.standing) (withdrawal_refusal c.standing) _ new reply is in
+    let parts = unless-accepted (repeat_of_withdrawal c.number c.standing) (withdrawal_refusal c.standing) _ new reply
+    is in
     let tests = none-holds (withdrawal_tests c.standing) parts.1 in
     let same = accepted-same (standing_as c Withdrawn) new (challenge_withdrawn c.number) reply parts.2 in
     record { old = c; found = refl; waited = not-false _ tests.0; stands = same.0; answer = same.1 }
 
 -- a challenge that was answered was open, and to the caller
-pub record WasAnswered (under : Option Challenge) (games caller : ℕ) (accept : Bool) (new : Challenge) (reply : Reply) : Type 0 where
+pub record WasAnswered (under : Option Challenge) (games caller : ℕ) (accept : Bool) (new : Challenge)
+    (reply : Reply) : Type 0 where
   pub old : Challenge
   pub found : under ≡ Some old
   pub waited : is_open old.standing ≡ true
@@ -97,10 +119,20 @@ pub record WasAnswered (under : Option Challenge) (games caller : ℕ) (accept :
   pub room : (accept && nat_le most_games games) ≡ false
   pub gives : answers old games accept ≡ accepted new reply
 
-pub was-answered : (under : Option Challenge) (games caller : ℕ) (accept : Bool) (new : Challenge) (reply : Reply) → answer_step under games caller accept ≡ accepted new reply → WasAnswered under games caller accept new reply
+pub was-answered : (under : Option Challenge) (games caller : ℕ) (accept : Bool) (new : Challenge) (reply : Reply)
+    → answer_step under games caller accept ≡ accepted new reply → WasAnswered under games caller accept new reply
 was-answered None games caller accept new reply is = cc
 was-answered (Some c) games caller accept new reply is =
     let asked = if-accepted (c.other == caller) _ UnknownChallenge new reply is in
-    let parts = unless-accepted (repeat_of_answer c.number c.standing accept) (answer_refusal c.standing games accept) (answers c games accept) new reply asked.1 in
+    let parts = unless-accepted (repeat_of_answer c.number c.standing accept) (answer_refusal c.standing games accept)
+    (answers c games accept) new reply asked.1 in
     let tests = none-holds (answer_tests c.standing games accept) parts.1 in
-    record { old = c; found = refl; waited = not-false _ tests.0; to_caller = asked.0; room = tests.1.0; gives = parts.2 }
+    record {
+      old = c;
+      found = refl;
+      waited = not-false _ tests.0;
+      to_caller = asked.0;
+      room = tests.1.0;
+      gives =
+          parts.2;
+    }

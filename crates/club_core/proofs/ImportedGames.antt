@@ -1,5 +1,6 @@
 -- The game of a record is legal, and its result is the record's.
-use Rattle.std.proofs.Common.{◌≡◌, ◌≢◌, ℕ, zero, suc, ◌<◌, ◌≤◌, List, [], ◌∷◌, length, map, take, Option, Some, None, true, false, ◌&&◌, refl, ap, sym, ◌∙◌, subst, arith}
+use Rattle.std.proofs.Common.{◌≡◌, ◌≢◌, ℕ, zero, suc, ◌<◌, ◌≤◌, List, [], ◌∷◌, length, map, take, Option, Some, None}
+use Rattle.std.proofs.Common.{true, false, ◌&&◌, refl, ap, sym, ◌∙◌, subst, arith}
 use Rattle.std.specs.Prelude.{IsSome, nat_le, slice_get}
 use Rattle.std.proofs.lemmas.Bool.Decides.{nat_tests}
 use Rattle.std.proofs.lemmas.List.{length-map, length-take-le}
@@ -27,9 +28,11 @@ pub made-again : {M : Type 0} (moment : ℕ) (ms : List M) → map (λ e. e.made
 made-again moment [] = refl
 made-again moment (m ∷ ms) = ap (λ l. m ∷ l) (made-again moment ms)
 
-pub each-at : {M : Type 0} (moment : ℕ) (ms : List M) (n : ℕ) (e : Entry M) → slice_get (entries_at moment ms) n ≡ Some e → e.moment ≡ moment
+pub each-at : {M : Type 0} (moment : ℕ) (ms : List M) (n : ℕ) (e : Entry M)
+    → slice_get (entries_at moment ms) n ≡ Some e → e.moment ≡ moment
 each-at moment [] n e at = cc
-each-at moment (m ∷ ms) zero e at = let same : record { made = m; moment = moment } ≡ e = cc in ap (λ x. x.moment) (sym same)
+each-at moment (m ∷ ms) zero e at = let same : record { made = m; moment = moment } ≡ e = cc in
+    ap (λ x. x.moment) (sym same)
 each-at moment (m ∷ ms) (suc n) e at = each-at moment ms n e at
 
 -- the clocks after a move run from its moment
@@ -38,10 +41,14 @@ spend-since increment First m c = refl
 spend-since increment Second m c = refl
 
 -- moves at the moment from which the clocks run are made in time
-at-once : {M : Type 0} (increment : ℕ) (side : Side) (moment : ℕ) (ms : List M) (c : Clocks) → c.since ≡ moment → IsTimely increment side (map (λ e. e.moment) (entries_at moment ms)) c
+at-once : {M : Type 0} (increment : ℕ) (side : Side) (moment : ℕ) (ms : List M) (c : Clocks) → c.since ≡ moment
+    → IsTimely increment side (map (λ e. e.moment) (entries_at moment ms)) c
 at-once increment side moment [] c since = tt
-at-once increment side moment (m ∷ ms) c since =
-    (omega (arith, since), omega (arith, since), at-once increment (other side) moment ms (spend increment side moment c) (spend-since increment side moment c))
+at-once increment side moment (m ∷ ms) c since = (
+  omega (arith, since),
+  omega (arith, since),
+  at-once increment (other side) moment ms (spend increment side moment c) (spend-since increment side moment c),
+)
 
 outside-only : {E : Type 0} (end : Option E) (result : Score) → IsSome (recorded_end end result) → end ≡ None
 outside-only None result is = refl
@@ -70,15 +77,19 @@ module _ {P M E T : Type 0} (laws : GameRules P M E T) where
   legal-take (suc k) p [] line = tt
   legal-take (suc k) p (m ∷ ms) line = (line.0, legal-take k (laws.play p m) ms line.1)
 
-  score-of : (end : Option E) (turn : Side) (result : Score) → ((e : E) → end ≡ Some e → result ≡ laws.outcome e turn) → score_with laws (end_with end (recorded_end end result)) turn ≡ Some result
+  score-of : (end : Option E) (turn : Side) (result : Score) → ((e : E) → end ≡ Some e → result ≡ laws.outcome e turn)
+      → score_with laws (end_with end (recorded_end end result)) turn ≡ Some result
   score-of None turn result says = refl
   score-of (Some e) turn result says = ap Some (sym (says e refl))
 
   -- the result of a record's game is the record's
-  pub imported-result : (key : Option (List ℕ)) (pairing : Pairing) (moment : ℕ) (r : Recorded M) → IsGameByRules laws r → result_of laws (imported laws key pairing moment r) ≡ Some r.score
+  pub imported-result : (key : Option (List ℕ)) (pairing : Pairing) (moment : ℕ) (r : Recorded M) → IsGameByRules laws r
+      → result_of laws (imported laws key pairing moment r) ≡ Some r.score
   imported-result key pairing moment r by =
       let end = laws.judge laws.start r.moves in
-      ap (λ ms. score_with laws (end_with (laws.judge laws.start ms) (recorded_end end r.score)) (laws.turn (position_after laws laws.start ms))) (made-again moment r.moves)
+      ap
+      (λ ms. score_with laws (end_with (laws.judge laws.start ms) (recorded_end end r.score))
+      (laws.turn (position_after laws laws.start ms))) (made-again moment r.moves)
       ∙ score-of end (laws.turn (position_after laws laws.start r.moves)) r.score by.score
 
   module _ (are_rules : AreRules laws) where
@@ -89,7 +100,10 @@ module _ {P M E T : Type 0} (laws : GameRules P M E T) where
           | false ↦ λ e.
               let more : ply_limit < length ms = grind (arith, nat_tests, e) in
               let count : length (take ply_limit ms) ≡ ply_limit = length-take-le ply_limit ms (omega (arith, more)) in
-              absurd (some-none (laws.judge laws.start (take ply_limit ms)) (are_rules.ends_at_limit (take ply_limit ms) (legal-take ply_limit laws.start ms line.legal) count) (line.unended ply_limit more))
+              absurd
+              (some-none (laws.judge laws.start (take ply_limit ms))
+              (are_rules.ends_at_limit (take ply_limit ms) (legal-take ply_limit laws.start ms line.legal) count)
+              (line.unended ply_limit more))
         ] refl
 
     same_moves-itself : (ms : List M) → same_moves laws ms ms ≡ true
@@ -97,23 +111,29 @@ module _ {P M E T : Type 0} (laws : GameRules P M E T) where
     same_moves-itself (m ∷ ms) = λ i. (are_rules.same_is m m).1 refl i && same_moves-itself ms i
 
     -- the record is that of its game
-    pub record-of-itself : (key : Option (List ℕ)) (pairing : Pairing) (moment : ℕ) (r : Recorded M) → IsGameByRules laws r → is_record_of laws (imported laws key pairing moment r) r ≡ true
+    pub record-of-itself : (key : Option (List ℕ)) (pairing : Pairing) (moment : ℕ) (r : Recorded M)
+        → IsGameByRules laws r → is_record_of laws (imported laws key pairing moment r) r ≡ true
     record-of-itself key pairing moment r by =
         let moves = ap (λ ms. same_moves laws ms r.moves) (made-again moment r.moves) ∙ same_moves-itself r.moves in
-        let result = ap (λ o. has_score o r.score) (imported-result key pairing moment r by) ∙ same_score-itself r.score in
+        let result = ap (λ o. has_score o r.score) (imported-result key pairing moment r by)
+        ∙ same_score-itself r.score in
         λ i. result i && moves i
 
     -- a record's game is legal
-    pub imported-legal : (terms : Terms) (key : List ℕ) (pairing : Pairing) (moment : ℕ) (r : Recorded M) → IsGameByRules laws r → pairing.first ≢ pairing.second → IsLegalGame laws terms (imported laws (Some key) pairing moment r)
+    pub imported-legal : (terms : Terms) (key : List ℕ) (pairing : Pairing) (moment : ℕ) (r : Recorded M)
+        → IsGameByRules laws r → pairing.first ≢ pairing.second
+        → IsLegalGame laws terms (imported laws (Some key) pairing moment r)
     imported-legal terms key pairing moment r by apart =
         let moves : map (λ e. e.made) (entries_at moment r.moves) ≡ r.moves = made-again moment r.moves in
         let end = laws.judge laws.start r.moves in
-        let count : length (entries_at moment r.moves) ≡ length r.moves = length-map r.moves (λ m. record { made = m; moment = moment }) in
+        let count : length (entries_at moment r.moves) ≡ length r.moves =
+        length-map r.moves (λ m. record { made = m; moment = moment }) in
         let few = within-limit r.moves by.line in
         record {
           line = subst (λ ms. IsPlayedLine laws laws.start ms) (sym moves) by.line;
           plies = omega (arith, count, few);
-          timely = at-once terms.increment First moment r.moves (record { left_first = terms.budget; left_second = terms.budget; since = moment }) refl;
+          timely = at-once terms.increment First moment r.moves
+              (record { left_first = terms.budget; left_second = terms.budget; since = moment }) refl;
           outside_alone = λ some. ap (laws.judge laws.start) moves ∙ outside-only end r.score some;
           offer = tt;
           agreed = λ is. absurd (not-agreed end r.score is);

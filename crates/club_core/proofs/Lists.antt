@@ -1,5 +1,6 @@
 -- Elements of a list that grew at its end or was changed at a place, and those that a search finds.
-use Rattle.std.proofs.Common.{◌≡◌, ℕ, zero, suc, ◌+◌, List, [], ◌∷◌, ◌++◌, length, map, Option, Some, None, Bool, true, false, refl, ap, sym, ◌∙◌, arith, ◌⊎◌, inl, inr, ◌&&◌, ◌||◌}
+use Rattle.std.proofs.Common.{◌≡◌, ℕ, zero, suc, ◌+◌, List, [], ◌∷◌, ◌++◌, length, map, Option, Some, None, Bool, true}
+use Rattle.std.proofs.Common.{false, refl, ap, sym, ◌∙◌, arith, ◌⊎◌, inl, inr, ◌&&◌, ◌||◌}
 use Rattle.std.specs.Prelude.{slice_get, slice_set, IsSome, if◌then◌else◌}
 use Rattle.std.specs.Option.{option_map}
 use Rattle.std.specs.List.{list_any}
@@ -19,11 +20,13 @@ none-rest : (o : Option ℕ) → option_map suc o ≡ None → o ≡ None
 none-rest None is = refl
 none-rest (Some k) is = cc
 
-more-later : (o p : Option ℕ) (id : ℕ) → ((k : ℕ) → o ≡ Some k → p ≡ Some k) → option_map suc o ≡ Some id → option_map suc p ≡ Some id
+more-later : (o p : Option ℕ) (id : ℕ) → ((k : ℕ) → o ≡ Some k → p ≡ Some k) → option_map suc o ≡ Some id
+    → option_map suc p ≡ Some id
 more-later None p id rest is = cc
 more-later (Some k) p id rest is = rw (rest k refl) is
 
-more-here : (b : Bool) (o p : Option ℕ) (id : ℕ) → ((k : ℕ) → o ≡ Some k → p ≡ Some k) → (if b then Some 1 else option_map suc o) ≡ Some id → (if b then Some 1 else option_map suc p) ≡ Some id
+more-here : (b : Bool) (o p : Option ℕ) (id : ℕ) → ((k : ℕ) → o ≡ Some k → p ≡ Some k)
+    → (if b then Some 1 else option_map suc o) ≡ Some id → (if b then Some 1 else option_map suc p) ≡ Some id
 more-here true o p id rest is = is
 more-here false o p id rest is = more-later o p id rest is
 
@@ -37,7 +40,8 @@ both-true false b is = cc
 
 module _ {A : Type 0} where
   -- an element of a list with one more is of the list, or the one
-  pub got-append : (xs : List A) (y : A) (n : ℕ) (x : A) → slice_get (xs ++ y ∷ []) n ≡ Some x → (slice_get xs n ≡ Some x) ⊎ ((n ≡ length xs) × (y ≡ x))
+  pub got-append : (xs : List A) (y : A) (n : ℕ) (x : A) → slice_get (xs ++ y ∷ []) n ≡ Some x
+      → (slice_get xs n ≡ Some x) ⊎ ((n ≡ length xs) × (y ≡ x))
   got-append [] y zero x at = inr (refl, cc)
   got-append [] y (suc n) x at = cc
   got-append (z ∷ zs) y zero x at = inl at
@@ -45,7 +49,8 @@ module _ {A : Type 0} where
       elim (got-append zs y n x at) [ inl old ↦ inl old | inr new ↦ inr (ap suc new.0, new.1) ]
 
   -- an element of a list changed at a place is of the list, or the one put there
-  pub got-set : (xs : List A) (i : ℕ) (y : A) (n : ℕ) (x : A) → slice_get (slice_set xs i y) n ≡ Some x → (slice_get xs n ≡ Some x) ⊎ ((n ≡ i) × (y ≡ x))
+  pub got-set : (xs : List A) (i : ℕ) (y : A) (n : ℕ) (x : A) → slice_get (slice_set xs i y) n ≡ Some x
+      → (slice_get xs n ≡ Some x) ⊎ ((n ≡ i) × (y ≡ x))
   got-set [] i y n x at = inl at
   got-set (z ∷ zs) zero y zero x at = inr (refl, cc)
   got-set (z ∷ zs) zero y (suc n) x at = inl at
@@ -78,7 +83,9 @@ module _ {A : Type 0} where
   each-set P xs i y each new =
       λ n x at. elim (got-set xs i y n x at) [ inl old ↦ each n x old | inr is ↦ rw (← is.1) new ]
 
-  found-later : (test : A → Bool) (x : A) (xs : List A) (id : ℕ) (o : Option ℕ) → ((k : ℕ) → o ≡ Some k → (y : A) × (place xs k ≡ Some y) × (test y ≡ true)) → option_map suc o ≡ Some id → (y : A) × (place (x ∷ xs) id ≡ Some y) × (test y ≡ true)
+  found-later : (test : A → Bool) (x : A) (xs : List A) (id : ℕ) (o : Option ℕ)
+      → ((k : ℕ) → o ≡ Some k → (y : A) × (place xs k ≡ Some y) × (test y ≡ true)) → option_map suc o ≡ Some id
+      → (y : A) × (place (x ∷ xs) id ≡ Some y) × (test y ≡ true)
   found-later test x xs id None rest is = cc
   found-later test x xs id (Some zero) rest is = let (y, stands, passes) = rest zero refl in cc
   found-later test x xs id (Some (suc n)) rest is =
@@ -86,49 +93,62 @@ module _ {A : Type 0} where
       let e : suc (suc n) ≡ id = cc in
       (y, rw (← e) stands, passes)
 
-  found-here : (test : A → Bool) (x : A) (xs : List A) (id : ℕ) (b : Bool) → test x ≡ b → ((k : ℕ) → find_id test xs ≡ Some k → (y : A) × (place xs k ≡ Some y) × (test y ≡ true)) → (if b then Some 1 else option_map suc (find_id test xs)) ≡ Some id → (y : A) × (place (x ∷ xs) id ≡ Some y) × (test y ≡ true)
+  found-here : (test : A → Bool) (x : A) (xs : List A) (id : ℕ) (b : Bool) → test x ≡ b
+      → ((k : ℕ) → find_id test xs ≡ Some k → (y : A) × (place xs k ≡ Some y) × (test y ≡ true))
+      → (if b then Some 1 else option_map suc (find_id test xs)) ≡ Some id → (y : A) × (place (x ∷ xs) id ≡ Some y)
+      × (test y ≡ true)
   found-here test x xs id true passes rest is = let e : 1 ≡ id = cc in (x, rw (← e) refl, passes)
   found-here test x xs id false passes rest is = found-later test x xs id (find_id test xs) rest is
 
   -- what a search by an id finds stands there and passes
-  pub find_id-found : (test : A → Bool) (xs : List A) (id : ℕ) → find_id test xs ≡ Some id → (x : A) × (place xs id ≡ Some x) × (test x ≡ true)
+  pub find_id-found : (test : A → Bool) (xs : List A) (id : ℕ) → find_id test xs ≡ Some id → (x : A)
+      × (place xs id ≡ Some x) × (test x ≡ true)
   find_id-found test [] id is = cc
   find_id-found test (x ∷ xs) id is = found-here test x xs id (test x) refl (find_id-found test xs) is
 
   -- where no element passes, each fails
-  pub list_any-false : (test : A → Bool) (xs : List A) → list_any test xs ≡ false → (n : ℕ) (x : A) → slice_get xs n ≡ Some x → test x ≡ false
+  pub list_any-false : (test : A → Bool) (xs : List A) → list_any test xs ≡ false → (n : ℕ) (x : A)
+      → slice_get xs n ≡ Some x → test x ≡ false
   list_any-false test [] is n x at = cc
   list_any-false test (y ∷ ys) is zero x at = let e : y ≡ x = cc in rw (← e) (or-false (test y) (list_any test ys) is).0
-  list_any-false test (y ∷ ys) is (suc n) x at = list_any-false test ys (or-false (test y) (list_any test ys) is).1 n x at
+  list_any-false test (y ∷ ys) is (suc n) x at =
+      list_any-false test ys (or-false (test y) (list_any test ys) is).1 n x at
 
-  none-here : (test : A → Bool) (y : A) (ys : List A) (b : Bool) → test y ≡ b → (if b then Some 1 else option_map suc (find_id test ys)) ≡ None → (test y ≡ false) × (find_id test ys ≡ None)
+  none-here : (test : A → Bool) (y : A) (ys : List A) (b : Bool) → test y ≡ b
+      → (if b then Some 1 else option_map suc (find_id test ys)) ≡ None → (test y ≡ false) × (find_id test ys ≡ None)
   none-here test y ys true fails is = cc
   none-here test y ys false fails is = (fails, none-rest (find_id test ys) is)
 
   -- where a search finds nothing, each fails
-  pub find_id-none : (test : A → Bool) (xs : List A) → find_id test xs ≡ None → (n : ℕ) (x : A) → slice_get xs n ≡ Some x → test x ≡ false
+  pub find_id-none : (test : A → Bool) (xs : List A) → find_id test xs ≡ None → (n : ℕ) (x : A)
+      → slice_get xs n ≡ Some x → test x ≡ false
   find_id-none test [] is n x at = cc
   find_id-none test (y ∷ ys) is zero x at = let e : y ≡ x = cc in rw (← e) (none-here test y ys (test y) refl is).0
   find_id-none test (y ∷ ys) is (suc n) x at = find_id-none test ys (none-here test y ys (test y) refl is).1 n x at
 
   -- a search in a list that has grown finds the same
-  pub find_id-append : (test : A → Bool) (xs ys : List A) (id : ℕ) → find_id test xs ≡ Some id → find_id test (xs ++ ys) ≡ Some id
+  pub find_id-append : (test : A → Bool) (xs ys : List A) (id : ℕ) → find_id test xs ≡ Some id
+      → find_id test (xs ++ ys) ≡ Some id
   find_id-append test [] ys id is = cc
   find_id-append test (x ∷ xs) ys id is =
       more-here (test x) (find_id test xs) (find_id test (xs ++ ys)) id (find_id-append test xs ys) is
 
-  new-here : (test : A → Bool) (b : Bool) (o p : Option ℕ) (n : ℕ) → (o ≡ None → p ≡ Some (n + 1)) → (if b then Some 1 else option_map suc o) ≡ None → (if b then Some 1 else option_map suc p) ≡ Some (suc n + 1)
+  new-here : (test : A → Bool) (b : Bool) (o p : Option ℕ) (n : ℕ) → (o ≡ None → p ≡ Some (n + 1))
+      → (if b then Some 1 else option_map suc o) ≡ None → (if b then Some 1 else option_map suc p) ≡ Some (suc n + 1)
   new-here test true o p n rest none = cc
   new-here test false o p n rest none = rw (rest (none-rest o none)) (ap Some (omega arith))
 
   -- a search that finds nothing before finds the new element
-  pub find_id-new : (test : A → Bool) (xs : List A) (y : A) → find_id test xs ≡ None → test y ≡ true → find_id test (xs ++ y ∷ []) ≡ Some (length xs + 1)
+  pub find_id-new : (test : A → Bool) (xs : List A) (y : A) → find_id test xs ≡ None → test y ≡ true
+      → find_id test (xs ++ y ∷ []) ≡ Some (length xs + 1)
   find_id-new test [] y none passes = rw passes refl
   find_id-new test (x ∷ xs) y none passes =
-      new-here test (test x) (find_id test xs) (find_id test (xs ++ y ∷ [])) (length xs) (λ e. find_id-new test xs y e passes) none
+      new-here test (test x) (find_id test xs) (find_id test (xs ++ y ∷ [])) (length xs)
+      (λ e. find_id-new test xs y e passes) none
 
   -- what stands in a list stands there after a change at a place, or is the one put there
-  pub set-got : (xs : List A) (i : ℕ) (y : A) (n : ℕ) (x : A) → slice_get xs n ≡ Some x → (slice_get (slice_set xs i y) n ≡ Some x) ⊎ ((n ≡ i) × (slice_get (slice_set xs i y) n ≡ Some y))
+  pub set-got : (xs : List A) (i : ℕ) (y : A) (n : ℕ) (x : A) → slice_get xs n ≡ Some x
+      → (slice_get (slice_set xs i y) n ≡ Some x) ⊎ ((n ≡ i) × (slice_get (slice_set xs i y) n ≡ Some y))
   set-got [] i y n x at = cc
   set-got (z ∷ zs) zero y zero x at = inr (refl, refl)
   set-got (z ∷ zs) zero y (suc n) x at = inl at
@@ -143,17 +163,20 @@ module _ {A : Type 0} where
   put-at (z ∷ zs) (suc i) x y at = put-at zs i x y at
 
   -- what stands in a list of images is the image of what stands there
-  pub map-got : {B : Type 0} (f : A → B) (xs : List A) (n : ℕ) (y : B) → slice_get (map f xs) n ≡ Some y → (x : A) × (slice_get xs n ≡ Some x) × (f x ≡ y)
+  pub map-got : {B : Type 0} (f : A → B) (xs : List A) (n : ℕ) (y : B) → slice_get (map f xs) n ≡ Some y → (x : A)
+      × (slice_get xs n ≡ Some x) × (f x ≡ y)
   map-got f [] n y at = cc
   map-got f (x ∷ xs) zero y at = (x, refl, cc)
   map-got f (x ∷ xs) (suc n) y at = map-got f xs n y at
 
-  pub map-at : {B : Type 0} (f : A → B) (xs : List A) (n : ℕ) (x : A) → slice_get xs n ≡ Some x → slice_get (map f xs) n ≡ Some (f x)
+  pub map-at : {B : Type 0} (f : A → B) (xs : List A) (n : ℕ) (x : A) → slice_get xs n ≡ Some x
+      → slice_get (map f xs) n ≡ Some (f x)
   map-at f [] n x at = cc
   map-at f (z ∷ zs) zero x at = let e : z ≡ x = cc in rw e refl
   map-at f (z ∷ zs) (suc n) x at = map-at f zs n x at
 
-  pub put-at_same : (xs : List A) (i j : ℕ) (x y : A) → i ≡ j → slice_get xs j ≡ Some x → slice_get (slice_set xs i y) j ≡ Some y
+  pub put-at_same : (xs : List A) (i j : ℕ) (x y : A) → i ≡ j → slice_get xs j ≡ Some x
+      → slice_get (slice_set xs i y) j ≡ Some y
   put-at_same xs i j x y same at = rw same (put-at xs j x y at)
 
   pub at-last : (xs : List A) (y : A) → slice_get (xs ++ y ∷ []) (length xs) ≡ Some y
@@ -161,17 +184,22 @@ module _ {A : Type 0} where
   at-last (x ∷ xs) y = at-last xs y
 
   -- a search finds the same in a list whose elements at the same places answer the same
-  pub find_id-pointwise : (test : A → Bool) (xs ys : List A) (id : ℕ) → ((n : ℕ) (x : A) → slice_get xs n ≡ Some x → (y : A) × (slice_get ys n ≡ Some y) × (test y ≡ test x)) → find_id test xs ≡ Some id → find_id test ys ≡ Some id
+  pub find_id-pointwise : (test : A → Bool) (xs ys : List A) (id : ℕ)
+      → ((n : ℕ) (x : A) → slice_get xs n ≡ Some x → (y : A) × (slice_get ys n ≡ Some y) × (test y ≡ test x))
+      → find_id test xs ≡ Some id → find_id test ys ≡ Some id
   find_id-pointwise test [] ys id same is = cc
   find_id-pointwise test (x ∷ xs) [] id same is = let (y, at, _) = same 0 x refl in cc
   find_id-pointwise test (x ∷ xs) (y ∷ ys) id same is =
       let (z, at, passes) = same 0 x refl in
       let e : y ≡ z = cc in
       let one : test y ≡ test x = ap test e ∙ passes in
-      rw one (more-here (test x) (find_id test xs) (find_id test ys) id (λ k. find_id-pointwise test xs ys k (λ n. same (suc n))) is)
+      rw one
+      (more-here (test x) (find_id test xs) (find_id test ys) id
+      (λ k. find_id-pointwise test xs ys k (λ n. same (suc n))) is)
 
 module _ {A B : Type 0} (part : A → B) where
-  pub are_apart-append : (xs : List A) (y : A) → AreApart part xs → ((n : ℕ) (x : A) → slice_get xs n ≡ Some x → part x ≡ part y → ⊥) → AreApart part (xs ++ y ∷ [])
+  pub are_apart-append : (xs : List A) (y : A) → AreApart part xs
+      → ((n : ℕ) (x : A) → slice_get xs n ≡ Some x → part x ≡ part y → ⊥) → AreApart part (xs ++ y ∷ [])
   are_apart-append xs y apart new =
       λ i j a b at_i at_j same.
       elim (got-append xs y i a at_i) [
@@ -186,7 +214,9 @@ module _ {A B : Type 0} (part : A → B) where
       ]
 
 module _ {A B : Type 0} (part : A → Option B) where
-  pub are_apart_if_any-append : (xs : List A) (y : A) → AreApartIfAny part xs → ((n : ℕ) (x : A) (b : B) → slice_get xs n ≡ Some x → part x ≡ Some b → part y ≡ Some b → ⊥) → AreApartIfAny part (xs ++ y ∷ [])
+  pub are_apart_if_any-append : (xs : List A) (y : A) → AreApartIfAny part xs
+      → ((n : ℕ) (x : A) (b : B) → slice_get xs n ≡ Some x → part x ≡ Some b → part y ≡ Some b → ⊥)
+      → AreApartIfAny part (xs ++ y ∷ [])
   are_apart_if_any-append xs y apart new =
       λ i j a b key at_i at_j key_i key_j.
       elim (got-append xs y i a at_i) [
@@ -200,7 +230,8 @@ module _ {A B : Type 0} (part : A → Option B) where
         ]
       ]
 
-  pub are_apart_if_any-set : (xs : List A) (k : ℕ) (y old : A) → slice_get xs k ≡ Some old → part y ≡ part old → AreApartIfAny part xs → AreApartIfAny part (slice_set xs k y)
+  pub are_apart_if_any-set : (xs : List A) (k : ℕ) (y old : A) → slice_get xs k ≡ Some old → part y ≡ part old
+      → AreApartIfAny part xs → AreApartIfAny part (slice_set xs k y)
   are_apart_if_any-set xs k y old at_k same apart =
       λ i j a b key at_i at_j key_i key_j.
       elim (got-set xs k y i a at_i) [

@@ -1,5 +1,7 @@
 -- What follows from a game that one more move was played in, and from a move that was played before.
-use Rattle.std.proofs.Common.{◌≡◌, ◌≢◌, ℕ, zero, suc, ◌+◌, ◌-◌, ◌<◌, ◌≤◌, List, [], ◌∷◌, ◌++◌, length, map, take, Option, Some, None, Ok, true, ◌&&◌, refl, ap, sym, subst, ◌∙◌, arith, add-one, sub-one, length-append}
+use Rattle.std.proofs.Common.{◌≡◌, ◌≢◌, ℕ, zero, suc, ◌+◌, ◌-◌, ◌<◌, ◌≤◌, List, [], ◌∷◌, ◌++◌, length, map, take}
+use Rattle.std.proofs.Common.{Option, Some, None, Ok, true, ◌&&◌, refl, ap, sym, subst, ◌∙◌, arith, add-one, sub-one}
+use Rattle.std.proofs.Common.{length-append}
 use Rattle.std.specs.Prelude.{slice_get}
 use Rattle.std.specs.Option.{option_map}
 use Rattle.std.proofs.Math.Seq.{take-length}
@@ -17,26 +19,34 @@ use Rattle.club_core.specs.declared.rows.OutsideEnd.{OutsideEnd}
 use Rattle.club_core.specs.declared.rows.Asked.{Asked}
 use Rattle.club_core.specs.Events.{Terms}
 use Rattle.club_core.specs.Outcome.{MoveReply, moved}
-use Rattle.club_core.specs.Game.{Game, Clocks, turns, spend, spend_all, moves_of, clocks_of, last_position, rule_end, end_of, turn_of, result_of, end_with, score_with, left_of, side_after, game_at}
+use Rattle.club_core.specs.Game.{Game, Clocks, turns, spend, spend_all, moves_of, clocks_of, last_position, rule_end}
+use Rattle.club_core.specs.Game.{end_of, turn_of, result_of, end_with, score_with, left_of, side_after, game_at}
 use Rattle.club_core.specs.Legal.{IsLegalGame}
 use Rattle.club_core.specs.Step.{played, move_at, repeat_of, reply_of_move, reads_as}
 use Rattle.club_core.specs.View.{IsAsked, rule_in}
 
 -- one more move spends from the side whose turn it is
-pub spend_all-append : (increment : ℕ) (s : Side) (ms : List ℕ) (m : ℕ) (c : Clocks) → spend_all increment s (ms ++ m ∷ []) c ≡ spend increment (turns (length ms) s) m (spend_all increment s ms c)
+pub spend_all-append : (increment : ℕ) (s : Side) (ms : List ℕ) (m : ℕ) (c : Clocks)
+    → spend_all increment s (ms ++ m ∷ []) c ≡ spend increment (turns (length ms) s) m (spend_all increment s ms c)
 spend_all-append increment s [] m c = refl
 spend_all-append increment s (x ∷ ms) m c = spend_all-append increment (other s) ms m (spend increment s x c)
 
 -- on a legal line the side to move is the one after that many plies
-pub turn-is : {P M E T : Type 0} (game_rules : GameRules P M E T) → ((p : P) (m : M) → game_rules.check p m ≡ Ok tt → game_rules.turn (game_rules.play p m) ≡ other (game_rules.turn p)) → (p : P) (ms : List M) → IsLegalLine game_rules p ms → game_rules.turn (position_after game_rules p ms) ≡ turns (length ms) (game_rules.turn p)
+pub turn-is : {P M E T : Type 0} (game_rules : GameRules P M E T)
+    → ((p : P) (m : M) → game_rules.check p m ≡ Ok tt
+    → game_rules.turn (game_rules.play p m) ≡ other (game_rules.turn p)) → (p : P) (ms : List M)
+    → IsLegalLine game_rules p ms → game_rules.turn (position_after game_rules p ms)
+    ≡ turns (length ms) (game_rules.turn p)
 turn-is game_rules passes p [] line = refl
-turn-is game_rules passes p (m ∷ ms) line = turn-is game_rules passes (game_rules.play p m) ms line.1 ∙ ap (turns (length ms)) (passes p m line.0)
+turn-is game_rules passes p (m ∷ ms) line = turn-is game_rules passes (game_rules.play p m) ms line.1
+    ∙ ap (turns (length ms)) (passes p m line.0)
 
 module _ {M : Type 0} (game : Game M) (m : M) (moment : ℕ) where
   pub moves_of-played : moves_of (played game m moment) ≡ moves_of game ++ m ∷ []
   moves_of-played = map-append (λ e. e.made) game.entries (record { made = m; moment = moment } ∷ [])
 
-  pub clocks_of-played : (terms : Terms) → clocks_of (played game m moment) terms ≡ spend terms.increment (turns (length game.entries) First) moment (clocks_of game terms)
+  pub clocks_of-played : (terms : Terms) → clocks_of (played game m moment) terms
+      ≡ spend terms.increment (turns (length game.entries) First) moment (clocks_of game terms)
   clocks_of-played terms = simp (map-append, spend_all-append, length-map)
 
 -- the list before its last element, and with it
@@ -52,7 +62,8 @@ take-whole xs x =
     rw (← count) (take-length (xs ++ x ∷ []))
 
 -- replies that show the same are one
-pub moved-same : (a b : MoveReply) → a.ply ≡ b.ply → a.text ≡ b.text → a.left ≡ b.left → a.position ≡ b.position → a.end ≡ b.end → moved a ≡ moved b
+pub moved-same : (a b : MoveReply) → a.ply ≡ b.ply → a.text ≡ b.text → a.left ≡ b.left → a.position ≡ b.position
+    → a.end ≡ b.end → moved a ≡ moved b
 moved-same a b ply text left position end =
     ap (λ x. moved (record { ply = x; text = a.text; left = a.left; position = a.position; end = a.end })) ply
     ∙ ap (λ x. moved (record { ply = b.ply; text = x; left = a.left; position = a.position; end = a.end })) text
@@ -65,7 +76,8 @@ outside-alone (Some e) o none = cc
 outside-alone None (Some o) none = cc
 outside-alone None None none = refl
 
-pub score-none : {P M E T : Type 0} (game_rules : GameRules P M E T) (e : Option (GameEnd E)) (turn : Side) → score_with game_rules e turn ≡ None → e ≡ None
+pub score-none : {P M E T : Type 0} (game_rules : GameRules P M E T) (e : Option (GameEnd E)) (turn : Side)
+    → score_with game_rules e turn ≡ None → e ≡ None
 score-none game_rules None turn none = refl
 score-none game_rules (Some e) turn none = cc
 
@@ -79,14 +91,19 @@ at-end (y ∷ xs) x = at-end xs x
 
 module _ {P M E T : Type 0} (game_rules : GameRules P M E T) (game : Game M) (m : M) (moment : ℕ) where
   pub last-played : last_position game_rules (played game m moment) ≡ game_rules.play (last_position game_rules game) m
-  last-played = ap (position_after game_rules game_rules.start) (moves_of-played game m moment) ∙ position_after-append game_rules game_rules.start (moves_of game) m
+  last-played = ap (position_after game_rules game_rules.start) (moves_of-played game m moment)
+      ∙ position_after-append game_rules game_rules.start (moves_of game) m
 
-  pub rule_end-played : rule_end game_rules (played game m moment) ≡ game_rules.judge game_rules.start (moves_of game ++ m ∷ [])
+  pub rule_end-played : rule_end game_rules (played game m moment)
+      ≡ game_rules.judge game_rules.start (moves_of game ++ m ∷ [])
   rule_end-played = ap (game_rules.judge game_rules.start) (moves_of-played game m moment)
 
-  pub end-played : result_of game_rules game ≡ None → end_of game_rules (played game m moment) ≡ option_map Rule (game_rules.judge game_rules.start (moves_of game ++ m ∷ []))
+  pub end-played : result_of game_rules game ≡ None
+      → end_of game_rules (played game m moment) ≡ option_map Rule
+      (game_rules.judge game_rules.start (moves_of game ++ m ∷ []))
   end-played running =
-      let none : game.outside ≡ None = outside-alone _ _ (score-none game_rules (end_of game_rules game) (turn_of game_rules game) running) in
+      let none : game.outside ≡ None = outside-alone _ _
+      (score-none game_rules (end_of game_rules game) (turn_of game_rules game) running) in
       ap (λ e. end_with e game.outside) rule_end-played
       ∙ ap (end_with (game_rules.judge game_rules.start (moves_of game ++ m ∷ []))) none
       ∙ end_with-None (game_rules.judge game_rules.start (moves_of game ++ m ∷ []))
@@ -97,24 +114,32 @@ module _ {P M E T : Type 0} (game_rules : GameRules P M E T) (game : Game M) (m 
       rw (moves_of-played game m moment, ← count) (at-end (moves_of game) m)
 
 -- the laws of the rules: First moves first, and a legal move passes the turn
-module _ {P M E T : Type 0} (game_rules : GameRules P M E T) (passes : (p : P) (n : M) → game_rules.check p n ≡ Ok tt → game_rules.turn (game_rules.play p n) ≡ other (game_rules.turn p)) (starts : game_rules.turn game_rules.start ≡ First) (game : Game M) (line : IsLegalLine game_rules game_rules.start (map (λ e. e.made) game.entries)) where
+module _ {P M E T : Type 0} (game_rules : GameRules P M E T)
+    (passes : (p : P) (n : M) → game_rules.check p n ≡ Ok tt
+    → game_rules.turn (game_rules.play p n) ≡ other (game_rules.turn p))
+    (starts : game_rules.turn game_rules.start ≡ First) (game : Game M)
+    (line : IsLegalLine game_rules game_rules.start (map (λ e. e.made) game.entries)) where
   pub turn-of-game : turn_of game_rules game ≡ side_after (length game.entries)
   turn-of-game =
-      let turn : turn_of game_rules game ≡ turns (length (moves_of game)) (game_rules.turn game_rules.start) = turn-is game_rules passes game_rules.start (moves_of game) line in
+      let turn : turn_of game_rules game ≡ turns (length (moves_of game)) (game_rules.turn game_rules.start) =
+      turn-is game_rules passes game_rules.start (moves_of game) line in
       let count : length (moves_of game) ≡ length game.entries = simp length-map in
       turn ∙ (ap (λ n. turns n (game_rules.turn game_rules.start)) count ∙ ap (turns (length game.entries)) starts)
 
-  pub clocks-played : (m : M) (moment : ℕ) (terms : Terms) → clocks_of (played game m moment) terms ≡ spend terms.increment (turn_of game_rules game) moment (clocks_of game terms)
+  pub clocks-played : (m : M) (moment : ℕ) (terms : Terms)
+      → clocks_of (played game m moment) terms ≡ spend terms.increment (turn_of game_rules game) moment
+      (clocks_of game terms)
   clocks-played m moment terms = rw turn-of-game (clocks_of-played game m moment terms)
 
   -- the answer to a move that was just played shows the game as it stands now
-  pub reply-played : (m : M) (moment : ℕ) (terms : Terms) → reply_of_move game_rules terms (played game m moment) (length game.entries + 1) m ≡ moved (record {
-    ply = length game.entries + 1;
-    text = game_rules.write_move (last_position game_rules game) m;
-    left = left_of (turn_of game_rules game) (clocks_of (played game m moment) terms);
-    position = game_rules.write_position (last_position game_rules (played game m moment));
-    end = option_map game_rules.end_name (rule_end game_rules (played game m moment));
-  })
+  pub reply-played : (m : M) (moment : ℕ) (terms : Terms)
+      → reply_of_move game_rules terms (played game m moment) (length game.entries + 1) m ≡ moved (record {
+        ply = length game.entries + 1;
+        text = game_rules.write_move (last_position game_rules game) m;
+        left = left_of (turn_of game_rules game) (clocks_of (played game m moment) terms);
+        position = game_rules.write_position (last_position game_rules (played game m moment));
+        end = option_map game_rules.end_name (rule_end game_rules (played game m moment));
+      })
   reply-played m moment terms =
       let before = take-before game.entries (record { made = m; moment = moment }) in
       let after = take-whole game.entries (record { made = m; moment = moment }) in
@@ -122,35 +147,51 @@ module _ {P M E T : Type 0} (game_rules : GameRules P M E T) (passes : (p : P) (
       rw (before, after, count, turn-of-game) refl
 
 -- what the view shows of a ply that was played
-module _ {R P M E T : Type 0} (game_rules : GameRules P M E T) (terms : Terms) (game : Game M) (asked : Asked R P M E T) where
-  asked-some : (ply : ℕ) (o : Option M) → move_at game ply ≡ o → IsAsked game_rules terms game ply o (Some asked) → (n : ℕ) × (ply ≡ suc n) × (slice_get (moves_of game) n ≡ Some asked.made) × (asked.before ≡ last_position game_rules (game_at game n))
+module _ {R P M E T : Type 0} (game_rules : GameRules P M E T) (terms : Terms) (game : Game M)
+    (asked : Asked R P M E T) where
+  asked-some : (ply : ℕ) (o : Option M) → move_at game ply ≡ o → IsAsked game_rules terms game ply o (Some asked)
+      → (n : ℕ) × (ply ≡ suc n) × (slice_get (moves_of game) n ≡ Some asked.made)
+      × (asked.before ≡ last_position game_rules (game_at game n))
   asked-some ply None at shown = absurd shown
   asked-some zero (Some m) at shown = cc
   asked-some (suc n) (Some m) at shown = (n, refl, at ∙ ap Some (sym shown.0), rw sub-one at shown.2)
 
-  after-at : (n : ℕ) (m : M) (before : P) → slice_get (moves_of game) n ≡ Some m → before ≡ last_position game_rules (game_at game n) → last_position game_rules (game_at game (suc n)) ≡ game_rules.play before m
+  after-at : (n : ℕ) (m : M) (before : P) → slice_get (moves_of game) n ≡ Some m
+      → before ≡ last_position game_rules (game_at game n)
+      → last_position game_rules (game_at game (suc n)) ≡ game_rules.play before m
   after-at n m before at is =
       rw (is, ← take-map (λ e. e.made) (suc n) game.entries, ← take-map (λ e. e.made) n game.entries)
       (position_after-take game_rules game_rules.start (moves_of game) n m at)
 
   -- the position after the move of that ply
-  pub asked-after : (ply : ℕ) → IsAsked game_rules terms game ply (move_at game ply) (Some asked) → last_position game_rules (game_at game ply) ≡ game_rules.play asked.before asked.made
+  pub asked-after : (ply : ℕ) → IsAsked game_rules terms game ply (move_at game ply) (Some asked)
+      → last_position game_rules (game_at game ply) ≡ game_rules.play asked.before asked.made
   asked-after ply shown =
       let (n, is, at, before) = asked-some ply (move_at game ply) refl shown in
       ap (λ k. last_position game_rules (game_at game k)) is ∙ after-at n asked.made asked.before at before
 
-  repeat-at : (ply : ℕ) (side : Side) (text : List ℕ) (o : Option M) → IsAsked game_rules terms game ply o (Some asked) → same_side side (side_after (ply - 1)) ≡ true → reads_as game_rules (game_rules.read_move asked.before text) asked.made ≡ true → repeat_of game_rules terms game ply o side text ≡ Some (reply_of_move game_rules terms game ply asked.made)
+  repeat-at : (ply : ℕ) (side : Side) (text : List ℕ) (o : Option M) → IsAsked game_rules terms game ply o (Some asked)
+      → same_side side (side_after (ply - 1)) ≡ true
+      → reads_as game_rules (game_rules.read_move asked.before text) asked.made ≡ true
+      → repeat_of game_rules terms game ply o side text ≡ Some (reply_of_move game_rules terms game ply asked.made)
   repeat-at ply side text None shown turn reads = absurd shown
   repeat-at ply side text (Some m) shown turn reads =
-      let test : (same_side side (side_after (ply - 1)) && reads_as game_rules (game_rules.read_move (last_position game_rules (game_at game (ply - 1))) text) m) ≡ true =
+      let test : (same_side side (side_after (ply - 1)) && reads_as game_rules
+      (game_rules.read_move (last_position game_rules (game_at game (ply - 1))) text) m) ≡ true =
       rw (turn, ← shown.0, ← shown.2) reads in
       rw (test, shown.0) refl
 
   -- the move that is asked of is repeated by its player, where the text reads as it
-  pub repeat-shown : (ply : ℕ) (side : Side) (text : List ℕ) → IsAsked game_rules terms game ply (move_at game ply) (Some asked) → same_side side (side_after (ply - 1)) ≡ true → reads_as game_rules (game_rules.read_move asked.before text) asked.made ≡ true → repeat_of game_rules terms game ply (move_at game ply) side text ≡ Some (reply_of_move game_rules terms game ply asked.made)
+  pub repeat-shown : (ply : ℕ) (side : Side) (text : List ℕ)
+      → IsAsked game_rules terms game ply (move_at game ply) (Some asked) → same_side side (side_after (ply - 1)) ≡ true
+      → reads_as game_rules (game_rules.read_move asked.before text) asked.made ≡ true
+      → repeat_of game_rules terms game ply (move_at game ply) side text
+      ≡ Some (reply_of_move game_rules terms game ply asked.made)
   repeat-shown ply side text = repeat-at ply side text (move_at game ply)
 
-  asked-parts : (ply : ℕ) (o : Option M) → IsAsked game_rules terms game ply o (Some asked) → (asked.left ≡ left_of (side_after (ply - 1)) (clocks_of (game_at game ply) terms)) × (asked.before ≡ last_position game_rules (game_at game (ply - 1))) × (asked.ply ≡ ply)
+  asked-parts : (ply : ℕ) (o : Option M) → IsAsked game_rules terms game ply o (Some asked)
+      → (asked.left ≡ left_of (side_after (ply - 1)) (clocks_of (game_at game ply) terms))
+      × (asked.before ≡ last_position game_rules (game_at game (ply - 1))) × (asked.ply ≡ ply)
   asked-parts ply None shown = absurd shown
   asked-parts ply (Some m) shown = (shown.1, shown.2, shown.3)
 
@@ -158,42 +199,52 @@ module _ {R P M E T : Type 0} (game_rules : GameRules P M E T) (terms : Terms) (
   asked-ply ply shown = (asked-parts ply (move_at game ply) shown).2
 
   -- its answer, by what the view shows of it
-  pub reply-asked : (ply : ℕ) (end : Option E) → IsAsked game_rules terms game ply (move_at game ply) (Some asked) → end ≡ rule_end game_rules (game_at game ply) → reply_of_move game_rules terms game ply asked.made ≡ moved (record {
-    ply = asked.ply;
-    text = game_rules.write_move asked.before asked.made;
-    left = asked.left;
-    position = game_rules.write_position (game_rules.play asked.before asked.made);
-    end = option_map game_rules.end_name end;
-  })
+  pub reply-asked : (ply : ℕ) (end : Option E) → IsAsked game_rules terms game ply (move_at game ply) (Some asked)
+      → end ≡ rule_end game_rules (game_at game ply)
+      → reply_of_move game_rules terms game ply asked.made ≡ moved (record {
+        ply = asked.ply;
+        text = game_rules.write_move asked.before asked.made;
+        left = asked.left;
+        position = game_rules.write_position (game_rules.play asked.before asked.made);
+        end = option_map game_rules.end_name end;
+      })
   reply-asked ply end shown is =
       let (left, before, same) = asked-parts ply (move_at game ply) shown in
-      moved-same _ _ (sym same) (ap (λ p. game_rules.write_move p asked.made) (sym before)) (sym left) (ap game_rules.write_position (asked-after ply shown)) (ap (option_map game_rules.end_name) (sym is))
+      moved-same _ _ (sym same) (ap (λ p. game_rules.write_move p asked.made) (sym before)) (sym left)
+      (ap game_rules.write_position (asked-after ply shown)) (ap (option_map game_rules.end_name) (sym is))
 
 rule_in-end_with : {E : Type 0} (e : Option E) (o : Option OutsideEnd) → rule_in (end_with e o) ≡ e
 rule_in-end_with (Some e) o = refl
 rule_in-end_with None (Some o) = refl
 rule_in-end_with None None = refl
 
-module _ {P M E T : Type 0} (game_rules : GameRules P M E T) (terms : Terms) (game : Game M) (legal : IsLegalGame game_rules terms game) where
+module _ {P M E T : Type 0} (game_rules : GameRules P M E T) (terms : Terms) (game : Game M)
+    (legal : IsLegalGame game_rules terms game) where
   -- the rules gave no end to a proper beginning of a legal game
   pub running-before : (plies : ℕ) → plies < length game.entries → rule_end game_rules (game_at game plies) ≡ None
   running-before plies inside =
       let count : length (moves_of game) ≡ length game.entries = simp length-map in
-      subst (λ ms. game_rules.judge game_rules.start ms ≡ None) (take-map (λ e. e.made) plies game.entries) (legal.line.unended plies (omega (arith, count, inside)))
+      subst (λ ms. game_rules.judge game_rules.start ms ≡ None) (take-map (λ e. e.made) plies game.entries)
+      (legal.line.unended plies (omega (arith, count, inside)))
 
 -- the end at a ply that was played
-module _ {R P M E T : Type 0} (game_rules : GameRules P M E T) (terms : Terms) (game : Game M) (legal : IsLegalGame game_rules terms game) (asked : Asked R P M E T) where
-  pub asked-legal : (ply : ℕ) → IsAsked game_rules terms game ply (move_at game ply) (Some asked) → game_rules.check asked.before asked.made ≡ Ok tt
+module _ {R P M E T : Type 0} (game_rules : GameRules P M E T) (terms : Terms) (game : Game M)
+    (legal : IsLegalGame game_rules terms game) (asked : Asked R P M E T) where
+  pub asked-legal : (ply : ℕ) → IsAsked game_rules terms game ply (move_at game ply) (Some asked)
+      → game_rules.check asked.before asked.made ≡ Ok tt
   asked-legal ply shown =
       let (n, _, at, before) = asked-some game_rules terms game asked ply (move_at game ply) refl shown in
-      rw (before, ← take-map (λ e. e.made) n game.entries) (check-at game_rules game_rules.start (moves_of game) n asked.made legal.line.legal at)
+      rw (before, ← take-map (λ e. e.made) n game.entries)
+      (check-at game_rules game_rules.start (moves_of game) n asked.made legal.line.legal at)
 
   -- at the last ply it is that of the row
-  pub end-last : (ply : ℕ) → ply ≡ length game.entries → rule_in (end_of game_rules game) ≡ rule_end game_rules (game_at game ply)
+  pub end-last : (ply : ℕ) → ply ≡ length game.entries
+      → rule_in (end_of game_rules game) ≡ rule_end game_rules (game_at game ply)
   end-last ply last = rw (last, take-length game.entries) (rule_in-end_with (rule_end game_rules game) game.outside)
 
   -- at an earlier ply there is none
-  pub end-before : (ply : ℕ) → IsAsked game_rules terms game ply (move_at game ply) (Some asked) → ply ≢ length game.entries → None ≡ rule_end game_rules (game_at game ply)
+  pub end-before : (ply : ℕ) → IsAsked game_rules terms game ply (move_at game ply) (Some asked)
+      → ply ≢ length game.entries → None ≡ rule_end game_rules (game_at game ply)
   end-before ply shown other_ply =
       let (n, is, at, _) = asked-some game_rules terms game asked ply (move_at game ply) refl shown in
       let inside : n < length (moves_of game) = slice_get_within (moves_of game) n asked.made at in

@@ -17,18 +17,25 @@ use Rattle.club_core.proofs.Played.{asked-legal}
 use Rattle.club_core.proofs.Room.{le-true, budget-at-most, left-at-most}
 use Rattle.club_core.proofs.Tracked.{line-grows}
 
-asked-sound : {R P M E T : Type 0} (laws : GameRules P M E T) (terms : Terms) (game : Game M) → IsLegalGame laws terms game → (ply : ℕ) (o : Option (Asked R P M E T)) → IsAsked laws terms game ply (move_at game ply) o → IfSome o (λ a. laws.check a.before a.made ≡ Ok tt)
+asked-sound : {R P M E T : Type 0} (laws : GameRules P M E T) (terms : Terms) (game : Game M)
+    → IsLegalGame laws terms game → (ply : ℕ) (o : Option (Asked R P M E T))
+    → IsAsked laws terms game ply (move_at game ply) o → IfSome o (λ a. laws.check a.before a.made ≡ Ok tt)
 asked-sound laws terms game legal ply None shown = tt
 asked-sound laws terms game legal ply (Some asked) shown = asked-legal laws terms game legal asked ply shown
 
-pub shown-sound : {R P M E T : Type 0} (laws : GameRules P M E T) (game : Game M) (view : GameView R P M E T) (ply : ℕ) → NumbersAreFew laws → IsTrue (is_budget view.budget) → IsTrue (is_increment view.increment) → IsLegalGame laws (terms_of view) game → Shows laws game view → ShowsPly laws game ply view → IsSound laws view
+pub shown-sound : {R P M E T : Type 0} (laws : GameRules P M E T) (game : Game M) (view : GameView R P M E T) (ply : ℕ)
+    → NumbersAreFew laws → IsTrue (is_budget view.budget) → IsTrue (is_increment view.increment)
+    → IsLegalGame laws (terms_of view) game → Shows laws game view → ShowsPly laws game ply view → IsSound laws view
 shown-sound laws game view ply few budget increment legal shows shows_ply =
     let most : view.increment ≤ 2592000 = le-true view.increment 2592000 increment in
     let starts : view.budget ≤ 31536000 = budget-at-most view.budget budget in
     let count : length (map (λ e. e.moment) game.entries) ≡ length game.entries = simp length-map in
-    let left = left-at-most view.increment First (map (λ e. e.moment) game.entries) (record { left_first = view.budget; left_second = view.budget; since = game.start }) most in
-    let first : view.row.left_first ≡ (clocks_of game (terms_of view)).left_first = ap (λ c. c.left_first) shows.row.clocks in
-    let second : view.row.left_second ≡ (clocks_of game (terms_of view)).left_second = ap (λ c. c.left_second) shows.row.clocks in
+    let left = left-at-most view.increment First (map (λ e. e.moment) game.entries)
+    (record { left_first = view.budget; left_second = view.budget; since = game.start }) most in
+    let first : view.row.left_first ≡ (clocks_of game (terms_of view)).left_first =
+    ap (λ c. c.left_first) shows.row.clocks in
+    let second : view.row.left_second ≡ (clocks_of game (terms_of view)).left_second =
+    ap (λ c. c.left_second) shows.row.clocks in
     let plies : length game.entries ≤ most_plies = legal.plies in
     let moves : length (map (λ e. e.made) game.entries) ≡ length game.entries = simp length-map in
     record {

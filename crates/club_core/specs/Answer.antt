@@ -23,16 +23,20 @@ use Rattle.club_core.specs.declared.seats.Pairing as given_pairing
 use Rattle.club_core.specs.declared.seats.KeyedGame as given_keyed
 use Rattle.club_core.specs.declared.seats.Seating as given_seating
 use Rattle.club_core.specs.declared.seats.Seating.TheVariants as seating
-use Rattle.club_core.specs.Outcome.{Reply, MoveReply, member_added, event_added, game_seated, moved, draw_offered, game_ended, games_swept, challenge_opened, challenge_withdrawn, challenge_refused, challenge_accepted, Outcome, accepted, repeated, refused, map_outcome}
+use Rattle.club_core.specs.Outcome.{Reply, MoveReply, member_added, event_added, game_seated, moved, draw_offered}
+use Rattle.club_core.specs.Outcome.{game_ended, games_swept, challenge_opened, challenge_withdrawn, challenge_refused}
+use Rattle.club_core.specs.Outcome.{challenge_accepted, Outcome, accepted, repeated, refused, map_outcome}
 use Rattle.club_core.specs.Members.{Member}
 use Rattle.club_core.specs.Events.{Event}
 use Rattle.club_core.specs.Seats.{Pairing, KeyedGame}
 use Rattle.club_core.specs.Imports.{Import}
 use Rattle.club_core.specs.Step.{GameCommand, move, offer_draw, accept_draw, resign, claim_time}
-use Rattle.club_core.specs.State.{Command, add_member, add_event, seat, import_record, on_game, sweep, open_challenge, withdraw_challenge, answer_challenge, Who, officer, key_holder, Request}
+use Rattle.club_core.specs.State.{Command, add_member, add_event, seat, import_record, on_game, sweep, open_challenge}
+use Rattle.club_core.specs.State.{withdraw_challenge, answer_challenge, Who, officer, key_holder, Request}
 
 abbrev pub move_reply_of : Moved → MoveReply
-move_reply_of m = record { ply = m.ply; text = string_bytes m.text; left = m.left; position = string_bytes m.position; end = m.end }
+move_reply_of m =
+    record { ply = m.ply; text = string_bytes m.text; left = m.left; position = string_bytes m.position; end = m.end }
 
 abbrev pub reply_of : Answer → Reply
 reply_of (answer.Member id) = member_added id
@@ -63,11 +67,13 @@ abbrev pub members_of : List given_member.Member → List Member
 members_of ms = map member_of ms
 
 abbrev pub event_of : given_event.Event → Event
-event_of e = record { name = string_bytes e.name; game = e.game; terms = record { budget = e.budget; increment = e.increment } }
+event_of e =
+    record { name = string_bytes e.name; game = e.game; terms = record { budget = e.budget; increment = e.increment } }
 
 -- the event that a command adds
 abbrev pub added_event : given_command.AddEvent → Event
-added_event e = record { name = string_bytes e.name; game = e.game; terms = record { budget = e.budget; increment = e.increment } }
+added_event e =
+    record { name = string_bytes e.name; game = e.game; terms = record { budget = e.budget; increment = e.increment } }
 
 abbrev pub events_of : List given_event.Event → List Event
 events_of es = map event_of es
@@ -119,7 +125,8 @@ import_of c =
 abbrev pub command_of : given_commands.Command → Command
 command_of (given_is.AddMember c) = add_member (string_bytes c.name) (string_bytes c.key)
 command_of (given_is.AddEvent c) = add_event (added_event c)
-command_of (given_is.Seat c) = seat (string_bytes c.key) (string_bytes c.event) (string_bytes c.first) (string_bytes c.second)
+command_of (given_is.Seat c) = seat (string_bytes c.key) (string_bytes c.event) (string_bytes c.first)
+    (string_bytes c.second)
 command_of (given_is.Import c) = import_record (import_of c)
 command_of (given_is.OnGame c) = on_game c.game (game_command_of c.command)
 command_of given_is.Sweep = sweep

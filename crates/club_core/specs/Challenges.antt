@@ -1,13 +1,16 @@
 -- Challenges between members: what opening one does, withdrawing it, and answering it.
-use Rattle.std.specs.Prelude.{ℕ, ◌+◌, List, [], ◌∷◌, Option, Some, None, Bool, true, false, not, is_some, ◌&&◌, nat_le, ◌==◌, if◌then◌else◌}
+use Rattle.std.specs.Prelude.{ℕ, ◌+◌, List, [], ◌∷◌, Option, Some, None, Bool, true, false, not, is_some, ◌&&◌, nat_le}
+use Rattle.std.specs.Prelude.{◌==◌, if◌then◌else◌}
 use Rattle.std.proofs.Math.Bool.{beq}
 use Rattle.club_core.specs.declared.challenges.Challenge.{Challenge}
 use Rattle.club_core.specs.declared.challenges.Standing.{Standing}
 use Rattle.club_core.specs.declared.challenges.Standing.TheVariants.{Open, Withdrawn, Refused, Accepted}
 use Rattle.club_core.specs.declared.refusals.Refusal.{Refusal}
-use Rattle.club_core.specs.declared.refusals.Refusal.TheVariants.{UnknownEvent, UnknownChallenge, Conflict, BadValue, Full}
+use Rattle.club_core.specs.declared.refusals.Refusal.TheVariants.{UnknownEvent, UnknownChallenge, Conflict, BadValue}
+use Rattle.club_core.specs.declared.refusals.Refusal.TheVariants.{Full}
 use Rattle.club_core.specs.Limits.{most_games, is_challenge_number}
-use Rattle.club_core.specs.Outcome.{Reply, challenge_opened, challenge_withdrawn, challenge_refused, challenge_accepted, Outcome, accepted, refused, first_refusal, unless, unless_repeat}
+use Rattle.club_core.specs.Outcome.{Reply, challenge_opened, challenge_withdrawn, challenge_refused, challenge_accepted}
+use Rattle.club_core.specs.Outcome.{Outcome, accepted, refused, first_refusal, unless, unless_repeat}
 use Rattle.club_core.specs.Members.{Member, find_id}
 use Rattle.club_core.specs.Events.{Event, has_event_name}
 use Rattle.club_core.specs.Seats.{Pairing, has_member_name, is_id, are_two}
@@ -57,7 +60,8 @@ asks_same event other first c = event == c.event && is_id other c.other && beq f
 -- the same challenge stands under the number, whatever became of it
 abbrev pub repeat_of_opening : ℕ → Option ℕ → Bool → Option Challenge → Option Reply
 repeat_of_opening event other first None = None
-repeat_of_opening event other first (Some c) = if asks_same event other first c then Some (challenge_opened c.number) else None
+repeat_of_opening event other first (Some c) =
+    if asks_same event other first c then Some (challenge_opened c.number) else None
 
 module _ (caller number : ℕ) (other : Option ℕ) (under : Option Challenge) where
   abbrev pub opening_tests : List (Bool × Refusal)

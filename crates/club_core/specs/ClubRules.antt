@@ -9,7 +9,8 @@ pub record ClubRules (DP DM DE DT SP SM SE ST : Type 0) : Type 0 where
   pub shogi_records : GameRecords SM
 
 -- the rules of a club that plays these two games
-abbrev pub both : {DP DM DE DT SP SM SE ST : Type 0} → GameRules DP DM DE DT → GameRules SP SM SE ST → GameRecords DM → GameRecords SM → ClubRules DP DM DE DT SP SM SE ST
+abbrev pub both : {DP DM DE DT SP SM SE ST : Type 0} → GameRules DP DM DE DT → GameRules SP SM SE ST → GameRecords DM
+    → GameRecords SM → ClubRules DP DM DE DT SP SM SE ST
 both draughts shogi draughts_records shogi_records =
     record {
       draughts = draughts;

@@ -1,5 +1,6 @@
 -- The events of the club, and what adding one does.
-use Rattle.std.specs.Prelude.{ℕ, ◌+◌, List, [], ◌∷◌, ◌++◌, length, Option, Bool, true, false, not, ◌&&◌, nat_le, ◌==◌, if◌then◌else◌}
+use Rattle.std.specs.Prelude.{ℕ, ◌+◌, List, [], ◌∷◌, ◌++◌, length, Option, Bool, true, false, not, ◌&&◌, nat_le, ◌==◌}
+use Rattle.std.specs.Prelude.{if◌then◌else◌}
 use Rattle.std.specs.Str.{bytes_eq}
 use Rattle.std.specs.Option.{option_map}
 use Rattle.std.specs.List.{list_any}
@@ -32,7 +33,8 @@ has_event_name name e = bytes_eq e.name name
 
 abbrev pub is_event : Event → Event → Bool
 is_event given e =
-    bytes_eq e.name given.name && same_game e.game given.game && e.terms.budget == given.terms.budget && e.terms.increment == given.terms.increment
+    bytes_eq e.name given.name && same_game e.game given.game && e.terms.budget == given.terms.budget &&
+    e.terms.increment == given.terms.increment
 
 abbrev pub has_good_values : Event → Bool
 has_good_values e = is_name e.name && is_budget e.terms.budget && is_increment e.terms.increment

@@ -47,8 +47,10 @@ left_after left increment elapsed = (after_move (record { left = left; increment
 
 -- the clocks after a move of that side at that moment
 abbrev pub spend : ℕ → Side → ℕ → Clocks → Clocks
-spend increment First m c = record { left_first = left_after c.left_first increment (m - c.since); left_second = c.left_second; since = m }
-spend increment Second m c = record { left_first = c.left_first; left_second = left_after c.left_second increment (m - c.since); since = m }
+spend increment First m c =
+    record { left_first = left_after c.left_first increment (m - c.since); left_second = c.left_second; since = m }
+spend increment Second m c =
+    record { left_first = c.left_first; left_second = left_after c.left_second increment (m - c.since); since = m }
 
 -- the clocks after moves at those moments, that side moving first
 abbrev pub spend_all : ℕ → Side → List ℕ → Clocks → Clocks

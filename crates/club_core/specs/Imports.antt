@@ -1,5 +1,6 @@
 -- What importing a recorded game of an event does.
-use Rattle.std.specs.Prelude.{ℕ, ◌+◌, List, [], ◌∷◌, length, map, Option, Some, None, Bool, true, false, not, is_some, ◌&&◌, nat_le, if◌then◌else◌}
+use Rattle.std.specs.Prelude.{ℕ, ◌+◌, List, [], ◌∷◌, length, map, Option, Some, None, Bool, true, false, not, is_some}
+use Rattle.std.specs.Prelude.{◌&&◌, nat_le, if◌then◌else◌}
 use Rattle.squares.specs.declared.sides.Score.{Score}
 use Rattle.squares.specs.declared.sides.Score.TheVariants.{FirstWins, Draw, SecondWins}
 use Rattle.club_rules.specs.declared.records.RecordFormat.{RecordFormat}
@@ -12,7 +13,8 @@ use Rattle.club_core.specs.declared.rows.OutsideEnd.TheVariants.{Recorded as by_
 use Rattle.club_core.specs.declared.refusals.Refusal.{Refusal}
 use Rattle.club_core.specs.declared.refusals.Refusal.TheVariants.{UnknownEvent, Conflict, BadValue, Full, Record}
 use Rattle.club_core.specs.Limits.{most_games, most_record_bytes, is_name}
-use Rattle.club_core.specs.Outcome.{Reply, game_seated, Outcome, accepted, refused, first_refusal, unless, unless_repeat}
+use Rattle.club_core.specs.Outcome.{Reply, game_seated, Outcome, accepted, refused, first_refusal, unless}
+use Rattle.club_core.specs.Outcome.{unless_repeat}
 use Rattle.club_core.specs.Seats.{Pairing, KeyedGame, are_two, same_seats}
 use Rattle.club_core.specs.Game.{Game, moves_of, result_of}
 
@@ -110,10 +112,12 @@ module _ {P M E T : Type 0} (rules : GameRules P M E T) (records : GameRecords M
       then records.read given.text given.part
       else record_is.no_part
 
-  module _ (event : ℕ) (first second : Option ℕ) (under_key : Option KeyedGame) (old : Option (Game M)) (games : ℕ) where
+  module _ (event : ℕ) (first second : Option ℕ) (under_key : Option KeyedGame) (old : Option (Game M))
+      (games : ℕ) where
     -- the game under the key is of the same event and players, and ended as the record says
     abbrev pub repeat_of_import : Option Reply
-    repeat_of_import = if reads_record_of rules old reading_of_import then same_seats event first second under_key else None
+    repeat_of_import = if reads_record_of rules old reading_of_import then same_seats event first second
+        under_key else None
 
     -- the record is looked at after the names, and not before the club has room for its game
     abbrev pub import_tests : List (Bool × Refusal)
@@ -133,6 +137,7 @@ module _ {P M E T : Type 0} (rules : GameRules P M E T) (records : GameRecords M
         (import_between event first second games reading_of_import))
 
   -- by the event and the members that the names stand for, the game under the key and the number of games
-  abbrev pub import_found : Option ℕ → Option ℕ → Option ℕ → Option KeyedGame → Option (Game M) → ℕ → Outcome (Imported M)
+  abbrev pub import_found : Option ℕ → Option ℕ → Option ℕ → Option KeyedGame → Option (Game M) → ℕ
+      → Outcome (Imported M)
   import_found None first second under_key old games = refused UnknownEvent
   import_found (Some event) first second under_key old games = import_step event first second under_key old games

@@ -4,7 +4,9 @@ use Rattle.club_core.specs.ClubRules.{ClubRules}
 use Rattle.club_core.specs.Limits.{last_moment}
 use Rattle.club_core.specs.Outcome.{Reply, accepted, repeated}
 use Rattle.club_core.specs.Step.{GameCommand, move, offer_draw, accept_draw, resign, claim_time}
-use Rattle.club_core.specs.State.{AnyGame, draughts, shogi, State, Command, add_member, add_event, seat, import_record, on_game, sweep, open_challenge, withdraw_challenge, answer_challenge, Request, place, is_accepted, step, next, fold, accepted_of}
+use Rattle.club_core.specs.State.{AnyGame, draughts, shogi, State, Command, add_member, add_event, seat, import_record}
+use Rattle.club_core.specs.State.{on_game, sweep, open_challenge, withdraw_challenge, answer_challenge, Request, place}
+use Rattle.club_core.specs.State.{is_accepted, step, next, fold, accepted_of}
 use Rattle.club_core.specs.LegalState.{IsLegalState}
 
 -- no move came since that command, where it is an offer of a draw: its ply is still the next one
@@ -52,7 +54,8 @@ module _ {DP DM DE DT SP SM SE ST : Type 0} (rules : ClubRules DP DM DE DT SP SM
       IsLegalState rules (next rules s r)
 
   -- An accepted command that comes again from the one who gave it, at any moment and whatever requests stand between,
-  -- is repeated with the same answer: an offer of a draw so long as no move came since, a sweep never, every other command
+  -- is repeated with the same answer: an offer of a draw so long as no move came since, a sweep never, every other
+  -- command
   -- always.
   abbrev pub AnswersAgain : Type 0
   AnswersAgain =

@@ -1,5 +1,6 @@
 -- A legal game: one that the rules, the clocks and the club allow.
-use Rattle.std.specs.Prelude.{◌≡◌, ◌≢◌, ◌+◌, ◌-◌, ◌≤◌, ℕ, List, [], ◌∷◌, length, Some, None, true, IsSome, IfSome, slice_get}
+use Rattle.std.specs.Prelude.{◌≡◌, ◌≢◌, ◌+◌, ◌-◌, ◌≤◌, ℕ, List, [], ◌∷◌, length, Some, None, true, IsSome, IfSome}
+use Rattle.std.specs.Prelude.{slice_get}
 use Rattle.squares.specs.declared.sides.Side.{Side}
 use Rattle.squares.specs.declared.sides.Side.TheVariants.{First}
 use Rattle.squares.specs.declared.sides.Score.{Score}

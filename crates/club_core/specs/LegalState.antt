@@ -7,7 +7,8 @@ use Rattle.club_core.specs.ClubRules.{ClubRules}
 use Rattle.club_core.specs.declared.challenges.Challenge.{Challenge}
 use Rattle.club_core.specs.declared.challenges.Standing.TheVariants.{Accepted}
 use Rattle.club_core.specs.declared.rows.OutsideEnd.TheVariants.{Time}
-use Rattle.club_core.specs.Limits.{last_moment, most_members, most_events, most_games, is_name, is_member_key, is_challenge_number, is_budget, is_increment}
+use Rattle.club_core.specs.Limits.{last_moment, most_members, most_events, most_games, is_name, is_member_key}
+use Rattle.club_core.specs.Limits.{is_challenge_number, is_budget, is_increment}
 use Rattle.club_core.specs.Members.{Member}
 use Rattle.club_core.specs.Events.{Event}
 use Rattle.club_core.specs.Challenges.{goes_by, pairing_for}
@@ -26,7 +27,8 @@ AreApart {A} part xs = (i j : ℕ) (x y : A) → slice_get xs i ≡ Some x → s
 -- no two elements have the same there, where they have it at all
 abbrev pub AreApartIfAny : {A B : Type 0} → (A → Option B) → List A → Type 0
 AreApartIfAny {A} {B} part xs =
-    (i j : ℕ) (x y : A) (b : B) → slice_get xs i ≡ Some x → slice_get xs j ≡ Some y → part x ≡ Some b → part y ≡ Some b → i ≡ j
+    (i j : ℕ) (x y : A) (b : B) → slice_get xs i ≡ Some x → slice_get xs j ≡ Some y → part x ≡ Some b → part y ≡ Some b
+    → i ≡ j
 
 pub record IsLegalMember (m : Member) : Type 0 where
   pub name : IsTrue (is_name m.name)
@@ -38,7 +40,8 @@ pub record IsLegalEvent (e : Event) : Type 0 where
   pub increment : IsTrue (is_increment e.terms.increment)
 
 -- a game of the club, of an event in its kind and between two members
-pub record IsGameOf {DM SM P M E T : Type 0} (rules : GameRules P M E T) (kind : GameKind) (s : State DM SM) (game : Game M) : Type 0 where
+pub record IsGameOf {DM SM P M E T : Type 0} (rules : GameRules P M E T) (kind : GameKind) (s : State DM SM)
+    (game : Game M) : Type 0 where
   pub event : Event
   pub in_event : place s.events game.event ≡ Some event
   pub of_kind : event.game ≡ kind
@@ -50,7 +53,8 @@ pub record IsGameOf {DM SM P M E T : Type 0} (rules : GameRules P M E T) (kind :
   pub start : game.start ≤ s.last
   pub entries : Each (λ e. e.moment ≤ s.last) game.entries
   -- the last second of a side that lost by time is gone
-  pub lost_by_time : game.outside ≡ Some Time → (clocks_of game event.terms).since + left_of (turn_of rules game) (clocks_of game event.terms) < s.last
+  pub lost_by_time : game.outside ≡ Some Time
+      → (clocks_of game event.terms).since + left_of (turn_of rules game) (clocks_of game event.terms) < s.last
 
 module _ {DP DM DE DT SP SM SE ST : Type 0} (rules : ClubRules DP DM DE DT SP SM SE ST) where
   abbrev pub IsLegalIn : State DM SM → AnyGame DM SM → Type 0
@@ -68,7 +72,8 @@ pub record IsLegalChallenge {DM SM : Type 0} (s : State DM SM) (c : Challenge) :
   pub accepted : (id : ℕ) → c.standing ≡ Accepted id →
       (game : AnyGame DM SM) × (place s.games id ≡ Some game) × (pairing_of game ≡ pairing_for c)
 
-pub record IsLegalState {DP DM DE DT SP SM SE ST : Type 0} (rules : ClubRules DP DM DE DT SP SM SE ST) (s : State DM SM) : Type 0 where
+pub record IsLegalState {DP DM DE DT SP SM SE ST : Type 0} (rules : ClubRules DP DM DE DT SP SM SE ST)
+    (s : State DM SM) : Type 0 where
   pub last : s.last ≤ last_moment
   pub members : Each IsLegalMember s.members
   pub member_count : length s.members ≤ most_members

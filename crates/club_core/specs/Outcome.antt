@@ -1,4 +1,5 @@
--- What a command is answered: a reply where it is accepted or repeats an accepted one, else the first refusal that holds.
+-- What a command is answered: a reply where it is accepted or repeats an accepted one, else the first refusal that
+-- holds.
 use Rattle.std.specs.Prelude.{ℕ, List, [], ◌∷◌, Option, Some, None, Bool, if◌then◌else◌}
 use Rattle.club_rules.specs.declared.names.EndName.{EndName}
 use Rattle.squares.specs.declared.sides.Score.{Score}
@@ -8,7 +9,8 @@ use Rattle.club_core.specs.declared.requests.Caller.TheVariants.{Officer, Member
 use Rattle.club_core.specs.declared.refusals.Refusal.{Refusal}
 use Rattle.club_core.specs.declared.refusals.Refusal.TheVariants.{NotAllowed}
 
--- what the answer to a move shows: the text as it is written, the mover's seconds left after it, the position after it, and the end that the rules gave at it
+-- what the answer to a move shows: the text as it is written, the mover's seconds left after it, the position after it,
+-- and the end that the rules gave at it
 pub record MoveReply : Type 0 where
   pub ply : ℕ
   pub text : List ℕ

@@ -5,7 +5,10 @@ use Rattle.club_rules.specs.RecordRefusal.{record_refusal_number, record_refusal
 use Rattle.club_rules.specs.declared.refusals.MoveRefusal.{MoveRefusal}
 use Rattle.club_rules.specs.declared.refusals.MoveRefusal.TheVariants.{Ambiguous}
 use Rattle.club_core.specs.declared.refusals.Refusal.{Refusal}
-use Rattle.club_core.specs.declared.refusals.Refusal.TheVariants.{UnknownKey, NotAllowed, UnknownEvent, UnknownGame, UnknownChallenge, NotAPlayer, NotInThisGame, GameOver, WrongPly, Conflict, NotYourTurn, OutOfTime, TimeLeft, NoOffer, NameTaken, BadValue, Full, Play, Record}
+use Rattle.club_core.specs.declared.refusals.Refusal.TheVariants.{UnknownKey, NotAllowed, UnknownEvent, UnknownGame}
+use Rattle.club_core.specs.declared.refusals.Refusal.TheVariants.{UnknownChallenge, NotAPlayer, NotInThisGame, GameOver}
+use Rattle.club_core.specs.declared.refusals.Refusal.TheVariants.{WrongPly, Conflict, NotYourTurn, OutOfTime, TimeLeft}
+use Rattle.club_core.specs.declared.refusals.Refusal.TheVariants.{NoOffer, NameTaken, BadValue, Full, Play, Record}
 
 abbrev pub refusal_number : Refusal → ℕ
 refusal_number UnknownKey = 50

@@ -1,10 +1,12 @@
 -- What seating two members for a game of an event does.
-use Rattle.std.specs.Prelude.{ℕ, ◌+◌, List, [], ◌∷◌, Option, Some, None, Bool, false, not, is_some, ◌&&◌, nat_le, ◌==◌, if◌then◌else◌}
+use Rattle.std.specs.Prelude.{ℕ, ◌+◌, List, [], ◌∷◌, Option, Some, None, Bool, false, not, is_some, ◌&&◌, nat_le, ◌==◌}
+use Rattle.std.specs.Prelude.{if◌then◌else◌}
 use Rattle.std.specs.Str.{bytes_eq}
 use Rattle.club_core.specs.declared.refusals.Refusal.{Refusal}
 use Rattle.club_core.specs.declared.refusals.Refusal.TheVariants.{UnknownEvent, Conflict, BadValue, Full}
 use Rattle.club_core.specs.Limits.{most_games, is_name}
-use Rattle.club_core.specs.Outcome.{Reply, game_seated, Outcome, accepted, refused, first_refusal, unless, unless_repeat}
+use Rattle.club_core.specs.Outcome.{Reply, game_seated, Outcome, accepted, refused, first_refusal, unless}
+use Rattle.club_core.specs.Outcome.{unless_repeat}
 use Rattle.club_core.specs.Members.{Member, find_id}
 use Rattle.club_core.specs.Events.{Event, has_event_name}
 
@@ -54,7 +56,8 @@ seat_refusal under_key games key first second = first_refusal (seat_tests under_
 
 -- the pairing of two members that were found
 abbrev pub pair : ℕ → Option ℕ → Option ℕ → ℕ → Outcome Pairing
-pair event (Some first) (Some second) games = accepted (record { event = event; first = first; second = second }) (game_seated (games + 1))
+pair event (Some first) (Some second) games =
+    accepted (record { event = event; first = first; second = second }) (game_seated (games + 1))
 pair event _ _ games = refused BadValue
 
 -- by the event and the members that the names stand for, the game under the key and the number of games
@@ -65,7 +68,8 @@ seat_found (Some event) first second under_key games key =
     (unless (seat_refusal under_key games key first second)
     (pair event first second games))
 
-abbrev pub seat_step : List Member → List Event → Option KeyedGame → ℕ → List ℕ → List ℕ → List ℕ → List ℕ → Outcome Pairing
+abbrev pub seat_step : List Member → List Event → Option KeyedGame → ℕ → List ℕ → List ℕ → List ℕ → List ℕ
+    → Outcome Pairing
 seat_step members events under_key games key event first second =
     seat_found
     (find_id (has_event_name event) events)

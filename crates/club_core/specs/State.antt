@@ -1,5 +1,6 @@
 -- The club: its members, its events, its games of two kinds and its challenges, and what a request does to them.
-use Rattle.std.specs.Prelude.{ℕ, zero, suc, ◌-◌, List, [], ◌∷◌, ◌++◌, length, map, count_by, Option, Some, None, Bool, true, false, max, if◌then◌else◌, slice_get, slice_set}
+use Rattle.std.specs.Prelude.{ℕ, zero, suc, ◌-◌, List, [], ◌∷◌, ◌++◌, length, map, count_by, Option, Some, None, Bool}
+use Rattle.std.specs.Prelude.{true, false, max, if◌then◌else◌, slice_get, slice_set}
 use Rattle.std.specs.Str.{bytes_eq}
 use Rattle.club_rules.specs.declared.names.GameKind.{GameKind}
 use Rattle.club_rules.specs.declared.names.GameKind.TheVariants.{Draughts, Shogi}
@@ -8,12 +9,14 @@ use Rattle.club_core.specs.declared.challenges.Challenge.{Challenge}
 use Rattle.club_core.specs.declared.requests.Caller.{Caller}
 use Rattle.club_core.specs.declared.requests.Caller.TheVariants.{Officer, Member}
 use Rattle.club_core.specs.declared.refusals.Refusal.TheVariants.{UnknownKey}
-use Rattle.club_core.specs.Outcome.{Outcome, games_swept, accepted, repeated, refused, map_outcome, by_officer, by_member}
+use Rattle.club_core.specs.Outcome.{Outcome, games_swept, accepted, repeated, refused, map_outcome, by_officer}
+use Rattle.club_core.specs.Outcome.{by_member}
 use Rattle.club_core.specs.Members as members
 use Rattle.club_core.specs.Members.{find_id, member_step}
 use Rattle.club_core.specs.Events.{Terms, Event, has_event_name, event_kind, event_step}
 use Rattle.club_core.specs.Seats.{Pairing, KeyedGame, has_member_name, seat_step}
-use Rattle.club_core.specs.Challenges.{challenge_under, challenge_by, put_challenge, pairing_for, opening_step, withdrawal_step, answer_step}
+use Rattle.club_core.specs.Challenges.{challenge_under, challenge_by, put_challenge, pairing_for, opening_step}
+use Rattle.club_core.specs.Challenges.{withdrawal_step, answer_step}
 use Rattle.club_core.specs.Game.{Game}
 use Rattle.club_rules.specs.GameRules.{GameRules}
 use Rattle.club_rules.specs.Records.{GameRecords}
@@ -241,8 +244,10 @@ module _ {DP DM DE DT SP SM SE ST : Type 0} (rules : ClubRules DP DM DE DT SP SM
 
   -- a command of a caller, at the effective moment
   abbrev pub step_command : State DM SM → ℕ → Caller → Command → Outcome (State DM SM)
-  step_command s moment who (add_member name key) = by_officer who (map_outcome (with_members s moment) (member_step s.members name key))
-  step_command s moment who (add_event event) = by_officer who (map_outcome (with_events s moment) (event_step s.events event))
+  step_command s moment who (add_member name key) =
+      by_officer who (map_outcome (with_members s moment) (member_step s.members name key))
+  step_command s moment who (add_event event) =
+      by_officer who (map_outcome (with_events s moment) (event_step s.events event))
   step_command s moment who (seat key event first second) =
       by_officer who
       (map_outcome (with_new_game s moment key)

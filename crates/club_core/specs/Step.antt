@@ -1,5 +1,7 @@
 -- What a command does to one game, or why it is refused: the first refusal that holds.
-use Rattle.std.specs.Prelude.{ℕ, zero, suc, ◌+◌, ◌-◌, List, [], ◌∷◌, ◌++◌, length, Option, Some, None, Result, Ok, Err, Bool, true, false, not, ◌&&◌, ◌||◌, is_some, nat_lt, nat_le, ◌==◌, if◌then◌else◌, slice_get}
+use Rattle.std.specs.Prelude.{ℕ, zero, suc, ◌+◌, ◌-◌, List, [], ◌∷◌, ◌++◌, length, Option, Some, None, Result, Ok, Err}
+use Rattle.std.specs.Prelude.{Bool, true, false, not, ◌&&◌, ◌||◌, is_some, nat_lt, nat_le, ◌==◌, if◌then◌else◌}
+use Rattle.std.specs.Prelude.{slice_get}
 use Rattle.std.specs.Option.{option_map}
 use Rattle.squares.specs.declared.sides.Side.{Side}
 use Rattle.squares.specs.declared.sides.Side.TheVariants.{First, Second}
@@ -12,11 +14,15 @@ use Rattle.club_core.specs.declared.rows.OutsideEnd.{OutsideEnd}
 use Rattle.club_core.specs.declared.rows.OutsideEnd.TheVariants.{Resigned, Agreed, Time, Recorded}
 use Rattle.club_core.specs.declared.rows.Offer.{Offer}
 use Rattle.club_core.specs.declared.refusals.Refusal.{Refusal}
-use Rattle.club_core.specs.declared.refusals.Refusal.TheVariants.{NotAllowed, UnknownGame, NotAPlayer, NotInThisGame, GameOver, WrongPly, Conflict, NotYourTurn, OutOfTime, TimeLeft, NoOffer, BadValue, Play}
+use Rattle.club_core.specs.declared.refusals.Refusal.TheVariants.{NotAllowed, UnknownGame, NotAPlayer, NotInThisGame}
+use Rattle.club_core.specs.declared.refusals.Refusal.TheVariants.{GameOver, WrongPly, Conflict, NotYourTurn, OutOfTime}
+use Rattle.club_core.specs.declared.refusals.Refusal.TheVariants.{TimeLeft, NoOffer, BadValue, Play}
 use Rattle.club_core.specs.Limits.{most_text_bytes}
 use Rattle.club_core.specs.Events.{Terms}
-use Rattle.club_core.specs.Outcome.{Reply, moved, draw_offered, game_ended, Outcome, accepted, refused, first_refusal, unless, unless_repeat}
-use Rattle.club_core.specs.Game.{Game, left_of, side_after, outside_score, moves_of, clocks_of, last_position, rule_end, turn_of, result_of, game_at}
+use Rattle.club_core.specs.Outcome.{Reply, moved, draw_offered, game_ended, Outcome, accepted, refused, first_refusal}
+use Rattle.club_core.specs.Outcome.{unless, unless_repeat}
+use Rattle.club_core.specs.Game.{Game, left_of, side_after, outside_score, moves_of, clocks_of, last_position, rule_end}
+use Rattle.club_core.specs.Game.{turn_of, result_of, game_at}
 
 -- a command on a game, its text being the bytes that were given
 pub data GameCommand : Type 0 where
@@ -256,7 +262,8 @@ module _ {P M E T : Type 0} (rules : GameRules P M E T) (terms : Terms) (game : 
   -- plays the move that was read and checked
   abbrev pub plays : Result M MoveRefusal → Outcome (Game M)
   plays (Err refusal) = refused (Play (length game.entries + 1) refusal)
-  plays (Ok m) = accepted (played game m moment) (reply_of_move rules terms (played game m moment) (length game.entries + 1) m)
+  plays (Ok m) = accepted (played game m moment)
+      (reply_of_move rules terms (played game m moment) (length game.entries + 1) m)
 
   abbrev pub step_move : Side → ℕ → List ℕ → Outcome (Game M)
   step_move side ply text =

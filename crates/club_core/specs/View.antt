@@ -1,5 +1,7 @@
--- When the rows and values that a command is decided over are those of a game, and when a decision is the step's outcome.
-use Rattle.std.specs.Prelude.{◌≡◌, ℕ, ◌+◌, ◌-◌, ◌<◌, ◌≤◌, ◌^◌, length, Option, Some, None, Ok, string_bytes, slice_get, IfSome}
+-- When the rows and values that a command is decided over are those of a game, and when a decision is the step's
+-- outcome.
+use Rattle.std.specs.Prelude.{◌≡◌, ℕ, ◌+◌, ◌-◌, ◌<◌, ◌≤◌, ◌^◌, length, Option, Some, None, Ok, string_bytes, slice_get}
+use Rattle.std.specs.Prelude.{IfSome}
 use Rattle.std.specs.Option.{option_map}
 use Rattle.squares.specs.declared.sides.Side.{Side}
 use Rattle.club_rules.specs.GameRules.{GameRules}
@@ -20,7 +22,8 @@ use Rattle.club_core.specs.Limits.{most_plies}
 use Rattle.club_core.specs.Events.{Terms}
 use Rattle.club_core.specs.Outcome.{Outcome, accepted, repeated, refused}
 use Rattle.club_core.specs.Answer.{reply_of}
-use Rattle.club_core.specs.Game.{Game, Clocks, clocks_of, moves_of, last_position, end_of, result_of, score_with, left_of, left_after, side_after, game_at}
+use Rattle.club_core.specs.Game.{Game, Clocks, clocks_of, moves_of, last_position, end_of, result_of, score_with}
+use Rattle.club_core.specs.Game.{left_of, left_after, side_after, game_at}
 use Rattle.club_core.specs.Step.{move_at}
 
 abbrev pub clocks_in : {E : Type 0} → GameRow E → Clocks
@@ -31,7 +34,8 @@ abbrev pub track_of_game : {P M E T : Type 0} → GameRules P M E T → Game M �
 track_of_game rules game = line_track rules rules.start (moves_of game)
 
 -- the row has what follows from the game
-pub record IsRowOf {P M E T : Type 0} (rules : GameRules P M E T) (terms : Terms) (game : Game M) (row : GameRow E) : Type 0 where
+pub record IsRowOf {P M E T : Type 0} (rules : GameRules P M E T) (terms : Terms) (game : Game M)
+    (row : GameRow E) : Type 0 where
   pub key : option_map (λ k. string_bytes k) row.key ≡ game.key
   pub event : row.event ≡ game.event
   pub first : row.first ≡ game.first
@@ -45,7 +49,8 @@ pub record IsRowOf {P M E T : Type 0} (rules : GameRules P M E T) (terms : Terms
   pub result : row.result ≡ result_of rules game
   pub position : string_bytes row.position ≡ rules.write_position (last_position rules game)
 
-abbrev pub IsAsked : {R P M E T : Type 0} → GameRules P M E T → Terms → Game M → ℕ → Option M → Option (Asked R P M E T) → Type 0
+abbrev pub IsAsked : {R P M E T : Type 0} → GameRules P M E T → Terms → Game M → ℕ → Option M → Option (Asked R P M E T)
+    → Type 0
 IsAsked rules terms game ply None None = Unit {0}
 IsAsked rules terms game ply (Some m) None = ⊥
 IsAsked rules terms game ply None (Some asked) = ⊥
@@ -60,10 +65,11 @@ abbrev pub terms_of : {R P M E T : Type 0} → GameView R P M E T → Terms
 terms_of view = record { budget = view.budget; increment = view.increment }
 
 -- the view shows the game
-pub record Shows {R P M E T : Type 0} (rules : GameRules P M E T) (game : Game M) (view : GameView R P M E T) : Type 0 where
-  pub row : IsRowOf rules (record { budget = view.budget; increment = view.increment }) game view.row
-  pub position : view.position ≡ last_position rules game
-  pub track : view.track ≡ track_of_game rules game
+pub record Shows {R P M E T : Type 0} (rules : GameRules P M E T) (game : Game M) (view : GameView R P M E T) : Type 0
+  where
+    pub row : IsRowOf rules (record { budget = view.budget; increment = view.increment }) game view.row
+    pub position : view.position ≡ last_position rules game
+    pub track : view.track ≡ track_of_game rules game
 
 -- the view shows what was played at that ply
 abbrev pub ShowsPly : {R P M E T : Type 0} → GameRules P M E T → Game M → ℕ → GameView R P M E T → Type 0
@@ -187,7 +193,8 @@ IsDecision rules terms old outcome decision =
     IsConcluded rules terms old outcome (concluded rules decision (settled_of rules decision times first)))
 
 -- what a move that is accepted meets, the mover having so many seconds after it
-pub record CanPlay {R P M E T : Type 0} (rules : GameRules P M E T) (view : GameView R P M E T) (turn : Side) (m : M) (seconds moment : ℕ) : Type 0 where
+pub record CanPlay {R P M E T : Type 0} (rules : GameRules P M E T) (view : GameView R P M E T) (turn : Side) (m : M)
+    (seconds moment : ℕ) : Type 0 where
   pub running : view.row.result ≡ None
   pub to_move : turn ≡ rules.turn view.position
   pub legal : rules.check view.position m ≡ Ok tt

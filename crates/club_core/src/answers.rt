@@ -6,7 +6,8 @@ use club_rules::{EndName, Rules};
 use squares::Score;
 use std::fmt;
 
-/// What a move is answered: its text as it is written, the mover's seconds left after it, the position after it as text,
+/// What a move is answered: its text as it is written, the mover's seconds left after it, the position after it as
+/// text,
 /// and the end that the rules gave at it.
 #[derive(Debug, Drop)]
 pub struct Moved {
@@ -49,7 +50,8 @@ pub enum Outcome {
     Refused(Refusal),
 }
 
-/// Writes what is named, as `member 1`, `game 2` or `ply 3 32-28`, and after a move that ended the game ` end Repetition`.
+/// Writes what is named, as `member 1`, `game 2` or `ply 3 32-28`, and after a move that ended the game ` end
+/// Repetition`.
 /// An offer of a draw is written as `offer ply 5`, an end from outside with its result, `end Agreed 1-1`, a sweep with
 /// the number of games that it ended, `sweep 3`, and a challenge with what became of it, `challenge 3 open` or
 /// `challenge 3 accepted game 7`.

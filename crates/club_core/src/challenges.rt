@@ -3,7 +3,9 @@
 ghost use Rattle.std.specs.Prelude.{◌≡◌, ◌≤◌, ◌<◌, length, Option, Some, None, IsTrue, IfNone, string_bytes};
 ghost use Rattle.std.specs.Option.{option_map};
 ghost use Rattle.club_core.specs.Limits.{most_members, most_events, most_games, greatest_challenge};
-ghost use Rattle.club_core.specs.Challenges.{pairing_for, repeat_of_opening, opening_refusal, opening_found, opening_step, withdrawal_step, repeat_of_answer, answer_refusal, answers, answer_step};
+ghost use Rattle.club_core.specs.Challenges.{pairing_for, repeat_of_opening, opening_refusal, opening_found};
+ghost use Rattle.club_core.specs.Challenges.{opening_step, withdrawal_step, repeat_of_answer, answer_refusal, answers};
+ghost use Rattle.club_core.specs.Challenges.{answer_step};
 ghost use Rattle.club_core.specs.Outcome.{by_member};
 ghost use Rattle.club_core.specs.Answer.{members_of, events_of, pairing_of, reply_of, challenge_outcome_of};
 

@@ -7,7 +7,8 @@ ghost use Rattle.club_core.specs.Answer.{reply_of};
 ghost use Rattle.club_core.specs.Game.{Game};
 ghost use Rattle.club_core.specs.Legal.{IsLegalGame};
 ghost use Rattle.club_core.specs.Outcome.{accepted, draw_offered};
-ghost use Rattle.club_core.specs.Step.{has_offer, offered, repeat_of_offer, offer_refusal, step_offer, repeat_of_accept, accept_refusal, step_accept};
+ghost use Rattle.club_core.specs.Step.{has_offer, offered, repeat_of_offer, offer_refusal, step_offer};
+ghost use Rattle.club_core.specs.Step.{repeat_of_accept, accept_refusal, step_accept};
 ghost use Rattle.club_core.specs.View.{Shows, IsSound, IsDecision, terms_of};
 
 use crate::answers::{Answer, Decision};

@@ -5,7 +5,8 @@ ghost use Rattle.std.specs.Option.{option_map};
 ghost use Rattle.club_core.specs.Answer.{reply_of};
 ghost use Rattle.club_core.specs.Game.{Game};
 ghost use Rattle.club_core.specs.Legal.{IsLegalGame};
-ghost use Rattle.club_core.specs.Step.{reply_of_end, ends, repeat_of_resign, resign_refusal, step_resign, repeat_of_claim, claim_refusal, step_claim};
+ghost use Rattle.club_core.specs.Step.{reply_of_end, ends, repeat_of_resign, resign_refusal, step_resign};
+ghost use Rattle.club_core.specs.Step.{repeat_of_claim, claim_refusal, step_claim};
 ghost use Rattle.club_core.specs.View.{Shows, IsDecision, terms_of};
 
 use crate::answers::{Answer, Decision};

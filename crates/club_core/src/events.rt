@@ -4,7 +4,8 @@ ghost use Rattle.std.specs.Prelude.{◌≡◌, ◌≤◌, ◌<◌, length, Optio
 ghost use Rattle.std.specs.List.{list_any};
 ghost use Rattle.club_core.specs.Limits.{most_events};
 ghost use Rattle.club_core.specs.Members.{find_id};
-ghost use Rattle.club_core.specs.Events.{has_event_name, is_event, same_game, has_good_values, event_refusal, event_step};
+ghost use Rattle.club_core.specs.Events.{has_event_name, is_event, same_game, has_good_values, event_refusal};
+ghost use Rattle.club_core.specs.Events.{event_step};
 ghost use Rattle.club_core.specs.Outcome.{by_officer};
 ghost use Rattle.club_core.specs.Answer.{event_of, events_of, added_event, outcome_of, answered};
 
@@ -84,7 +85,8 @@ fn refusal_of_event(events: &[Event], command: &AddEvent) -> Option<Refusal>
 /// The new event's id is the next one. An event that is the same in all its values is a repeat.
 pub fn add_event(events: &[Event], caller: Caller, command: &AddEvent) -> Outcome
     requires { length events.now ≤ most_events }
-    ensures { outcome_of result ≡ answered (by_officer caller (event_step (events_of events.now) (added_event command.now))) }
+    ensures { outcome_of result
+        ≡ answered (by_officer caller (event_step (events_of events.now) (added_event command.now))) }
 {
     if caller != Caller::Officer {
         return Outcome::Refused(Refusal::NotAllowed);

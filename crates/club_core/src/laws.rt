@@ -39,7 +39,9 @@ pub fn repeats_answer_again<D: Records, S: Records>()
 
 /// A view that shows a legal game of an event is sound, so that a command can be decided over it.
 pub fn shown_is_sound<R: Rules>(view: &GameView<R>)
-    ensures { (game : Game R.Move) (ply : ℕ) → IsTrue (is_budget view.now.budget) → IsTrue (is_increment view.now.increment) →
-        IsLegalGame R.rules (terms_of view.now) game → Shows R.rules game view.now → ShowsPly R.rules game ply view.now →
+    ensures { (game : Game R.Move) (ply : ℕ) → IsTrue (is_budget view.now.budget) →
+        IsTrue (is_increment view.now.increment) →
+        IsLegalGame R.rules (terms_of view.now) game → Shows R.rules game view.now →
+        ShowsPly R.rules game ply view.now →
         IsSound R.rules view.now }
 {}

@@ -1,6 +1,7 @@
 //! A move in one game: played, refused, or a repeat of one that was played.
 
-ghost use Rattle.std.specs.Prelude.{◌≡◌, ℕ, Ok, ◌+◌, ◌-◌, ◌^◌, ◌<◌, ◌≤◌, Option, Some, None, IfOk, IfErr, IfNone, IfSome, string_bytes, length};
+ghost use Rattle.std.specs.Prelude.{◌≡◌, ℕ, Ok, ◌+◌, ◌-◌, ◌^◌, ◌<◌, ◌≤◌, Option, Some, None, IfOk, IfErr, IfNone};
+ghost use Rattle.std.specs.Prelude.{IfSome, string_bytes, length};
 ghost use Rattle.std.specs.Option.{option_map};
 ghost use Rattle.club_core.specs.Limits.{most_text_bytes};
 ghost use Rattle.club_core.specs.Answer.{reply_of};
@@ -41,7 +42,8 @@ fn read_legal<R: Rules>(
     position: &R::Position,
     text: &str,
 ) -> Result<Result<R::Move, MoveRefusal>, Memory>
-    ensures value { IfOk result (λ read. read ≡ checked R.rules position.now (R.rules.read_move position.now text.now)) }
+    ensures value { IfOk result
+        (λ read. read ≡ checked R.rules position.now (R.rules.read_move position.now text.now)) }
     ensures legal { IfOk result (λ read. IfOk read (λ made. R.rules.check position.now made ≡ Ok tt)) }
 {
     let made = match R::read_move(alloc, position, text)? {
@@ -73,7 +75,8 @@ fn repeat_of<R: Rules>(
     text: &str,
 ) -> Result<Option<Answer>, Memory>
     requires { IsSound R.rules view.now }
-    ensures { IfOk result (λ answer. (game : Game R.Move) → Shows R.rules game view.now → ShowsPly R.rules game ply view.now →
+    ensures { IfOk result (λ answer. (game : Game R.Move) → Shows R.rules game view.now →
+        ShowsPly R.rules game ply view.now →
         IsLegalGame R.rules (terms_of view.now) game →
         option_map reply_of answer ≡ repeat_of R.rules (terms_of view.now) game ply (move_at game ply) side text.now) }
 {
@@ -159,10 +162,13 @@ fn moved_row<E: Copy + Drop>(
     position: String,
 ) -> Result<GameRow<E>, Memory>
     requires plies { row.now.plies < 2 ^ 32 - 1 }
-    ensures clocks { IfOk result (λ new. (increment : ℕ) → left ≡ left_after (left_of turn (clocks_in row.now)) increment (moment - row.now.since) →
+    ensures clocks { IfOk result
+        (λ new. (increment : ℕ) → left ≡ left_after (left_of turn (clocks_in row.now)) increment
+        (moment - row.now.since) →
         clocks_in new ≡ spend increment turn moment (clocks_in row.now)) }
     ensures left { IfOk result (λ new. left_of turn (clocks_in new) ≡ left) }
-    ensures key { IfOk result (λ new. option_map (λ k. string_bytes k) new.key ≡ option_map (λ k. string_bytes k) row.now.key) }
+    ensures key { IfOk result (λ new. option_map (λ k. string_bytes k) new.key
+        ≡ option_map (λ k. string_bytes k) row.now.key) }
     ensures others { IfOk result (λ new. new ≡ record row.now {
       key = new.key;
       since = moment;
@@ -209,7 +215,8 @@ fn accept_move<R: Rules>(
 ) -> Result<Decision<R>, Memory>
     requires sound { IsSound R.rules view.now }
     requires can { CanPlay R.rules view.now turn made left moment }
-    ensures { IfOk result (λ d. (game : Game R.Move) → Shows R.rules game view.now → IsLegalGame R.rules (terms_of view.now) game →
+    ensures { IfOk result (λ d. (game : Game R.Move) → Shows R.rules game view.now →
+        IsLegalGame R.rules (terms_of view.now) game →
         IsDecision R.rules (terms_of view.now) game (plays R.rules (terms_of view.now) game moment (Ok made)) d) }
 {
     let text = R::write_move(alloc, &view.position, &made)?;
@@ -244,7 +251,8 @@ pub fn play_move<R: Rules>(
 ) -> Result<Decision<R>, Memory>
     requires sound { IsSound R.rules view.now }
     requires later { view.now.row.since ≤ moment }
-    ensures { IfOk result (λ d. (game : Game R.Move) → Shows R.rules game view.now → ShowsPly R.rules game ply view.now →
+    ensures { IfOk result (λ d. (game : Game R.Move) → Shows R.rules game view.now →
+        ShowsPly R.rules game ply view.now →
         IsLegalGame R.rules (terms_of view.now) game →
         IsDecision R.rules (terms_of view.now) game (step_move R.rules (terms_of view.now) game moment side ply text.now) d) }
 {

@@ -46,7 +46,8 @@ pub struct Seat {
     pub second: String,
 }
 
-/// Adds a game that was played elsewhere, from a part of a text of records, to an event, between two members, under a key
+/// Adds a game that was played elsewhere, from a part of a text of records, to an event, between two members, under a
+/// key
 /// of its own. Parts count from 1.
 #[derive(Debug, Drop)]
 pub struct Import {

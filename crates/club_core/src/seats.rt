@@ -1,11 +1,13 @@
 //! Seating two members for a game.
 
-ghost use Rattle.std.specs.Prelude.{◌≡◌, ◌≤◌, ◌<◌, ◌+◌, length, ℕ, Option, Some, None, IfOk, IfNone, IfSome, string_bytes};
+ghost use Rattle.std.specs.Prelude.{◌≡◌, ◌≤◌, ◌<◌, ◌+◌, length, ℕ, Option, Some, None, IfOk, IfNone, IfSome};
+ghost use Rattle.std.specs.Prelude.{string_bytes};
 ghost use Rattle.std.specs.Option.{option_map};
 ghost use Rattle.club_core.specs.Limits.{most_members, most_events, most_games};
 ghost use Rattle.club_core.specs.Members.{find_id};
 ghost use Rattle.club_core.specs.Events.{has_event_name};
-ghost use Rattle.club_core.specs.Seats.{has_member_name, same_seats, seat_refusal, seat_step, seat_found, is_id, are_two};
+ghost use Rattle.club_core.specs.Seats.{has_member_name, same_seats, seat_refusal, seat_step, seat_found, is_id};
+ghost use Rattle.club_core.specs.Seats.{are_two};
 ghost use Rattle.club_core.specs.Outcome.{by_officer, game_seated};
 ghost use Rattle.club_core.specs.State.{seated};
 ghost use Rattle.club_core.specs.Answer.{members_of, events_of, keyed_of, pairing_of, seating_of};
@@ -164,7 +166,8 @@ fn seat_found(
     })
 }
 
-/// What a seating does, by the members and the events in the order of their ids, the game under its key if there is one,
+/// What a seating does, by the members and the events in the order of their ids, the game under its key if there is
+/// one,
 /// and the number of games. The officer alone seats. The new game's id is the next one.
 pub fn seat(
     members: &[Member],

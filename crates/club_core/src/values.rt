@@ -3,7 +3,8 @@
 ghost use Rattle.std.specs.Prelude.{◌≡◌};
 ghost use Rattle.std.specs.Char.{is_ascii_alphanumeric};
 ghost use Rattle.std.specs.List.{list_all};
-ghost use Rattle.club_core.specs.Limits.{is_name, is_name_byte, is_member_key, is_challenge_number, is_budget, is_increment};
+ghost use Rattle.club_core.specs.Limits.{is_name, is_name_byte, is_member_key, is_challenge_number, is_budget};
+ghost use Rattle.club_core.specs.Limits.{is_increment};
 
 /// The most members of a club.
 pub const MOST_MEMBERS: usize = 200;
@@ -32,7 +33,8 @@ pub const LONGEST_BUDGET: u64 = 31_536_000;
 /// The greatest increment, in seconds: 30 days.
 pub const GREATEST_INCREMENT: u64 = 2_592_000;
 
-/// Whether a text may be the name of a member or an event, or the key of a game: 1 to 24 ASCII letters, digits, `.`, `_`
+/// Whether a text may be the name of a member or an event, or the key of a game: 1 to 24 ASCII letters, digits, `.`,
+/// `_`
 /// and `-`.
 pub fn is_name(text: &str) -> bool
     ensures { result ≡ is_name text.now }

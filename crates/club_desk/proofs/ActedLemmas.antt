@@ -6,13 +6,16 @@ use Rattle.http_desk.specs.Served.{Club}
 use Rattle.http_head.specs.Request.{Seen, unfinished, refused, whole}
 use Rattle.club_desk.specs.Visits.{HasActed}
 
-module _ {S A : Type 0} (club : Club S) (stands : S → Type 0) (leaves : S → S → Type 0) (view : A → List ℕ) (s : S) (moment : ℕ) where
-  replied_acted : (without_body : Bool) (seen : Seen) (result : Result A DeskFault) → RepliesTo club stands leaves view s moment without_body seen result → HasActed club stands leaves s moment
+module _ {S A : Type 0} (club : Club S) (stands : S → Type 0) (leaves : S → S → Type 0) (view : A → List ℕ) (s : S)
+    (moment : ℕ) where
+  replied_acted : (without_body : Bool) (seen : Seen) (result : Result A DeskFault)
+      → RepliesTo club stands leaves view s moment without_body seen result → HasActed club stands leaves s moment
   replied_acted without_body unfinished (Ok reply) replies = inl replies.1
   replied_acted without_body (refused r) (Ok reply) replies = inl replies.1
   replied_acted without_body (whole request) (Ok reply) (inl shows) = inr (whole request, inl shows.1)
   replied_acted without_body (whole request) (Ok reply) (inr tells) = inr (whole request, inr tells.2)
   replied_acted without_body seen (Err fault) left = inr (seen, inr left)
 
-  pub answered_acted : (bytes : List ℕ) (result : Result A DeskFault) → Answers club stands leaves view s moment bytes result → HasActed club stands leaves s moment
+  pub answered_acted : (bytes : List ℕ) (result : Result A DeskFault)
+      → Answers club stands leaves view s moment bytes result → HasActed club stands leaves s moment
   answered_acted bytes result answers = replied_acted _ answers.0 result answers.2

@@ -8,9 +8,12 @@ use Rattle.club_rows.specs.Club.{ClubState}
 use Rattle.store.specs.Steps.{club_next}
 use Rattle.http_head.specs.Request as head
 use Rattle.http_head.specs.Request.{Seen, unfinished, refused, whole}
-use Rattle.http_desk.specs.Routes.{Asked, game_view, legal_moves, cross_table, on_game, challenge, withdraw, answer, asked_of}
-use Rattle.http_desk.specs.Desk.{Due, serve, serve_asked, serve_known, serve_page, serve_command, command_given, state_behind}
-use Rattle.http_desk.specs.Bodies.{json_of, challenge_with, challenge_in, challenge_of, answer_with, answer_in, answer_of}
+use Rattle.http_desk.specs.Routes.{Asked, game_view, legal_moves, cross_table, on_game, challenge, withdraw, answer}
+use Rattle.http_desk.specs.Routes.{asked_of}
+use Rattle.http_desk.specs.Desk.{Due, serve, serve_asked, serve_known, serve_page, serve_command, command_given}
+use Rattle.http_desk.specs.Desk.{state_behind}
+use Rattle.http_desk.specs.Bodies.{json_of, challenge_with, challenge_in, challenge_of, answer_with, answer_in}
+use Rattle.http_desk.specs.Bodies.{answer_of}
 use Rattle.club_desk.specs.Served.{served}
 use Rattle.club_desk.specs.Turns.{IsMembers, IsTurn}
 
@@ -20,7 +23,8 @@ turn_members : (id : ℕ) (command : Option GameCommand) → IfSome (option_map 
 turn_members id None = tt
 turn_members id (Some command) = tt
 
-opening_given : (n : ℕ) (event other : Option (List ℕ)) (first : Option Bool) → IfSome (challenge_with n event other first) IsMembers
+opening_given : (n : ℕ) (event other : Option (List ℕ)) (first : Option Bool)
+    → IfSome (challenge_with n event other first) IsMembers
 opening_given n None other first = tt
 opening_given n (Some event) None first = tt
 opening_given n (Some event) (Some other) None = tt
@@ -30,7 +34,8 @@ answer_given : (challenger : List ℕ) (n : ℕ) (accept : Option Bool) → IfSo
 answer_given challenger n None = tt
 answer_given challenger n (Some accept) = tt
 
-given_by : {D : Type 0} (f : D → Option Command) → ((d : D) → IfSome (f d) IsMembers) → (o : Option D) → IfSome (option_and_then f o) IsMembers
+given_by : {D : Type 0} (f : D → Option Command) → ((d : D) → IfSome (f d) IsMembers) → (o : Option D)
+    → IfSome (option_and_then f o) IsMembers
 given_by f each None = tt
 given_by f each (Some d) = each d
 
@@ -48,11 +53,13 @@ module _ (s : ClubState) (moment : ℕ) (within : moment ≤ last_moment) where
   abbrev pub IsNext : ClubState → Type 0
   IsNext t = (t ≡ s) ⊎ ((request : Request) × IsTurn request × (t ≡ club_next s request))
 
-  if_next : (b : Bool) (one other : ClubState × Due) → IsNext one.0 → IsNext other.0 → IsNext (if b then one else other).0
+  if_next : (b : Bool) (one other : ClubState × Due) → IsNext one.0 → IsNext other.0
+      → IsNext (if b then one else other).0
   if_next true one other first second = first
   if_next false one other first second = second
 
-  command_next : (key : List ℕ) (id : ℕ) (command : Option Command) → IfSome command IsMembers → IsNext (serve_command served s moment key id command).0
+  command_next : (key : List ℕ) (id : ℕ) (command : Option Command) → IfSome command IsMembers
+      → IsNext (serve_command served s moment key id command).0
   command_next key id None members = inl refl
   command_next key id (Some command) members =
       inr (
@@ -70,7 +77,8 @@ module _ (s : ClubState) (moment : ℕ) (within : moment ≤ last_moment) where
   page_next key body (withdraw n) = command_next key n (Some (withdraw_challenge n)) tt
   page_next key body (answer member n) = command_next key n _ (answer_members member n body)
 
-  known_next : (key : Option (List ℕ)) (body : List ℕ) (asked : Asked) → IsNext (serve_known served s moment key body asked).0
+  known_next : (key : Option (List ℕ)) (body : List ℕ) (asked : Asked)
+      → IsNext (serve_known served s moment key body asked).0
   known_next None body asked = inl refl
   known_next (Some key) body asked = if_next _ _ _ (page_next key body asked) (inl refl)
 

@@ -1,5 +1,6 @@
 -- What the calls of a club tell, as the desk asks it.
-use Rattle.std.proofs.Common.{◌≡◌, ◌≤◌, ℕ, List, Bool, true, false, Result, Ok, Err, refl, ap, sym, subst, ◌∙◌, arith, inl, true≢false}
+use Rattle.std.proofs.Common.{◌≡◌, ◌≤◌, ℕ, List, Bool, true, false, Result, Ok, Err, refl, ap, sym, subst, ◌∙◌, arith}
+use Rattle.std.proofs.Common.{inl, true≢false}
 use Rattle.std.specs.Prelude.{◌↔◌, IsTrue, IfOk, OnOk, OnErr}
 use Rattle.std.specs.Bool.{one_answer}
 use Rattle.sqlite.specs.State.{State, HasCleanDisk}
@@ -23,7 +24,8 @@ use Rattle.club_desk.specs.Served.{has_key}
 use Rattle.club_desk.specs.Standing.{IsServed, IsLeft, MayLeave, served_stays}
 
 -- a club is shut or only read: then its disk was clean before
-pub clean_before : (shut : Bool) (old new : State) → (shut ≡ true → new ≡ old) → (shut ≡ false → OnlyReads old new) → HasCleanDisk new → HasCleanDisk old
+pub clean_before : (shut : Bool) (old new : State) → (shut ≡ true → new ≡ old) → (shut ≡ false → OnlyReads old new)
+    → HasCleanDisk new → HasCleanDisk old
 clean_before true old new same reads clean = subst HasCleanDisk (same refl) clean
 clean_before false old new same reads clean = let was = (reads refl).clean in omega arith
 
@@ -39,48 +41,81 @@ if_ok P Q (Ok a) is goes = goes a is
 if_ok P Q (Err fault) is goes = tt
 
 -- what a reading call leaves at a fault
-pub read_left : (old_shut new_shut : Bool) (old new : State) (s : ClubState) → new_shut ≡ true → (old_shut ≡ false → OnlyReads old new) → HasCleanDisk new → IsServed old_shut old s → IsLeft new_shut new s s
+pub read_left : (old_shut new_shut : Bool) (old new : State) (s : ClubState) → new_shut ≡ true
+    → (old_shut ≡ false → OnlyReads old new) → HasCleanDisk new → IsServed old_shut old s → IsLeft new_shut new s s
 read_left old_shut new_shut old new s ends reads clean served =
-    shut_left new_shut new s s ends (λ db left. inl (served.exactly.may_leave db ((reads served.ready).may clean db left)))
+    shut_left new_shut new s s ends (λ db left.
+    inl (served.exactly.may_leave db ((reads served.ready).may clean db left)))
 
 -- where a reading call leaves the club
-pub read_stands : (old_shut new_shut : Bool) (old new : State) (s : ClubState) → new_shut ≡ false → KeepsContent old new → IsServed old_shut old s → IsServed new_shut new s
+pub read_stands : (old_shut new_shut : Bool) (old new : State) (s : ClubState) → new_shut ≡ false → KeepsContent old new
+    → IsServed old_shut old s → IsServed new_shut new s
 read_stands old_shut new_shut old new s ready keeps served =
     record { ready = ready; legal = served.legal; exactly = keeps club_schema (tables s) served.exactly }
 
 module _ {A : Type 0} where
   -- a club that is shut tells the desk that it is to be opened again
-  pub told_shut : (fault : ClubFault) (found : Result A StoreFault) → fault ≡ Reopen → found ≡ Err StoreReopen → told_all found ≡ Err fault
+  pub told_shut : (fault : ClubFault) (found : Result A StoreFault) → fault ≡ Reopen → found ≡ Err StoreReopen
+      → told_all found ≡ Err fault
   told_shut fault found is shut = ap told_all shut ∙ ap Err (sym is)
 
-  read_answers : (old_shut new_shut : Bool) (old new : State) (s : ClubState) (IsRight : A → Type 0) (found : Result A StoreFault) → OnOk found (new_shut ≡ false) → OnErr found (new_shut ≡ true) → (old_shut ≡ false → OnlyReads old new) → OnOk found (KeepsContent old new) → IfOk found IsRight → HasCleanDisk new → IsServed old_shut old s → Serves (IsServed new_shut new) (IsLeft new_shut new) s s IsRight (told_all found)
-  read_answers old_shut new_shut old new s IsRight (Ok a) ready ends reads keeps right clean served = (right, read_stands old_shut new_shut old new s ready keeps served)
-  read_answers old_shut new_shut old new s IsRight (Err fault) ready ends reads keeps right clean served = read_left old_shut new_shut old new s ends reads clean served
+  read_answers : (old_shut new_shut : Bool) (old new : State) (s : ClubState) (IsRight : A → Type 0)
+      (found : Result A StoreFault) → OnOk found (new_shut ≡ false) → OnErr found (new_shut ≡ true)
+      → (old_shut ≡ false → OnlyReads old new) → OnOk found (KeepsContent old new) → IfOk found IsRight
+      → HasCleanDisk new → IsServed old_shut old s
+      → Serves (IsServed new_shut new) (IsLeft new_shut new) s s IsRight (told_all found)
+  read_answers old_shut new_shut old new s IsRight (Ok a) ready ends reads keeps right clean served =
+      (right, read_stands old_shut new_shut old new s ready keeps served)
+  read_answers old_shut new_shut old new s IsRight (Err fault) ready ends reads keeps right clean served =
+      read_left old_shut new_shut old new s ends reads clean served
 
   -- a call that only reads, at whatever it answers
-  pub read_serves : (old_shut new_shut : Bool) (old new : State) (s : ClubState) (IsRight : A → Type 0) (found : Result A StoreFault) (answer : Result A ClubFault) → answer ≡ told_all found → OnOk found (new_shut ≡ false) → OnErr found (new_shut ≡ true) → (old_shut ≡ false → OnlyReads old new) → OnOk found (KeepsContent old new) → IfOk found IsRight → HasCleanDisk new → IsServed old_shut old s → Serves (IsServed new_shut new) (IsLeft new_shut new) s s IsRight answer
+  pub read_serves : (old_shut new_shut : Bool) (old new : State) (s : ClubState) (IsRight : A → Type 0)
+      (found : Result A StoreFault) (answer : Result A ClubFault) → answer ≡ told_all found
+      → OnOk found (new_shut ≡ false) → OnErr found (new_shut ≡ true) → (old_shut ≡ false → OnlyReads old new)
+      → OnOk found (KeepsContent old new) → IfOk found IsRight → HasCleanDisk new → IsServed old_shut old s
+      → Serves (IsServed new_shut new) (IsLeft new_shut new) s s IsRight answer
   read_serves old_shut new_shut old new s IsRight found answer is ready ends reads keeps right clean served =
       let P : Result A ClubFault → Type 0 = λ r. Serves (IsServed new_shut new) (IsLeft new_shut new) s s IsRight r in
-      subst P (sym is) (read_answers old_shut new_shut old new s IsRight found ready ends reads keeps right clean served)
+      subst P (sym is)
+      (read_answers old_shut new_shut old new s IsRight found ready ends reads keeps right clean served)
 
   -- an answer that is made of what was read
-  pub made_serves : (old_shut new_shut : Bool) (old new : State) (s : ClubState) (IsRight : A → Type 0) (made : Result A ClubFault) → new_shut ≡ false → KeepsContent old new → IfOk made IsRight → IsServed old_shut old s → Serves (IsServed new_shut new) (IsLeft new_shut new) s s IsRight made
+  pub made_serves : (old_shut new_shut : Bool) (old new : State) (s : ClubState) (IsRight : A → Type 0)
+      (made : Result A ClubFault) → new_shut ≡ false → KeepsContent old new → IfOk made IsRight
+      → IsServed old_shut old s → Serves (IsServed new_shut new) (IsLeft new_shut new) s s IsRight made
   made_serves old_shut new_shut old new s IsRight (Ok a) ready keeps right served =
       (right, record { ready = ready; legal = served.legal; exactly = keeps club_schema (tables s) served.exactly })
   made_serves old_shut new_shut old new s IsRight (Err fault) ready keeps right served =
-      served_stays new_shut new s s (record { ready = ready; legal = served.legal; exactly = keeps club_schema (tables s) served.exactly })
+      served_stays new_shut new s s
+      (record { ready = ready; legal = served.legal; exactly = keeps club_schema (tables s) served.exactly })
 
-  apply_answers : (old_shut new_shut : Bool) (old new : State) (s : ClubState) (request : Request) (IsRight : A → Type 0) (found : Result A StoreFault) → KeepsClub → request.moment ≤ last_moment → OnOk found (new_shut ≡ false) → OnErr found (new_shut ≡ true) → IfOk found IsRight → OnOk found (IsExactly (tables (club_next s request)) new) → OnErr found (MayLeave new s (club_next s request)) → IsServed old_shut old s → Serves (IsServed new_shut new) (IsLeft new_shut new) s (club_next s request) IsRight (told_all found)
+  apply_answers : (old_shut new_shut : Bool) (old new : State) (s : ClubState) (request : Request)
+      (IsRight : A → Type 0) (found : Result A StoreFault) → KeepsClub → request.moment ≤ last_moment
+      → OnOk found (new_shut ≡ false) → OnErr found (new_shut ≡ true) → IfOk found IsRight
+      → OnOk found (IsExactly (tables (club_next s request)) new) → OnErr found (MayLeave new s (club_next s request))
+      → IsServed old_shut old s → Serves (IsServed new_shut new) (IsLeft new_shut new) s (club_next s request) IsRight
+      (told_all found)
   apply_answers old_shut new_shut old new s request IsRight (Ok a) keeps within ready ends right steps left served =
       (right, record { ready = ready; legal = keeps s request within served.legal; exactly = steps })
-  apply_answers old_shut new_shut old new s request IsRight (Err fault) keeps within ready ends right steps left served =
+  apply_answers old_shut new_shut old new s request IsRight (Err fault) keeps within ready ends right steps left
+      served =
       shut_left new_shut new s (club_next s request) ends left
 
   -- a command, at whatever it is answered
-  pub apply_serves : (old_shut new_shut : Bool) (old new : State) (s : ClubState) (request : Request) (IsRight : A → Type 0) (found : Result A StoreFault) (answer : Result A ClubFault) → answer ≡ told_all found → KeepsClub → request.moment ≤ last_moment → OnOk found (new_shut ≡ false) → OnErr found (new_shut ≡ true) → IfOk found IsRight → OnOk found (IsExactly (tables (club_next s request)) new) → OnErr found (MayLeave new s (club_next s request)) → IsServed old_shut old s → Serves (IsServed new_shut new) (IsLeft new_shut new) s (club_next s request) IsRight answer
-  apply_serves old_shut new_shut old new s request IsRight found answer is keeps within ready ends right steps left served =
-      let P : Result A ClubFault → Type 0 = λ r. Serves (IsServed new_shut new) (IsLeft new_shut new) s (club_next s request) IsRight r in
-      subst P (sym is) (apply_answers old_shut new_shut old new s request IsRight found keeps within ready ends right steps left served)
+  pub apply_serves : (old_shut new_shut : Bool) (old new : State) (s : ClubState) (request : Request)
+      (IsRight : A → Type 0) (found : Result A StoreFault) (answer : Result A ClubFault) → answer ≡ told_all found
+      → KeepsClub → request.moment ≤ last_moment → OnOk found (new_shut ≡ false) → OnErr found (new_shut ≡ true)
+      → IfOk found IsRight → OnOk found (IsExactly (tables (club_next s request)) new)
+      → OnErr found (MayLeave new s (club_next s request)) → IsServed old_shut old s
+      → Serves (IsServed new_shut new) (IsLeft new_shut new) s (club_next s request) IsRight answer
+  apply_serves old_shut new_shut old new s request IsRight found answer is keeps within ready ends right steps left
+      served =
+      let P : Result A ClubFault → Type 0 = λ r.
+      Serves (IsServed new_shut new) (IsLeft new_shut new) s (club_next s request) IsRight r in
+      subst P (sym is)
+      (apply_answers old_shut new_shut old new s request IsRight found keeps within ready ends right steps left
+      served)
 
 -- what holds of an answer for each state holds of it for this one
 pub on_ok : {A F P Q : Type 0} (found : Result A F) → OnOk found P → (P → Q) → OnOk found Q

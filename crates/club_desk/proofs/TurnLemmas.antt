@@ -1,5 +1,6 @@
 -- What stands, and what a stop leaves, where members made requests in turn.
-use Rattle.std.proofs.Common.{◌≡◌, ◌⊎◌, ◌≤◌, ℕ, List, [], ◌∷◌, ◌++◌, Bool, false, refl, sym, subst, inl, inr, append_assoc}
+use Rattle.std.proofs.Common.{◌≡◌, ◌⊎◌, ◌≤◌, ℕ, List, [], ◌∷◌, ◌++◌, Bool, false, refl, sym, subst, inl, inr}
+use Rattle.std.proofs.Common.{append_assoc}
 use Rattle.std.proofs.lemmas.List.{append-nil}
 use Rattle.sqlite.specs.State.{State, HasCleanDisk}
 use Rattle.store_tables.specs.Reading.{OnlyReads}
@@ -15,25 +16,39 @@ use Rattle.club_desk.specs.Turns.{IsTurn, AreTurns, IsHistoryOn, IsReachableOn}
 use Rattle.club_desk.specs.Visits.{HasActed}
 use Rattle.club_desk.proofs.NextLemmas.{seen_next}
 
-turns_more : (turns : List Session) (session : Session) (request : Request) → AreTurns turns → IsTurn request → session.requests ≡ request ∷ [] → AreTurns (turns ++ session ∷ [])
+turns_more : (turns : List Session) (session : Session) (request : Request) → AreTurns turns → IsTurn request
+    → session.requests ≡ request ∷ [] → AreTurns (turns ++ session ∷ [])
 turns_more [] session request are turn is = ((request, turn, is), tt)
 turns_more (one ∷ turns) session request are turn is = (are.0, turns_more turns session request are.1 turn is)
 
 -- where it began
 pub stands_first : (sessions : List Session) (now : State) → IsHistory sessions now → IsHistoryOn sessions now
 stands_first sessions now stands =
-    record { turns = []; are_turns = tt; stands = let P : List Session → Type 0 = λ xs. IsHistory xs now in subst P (sym (append-nil sessions)) stands }
+    record {
+      turns = [];
+      are_turns = tt;
+      stands = let P : List Session → Type 0 = λ xs. IsHistory xs now in
+          subst P (sym (append-nil sessions)) stands;
+    }
 
 pub stands_led : (sessions : List Session) (now : State) → IsHistoryOn sessions now → IsReachableOn sessions now
 stands_led sessions now on =
     record {
       turns = on.turns;
       are_turns = on.are_turns;
-      led = λ db may. record { after = on.stands.after; legal = on.stands.legal; leads = on.stands.leads; leaves = on.stands.exactly.may_leave db may };
+      led =
+          λ db may. record {
+            after = on.stands.after;
+            legal = on.stands.legal;
+            leads = on.stands.leads;
+            leaves =
+                on.stands.exactly.may_leave db may;
+          };
     }
 
 -- a call that only read leaves nothing else
-pub reads_led : (sessions : List Session) (old new : State) → OnlyReads old new → HasCleanDisk new → IsHistory sessions old → IsReachableOn sessions new
+pub reads_led : (sessions : List Session) (old new : State) → OnlyReads old new → HasCleanDisk new
+    → IsHistory sessions old → IsReachableOn sessions new
 reads_led sessions old new reads clean stands =
     let on = stands_led sessions old (stands_first sessions old stands) in
     record { turns = on.turns; are_turns = on.are_turns; led = λ db may. on.led db (reads.may clean db may) }
@@ -50,7 +65,8 @@ module _ (keeps : KeepsClub) (sessions : List Session) (old : State) (on : IsHis
         stands = record { after = before; legal = is.legal; leads = on.stands.leads; exactly = is.exactly };
       }
 
-  goes : (shut : Bool) (now : State) (request : Request) → IsTurn request → IsServed shut now (club_next before request) → IsHistoryOn sessions now
+  goes : (shut : Bool) (now : State) (request : Request) → IsTurn request → IsServed shut now (club_next before request)
+      → IsHistoryOn sessions now
   goes shut now request turn is =
       let one = taken_session before request in
       let P : List Session → Type 0 = λ xs. IsHistory xs now in
@@ -65,12 +81,17 @@ module _ (keeps : KeepsClub) (sessions : List Session) (old : State) (on : IsHis
         });
       }
 
-  next_stands : (shut : Bool) (now : State) (t : ClubState) → (t ≡ before) ⊎ ((request : Request) × IsTurn request × (t ≡ club_next before request)) → IsServed shut now t → IsHistoryOn sessions now
-  next_stands shut now t (inl same) is = stays shut now (let P : ClubState → Type 0 = λ u. IsServed shut now u in subst P same is)
-  next_stands shut now t (inr done) is = goes shut now done.0 done.1 (let P : ClubState → Type 0 = λ u. IsServed shut now u in subst P done.2 is)
+  next_stands : (shut : Bool) (now : State) (t : ClubState) → (t ≡ before)
+      ⊎ ((request : Request) × IsTurn request × (t ≡ club_next before request)) → IsServed shut now t
+      → IsHistoryOn sessions now
+  next_stands shut now t (inl same) is = stays shut now (let P : ClubState → Type 0 = λ u. IsServed shut now u in
+      subst P same is)
+  next_stands shut now t (inr done) is = goes shut now done.0 done.1
+      (let P : ClubState → Type 0 = λ u. IsServed shut now u in subst P done.2 is)
 
   -- no call has failed so far
-  pub acted_stands : (shut : Bool) (now : State) (moment : ℕ) → moment ≤ last_moment → shut ≡ false → HasActed served (IsServed shut now) (IsLeft shut now) before moment → IsHistoryOn sessions now
+  pub acted_stands : (shut : Bool) (now : State) (moment : ℕ) → moment ≤ last_moment → shut ≡ false
+      → HasActed served (IsServed shut now) (IsLeft shut now) before moment → IsHistoryOn sessions now
   acted_stands shut now moment within ready (inl is) = stays shut now is
   acted_stands shut now moment within ready (inr done) = elim done.1 [
     | inl is ↦ next_stands shut now _ (seen_next before moment within done.0) is
@@ -93,7 +114,8 @@ module _ (keeps : KeepsClub) (sessions : List Session) (old : State) (on : IsHis
         };
       }
 
-  cut_led : (now : State) (request : Request) → IsTurn request → MayLeave now before (club_next before request) → IsReachableOn sessions now
+  cut_led : (now : State) (request : Request) → IsTurn request → MayLeave now before (club_next before request)
+      → IsReachableOn sessions now
   cut_led now request turn left =
       let one = cut_session request in
       record {
@@ -102,15 +124,21 @@ module _ (keeps : KeepsClub) (sessions : List Session) (old : State) (on : IsHis
         led = λ db may.
             let P : List Session → Type 0 = λ xs. IsReachable xs db in
             subst P (append_assoc sessions on.turns (one ∷ []))
-            (one_cut before (sessions ++ on.turns) request db on.stands.leads on.stands.legal (keeps before request turn.within on.stands.legal) (left db may));
+            (one_cut before (sessions ++ on.turns) request db on.stands.leads on.stands.legal
+            (keeps before request turn.within on.stands.legal) (left db may));
       }
 
-  next_led : (now : State) (t : ClubState) → (t ≡ before) ⊎ ((request : Request) × IsTurn request × (t ≡ club_next before request)) → MayLeave now before t → IsReachableOn sessions now
-  next_led now t (inl same) left = stays_led now (let P : ClubState → Type 0 = λ u. MayLeave now before u in subst P same left)
-  next_led now t (inr done) left = cut_led now done.0 done.1 (let P : ClubState → Type 0 = λ u. MayLeave now before u in subst P done.2 left)
+  next_led : (now : State) (t : ClubState) → (t ≡ before)
+      ⊎ ((request : Request) × IsTurn request × (t ≡ club_next before request)) → MayLeave now before t
+      → IsReachableOn sessions now
+  next_led now t (inl same) left = stays_led now (let P : ClubState → Type 0 = λ u. MayLeave now before u in
+      subst P same left)
+  next_led now t (inr done) left = cut_led now done.0 done.1 (let P : ClubState → Type 0 = λ u. MayLeave now before u in
+      subst P done.2 left)
 
   -- whether a call has failed or not
-  pub acted_led : (shut : Bool) (now : State) (moment : ℕ) → moment ≤ last_moment → HasActed served (IsServed shut now) (IsLeft shut now) before moment → IsReachableOn sessions now
+  pub acted_led : (shut : Bool) (now : State) (moment : ℕ) → moment ≤ last_moment
+      → HasActed served (IsServed shut now) (IsLeft shut now) before moment → IsReachableOn sessions now
   acted_led shut now moment within (inl is) = stands_led sessions now (stays shut now is)
   acted_led shut now moment within (inr done) = elim done.1 [
     | inl is ↦ stands_led sessions now (next_stands shut now _ (seen_next before moment within done.0) is)
@@ -119,18 +147,22 @@ module _ (keeps : KeepsClub) (sessions : List Session) (old : State) (on : IsHis
 
 -- a connection over the desk, of whatever moment
 abbrev pub Acted : Bool → State → ClubState → Type 0
-Acted shut now s = (moment : ℕ) × (moment ≤ last_moment) × HasActed served (IsServed shut now) (IsLeft shut now) s moment
+Acted shut now s = (moment : ℕ) × (moment ≤ last_moment)
+    × HasActed served (IsServed shut now) (IsLeft shut now) s moment
 
-module _ (keeps : KeepsClub) (sessions : List Session) (old_shut : Bool) (old : State) (ready : old_shut ≡ false) (on : IsHistoryOn sessions old) where
+module _ (keeps : KeepsClub) (sessions : List Session) (old_shut : Bool) (old : State) (ready : old_shut ≡ false)
+    (on : IsHistoryOn sessions old) where
   abbrev served_before : IsServed old_shut old on.stands.after
   served_before = record { ready = ready; legal = on.stands.legal; exactly = on.stands.exactly }
 
-  pub turn_stands : (shut : Bool) (now : State) → shut ≡ false → ((s : ClubState) → IsServed old_shut old s → Acted shut now s) → IsHistoryOn sessions now
+  pub turn_stands : (shut : Bool) (now : State) → shut ≡ false
+      → ((s : ClubState) → IsServed old_shut old s → Acted shut now s) → IsHistoryOn sessions now
   turn_stands shut now is_open acts =
       let (moment, within, acted) = acts on.stands.after served_before in
       acted_stands keeps sessions old on shut now moment within is_open acted
 
-  pub turn_led : (shut : Bool) (now : State) → ((s : ClubState) → IsServed old_shut old s → Acted shut now s) → IsReachableOn sessions now
+  pub turn_led : (shut : Bool) (now : State) → ((s : ClubState) → IsServed old_shut old s → Acted shut now s)
+      → IsReachableOn sessions now
   turn_led shut now acts =
       let (moment, within, acted) = acts on.stands.after served_before in
       acted_led keeps sessions old on shut now moment within acted

@@ -8,7 +8,8 @@ to_be_given at heard further = prepend_known (drop at heard) further
 
 -- A reader gave a piece more, which is kept: none only at its end. At an error nothing was given.
 abbrev pub HasHeard : {U E : Type 0} → List ℕ → List ℕ → Option (List ℕ) → Option (List ℕ) → Result U E → Type 0
-HasHeard before now old new (Ok done) = (piece : List ℕ) × (now ≡ before ++ piece) × Consumes old new piece × (piece ≡ [] → IsAtEnd new)
+HasHeard before now old new (Ok done) = (piece : List ℕ) × (now ≡ before ++ piece) × Consumes old new piece
+    × (piece ≡ [] → IsAtEnd new)
 HasHeard before now old new (Err error) = (now ≡ before) × Keeps old new
 
 -- so many of the bytes were put into the room, none only where there are none or no room

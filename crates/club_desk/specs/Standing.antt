@@ -22,10 +22,12 @@ pub record IsLeft (needs_reopening : Bool) (now : State) (s t : ClubState) : Typ
   pub stands : needs_reopening ≡ false → IsServed needs_reopening now s ⊎ IsServed needs_reopening now t
 
 pub served_stays : (shut : Bool) (now : State) (s t : ClubState) → IsServed shut now s → IsLeft shut now s t
-served_stays shut now s t served = record { leaves = λ db left. inl (served.exactly.may_leave db left); stands = λ ready. inl served }
+served_stays shut now s t served =
+    record { leaves = λ db left. inl (served.exactly.may_leave db left); stands = λ ready. inl served }
 
 pub served_settled : (shut : Bool) (now : State) (s t : ClubState) → IsServed shut now t → IsLeft shut now s t
-served_settled shut now s t served = record { leaves = λ db left. inr (served.exactly.may_leave db left); stands = λ ready. inr served }
+served_settled shut now s t served =
+    record { leaves = λ db left. inr (served.exactly.may_leave db left); stands = λ ready. inr served }
 
 pub left_wider : (shut : Bool) (now : State) (s t : ClubState) → IsLeft shut now s s → IsLeft shut now s t
 left_wider shut now s t left =

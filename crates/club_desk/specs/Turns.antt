@@ -30,7 +30,8 @@ pub record IsTurn (request : Request) : Type 0 where
 -- each session has one request, which is such a command
 abbrev pub AreTurns : List Session → Type 0
 AreTurns [] = ⊤
-AreTurns (session ∷ sessions) = ((request : Request) × IsTurn request × (session.requests ≡ request ∷ [])) × AreTurns sessions
+AreTurns (session ∷ sessions) = ((request : Request) × IsTurn request × (session.requests ≡ request ∷ []))
+    × AreTurns sessions
 
 -- with turns added, the sessions lead to what stands
 pub record IsHistoryOn (sessions : List Session) (now : State) : Type 0 where

@@ -7,8 +7,10 @@ use Rattle.http_head.specs.Request.{Seen}
 use Rattle.club_desk.specs.declared.exchanges.Exchange.{Exchange}
 
 -- the reply is that to the bytes
-abbrev pub IsAnswered : {S : Type 0} → Club S → (S → Type 0) → (S → S → Type 0) → S → ℕ → Result Exchange DeskFault → Type 0
-IsAnswered club stands leaves s moment (Ok done) = Answers {F = DeskFault} club stands leaves (λ bytes. bytes) s moment done.bytes.items (Ok done.reply.items)
+abbrev pub IsAnswered : {S : Type 0} → Club S → (S → Type 0) → (S → S → Type 0) → S → ℕ → Result Exchange DeskFault
+    → Type 0
+IsAnswered club stands leaves s moment (Ok done) =
+    Answers {F = DeskFault} club stands leaves (λ bytes. bytes) s moment done.bytes.items (Ok done.reply.items)
 IsAnswered club stands leaves s moment (Err fault) = Unit {0}
 
 -- Nothing was done, or what some bytes ask for: their state stands, or a stop leaves one of the two.

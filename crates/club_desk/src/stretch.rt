@@ -47,7 +47,7 @@ fn fault_behind(has_failed: bool) -> Option<ClubFault> {
 
 /// Takes over the club of a connection that was just opened, serves it until the desk is to give way, and gives the
 /// connection back: with the fault that further connections are to be told, where the club was not taken over or a
-/// call on it failed. Sessions that led to what the opening found lead, with commands of members on games added, each
+/// call on it failed. Sessions that led to what the opening found lead, with commands of members added, each
 /// a session of its own, to whatever a stop leaves.
 pub fn serve_stretch<S: Alter, V: Visits>(
     alloc: Global,

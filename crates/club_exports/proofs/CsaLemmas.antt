@@ -12,25 +12,33 @@ use Rattle.csa.specs.declared.head.CsaHead.{CsaHead}
 use Rattle.csa.specs.declared.game_writer.GameWriter.{GameWriter}
 use Rattle.csa.specs.Writing.{head_text, entries_text, end_text}
 use Rattle.csa.specs.WrittenGame.{IsGameText}
-use Rattle.csa.specs.Writer.{lines_text, text_up_to, HasBegun, HasWritten, AddsEntry, BeginsEntry, AddsGame, BeginsGame, Finishes, BeginsEnd, LinesBeginGames, MovesBeginGames}
+use Rattle.csa.specs.Writer.{lines_text, text_up_to, HasBegun, HasWritten, AddsEntry, BeginsEntry, AddsGame, BeginsGame}
+use Rattle.csa.specs.Writer.{Finishes, BeginsEnd, LinesBeginGames, MovesBeginGames}
 use Rattle.club_exports.specs.Title.{Title}
 use Rattle.club_exports.specs.Written.{AddsRecord, BeginsRecord}
 use Rattle.club_exports.specs.CsaRecords.{IsCsaText, IsCsaHead, HasWrittenCsa, end_told}
 
 -- the text of a game with the title's head is the record
-pub csa-text : (title : Title SEnd) (head : CsaHead) (plies : List (SMove × ℕ)) (text : List ℕ) → IsCsaHead title head → IsGameText head.event.now head.black.now head.white.now head.start head.end plies text → IsCsaText title plies text
+pub csa-text : (title : Title SEnd) (head : CsaHead) (plies : List (SMove × ℕ)) (text : List ℕ) → IsCsaHead title head
+    → IsGameText head.event.now head.black.now head.white.now head.start head.end plies text
+    → IsCsaText title plies text
 csa-text title head plies text is g = record {
   at = g.at;
   shown = subst (λ s. IsCivil s g.at) is.start g.shown;
-  written = g.written ∙ (λ i. head_text (is.event i) (is.black i) (is.white i) g.at ++ entries_text opening plies ++ end_text (is.end i) (last_position opening (map (λ e. e.0) plies)).turn);
+  written = g.written
+      ∙ (λ i. head_text (is.event i) (is.black i) (is.white i) g.at ++ entries_text opening plies
+      ++ end_text (is.end i) (last_position opening (map (λ e. e.0) plies)).turn);
 }
 
 -- a beginning of it is one of the record
-pub csa-begins : (title : Title SEnd) (head : CsaHead) (plies : List (SMove × ℕ)) (before now : Option (List ℕ)) → IsCsaHead title head → BeginsGame head plies before now → BeginsRecord IsCsaText title plies before now
+pub csa-begins : (title : Title SEnd) (head : CsaHead) (plies : List (SMove × ℕ)) (before now : Option (List ℕ))
+    → IsCsaHead title head → BeginsGame head plies before now → BeginsRecord IsCsaText title plies before now
 csa-begins title head plies before now is begins = (begins.0, csa-text title head plies begins.0 is begins.1, begins.2)
 
 -- what was written begins each game that goes on
-pub csa-begun : MovesBeginGames → (title : Title SEnd) (plies more : List (SMove × ℕ)) (before now : Option (List ℕ)) (game : GameWriter) → HasWrittenCsa title plies before now game → BeginsRecord IsCsaText title (plies ++ more) before now
+pub csa-begun : MovesBeginGames → (title : Title SEnd) (plies more : List (SMove × ℕ)) (before now : Option (List ℕ))
+    (game : GameWriter) → HasWrittenCsa title plies before now game
+    → BeginsRecord IsCsaText title (plies ++ more) before now
 csa-begun law title plies more before now game h =
     csa-begins title h.head (plies ++ more) before now h.is_head
     (law h.head plies more before now
@@ -41,11 +49,16 @@ csa-begun law title plies more before now game h =
     }))
 
 -- the lines before the moves
-pub csa-lines : LinesBeginGames → (title : Title SEnd) (head : CsaHead) (before now : Option (List ℕ)) → IsCsaHead title head → HasBegun head.start (lines_text head) before now → (plies : List (SMove × ℕ)) → BeginsRecord IsCsaText title plies before now
-csa-lines law title head before now is begun plies = csa-begins title head plies before now is (law head plies before now begun)
+pub csa-lines : LinesBeginGames → (title : Title SEnd) (head : CsaHead) (before now : Option (List ℕ))
+    → IsCsaHead title head → HasBegun head.start (lines_text head) before now → (plies : List (SMove × ℕ))
+    → BeginsRecord IsCsaText title plies before now
+csa-lines law title head before now is begun plies =
+    csa-begins title head plies before now is (law head plies before now begun)
 
 -- one move more
-pub csa-adds : (old new : GameWriter) (entry : SMove × ℕ) (held now : Option (List ℕ)) → AddsEntry entry old new held now → (title : Title SEnd) (plies : List (SMove × ℕ)) (before : Option (List ℕ)) → HasWrittenCsa title plies before held old → HasWrittenCsa title (plies ++ entry ∷ []) before now new
+pub csa-adds : (old new : GameWriter) (entry : SMove × ℕ) (held now : Option (List ℕ))
+    → AddsEntry entry old new held now → (title : Title SEnd) (plies : List (SMove × ℕ)) (before : Option (List ℕ))
+    → HasWrittenCsa title plies before held old → HasWrittenCsa title (plies ++ entry ∷ []) before now new
 csa-adds old new entry held now adds title plies before h = record {
   head = h.head;
   is_head = h.is_head;
@@ -53,18 +66,24 @@ csa-adds old new entry held now adds title plies before h = record {
 }
 
 -- a beginning of one move more
-pub csa-move : MovesBeginGames → (old : GameWriter) (entry : SMove × ℕ) (held now : Option (List ℕ)) → BeginsEntry entry old held now → (title : Title SEnd) (plies more : List (SMove × ℕ)) (before : Option (List ℕ)) → HasWrittenCsa title plies before held old → BeginsRecord IsCsaText title (plies ++ entry ∷ more) before now
+pub csa-move : MovesBeginGames → (old : GameWriter) (entry : SMove × ℕ) (held now : Option (List ℕ))
+    → BeginsEntry entry old held now → (title : Title SEnd) (plies more : List (SMove × ℕ)) (before : Option (List ℕ))
+    → HasWrittenCsa title plies before held old → BeginsRecord IsCsaText title (plies ++ entry ∷ more) before now
 csa-move law old entry held now begins title plies more before h =
     subst (λ l. BeginsRecord IsCsaText title l before now) (append_assoc plies (entry ∷ []) more)
     (csa-begins title h.head ((plies ++ entry ∷ []) ++ more) before now h.is_head
     (law h.head (plies ++ entry ∷ []) more before now (begins h.head before plies h.written)))
 
 -- the end
-pub csa-finished : (game : GameWriter) (held now : Option (List ℕ)) → Finishes game held now → (title : Title SEnd) (plies : List (SMove × ℕ)) (before : Option (List ℕ)) → HasWrittenCsa title plies before held game → AddsRecord IsCsaText title plies before now
+pub csa-finished : (game : GameWriter) (held now : Option (List ℕ)) → Finishes game held now
+    → (title : Title SEnd) (plies : List (SMove × ℕ)) (before : Option (List ℕ))
+    → HasWrittenCsa title plies before held game → AddsRecord IsCsaText title plies before now
 csa-finished game held now finishes title plies before h =
     let added = finishes h.head before plies h.written in
     (added.0, csa-text title h.head plies added.0 h.is_head added.1, added.2)
 
-pub csa-ending : (game : GameWriter) (held now : Option (List ℕ)) → BeginsEnd game held now → (title : Title SEnd) (plies : List (SMove × ℕ)) (before : Option (List ℕ)) → HasWrittenCsa title plies before held game → BeginsRecord IsCsaText title plies before now
+pub csa-ending : (game : GameWriter) (held now : Option (List ℕ)) → BeginsEnd game held now
+    → (title : Title SEnd) (plies : List (SMove × ℕ)) (before : Option (List ℕ))
+    → HasWrittenCsa title plies before held game → BeginsRecord IsCsaText title plies before now
 csa-ending game held now begins title plies before h =
     csa-begins title h.head plies before now h.is_head (begins h.head before plies h.written)

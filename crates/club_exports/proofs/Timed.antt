@@ -7,7 +7,8 @@ use Rattle.club_exports.specs.Written.{made_in}
 
 module _ {M : Type 0} where
   -- entries that go on
-  pub timed-append : (since : ℕ) (es more : List (Entry M)) → timed since (es ++ more) ≡ timed since es ++ timed (since_after since es) more
+  pub timed-append : (since : ℕ) (es more : List (Entry M))
+      → timed since (es ++ more) ≡ timed since es ++ timed (since_after since es) more
   timed-append since [] more = refl
   timed-append since (e ∷ es) more = ap (λ l. (e.made, e.moment - since) ∷ l) (timed-append e.moment es more)
 

@@ -39,7 +39,8 @@ pub record IsCsaHead (title : Title SEnd) (head : CsaHead) : Type 0 where
   pub end : head.end ≡ end_told title.end
 
 -- that and the moves were written
-pub record HasWrittenCsa (title : Title SEnd) (plies : List (SMove × ℕ)) (before now : Option (List ℕ)) (game : GameWriter) : Type 0 where
+pub record HasWrittenCsa (title : Title SEnd) (plies : List (SMove × ℕ)) (before now : Option (List ℕ))
+    (game : GameWriter) : Type 0 where
   pub head : CsaHead
   pub is_head : IsCsaHead title head
   pub written : HasWritten head plies before now game

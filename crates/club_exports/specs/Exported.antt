@@ -6,9 +6,11 @@ use Rattle.club_core.specs.Game.{Entry}
 use Rattle.club_exports.specs.Title.{Title, timed, since_after}
 use Rattle.club_exports.specs.declared.export.Export.{Export}
 
-module _ {R P M E T Rec : Type 0} (rules : GameRules P M E T) (HasWritten : Title E → List (M × ℕ) → Option (List ℕ) → Option (List ℕ) → Rec → Type 0) where
+module _ {R P M E T Rec : Type 0} (rules : GameRules P M E T)
+    (HasWritten : Title E → List (M × ℕ) → Option (List ℕ) → Option (List ℕ) → Rec → Type 0) where
   -- What stands before the moves, and these entries, are written; and the export stands after them.
-  pub record IsWritten (title : Title E) (entries : List (Entry M)) (before now : Option (List ℕ)) (export : Export R Rec P M E T) : Type 0 where
+  pub record IsWritten (title : Title E) (entries : List (Entry M)) (before now : Option (List ℕ))
+      (export : Export R Rec P M E T) : Type 0 where
     pub written : HasWritten title (timed title.start entries) before now export.draft
     pub position : export.position ≡ position_after rules rules.start (map (λ e. e.made) entries)
     pub since_is : export.since ≡ since_after title.start entries
@@ -22,6 +24,7 @@ module _ {R P M E T Rec : Type 0} (rules : GameRules P M E T) (HasWritten : Titl
     pub is : IsWritten title entries before held export
 
 -- the text is that of a move that is legal after these entries
-pub record IsNextText {P M E T : Type 0} (rules : GameRules P M E T) (entries : List (Entry M)) (text : List ℕ) (made : M) : Type 0 where
+pub record IsNextText {P M E T : Type 0} (rules : GameRules P M E T) (entries : List (Entry M)) (text : List ℕ)
+    (made : M) : Type 0 where
   pub legal : rules.check (position_after rules rules.start (map (λ e. e.made) entries)) made ≡ Ok tt
   pub written : text ≡ rules.write_move (position_after rules rules.start (map (λ e. e.made) entries)) made

@@ -26,7 +26,8 @@ pub record IsPdnHead (title : Title DEnd) (head : PdnHead) : Type 0 where
   pub shown : IsCivil title.start head.date
 
 -- the tags and the moves were written
-pub record HasWrittenPdn (title : Title DEnd) (plies : List (DMove × ℕ)) (before now : Option (List ℕ)) (game : GameWriter) : Type 0 where
+pub record HasWrittenPdn (title : Title DEnd) (plies : List (DMove × ℕ)) (before now : Option (List ℕ))
+    (game : GameWriter) : Type 0 where
   pub head : PdnHead
   pub is_head : IsPdnHead title head
   pub written : HasWritten head (made_in plies) before now game

@@ -23,8 +23,10 @@ pdn-may_follow title plies before now game made written few legal =
     let count : length (made_in plies) ≡ length plies = length-map plies (λ p. p.0) in
     let stands = written.written.position in
     let plies_are = written.written.plies in
-    let at = draughts_laws.last-is draughts_opening.opening (made_in plies) in
-    (subst (λ p. draughts_legal.Legal p made) (at ∙ sym stands) (draughts_laws.check-legal _ made legal), omega (arith, count, plies_are, few))
+    let at = draughts_laws.last-is draughts_opening.opening (made_in plies) in (
+      subst (λ p. draughts_legal.Legal p made) (at ∙ sym stands) (draughts_laws.check-legal _ made legal),
+      omega (arith, count, plies_are, few),
+    )
 
 pub csa-may_follow : MayFollowLegal shogi HasWrittenCsa csa.MayFollow
 csa-may_follow title plies before now game made written few legal =

@@ -5,7 +5,8 @@ use Rattle.club_core.specs.declared.rows.GameEnd.{GameEnd}
 use Rattle.club_core.specs.Game.{Entry}
 use Rattle.club_exports.specs.declared.heading.Heading.{Heading}
 
--- the names of the event and of the players, the moment of the start, and the end and the score, or none where the game goes on
+-- the names of the event and of the players, the moment of the start, and the end and the score, or none where the game
+-- goes on
 pub record Title (E : Type 0) : Type 0 where
   pub event : List ℕ
   pub first : List ℕ

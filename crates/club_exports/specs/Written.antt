@@ -23,7 +23,8 @@ module _ {E M : Type 0} (IsText : Title E → List (M × ℕ) → List ℕ → T
     -- what was written begins the record of each game that goes on from it
     abbrev pub BeginsGames : Type 0
     BeginsGames =
-        (title : Title E) (plies more : List (M × ℕ)) (before now : Option (List ℕ)) (r : R) → HasWritten title plies before now r →
+        (title : Title E) (plies more : List (M × ℕ)) (before now : Option (List ℕ)) (r : R)
+        → HasWritten title plies before now r →
         BeginsRecord title (plies ++ more) before now
 
 -- a move that is legal after those that are written may follow them, where these are not too many to count

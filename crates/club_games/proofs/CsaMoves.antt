@@ -69,18 +69,27 @@ kind-dropped role.PromotedKnight kind e = cc
 kind-dropped role.PromotedLance kind e = cc
 kind-dropped role.PromotedPawn kind e = cc
 
-coded-promotion : (piece : SPiece) (promote : Bool) (code : Role) → CodedAs piece promote code → promotion_of piece code ≡ Some promote
-coded-promotion piece false code coded = ap (λ b. if b then Some false else if same_role code (arrived piece true).role then Some true else None) (same-role code piece.role coded.after)
+coded-promotion : (piece : SPiece) (promote : Bool) (code : Role) → CodedAs piece promote code
+    → promotion_of piece code ≡ Some promote
+coded-promotion piece false code coded =
+    ap (λ b. if b then Some false else if same_role code (arrived piece true).role then Some true else None)
+    (same-role code piece.role coded.after)
 coded-promotion piece true code coded =
-    λ i. if other-role code piece.role (coded.own refl) i then Some false else if same-role code (arrived piece true).role coded.after i then Some true else None
+    λ i. if other-role code piece.role (coded.own refl) i then Some false else if same-role code
+    (arrived piece true).role coded.after i then Some true else None
 
-promotion-coded : (piece : SPiece) (promote : Bool) (code : Role) → promotion_of piece code ≡ Some promote → CodedAs piece promote code
-promotion-coded piece promote code e = by-own (same_role code piece.role) (same_role code (arrived piece true).role) refl refl e
+promotion-coded : (piece : SPiece) (promote : Bool) (code : Role) → promotion_of piece code ≡ Some promote
+    → CodedAs piece promote code
+promotion-coded piece promote code e = by-own (same_role code piece.role) (same_role code (arrived piece true).role)
+    refl refl e
   where
-    by-own : (own after : Bool) → same_role code piece.role ≡ own → same_role code (arrived piece true).role ≡ after → ◌≡◌ {A = Option Bool} (if own then Some false else if after then Some true else None) (Some promote) → CodedAs piece promote code
+    by-own : (own after : Bool) → same_role code piece.role ≡ own → same_role code (arrived piece true).role ≡ after
+        → ◌≡◌ {A = Option Bool} (if own then Some false else if after then Some true else None) (Some promote)
+        → CodedAs piece promote code
     by-own true after own_is after_is e =
         let stays : false ≡ promote = cc in
-        subst (λ b. CodedAs piece b code) stays (record { after = same_true role_of.the_type tt code piece.role own_is; own = λ never. absurd (cc) })
+        subst (λ b. CodedAs piece b code) stays
+        (record { after = same_true role_of.the_type tt code piece.role own_is; own = λ never. absurd (cc) })
     by-own false true own_is after_is e =
         let turns : true ≡ promote = cc in
         subst (λ b. CodedAs piece b code) turns (record {
@@ -102,13 +111,15 @@ means-meant p w (Drop kind to) (side, to_is, from_is, role_is) =
     ∙ ap (λ t. Some (Drop kind t)) to_is
 
 module _ (p : ShogiPosition) (w : WrittenMove) (m : SMove) (side : w.side ≡ p.turn) where
-  dropped-means : (o : Option HandKind) → dropped_kind w.role ≡ o → w.from ≡ None → option_map (λ k. Drop k w.to) o ≡ Some m → Means p w m
+  dropped-means : (o : Option HandKind) → dropped_kind w.role ≡ o → w.from ≡ None
+      → option_map (λ k. Drop k w.to) o ≡ Some m → Means p w m
   dropped-means None is from e = absurd (cc)
   dropped-means (Some kind) is from e =
       let same : Drop kind w.to ≡ m = cc in
       subst (Means p w) same (side, refl, from, kind-dropped w.role kind is)
 
-  stepped-means : (from : ℕ) (cell : Option SPiece) (o : Option Bool) → map.get p.board from ≡ cell → promotion_at cell w.role ≡ o → w.from ≡ Some from → option_map (λ b. Step from w.to b) o ≡ Some m → Means p w m
+  stepped-means : (from : ℕ) (cell : Option SPiece) (o : Option Bool) → map.get p.board from ≡ cell
+      → promotion_at cell w.role ≡ o → w.from ≡ Some from → option_map (λ b. Step from w.to b) o ≡ Some m → Means p w m
   stepped-means from cell None at is from_is e = absurd (cc)
   stepped-means from None (Some promote) at is from_is e = absurd (cc)
   stepped-means from (Some piece) (Some promote) at is from_is e =
@@ -117,12 +128,14 @@ module _ (p : ShogiPosition) (w : WrittenMove) (m : SMove) (side : w.side ≡ p.
 
   from-means : (from : Option ℕ) → w.from ≡ from → meant_from p w from ≡ Some m → Means p w m
   from-means None is e = dropped-means (dropped_kind w.role) refl is e
-  from-means (Some from) is e = stepped-means from (map.get p.board from) (promotion_at (map.get p.board from) w.role) refl refl is e
+  from-means (Some from) is e = stepped-means from (map.get p.board from) (promotion_at (map.get p.board from) w.role)
+      refl refl is e
 
 meant-means : (p : ShogiPosition) (w : WrittenMove) (m : SMove) → meant p w ≡ Some m → Means p w m
 meant-means p w m = by-side (same_side w.side p.turn) refl
   where
-    by-side : (b : Bool) → same_side w.side p.turn ≡ b → ◌≡◌ {A = Option SMove} (if b then meant_from p w w.from else None) (Some m) → Means p w m
+    by-side : (b : Bool) → same_side w.side p.turn ≡ b
+        → ◌≡◌ {A = Option SMove} (if b then meant_from p w w.from else None) (Some m) → Means p w m
     by-side true is e = from-means p w m (side-same w.side p.turn is) w.from refl e
     by-side false is e = absurd (cc)
 

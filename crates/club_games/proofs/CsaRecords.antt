@@ -1,5 +1,7 @@
 -- What the reader of CSA texts answers is what the functions compute.
-use Rattle.std.proofs.Common.{◌≡◌, ◌≢◌, inl, inr, ℕ, zero, suc, ◌+◌, ◌-◌, List, [], ◌∷◌, ◌++◌, length, take, map, true, false, Option, Some, None, Result, Ok, Err, IsOk, refl, sym, ap, subst, ◌∙◌, append-nil, append_assoc, arith}
+use Rattle.std.proofs.Common.{◌≡◌, ◌≢◌, inl, inr, ℕ, zero, suc, ◌+◌, ◌-◌, List, [], ◌∷◌, ◌++◌, length, take, map, true}
+use Rattle.std.proofs.Common.{false, Option, Some, None, Result, Ok, Err, IsOk, refl, sym, ap, subst, ◌∙◌, append-nil}
+use Rattle.std.proofs.Common.{append_assoc, arith}
 use Rattle.std.specs.Prelude.{slice_get, if◌then◌else◌}
 use Rattle.std.proofs.lemmas.List.{length-append}
 use Rattle.std.proofs.lemmas.Option.{slice_get-get_or}
@@ -26,11 +28,15 @@ use Rattle.csa.specs.declared.statements.WrittenMove.{WrittenMove}
 use Rattle.csa.specs.Lines.{text_statements}
 use Rattle.csa.specs.Moves.{MeanAll}
 use Rattle.csa.specs.Order.{first_stray}
-use Rattle.csa.specs.Reading.{first_statement, records_of, AreRecordsOf, FailsAfter, SomeRecordFails, AreOrdered, IsTextOf, Refuses, IsRefused}
+use Rattle.csa.specs.Reading.{first_statement, records_of, AreRecordsOf, FailsAfter, SomeRecordFails, AreOrdered}
+use Rattle.csa.specs.Reading.{IsTextOf, Refuses, IsRefused}
 use Rattle.csa.specs.Records.{begins_even, score_in, IsRecordOf, EndFails, RecordFails}
 use Rattle.csa.specs.Replays.{written_moves, AreMoves, RefusesNext, RefusesMove}
 use Rattle.club_rules.specs.Records.{refused}
-use Rattle.club_games.specs.CsaReading.{meant, Replayed, go_on, replay_next, replayed, with_score, with_moves, record_reading, and_more, records_reading, is_version, ordered_reading, statements_reading, csa_reading, game_of, csa_refusal, found_game, part_of, csa_part}
+use Rattle.club_games.specs.CsaReading.{meant, Replayed, go_on, replay_next, replayed, with_score, with_moves}
+use Rattle.club_games.specs.CsaReading.{record_reading, and_more, records_reading, is_version, ordered_reading}
+use Rattle.club_games.specs.CsaReading.{statements_reading, csa_reading, game_of, csa_refusal, found_game, part_of}
+use Rattle.club_games.specs.CsaReading.{csa_part}
 use Rattle.club_games.proofs.CsaMoves.{means-meant, none-meant}
 use Rattle.club_games.proofs.ShogiFaults.{end-computed}
 
@@ -38,17 +44,21 @@ go-ok : (ply : ℕ) (rest : Replayed) (answer : Result (Unit {0}) Illegal) → I
 go-ok ply rest (Ok u) ok = refl
 go-ok ply rest (Err cause) ok = cc
 
-position-more : (p : ShogiPosition) (ms : List SMove) (m : SMove) → last_position p (ms ++ m ∷ []) ≡ play (last_position p ms) m
+position-more : (p : ShogiPosition) (ms : List SMove) (m : SMove)
+    → last_position p (ms ++ m ∷ []) ≡ play (last_position p ms) m
 position-more p [] m = refl
 position-more p (n ∷ ms) m = position-more (play p n) ms m
 
 there : (front : List SMove) (m : SMove) (rest : List SMove) → slice_get (front ++ m ∷ rest) (length front) ≡ Some m
 there front m rest =
     let long = length-append front (m ∷ rest) in
-    slice_get-get_or (front ++ m ∷ rest) (length front) m (omega (arith, long)) ∙ ap (λ x. Some x) (get_or-append_seam front m rest m)
+    slice_get-get_or (front ++ m ∷ rest) (length front) m (omega (arith, long))
+    ∙ ap (λ x. Some x) (get_or-append_seam front m rest m)
 
 -- written moves that mean moves of a game are replayed as these
-replays-on : (front : List SMove) (ws more : List WrittenMove) (rest : List SMove) → MeanAll (last_position opening front) ws rest → IsPlayed opening (front ++ rest) (length (front ++ rest)) → replayed front (ws ++ more) ≡ replayed (front ++ rest) more
+replays-on : (front : List SMove) (ws more : List WrittenMove) (rest : List SMove)
+    → MeanAll (last_position opening front) ws rest → IsPlayed opening (front ++ rest) (length (front ++ rest))
+    → replayed front (ws ++ more) ≡ replayed (front ++ rest) more
 replays-on front [] more [] mean played = ap (λ l. replayed l more) (sym (append-nil front))
 replays-on front [] more (m ∷ rest) mean played = absurd mean
 replays-on front (w ∷ ws) more [] mean played = absurd mean
@@ -57,29 +67,39 @@ replays-on front (w ∷ ws) more (m ∷ rest) mean played =
     let long = length-append front (m ∷ rest) in
     let here : GoesOn opening whole (length front) = played (length front) (omega (arith, long)) in
     let seam : take (length front) whole ≡ front = take-append_seam front (m ∷ rest) in
-    let running : end_of opening front ≡ None = sym (end-computed opening front None (subst (λ l. EndsSo opening l None) seam here.unended)) in
-    let legal : Legal (last_position opening front) m = subst (λ l. Legal (last_position opening l) m) seam (here.legal m (there front m rest)) in
+    let running : end_of opening front ≡ None =
+    sym (end-computed opening front None (subst (λ l. EndsSo opening l None) seam here.unended)) in
+    let legal : Legal (last_position opening front) m =
+    subst (λ l. Legal (last_position opening l) m) seam (here.legal m (there front m rest)) in
     let next : SMove → Replayed = λ x. replayed (front ++ x ∷ []) (ws ++ more) in
     let grown : (front ++ m ∷ []) ++ rest ≡ whole = append_assoc front (m ∷ []) rest in
     (λ i. replay_next front next (running i) (means-meant (last_position opening front) w m mean.0 i))
-    ∙ go-ok (length front + 1) (next m) (check_of (last_position opening front) m) ((check_of-legal (last_position opening front) m).1 legal)
-    ∙ replays-on (front ++ m ∷ []) ws more rest (subst (λ p. MeanAll p ws rest) (sym (position-more opening front m)) mean.1) (subst (λ l. IsPlayed opening l (length l)) (sym grown) played)
+    ∙ go-ok (length front + 1) (next m) (check_of (last_position opening front) m)
+    ((check_of-legal (last_position opening front) m).1 legal)
+    ∙ replays-on (front ++ m ∷ []) ws more rest
+    (subst (λ p. MeanAll p ws rest) (sym (position-more opening front m)) mean.1)
+    (subst (λ l. IsPlayed opening l (length l)) (sym grown) played)
     ∙ ap (λ l. replayed l more) grown
 
 moves-replayed : (ws : List WrittenMove) (ms : List SMove) → AreMoves ws ms → replayed [] ws ≡ Ok ms
 moves-replayed ws ms are = ap (replayed []) (sym (append-nil ws)) ∙ replays-on [] ws [] ms are.mean are.played
 
 -- a move that is refused ends the replay
-refused-next : (ms : List SMove) (w : WrittenMove) (after : List WrittenMove) (f : CsaFault) → RefusesNext ms w f → replayed ms (w ∷ after) ≡ Err f
+refused-next : (ms : List SMove) (w : WrittenMove) (after : List WrittenMove) (f : CsaFault) → RefusesNext ms w f
+    → replayed ms (w ∷ after) ≡ Err f
 refused-next ms w after (fault.AfterEnd ply) (is, end, ends) =
-    ap (λ e. replay_next ms (λ m. replayed (ms ++ m ∷ []) after) e (meant (last_position opening ms) w)) (sym (end-computed opening ms (Some end) ends))
+    ap (λ e. replay_next ms (λ m. replayed (ms ++ m ∷ []) after) e (meant (last_position opening ms) w))
+    (sym (end-computed opening ms (Some end) ends))
     ∙ ap (λ n. Err (fault.AfterEnd n)) (sym is)
 refused-next ms w after (fault.Illegal ply cause) (is, unended, inl (m, means, broken)) =
-    (λ i. replay_next ms (λ x. replayed (ms ++ x ∷ []) after) (sym (end-computed opening ms None unended) i) (means-meant (last_position opening ms) w m means i))
-    ∙ ap (go_on (length ms + 1) (replayed (ms ++ m ∷ []) after)) ((check_of-refused (last_position opening ms) m cause).1 broken)
+    (λ i. replay_next ms (λ x. replayed (ms ++ x ∷ []) after) (sym (end-computed opening ms None unended) i)
+    (means-meant (last_position opening ms) w m means i))
+    ∙ ap (go_on (length ms + 1) (replayed (ms ++ m ∷ []) after))
+    ((check_of-refused (last_position opening ms) m cause).1 broken)
     ∙ ap (λ n. Err (fault.Illegal n cause)) (sym is)
 refused-next ms w after (fault.Illegal ply cause) (is, unended, inr (none_is, none)) =
-    (λ i. replay_next ms (λ x. replayed (ms ++ x ∷ []) after) (sym (end-computed opening ms None unended) i) (none-meant (last_position opening ms) w none i))
+    (λ i. replay_next ms (λ x. replayed (ms ++ x ∷ []) after) (sym (end-computed opening ms None unended) i)
+    (none-meant (last_position opening ms) w none i))
     ∙ (λ i. Err (fault.Illegal (sym is i) (sym none_is i)))
 refused-next ms w after fault.Memory h = absurd h
 refused-next ms w after (fault.BadText line) h = absurd h
@@ -94,28 +114,38 @@ move-refused ws f r =
     ∙ refused-next r.moves r.refused r.after f r.refuses
 
 -- a record
-even-reading : (placed : List Placed) → begins_even placed ≡ true → record_reading placed ≡ with_moves placed (replayed [] (written_moves placed))
-even-reading placed even = ap (λ b. if b then with_moves placed (replayed [] (written_moves placed)) else Err fault.OtherOpening) even
+even-reading : (placed : List Placed) → begins_even placed ≡ true
+    → record_reading placed ≡ with_moves placed (replayed [] (written_moves placed))
+even-reading placed even =
+    ap (λ b. if b then with_moves placed (replayed [] (written_moves placed)) else Err fault.OtherOpening) even
 
 record-read : (placed : List Placed) (g : CsaGame) → IsRecordOf placed g → record_reading placed ≡ Ok (game_of g)
 record-read placed g is =
     let ms : List SMove = g.moves.items in
     even-reading placed is.plays.even ∙ ap (with_moves placed) (moves-replayed (written_moves placed) ms is.plays.moves)
-    ∙ ap (λ e. with_score ms (score_in placed ms e)) (sym (end-computed opening ms is.end is.plays.ends)) ∙ ap (with_score ms) is.score
+    ∙ ap (λ e. with_score ms (score_in placed ms e)) (sym (end-computed opening ms is.end is.plays.ends))
+    ∙ ap (with_score ms) is.score
 
 end-refused : (placed : List Placed) (f : CsaFault) → EndFails placed f → record_reading placed ≡ Err f
 end-refused placed f fails =
     let ms : List SMove = fails.moves in
-    even-reading placed fails.plays.even ∙ ap (with_moves placed) (moves-replayed (written_moves placed) ms fails.plays.moves)
-    ∙ ap (λ e. with_score ms (score_in placed ms e)) (sym (end-computed opening ms fails.end fails.plays.ends)) ∙ ap (with_score ms) fails.score
+    even-reading placed fails.plays.even ∙ ap (with_moves placed)
+    (moves-replayed (written_moves placed) ms fails.plays.moves)
+    ∙ ap (λ e. with_score ms (score_in placed ms e)) (sym (end-computed opening ms fails.end fails.plays.ends))
+    ∙ ap (with_score ms) fails.score
 
-made-refused : (placed : List Placed) (f : CsaFault) → begins_even placed ≡ true → RefusesMove (written_moves placed) f → record_reading placed ≡ Err f
-made-refused placed f even r = even-reading placed even ∙ ap (with_moves placed) (move-refused (written_moves placed) f r)
+made-refused : (placed : List Placed) (f : CsaFault) → begins_even placed ≡ true → RefusesMove (written_moves placed) f
+    → record_reading placed ≡ Err f
+made-refused placed f even r = even-reading placed even
+    ∙ ap (with_moves placed) (move-refused (written_moves placed) f r)
 
-record-refused : (placed : List Placed) (f : CsaFault) → f ≢ fault.Memory → RecordFails placed f → record_reading placed ≡ Err f
+record-refused : (placed : List Placed) (f : CsaFault) → f ≢ fault.Memory → RecordFails placed f
+    → record_reading placed ≡ Err f
 record-refused placed fault.Memory differs fails = absurd (differs refl)
-record-refused placed fault.OtherOpening differs fails = ap (λ b. if b then with_moves placed (replayed [] (written_moves placed)) else Err fault.OtherOpening) fails
-record-refused placed (fault.Illegal ply cause) differs fails = made-refused placed (fault.Illegal ply cause) fails.0 fails.1
+record-refused placed fault.OtherOpening differs fails =
+    ap (λ b. if b then with_moves placed (replayed [] (written_moves placed)) else Err fault.OtherOpening) fails
+record-refused placed (fault.Illegal ply cause) differs fails =
+    made-refused placed (fault.Illegal ply cause) fails.0 fails.1
 record-refused placed (fault.AfterEnd ply) differs fails = made-refused placed (fault.AfterEnd ply) fails.0 fails.1
 record-refused placed fault.Unfinished differs fails = end-refused placed fault.Unfinished fails
 record-refused placed fault.ResultDiffers differs fails = end-refused placed fault.ResultDiffers fails
@@ -123,34 +153,44 @@ record-refused placed (fault.BadText line) differs fails = absurd fails
 record-refused placed fault.Version differs fails = absurd fails
 
 -- records one after another
-records-read : (records : List (List Placed)) (games : List CsaGame) → AreRecordsOf records games → records_reading records ≡ Ok (map game_of games)
+records-read : (records : List (List Placed)) (games : List CsaGame) → AreRecordsOf records games
+    → records_reading records ≡ Ok (map game_of games)
 records-read [] [] are = refl
 records-read [] (g ∷ games) are = absurd are
 records-read (placed ∷ records) [] are = absurd are
-records-read (placed ∷ records) (g ∷ games) are = λ i. and_more (record-read placed g are.0 i) (records-read records games are.1 i)
+records-read (placed ∷ records) (g ∷ games) are =
+    λ i. and_more (record-read placed g are.0 i) (records-read records games are.1 i)
 
-fails-after : (before : List (List Placed)) (failing : List Placed) (after : List (List Placed)) (games : List CsaGame) (f : CsaFault) → AreRecordsOf before games → record_reading failing ≡ Err f → records_reading (before ++ failing ∷ after) ≡ Err f
+fails-after : (before : List (List Placed)) (failing : List Placed) (after : List (List Placed)) (games : List CsaGame)
+    (f : CsaFault) → AreRecordsOf before games → record_reading failing ≡ Err f
+    → records_reading (before ++ failing ∷ after) ≡ Err f
 fails-after [] failing after games f read fails = ap (λ r. and_more r (records_reading after)) fails
 fails-after (placed ∷ before) failing after [] f read fails = absurd read
 fails-after (placed ∷ before) failing after (g ∷ games) f read fails =
     λ i. and_more (record-read placed g read.0 i) (fails-after before failing after games f read.1 fails i)
 
 -- a text
-first-version : (placed : List Placed) (o : Option Statement) → o ≡ Some statement.Version → statements_reading placed o ≡ ordered_reading placed (first_stray place.Start placed)
+first-version : (placed : List Placed) (o : Option Statement) → o ≡ Some statement.Version
+    → statements_reading placed o ≡ ordered_reading placed (first_stray place.Start placed)
 first-version placed o is = ap (statements_reading placed) is
 
-ordered-reading : (placed : List Placed) → AreOrdered placed → statements_reading placed (first_statement placed) ≡ records_reading (records_of placed)
-ordered-reading placed ordered = first-version placed (first_statement placed) ordered.version ∙ ap (ordered_reading placed) ordered.order
+ordered-reading : (placed : List Placed) → AreOrdered placed
+    → statements_reading placed (first_statement placed) ≡ records_reading (records_of placed)
+ordered-reading placed ordered = first-version placed (first_statement placed) ordered.version
+    ∙ ap (ordered_reading placed) ordered.order
 
 pub text-read : (text : List ℕ) (games : List CsaGame) → IsTextOf text games → csa_reading text ≡ Ok (map game_of games)
 unfolding csa_reading
-text-read text games is = ordered-reading (text_statements text) is.ordered ∙ records-read (records_of (text_statements text)) games is.records
+text-read text games is = ordered-reading (text_statements text) is.ordered
+    ∙ records-read (records_of (text_statements text)) games is.records
 
-some-fails : (placed : List Placed) (f : CsaFault) → f ≢ fault.Memory → SomeRecordFails placed f → statements_reading placed (first_statement placed) ≡ Err f
+some-fails : (placed : List Placed) (f : CsaFault) → f ≢ fault.Memory → SomeRecordFails placed f
+    → statements_reading placed (first_statement placed) ≡ Err f
 some-fails placed f differs fails =
     let after : FailsAfter (records_of placed) f = fails.1 in
     ordered-reading placed fails.0 ∙ ap records_reading after.parts
-    ∙ fails-after after.before after.failing after.after after.games f after.read (record-refused after.failing f differs after.fails)
+    ∙ fails-after after.before after.failing after.after after.games f after.read
+    (record-refused after.failing f differs after.fails)
 
 not-version : (s : Statement) → s ≢ statement.Version → is_version s ≡ false
 not-version statement.Version differs = absurd (differs refl)
@@ -165,15 +205,20 @@ not-version statement.Seconds differs = refl
 not-version (statement.End word) differs = refl
 not-version statement.Formless differs = refl
 
-statements-refused : (placed : List Placed) (f : CsaFault) → f ≢ fault.Memory → Refuses placed f → statements_reading placed (first_statement placed) ≡ Err f
+statements-refused : (placed : List Placed) (f : CsaFault) → f ≢ fault.Memory → Refuses placed f
+    → statements_reading placed (first_statement placed) ≡ Err f
 statements-refused placed fault.Memory differs refuses = absurd (differs refl)
-statements-refused placed (fault.BadText line) differs (inl (none, is)) = ap (statements_reading placed) none ∙ ap (λ n. Err (fault.BadText n)) (sym is)
-statements-refused placed (fault.BadText line) differs (inr (version, stray)) = first-version placed (first_statement placed) version ∙ ap (ordered_reading placed) stray
+statements-refused placed (fault.BadText line) differs (inl (none, is)) = ap (statements_reading placed) none
+    ∙ ap (λ n. Err (fault.BadText n)) (sym is)
+statements-refused placed (fault.BadText line) differs (inr (version, stray)) =
+    first-version placed (first_statement placed) version ∙ ap (ordered_reading placed) stray
 statements-refused placed fault.Version differs (first, is, other) =
     ap (statements_reading placed) is
-    ∙ ap (λ b. if b then ordered_reading placed (first_stray place.Start placed) else Err fault.Version) (not-version first other)
+    ∙ ap (λ b. if b then ordered_reading placed (first_stray place.Start placed) else Err fault.Version)
+    (not-version first other)
 statements-refused placed fault.OtherOpening differs refuses = some-fails placed fault.OtherOpening differs refuses
-statements-refused placed (fault.Illegal ply cause) differs refuses = some-fails placed (fault.Illegal ply cause) differs refuses
+statements-refused placed (fault.Illegal ply cause) differs refuses =
+    some-fails placed (fault.Illegal ply cause) differs refuses
 statements-refused placed fault.Unfinished differs refuses = some-fails placed fault.Unfinished differs refuses
 statements-refused placed (fault.AfterEnd ply) differs refuses = some-fails placed (fault.AfterEnd ply) differs refuses
 statements-refused placed fault.ResultDiffers differs refuses = some-fails placed fault.ResultDiffers differs refuses
@@ -187,8 +232,11 @@ from-one : (text : List ℕ) (part : ℕ) → (part ≡ 0 → ⊥) → csa_part 
 from-one text zero some = absurd (some refl)
 from-one text (suc n) some = let before : n ≡ suc n - 1 = omega arith in ap (λ k. part_of k (csa_reading text)) before
 
-pub part-read : (text : List ℕ) (part : ℕ) (games : List CsaGame) → (part ≡ 0 → ⊥) → IsTextOf text games → found_game (slice_get (map game_of games) (part - 1)) ≡ csa_part text part
+pub part-read : (text : List ℕ) (part : ℕ) (games : List CsaGame) → (part ≡ 0 → ⊥) → IsTextOf text games
+    → found_game (slice_get (map game_of games) (part - 1)) ≡ csa_part text part
 part-read text part games some is = sym (from-one text part some ∙ ap (part_of (part - 1)) (text-read text games is))
 
-pub part-refused : (text : List ℕ) (part : ℕ) (f : CsaFault) → (part ≡ 0 → ⊥) → f ≢ fault.Memory → IsRefused text f → refused (csa_refusal f) ≡ csa_part text part
-part-refused text part f some differs refuses = sym (from-one text part some ∙ ap (part_of (part - 1)) (text-refused text f differs refuses))
+pub part-refused : (text : List ℕ) (part : ℕ) (f : CsaFault) → (part ≡ 0 → ⊥) → f ≢ fault.Memory → IsRefused text f
+    → refused (csa_refusal f) ≡ csa_part text part
+part-refused text part f some differs refuses =
+    sym (from-one text part some ∙ ap (part_of (part - 1)) (text-refused text f differs refuses))

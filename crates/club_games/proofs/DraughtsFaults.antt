@@ -20,7 +20,8 @@ use Rattle.club_games.specs.Draughts.{draughts, refusal_of, text_refusal, move_r
 use Rattle.club_games.specs.DraughtsLaws.{last-is}
 
 -- no move of a legal line is refused
-pub no-illegal : (start : Position) (ms : List DMove) (ply : ℕ) (cause : Illegal) → IsPlayedLine draughts start ms → HasFault start ms (line_fault.Illegal ply cause) → ⊥
+pub no-illegal : (start : Position) (ms : List DMove) (ply : ℕ) (cause : Illegal) → IsPlayedLine draughts start ms
+    → HasFault start ms (line_fault.Illegal ply cause) → ⊥
 no-illegal start ms ply cause played h =
     let k = h.0 in
     let m = h.1 in
@@ -29,12 +30,14 @@ no-illegal start ms ply cause played h =
     refused-passes refusal_of cause (sym (ap (refused_by refusal_of) at) ∙ legal)
 
 -- a text that is refused is refused so by the function that reads
-pub refused-reading : (p : Position) (text : List ℕ) (f : MoveFault) → HasReadFault p text f → f ≢ fault.Memory → Err (text_refusal f) ≡ move_read (move_reading p text)
+pub refused-reading : (p : Position) (text : List ℕ) (f : MoveFault) → HasReadFault p text f → f ≢ fault.Memory
+    → Err (text_refusal f) ≡ move_read (move_reading p text)
 refused-reading p text f h differs = sym (ap move_read ((reading-err p text f).1 (h, differs)))
 
 not-memory : (offset : ℕ) → fen_fault.BadText offset ≢ fen_fault.Memory
 not-memory offset e = cc
 
 -- a text that is refused stands for no position
-pub no-position : (text : List ℕ) (offset : ℕ) (p : Position) → HasFenFault text (fen_fault.BadText offset) → IsFen text p → ⊥
+pub no-position : (text : List ℕ) (offset : ℕ) (p : Position) → HasFenFault text (fen_fault.BadText offset)
+    → IsFen text p → ⊥
 no-position text offset p h is = not-memory offset (fen-well text p (fen_fault.BadText offset) is h)

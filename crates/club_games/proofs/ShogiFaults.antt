@@ -23,27 +23,34 @@ use Rattle.club_games.specs.Shogi.{shogi, refusal_of, move_read}
 use Rattle.club_games.specs.ShogiLaws.{last-is}
 
 -- no move of a legal line is refused
-pub no-illegal : (start : ShogiPosition) (ms : List SMove) (ply : ℕ) (cause : Illegal) → IsPlayedLine shogi start ms → HasFault start ms (line_fault.Illegal ply cause) → ⊥
+pub no-illegal : (start : ShogiPosition) (ms : List SMove) (ply : ℕ) (cause : Illegal) → IsPlayedLine shogi start ms
+    → HasFault start ms (line_fault.Illegal ply cause) → ⊥
 no-illegal start ms ply cause played h =
     let k = h.0 in
     let m = h.1 in
     let legal = check-at shogi start ms k m played.legal h.3 in
     let broken = subst (λ p. FirstBroken p m cause) (sym (last-is start (take k ms))) h.6 in
-    refused-passes refusal_of cause (sym (ap (refused_by refusal_of) ((check_of-refused (position_after shogi start (take k ms)) m cause).1 broken)) ∙ legal)
+    refused-passes refusal_of cause
+    (sym (ap (refused_by refusal_of) ((check_of-refused (position_after shogi start (take k ms)) m cause).1 broken))
+    ∙ legal)
 
 none_some : (o : Option SEnd) (end : SEnd) → o ≡ None → Some end ≡ o → ⊥
 none_some o end e f = let g = f ∙ e in cc
 
 -- and none comes after the end
-pub none-after : (start : ShogiPosition) (ms : List SMove) (ply : ℕ) → IsPlayedLine shogi start ms → HasFault start ms (line_fault.AfterEnd ply) → ⊥
+pub none-after : (start : ShogiPosition) (ms : List SMove) (ply : ℕ) → IsPlayedLine shogi start ms
+    → HasFault start ms (line_fault.AfterEnd ply) → ⊥
 none-after start ms ply played h =
     let before = take h.0 ms in
-    none_some (end_of start before) h.1 (played.unended h.0 h.3) (one-end start before (Some h.1) (end_of start before) h.5 (end_of-is start before))
+    none_some (end_of start before) h.1 (played.unended h.0 h.3)
+    (one-end start before (Some h.1) (end_of start before) h.5 (end_of-is start before))
 
 -- the end of a line is the computed one
-pub end-computed : (start : ShogiPosition) (ms : List SMove) (end : Option SEnd) → EndsSo start ms end → end ≡ end_of start ms
+pub end-computed : (start : ShogiPosition) (ms : List SMove) (end : Option SEnd) → EndsSo start ms end
+    → end ≡ end_of start ms
 end-computed start ms end h = one-end start ms end (end_of start ms) h (end_of-is start ms)
 
 -- a text that is no move's is refused so by the function that reads
-pub refused-reading : (text : List ℕ) (bytes : ℕ) → IsNoUsi text bytes → Err (BadText game.Shogi bytes) ≡ move_read (usi_reading text) (usi_reach text)
+pub refused-reading : (text : List ℕ) (bytes : ℕ) → IsNoUsi text bytes
+    → Err (BadText game.Shogi bytes) ≡ move_read (usi_reading text) (usi_reach text)
 refused-reading text bytes h = let w = refused-here text bytes h in λ i. move_read (sym w.0 i) (sym w.1 i)

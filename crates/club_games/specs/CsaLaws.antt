@@ -1,5 +1,6 @@
 -- What is read of a CSA text is a game by the rules of shogi.
-use Rattle.std.proofs.Common.{◌≡◌, ℕ, zero, suc, ◌+◌, List, [], ◌∷◌, ◌++◌, length, Bool, true, false, ◌&&◌, Option, Some, None, Result, Ok, Err, refl, sym, ap, ◌∙◌, subst}
+use Rattle.std.proofs.Common.{◌≡◌, ℕ, zero, suc, ◌+◌, List, [], ◌∷◌, ◌++◌, length, Bool, true, false, ◌&&◌, Option}
+use Rattle.std.proofs.Common.{Some, None, Result, Ok, Err, refl, sym, ap, ◌∙◌, subst}
 use Rattle.std.specs.Prelude.{slice_get, if◌then◌else◌}
 use Rattle.squares.specs.declared.sides.Side.{Side}
 use Rattle.squares.specs.declared.sides.Score.{Score}
@@ -31,24 +32,36 @@ use Rattle.club_rules.specs.Records.{Recorded, IsGameByRules, ReadsGames, game}
 use Rattle.club_rules.proofs.Proved.{IsPlayedLine-none, IsPlayedLine-append}
 use Rattle.club_games.specs.Shogi.{shogi, refusal_of}
 use Rattle.club_games.specs.ShogiLaws.{last-is}
-use Rattle.club_games.specs.CsaReading.{meant, Replayed, go_on, replay_next, replayed, RecordRead, with_score, with_moves, record_reading, RecordsRead, and_more, records_reading, is_version, ordered_reading, statements_reading, csa_reading, found_game, part_of, shogi_records}
+use Rattle.club_games.specs.CsaReading.{meant, Replayed, go_on, replay_next, replayed, RecordRead, with_score}
+use Rattle.club_games.specs.CsaReading.{with_moves, record_reading, RecordsRead, and_more, records_reading, is_version}
+use Rattle.club_games.specs.CsaReading.{ordered_reading, statements_reading, csa_reading, found_game, part_of}
+use Rattle.club_games.specs.CsaReading.{shogi_records}
 
 -- a replay of a line that is played by the rules is one
-module _ (ms : List SMove) (line : IsPlayedLine shogi opening ms) (rest : SMove → Replayed) (ns : List SMove) (goes_on : (m : SMove) → IsPlayedLine shogi opening (ms ++ m ∷ []) → rest m ≡ Ok ns → IsPlayedLine shogi opening ns) where
-  checked-line : (m : SMove) (answer : Result (Unit {0}) Illegal) → end_of opening ms ≡ None → check_of (last_position opening ms) m ≡ answer → go_on (length ms + 1) (rest m) answer ≡ Ok ns → IsPlayedLine shogi opening ns
-  checked-line m (Err cause) running is read = cc
-  checked-line m (Ok u) running is read =
-      goes_on m (IsPlayedLine-append shogi opening ms m line running (ap (λ p. refused_by refusal_of (check_of p m)) (last-is opening ms) ∙ ap (refused_by refusal_of) is)) read
+module _ (ms : List SMove) (line : IsPlayedLine shogi opening ms) (rest : SMove → Replayed) (ns : List SMove)
+    (goes_on : (m : SMove) → IsPlayedLine shogi opening (ms ++ m ∷ []) → rest m ≡ Ok ns → IsPlayedLine shogi opening ns)
+  where
+    checked-line : (m : SMove) (answer : Result (Unit {0}) Illegal) → end_of opening ms ≡ None
+        → check_of (last_position opening ms) m ≡ answer → go_on (length ms + 1) (rest m) answer ≡ Ok ns
+        → IsPlayedLine shogi opening ns
+    checked-line m (Err cause) running is read = cc
+    checked-line m (Ok u) running is read =
+        goes_on m
+        (IsPlayedLine-append shogi opening ms m line running
+        (ap (λ p. refused_by refusal_of (check_of p m)) (last-is opening ms) ∙ ap (refused_by refusal_of) is)) read
 
-  next-line : (end : Option SEnd) (found : Option SMove) → end_of opening ms ≡ end → replay_next ms rest end found ≡ Ok ns → IsPlayedLine shogi opening ns
-  next-line (Some end) found is read = cc
-  next-line None None is read = cc
-  next-line None (Some m) is read = checked-line m (check_of (last_position opening ms) m) is refl read
+    next-line : (end : Option SEnd) (found : Option SMove) → end_of opening ms ≡ end
+        → replay_next ms rest end found ≡ Ok ns → IsPlayedLine shogi opening ns
+    next-line (Some end) found is read = cc
+    next-line None None is read = cc
+    next-line None (Some m) is read = checked-line m (check_of (last_position opening ms) m) is refl read
 
-replay-line : (ms : List SMove) (ws : List WrittenMove) (ns : List SMove) → IsPlayedLine shogi opening ms → replayed ms ws ≡ Ok ns → IsPlayedLine shogi opening ns
+replay-line : (ms : List SMove) (ws : List WrittenMove) (ns : List SMove) → IsPlayedLine shogi opening ms
+    → replayed ms ws ≡ Ok ns → IsPlayedLine shogi opening ns
 replay-line ms [] ns line read = let same : ms ≡ ns = cc in subst (IsPlayedLine shogi opening) same line
 replay-line ms (w ∷ ws) ns line read =
-    next-line ms line (λ m. replayed (ms ++ m ∷ []) ws) ns (λ m more. replay-line (ms ++ m ∷ []) ws ns more) (end_of opening ms) (meant (last_position opening ms) w) refl read
+    next-line ms line (λ m. replayed (ms ++ m ∷ []) ws) ns (λ m more. replay-line (ms ++ m ∷ []) ws ns more)
+    (end_of opening ms) (meant (last_position opening ms) w) refl read
 
 -- where the rules ended the game, the score is theirs
 same-score : (a b : Score) → same_score a b ≡ true → a ≡ b
@@ -62,21 +75,29 @@ same-score score.Draw score.SecondWins is = cc
 same-score score.SecondWins score.FirstWins is = cc
 same-score score.SecondWins score.Draw is = cc
 
-settled-score : (fits same : Bool) (claim by_rule s : Score) → same_score claim by_rule ≡ same → ◌≡◌ {A = Result Score CsaFault} (if fits && same then Ok claim else Err fault.ResultDiffers) (Ok s) → s ≡ by_rule
-settled-score true true claim by_rule s is told = let claimed_is : claim ≡ s = cc in sym claimed_is ∙ same-score claim by_rule is
+settled-score : (fits same : Bool) (claim by_rule s : Score) → same_score claim by_rule ≡ same
+    → ◌≡◌ {A = Result Score CsaFault} (if fits && same then Ok claim else Err fault.ResultDiffers) (Ok s) → s ≡ by_rule
+settled-score true true claim by_rule s is told = let claimed_is : claim ≡ s = cc in
+    sym claimed_is ∙ same-score claim by_rule is
 settled-score true false claim by_rule s is told = cc
 settled-score false same claim by_rule s is told = cc
 
-claim-score : (w : EndWord) (claim : Option Score) (turn : Side) (end : SEnd) (s : Score) → claim_settled w claim turn (Some end) ≡ Ok s → s ≡ outcome_of end turn
+claim-score : (w : EndWord) (claim : Option Score) (turn : Side) (end : SEnd) (s : Score)
+    → claim_settled w claim turn (Some end) ≡ Ok s → s ≡ outcome_of end turn
 claim-score w None turn end s told = cc
-claim-score w (Some claim) turn end s told = settled-score (fits_rules w (Some end)) (same_score claim (outcome_of end turn)) claim (outcome_of end turn) s refl told
+claim-score w (Some claim) turn end s told =
+    settled-score (fits_rules w (Some end)) (same_score claim (outcome_of end turn)) claim (outcome_of end turn) s refl
+    told
 
-ending-score : (word : Option EndWord) (turn : Side) (end : SEnd) (s : Score) → ending word turn (Some end) ≡ Ok s → s ≡ outcome_of end turn
+ending-score : (word : Option EndWord) (turn : Side) (end : SEnd) (s : Score) → ending word turn (Some end) ≡ Ok s
+    → s ≡ outcome_of end turn
 ending-score None turn end s told = cc
 ending-score (Some w) turn end s told = claim-score w (claimed w turn) turn end s told
 
 -- what is read of a record is a game by the rules
-scored-game : (placed : List Placed) (ms : List SMove) (said : Result Score CsaFault) (r : Recorded SMove) → IsPlayedLine shogi opening ms → score_in placed ms (end_of opening ms) ≡ said → with_score ms said ≡ Ok r → IsGameByRules shogi r
+scored-game : (placed : List Placed) (ms : List SMove) (said : Result Score CsaFault) (r : Recorded SMove)
+    → IsPlayedLine shogi opening ms → score_in placed ms (end_of opening ms) ≡ said → with_score ms said ≡ Ok r
+    → IsGameByRules shogi r
 scored-game placed ms (Err f) r line told is = cc
 scored-game placed ms (Ok s) r line told is =
     let same : record { moves = ms; score = s } ≡ r = cc in
@@ -84,16 +105,25 @@ scored-game placed ms (Ok s) r line told is =
     (record {
       line = line;
       score = λ end ends.
-          ending-score (end_in placed) (last_position opening ms).turn end s (ap (λ e. score_in placed ms e) (sym ends) ∙ told)
+          ending-score (end_in placed) (last_position opening ms).turn end s
+          (ap (λ e. score_in placed ms e) (sym ends) ∙ told)
           ∙ ap (λ p. outcome_of end p.turn) (sym (last-is opening ms));
     })
 
-moved-game : (placed : List Placed) (read : Replayed) (r : Recorded SMove) → ((ns : List SMove) → read ≡ Ok ns → IsPlayedLine shogi opening ns) → with_moves placed read ≡ Ok r → IsGameByRules shogi r
+moved-game : (placed : List Placed) (read : Replayed) (r : Recorded SMove)
+    → ((ns : List SMove) → read ≡ Ok ns → IsPlayedLine shogi opening ns) → with_moves placed read ≡ Ok r
+    → IsGameByRules shogi r
 moved-game placed (Err f) r line is = cc
-moved-game placed (Ok ms) r line is = scored-game placed ms (score_in placed ms (end_of opening ms)) r (line ms refl) refl is
+moved-game placed (Ok ms) r line is = scored-game placed ms (score_in placed ms (end_of opening ms)) r (line ms refl)
+    refl is
 
-record-game : (placed : List Placed) (even : Bool) (r : Recorded SMove) → ◌≡◌ {A = RecordRead} (if even then with_moves placed (replayed [] (written_moves placed)) else Err fault.OtherOpening) (Ok r) → IsGameByRules shogi r
-record-game placed true r is = moved-game placed (replayed [] (written_moves placed)) r (λ ns. replay-line [] (written_moves placed) ns (IsPlayedLine-none shogi opening)) is
+record-game : (placed : List Placed) (even : Bool) (r : Recorded SMove)
+    →
+    ◌≡◌ {A = RecordRead}
+    (if even then with_moves placed (replayed [] (written_moves placed)) else Err fault.OtherOpening) (Ok r)
+    → IsGameByRules shogi r
+record-game placed true r is = moved-game placed (replayed [] (written_moves placed)) r
+    (λ ns. replay-line [] (written_moves placed) ns (IsPlayedLine-none shogi opening)) is
 record-game placed false r is = cc
 
 abbrev AreGames : List (Recorded SMove) → Type 0
@@ -102,32 +132,44 @@ AreGames gs = (n : ℕ) (r : Recorded SMove) → slice_get gs n ≡ Some r → I
 some-same : (a b : Recorded SMove) → Some a ≡ Some b → a ≡ b
 some-same a b is = cc
 
-more-games : (one : RecordRead) (more : RecordsRead) (gs : List (Recorded SMove)) → ((r : Recorded SMove) → one ≡ Ok r → IsGameByRules shogi r) → ((rs : List (Recorded SMove)) → more ≡ Ok rs → AreGames rs) → and_more one more ≡ Ok gs → AreGames gs
+more-games : (one : RecordRead) (more : RecordsRead) (gs : List (Recorded SMove))
+    → ((r : Recorded SMove) → one ≡ Ok r → IsGameByRules shogi r)
+    → ((rs : List (Recorded SMove)) → more ≡ Ok rs → AreGames rs) → and_more one more ≡ Ok gs → AreGames gs
 more-games (Err f) more gs first rest is = cc
 more-games (Ok g) (Err f) gs first rest is = cc
-more-games (Ok g) (Ok rs) gs first rest is = let same : g ∷ rs ≡ gs = cc in subst AreGames same (all g rs (first g refl) (rest rs refl))
+more-games (Ok g) (Ok rs) gs first rest is = let same : g ∷ rs ≡ gs = cc in
+    subst AreGames same (all g rs (first g refl) (rest rs refl))
   where
     all : (g : Recorded SMove) (rs : List (Recorded SMove)) → IsGameByRules shogi g → AreGames rs → AreGames (g ∷ rs)
     all g rs first rest zero r at = subst (IsGameByRules shogi) (some-same g r at) first
     all g rs first rest (suc n) r at = rest n r at
 
-records-games : (records : List (List Placed)) (gs : List (Recorded SMove)) → records_reading records ≡ Ok gs → AreGames gs
+records-games : (records : List (List Placed)) (gs : List (Recorded SMove)) → records_reading records ≡ Ok gs
+    → AreGames gs
 records-games [] gs is = let same : [] ≡ gs = cc in subst AreGames same no-games
   where
     no-games : AreGames []
     no-games zero r at = absurd (cc)
     no-games (suc n) r at = absurd (cc)
-records-games (placed ∷ records) gs is = more-games (record_reading placed) (records_reading records) gs (record-game placed (begins_even placed)) (records-games records) is
+records-games (placed ∷ records) gs is =
+    more-games (record_reading placed) (records_reading records) gs (record-game placed (begins_even placed))
+    (records-games records) is
 
-ordered-games : (placed : List Placed) (stray : Option ℕ) (gs : List (Recorded SMove)) → ordered_reading placed stray ≡ Ok gs → AreGames gs
+ordered-games : (placed : List Placed) (stray : Option ℕ) (gs : List (Recorded SMove))
+    → ordered_reading placed stray ≡ Ok gs → AreGames gs
 ordered-games placed (Some line) gs is = cc
 ordered-games placed None gs is = records-games (records_of placed) gs is
 
-version-games : (placed : List Placed) (version : Bool) (gs : List (Recorded SMove)) → ◌≡◌ {A = RecordsRead} (if version then ordered_reading placed (first_stray place.Start placed) else Err fault.Version) (Ok gs) → AreGames gs
+version-games : (placed : List Placed) (version : Bool) (gs : List (Recorded SMove))
+    →
+    ◌≡◌ {A = RecordsRead}
+    (if version then ordered_reading placed (first_stray place.Start placed) else Err fault.Version) (Ok gs)
+    → AreGames gs
 version-games placed true gs is = ordered-games placed (first_stray place.Start placed) gs is
 version-games placed false gs is = cc
 
-statements-games : (placed : List Placed) (first : Option Statement) (gs : List (Recorded SMove)) → statements_reading placed first ≡ Ok gs → AreGames gs
+statements-games : (placed : List Placed) (first : Option Statement) (gs : List (Recorded SMove))
+    → statements_reading placed first ≡ Ok gs → AreGames gs
 statements-games placed None gs is = cc
 statements-games placed (Some s) gs is = version-games placed (is_version s) gs is
 
@@ -139,7 +181,8 @@ found-is : (o : Option (Recorded SMove)) (r : Recorded SMove) → found_game o �
 found-is None r is = cc
 found-is (Some g) r is = let same : g ≡ r = cc in ap Some same
 
-part-game : (before : ℕ) (read : RecordsRead) (r : Recorded SMove) → ((gs : List (Recorded SMove)) → read ≡ Ok gs → AreGames gs) → part_of before read ≡ game r → IsGameByRules shogi r
+part-game : (before : ℕ) (read : RecordsRead) (r : Recorded SMove)
+    → ((gs : List (Recorded SMove)) → read ≡ Ok gs → AreGames gs) → part_of before read ≡ game r → IsGameByRules shogi r
 part-game before (Err f) r games is = cc
 part-game before (Ok gs) r games is = games gs refl before r (found-is (slice_get gs before) r is)
 

@@ -23,7 +23,8 @@ use Rattle.club_rules.specs.declared.names.GameKind.TheVariants as game
 use Rattle.club_rules.specs.declared.names.EndName.{EndName}
 use Rattle.club_rules.specs.declared.names.EndName.TheVariants as name
 use Rattle.club_rules.specs.declared.refusals.MoveRefusal.{MoveRefusal}
-use Rattle.club_rules.specs.declared.refusals.MoveRefusal.TheVariants.{NoSuchMove, MustCapture, NotLongest, BadText, Ambiguous}
+use Rattle.club_rules.specs.declared.refusals.MoveRefusal.TheVariants.{NoSuchMove, MustCapture, NotLongest, BadText}
+use Rattle.club_rules.specs.declared.refusals.MoveRefusal.TheVariants.{Ambiguous}
 use Rattle.club_rules.specs.GameRules.{GameRules}
 use Rattle.club_rules.specs.MoveRefusal.{refused_by}
 

@@ -1,5 +1,7 @@
 -- What holds of draughts as a game of the club.
-use Rattle.std.proofs.Common.{Contains, ◌↔◌, ◌≡◌, ◌⊎◌, inl, inr, ℕ, zero, suc, ◌+◌, ◌-◌, ◌≤◌, ◌<◌, Bool, true, false, cond, not, nat_eq, nat_le, List, [], ◌∷◌, length, Option, Some, None, is_some, Ok, IsSome, refl, sym, ap, ◌∙◌, subst, arith, eqb-true, eq-eqb}
+use Rattle.std.proofs.Common.{Contains, ◌↔◌, ◌≡◌, ◌⊎◌, inl, inr, ℕ, zero, suc, ◌+◌, ◌-◌, ◌≤◌, ◌<◌, Bool, true, false}
+use Rattle.std.proofs.Common.{cond, not, nat_eq, nat_le, List, [], ◌∷◌, length, Option, Some, None, is_some, Ok, IsSome}
+use Rattle.std.proofs.Common.{refl, sym, ap, ◌∙◌, subst, arith, eqb-true, eq-eqb}
 use Rattle.std.specs.List.Sorted.{IsStrictlySortedBy}
 use Rattle.std.specs.Prelude.{if◌then◌else◌, count_by, map as list_map}
 use Rattle.std.specs.List.{range_with_len}
@@ -28,18 +30,23 @@ use Rattle.draughts_draws.specs.declared.ends.DEnd.TheVariants as draughts_end
 use Rattle.draughts_draws.specs.declared.tails.Class.{Class}
 use Rattle.draughts_draws.specs.Ends.{end_of, first_end, is_king_move}
 use Rattle.draughts_draws.specs.Line as line
-use Rattle.draughts_draws.specs.Tails.{tail_of, next_tail, end_by, class_of, in_class, first_count, count_on, times_stood}
+use Rattle.draughts_draws.specs.Tails.{tail_of, next_tail, end_by, class_of, in_class, first_count, count_on}
+use Rattle.draughts_draws.specs.Tails.{times_stood}
 use Rattle.draughts_draws.proofs.Proved.{tail-begins, tail-goes-on, ends-by-tail}
 use Rattle.pdn.specs.Laws.{IsOnBoard}
 use Rattle.pdn.specs.ReadFen.{IsFen}
 use Rattle.pdn.specs.MoveValue.{move_text}
-use Rattle.pdn.proofs.Proved.{quiet-on, same_move-same, same_move-itself, text-is, reads-back, reading-ok, fen-back, fen-one, Route-on}
+use Rattle.pdn.proofs.Proved.{quiet-on, same_move-same, same_move-itself, text-is, reads-back, reading-ok, fen-back}
+use Rattle.pdn.proofs.Proved.{fen-one, Route-on}
 use Rattle.draughts_moves.specs.Listing.{move_cmp}
 use Rattle.club_rules.specs.Listed.{IsLegalList}
 use Rattle.club_rules.specs.Line.{position_after, positions, line_track}
 use Rattle.club_rules.specs.Line as game_line
-use Rattle.club_rules.specs.Laws.{FirstStarts, TurnPasses, ReadsBack, SameIs, SamePositionIs, EndsAtLimit, StandsForOne, WritesPositions, TextsTellPositions, TracksTellEnds, NumbersGiveTracks, TracksGiveNumbers, NumbersAreFew}
-use Rattle.club_rules.proofs.Proved.{holds-after, passed-by, passes-by, tells-equal, texts-tell, track-is, numbers-few, count-next}
+use Rattle.club_rules.specs.Laws.{FirstStarts, TurnPasses, ReadsBack, SameIs, SamePositionIs, EndsAtLimit, StandsForOne}
+use Rattle.club_rules.specs.Laws.{WritesPositions, TextsTellPositions, TracksTellEnds, NumbersGiveTracks}
+use Rattle.club_rules.specs.Laws.{TracksGiveNumbers, NumbersAreFew}
+use Rattle.club_rules.proofs.Proved.{holds-after, passed-by, passes-by, tells-equal, texts-tell, track-is, numbers-few}
+use Rattle.club_rules.proofs.Proved.{count-next}
 use Rattle.club_games.specs.Draughts.{draughts, refusal_of, move_read}
 
 -- ---- legal moves
@@ -50,9 +57,14 @@ check-legal p m e = (check_of-is p m).legal.0 (passed-by refusal_of (check_of p 
 pub legal-check : (p : Position) (m : DMove) → Legal p m → draughts.check p m ≡ Ok tt
 legal-check p m legal = passes-by refusal_of (check_of p m) ((check_of-is p m).legal.1 legal)
 
-pub draughts-listed : (p : Position) (ms : List DMove) → IsStrictlySortedBy move_cmp ms → ((m : DMove) → Contains ms m ↔ Legal p m) → IsLegalList draughts p ms
+pub draughts-listed : (p : Position) (ms : List DMove) → IsStrictlySortedBy move_cmp ms
+    → ((m : DMove) → Contains ms m ↔ Legal p m) → IsLegalList draughts p ms
 draughts-listed p ms in_order members =
-    record { in_order = in_order; members = λ m. ((λ listed. legal-check p m ((members m).0 listed)), (λ e. (members m).1 (check-legal p m e))) }
+    record {
+      in_order = in_order;
+      members = λ m.
+          ((λ listed. legal-check p m ((members m).0 listed)), (λ e. (members m).1 (check-legal p m e)));
+    }
 
 pub draughts-first_starts : FirstStarts draughts
 unfolding opening
@@ -108,7 +120,8 @@ beyond : (n : ℕ) → 50 < n → map.get opening.board n ≡ None
 unfolding opening
 beyond n h =
     get-board_of (list_map opening_piece (range_with_len 1 50)) n (n - 1) (omega (arith, h))
-    ∙ get_or_past (list_map opening_piece (range_with_len 1 50)) (n - 1) None (omega (arith, h, length-map-range_with_len opening_piece 1 50))
+    ∙ get_or_past (list_map opening_piece (range_with_len 1 50)) (n - 1) None
+    (omega (arith, h, length-map-range_with_len opening_piece 1 50))
 
 at_zero : map.get opening.board 0 ≡ None
 unfolding opening
@@ -123,15 +136,19 @@ opening-on zero some = absurd (none_some (map.get opening.board 0) at_zero some)
 opening-on (suc n) some =
     elim (nat_le (suc n) 50) as (λ b. nat_le (suc n) 50 ≡ b → OnBoard (suc n)) [
       | true ↦ λ e. (omega arith, grind (arith, nat_tests, e))
-      | false ↦ λ e. absurd (none_some (map.get opening.board (suc n)) (beyond (suc n) (grind (arith, nat_tests, e))) some)
+      | false ↦
+          λ e. absurd (none_some (map.get opening.board (suc n)) (beyond (suc n) (grind (arith, nat_tests, e))) some)
     ] refl
 
-route-to_on : (b : Cells) (q : DPiece) (ls : List ℕ) (t : Squares) (s : ℕ) (all : Squares) (to : ℕ) → OnBoard s → Route b q t s ls all to → OnBoard to
+route-to_on : (b : Cells) (q : DPiece) (ls : List ℕ) (t : Squares) (s : ℕ) (all : Squares) (to : ℕ) → OnBoard s
+    → Route b q t s ls all to → OnBoard to
 route-to_on b q [] t s all to on r = subst OnBoard r.1 on
-route-to_on b q (l ∷ ls) t s all to on r = route-to_on b q ls (set.insert t r.0) l all to (Route-on b q (l ∷ ls) t s all to r).0 r.2
+route-to_on b q (l ∷ ls) t s all to on r =
+    route-to_on b q ls (set.insert t r.0) l all to (Route-on b q (l ∷ ls) t s all to r).0 r.2
 
 to_on : (p : Position) (m : DMove) → IsOnBoard p → Legal p m → OnBoard m.to
-to_on p m on (inl c) = route-to_on _ _ c.landings _ m.from _ m.to (on m.from (ap is_some c.capture.stands)) c.capture.route
+to_on p m on (inl c) = route-to_on _ _ c.landings _ m.from _ m.to (on m.from (ap is_some c.capture.stands))
+    c.capture.route
 to_on p m on (inr q) = (quiet-on p m.from m.to q.1.0).1
 
 some_here : {A : Type 0} (b : Bool) (x : A) (o : Option A) → IsSome (cond b (Some x) o) → (b ≡ true) ⊎ IsSome o
@@ -159,12 +176,17 @@ module _ (p : Position) (m : DMove) (on : IsOnBoard p) (to : OnBoard m.to) where
   kept-on : (n : ℕ) → IsSome (map.get kept n) → OnBoard n
   kept-on n some =
       let stays : IsSome (map.get left n) =
-      some_kept (keeps n) (map.get left n) (subst IsSome (map.get-retain_keys left keeps n (λ x e. ap keeps (sym (nat_cmp-IsAntisymmetric n x e)))) some) in
-      on n (some_left (eq_by_cmp nat_cmp n m.from) (map.get p.board n) (subst IsSome (map.get-remove nat_cmp_total p.board m.from n) stays))
+      some_kept (keeps n) (map.get left n)
+      (subst IsSome (map.get-retain_keys left keeps n (λ x e. ap keeps (sym (nat_cmp-IsAntisymmetric n x e)))) some)
+      in
+      on n
+      (some_left (eq_by_cmp nat_cmp n m.from) (map.get p.board n)
+      (subst IsSome (map.get-remove nat_cmp_total p.board m.from n) stays))
 
   moved-on : (q : DPiece) → IsOnBoard (moved p m (Some q))
   moved-on q n some =
-      elim (some_here (eq_by_cmp nat_cmp n m.to) (crowned q m.to) (map.get kept n) (subst IsSome (map.get-insert nat_cmp_total kept m.to (crowned q m.to) n) some)) [
+      elim (some_here (eq_by_cmp nat_cmp n m.to) (crowned q m.to) (map.get kept n)
+      (subst IsSome (map.get-insert nat_cmp_total kept m.to (crowned q m.to) n) some)) [
         | inl e ↦ subst OnBoard (sym (eqb-true n m.to (sym (unsigned_tied n m.to) ∙ e))) to
         | inr more ↦ kept-on n more
       ]
@@ -206,7 +228,8 @@ times-is start ms = λ i. count_by (λ q. same_position q (last-is start ms i)) 
 
 pub draughts-tracks_tell_ends : TracksTellEnds draughts
 draughts-tracks_tell_ends ms first played stands =
-    (λ i. end_by (line_track-is opening ms i) (last-is opening ms i) (length ms) (times-is opening ms i)) ∙ ends-by-tail opening ms
+    (λ i. end_by (line_track-is opening ms i) (last-is opening ms i) (length ms) (times-is opening ms i))
+    ∙ ends-by-tail opening ms
 
 pub draughts-numbers_give_tracks : NumbersGiveTracks draughts
 draughts-numbers_give_tracks track = refl
@@ -225,5 +248,8 @@ class-first (Some class) = omega arith
 pub draughts-numbers_are_few : NumbersAreFew draughts
 draughts-numbers_are_few =
     numbers-few draughts
-    (λ track p m q. (count-next (is_king_move p m) track.king_plies 0 (omega arith), class-next p track.class_positions (class_of q)))
+    (λ track p m q. (
+      count-next (is_king_move p m) track.king_plies 0 (omega arith),
+      class-next p track.class_positions (class_of q),
+    ))
     (omega arith) (class-first (class_of opening))

@@ -1,12 +1,14 @@
 -- Whether a text (FEN) stands for the opening of draughts, as a function.
-use Rattle.std.specs.Prelude.{ℕ, zero, suc, List, [], ◌∷◌, ◌++◌, length, Bool, false, Option, Some, None, Ok, Err, if◌then◌else◌}
+use Rattle.std.specs.Prelude.{ℕ, zero, suc, List, [], ◌∷◌, ◌++◌, length, Bool, false, Option, Some, None, Ok, Err}
+use Rattle.std.specs.Prelude.{if◌then◌else◌}
 use Rattle.squares.specs.declared.sides.Side.{Side}
 use Rattle.squares.specs.Sides.{other}
 use Rattle.squares.specs.DraughtsOpening.{opening}
 use Rattle.squares.specs.DraughtsSamePosition.{same_position}
 use Rattle.pdn.specs.declared.items.Item.{Item}
 use Rattle.pdn.specs.FenItems.{past_byte, ItemReading, read_item, ItemsReading, ends_list}
-use Rattle.pdn.specs.FenForm.{Header, HeaderReading, read_header, RestReading, read_between, past_end, FenReading, FenForm}
+use Rattle.pdn.specs.FenForm.{Header, HeaderReading, read_header, RestReading, read_between, past_end, FenReading}
+use Rattle.pdn.specs.FenForm.{FenForm}
 use Rattle.pdn.specs.ReadFen.{repeated, position_of}
 
 -- what follows an item: a comma and the items after it, or the end of the list

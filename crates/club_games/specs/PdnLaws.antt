@@ -1,5 +1,6 @@
 -- What is read of a PDN text is a game by the rules of draughts.
-use Rattle.std.proofs.Common.{◌≡◌, ℕ, suc, List, [], ◌∷◌, ◌++◌, length, Bool, true, false, nat_eq, ◌&&◌, Option, Some, None, Result, Ok, Err, refl, sym, ap, ◌∙◌, subst}
+use Rattle.std.proofs.Common.{◌≡◌, ℕ, suc, List, [], ◌∷◌, ◌++◌, length, Bool, true, false, nat_eq, ◌&&◌, Option, Some}
+use Rattle.std.proofs.Common.{None, Result, Ok, Err, refl, sym, ap, ◌∙◌, subst}
 use Rattle.std.specs.Prelude.{codes, if◌then◌else◌}
 use Rattle.squares.specs.declared.sides.Score.{Score}
 use Rattle.squares.specs.declared.sides.Score.TheVariants as score
@@ -25,7 +26,9 @@ use Rattle.club_rules.specs.Records.{Recorded, IsGameByRules, ReadsGames, Readin
 use Rattle.club_rules.proofs.Proved.{IsPlayedLine-none, IsPlayedLine-append}
 use Rattle.club_games.specs.Draughts.{draughts}
 use Rattle.club_games.specs.DraughtsLaws.{last-is, legal-check}
-use Rattle.club_games.specs.PdnReading.{lexed, lexed_reading, Lexed, Replayed, replay_next, replayed, GameRead, with_score, with_moves, begins_even, formed_reading, pdn_reading, whole, draughts_records}
+use Rattle.club_games.specs.PdnReading.{lexed, lexed_reading, Lexed, Replayed, replay_next, replayed, GameRead}
+use Rattle.club_games.specs.PdnReading.{with_score, with_moves, begins_even, formed_reading, pdn_reading, whole}
+use Rattle.club_games.specs.PdnReading.{draughts_records}
 
 -- a move that a text stands for is legal
 read-legal : (p : Position) (form : Form) (m : DMove) → StandsFor p form m → Legal p m
@@ -33,19 +36,28 @@ read-legal p (quiet from to) m is = is.1
 read-legal p (capture from middle to) m is = is.0
 
 -- a replay of a line that is played by the rules is one
-module _ (ms : List DMove) (line : IsPlayedLine draughts opening ms) (text : List ℕ) (rest : DMove → Replayed) (ns : List DMove) (goes_on : (m : DMove) → IsPlayedLine draughts opening (ms ++ m ∷ []) → rest m ≡ Ok ns → IsPlayedLine draughts opening ns) where
-  next-line : (end : Option DEnd) (read : move_value.Reading) → end_of opening ms ≡ end → move_value.move_reading (last_position opening ms) text ≡ read → replay_next ms rest end read ≡ Ok ns → IsPlayedLine draughts opening ns
+module _ (ms : List DMove) (line : IsPlayedLine draughts opening ms) (text : List ℕ) (rest : DMove → Replayed)
+    (ns : List DMove) (goes_on : (m : DMove) → IsPlayedLine draughts opening (ms ++ m ∷ []) → rest m ≡ Ok ns
+    → IsPlayedLine draughts opening ns) where
+  next-line : (end : Option DEnd) (read : move_value.Reading) → end_of opening ms ≡ end
+      → move_value.move_reading (last_position opening ms) text ≡ read → replay_next ms rest end read ≡ Ok ns
+      → IsPlayedLine draughts opening ns
   next-line (Some end) read running found is = cc
   next-line None (Err f) running found is = cc
   next-line None (Ok m) running found is =
       let stands = (reading-ok (last_position opening ms) text m).0 found in
       let legal : Legal (last_position opening ms) m = read-legal (last_position opening ms) stands.0 m stands.2 in
-      goes_on m (IsPlayedLine-append draughts opening ms m line running (legal-check (position_after draughts opening ms) m (subst (λ p. Legal p m) (sym (last-is opening ms)) legal))) is
+      goes_on m
+      (IsPlayedLine-append draughts opening ms m line running
+      (legal-check (position_after draughts opening ms) m
+      (subst (λ p. Legal p m) (sym (last-is opening ms)) legal))) is
 
-replay-line : (ms : List DMove) (texts : List (List ℕ)) (ns : List DMove) → IsPlayedLine draughts opening ms → replayed ms texts ≡ Ok ns → IsPlayedLine draughts opening ns
+replay-line : (ms : List DMove) (texts : List (List ℕ)) (ns : List DMove) → IsPlayedLine draughts opening ms
+    → replayed ms texts ≡ Ok ns → IsPlayedLine draughts opening ns
 replay-line ms [] ns line read = let same : ms ≡ ns = cc in subst (IsPlayedLine draughts opening) same line
 replay-line ms (text ∷ texts) ns line read =
-    next-line ms line text (λ m. replayed (ms ++ m ∷ []) texts) ns (λ m more. replay-line (ms ++ m ∷ []) texts ns more) (end_of opening ms) (move_value.move_reading (last_position opening ms) text) refl refl read
+    next-line ms line text (λ m. replayed (ms ++ m ∷ []) texts) ns (λ m more. replay-line (ms ++ m ∷ []) texts ns more)
+    (end_of opening ms) (move_value.move_reading (last_position opening ms) text) refl refl read
 
 -- where the rules ended the game, the score is theirs
 same-score : (a b : Score) → same_score a b ≡ true → a ≡ b
@@ -59,17 +71,23 @@ same-score score.Draw score.SecondWins is = cc
 same-score score.SecondWins score.FirstWins is = cc
 same-score score.SecondWins score.Draw is = cc
 
-settled-score : (same tag : Bool) (claim by_rule s : Score) → same_score claim by_rule ≡ same → ◌≡◌ {A = Result Score PdnFault} (if same && tag then Ok claim else Err fault.ResultDiffers) (Ok s) → s ≡ by_rule
-settled-score true true claim by_rule s is told = let claimed_is : claim ≡ s = cc in sym claimed_is ∙ same-score claim by_rule is
+settled-score : (same tag : Bool) (claim by_rule s : Score) → same_score claim by_rule ≡ same
+    → ◌≡◌ {A = Result Score PdnFault} (if same && tag then Ok claim else Err fault.ResultDiffers) (Ok s) → s ≡ by_rule
+settled-score true true claim by_rule s is told = let claimed_is : claim ≡ s = cc in
+    sym claimed_is ∙ same-score claim by_rule is
 settled-score true false claim by_rule s is told = cc
 settled-score false tag claim by_rule s is told = cc
 
-claim-score : (claim : Option Score) (by_rule : Score) (by_tag : Option Score) (s : Score) → settled claim (Some by_rule) by_tag ≡ Ok s → s ≡ by_rule
+claim-score : (claim : Option Score) (by_rule : Score) (by_tag : Option Score) (s : Score)
+    → settled claim (Some by_rule) by_tag ≡ Ok s → s ≡ by_rule
 claim-score None by_rule by_tag s told = cc
-claim-score (Some claim) by_rule by_tag s told = settled-score (same_score claim by_rule) (agrees claim by_tag) claim by_rule s refl told
+claim-score (Some claim) by_rule by_tag s told =
+    settled-score (same_score claim by_rule) (agrees claim by_tag) claim by_rule s refl told
 
 -- what is read of tokens is a game by the rules
-scored-game : (tokens : List Placed) (ms : List DMove) (said_is : Result Score PdnFault) (r : Recorded DMove) → IsPlayedLine draughts opening ms → score_in tokens ms ≡ said_is → with_score ms said_is ≡ Ok r → IsGameByRules draughts r
+scored-game : (tokens : List Placed) (ms : List DMove) (said_is : Result Score PdnFault) (r : Recorded DMove)
+    → IsPlayedLine draughts opening ms → score_in tokens ms ≡ said_is → with_score ms said_is ≡ Ok r
+    → IsGameByRules draughts r
 scored-game tokens ms (Err f) r line told_is is = cc
 scored-game tokens ms (Ok s) r line told_is is =
     let same : record { moves = ms; score = s } ≡ r = cc in
@@ -77,23 +95,35 @@ scored-game tokens ms (Ok s) r line told_is is =
     (record {
       line = line;
       score = λ end ends.
-          claim-score (said (result_in tokens)) (outcome_of end (last_position opening ms).turn) (told (first_tag (codes "Result") tokens)) s
-          (ap (λ e. settled (said (result_in tokens)) (ruled e (last_position opening ms).turn) (told (first_tag (codes "Result") tokens))) (sym ends) ∙ told_is)
+          claim-score (said (result_in tokens)) (outcome_of end (last_position opening ms).turn)
+          (told (first_tag (codes "Result") tokens)) s
+          (ap
+          (λ e. settled (said (result_in tokens)) (ruled e (last_position opening ms).turn)
+          (told (first_tag (codes "Result") tokens))) (sym ends) ∙ told_is)
           ∙ ap (λ p. outcome_of end p.turn) (sym (last-is opening ms));
     })
 
-moved-game : (tokens : List Placed) (read : Replayed) (r : Recorded DMove) → ((ns : List DMove) → read ≡ Ok ns → IsPlayedLine draughts opening ns) → with_moves tokens read ≡ Ok r → IsGameByRules draughts r
+moved-game : (tokens : List Placed) (read : Replayed) (r : Recorded DMove)
+    → ((ns : List DMove) → read ≡ Ok ns → IsPlayedLine draughts opening ns) → with_moves tokens read ≡ Ok r
+    → IsGameByRules draughts r
 moved-game tokens (Err f) r line is = cc
 moved-game tokens (Ok ms) r line is = scored-game tokens ms (score_in tokens ms) r (line ms refl) refl is
 
-kind-game : (tokens : List Placed) (other even : Bool) (r : Recorded DMove) → ◌≡◌ {A = GameRead} (if other then Err fault.OtherType else if even then with_moves tokens (replayed [] (move_texts tokens)) else Err fault.OtherOpening) (Ok r) → IsGameByRules draughts r
+kind-game : (tokens : List Placed) (other even : Bool) (r : Recorded DMove)
+    →
+    ◌≡◌ {A = GameRead}
+    (if other then Err fault.OtherType else if even then with_moves tokens (replayed [] (move_texts tokens)) else Err
+    fault.OtherOpening) (Ok r) → IsGameByRules draughts r
 kind-game tokens true even r is = cc
 kind-game tokens false false r is = cc
-kind-game tokens false true r is = moved-game tokens (replayed [] (move_texts tokens)) r (λ ns. replay-line [] (move_texts tokens) ns (IsPlayedLine-none draughts opening)) is
+kind-game tokens false true r is = moved-game tokens (replayed [] (move_texts tokens)) r
+    (λ ns. replay-line [] (move_texts tokens) ns (IsPlayedLine-none draughts opening)) is
 
-formed-game : (tokens : List Placed) (bad : Option ℕ) (r : Recorded DMove) → formed_reading tokens bad ≡ Ok r → IsGameByRules draughts r
+formed-game : (tokens : List Placed) (bad : Option ℕ) (r : Recorded DMove) → formed_reading tokens bad ≡ Ok r
+    → IsGameByRules draughts r
 formed-game tokens (Some offset) r is = cc
-formed-game tokens None r is = kind-game tokens (is_other_type tokens) (begins_even (first_tag (codes "FEN") tokens)) r is
+formed-game tokens None r is = kind-game tokens (is_other_type tokens) (begins_even (first_tag (codes "FEN") tokens)) r
+    is
 
 lexed-game : (l : Lexed) (r : Recorded DMove) → lexed_reading l ≡ Ok r → IsGameByRules draughts r
 lexed-game l r is = formed-game l.tokens (bad_at l.tokens l.stop) r is
@@ -102,11 +132,13 @@ text-game : (text : List ℕ) (r : Recorded DMove) → pdn_reading text ≡ Ok r
 unfolding pdn_reading
 text-game text r is = lexed-game (lexed (suc (length text)) (length text) true true text) r is
 
-whole-game : (read : GameRead) (r : Recorded DMove) → ((s : Recorded DMove) → read ≡ Ok s → IsGameByRules draughts s) → whole read ≡ game r → IsGameByRules draughts r
+whole-game : (read : GameRead) (r : Recorded DMove) → ((s : Recorded DMove) → read ≡ Ok s → IsGameByRules draughts s)
+    → whole read ≡ game r → IsGameByRules draughts r
 whole-game (Err f) r games is = cc
 whole-game (Ok s) r games is = let same : s ≡ r = cc in subst (IsGameByRules draughts) same (games s refl)
 
-part-game : (first : Bool) (text : List ℕ) (r : Recorded DMove) → ◌≡◌ {A = Reading DMove} (if first then whole (pdn_reading text) else no_part) (game r) → IsGameByRules draughts r
+part-game : (first : Bool) (text : List ℕ) (r : Recorded DMove)
+    → ◌≡◌ {A = Reading DMove} (if first then whole (pdn_reading text) else no_part) (game r) → IsGameByRules draughts r
 part-game true text r is = whole-game (pdn_reading text) r (text-game text) is
 part-game false text r is = cc
 

@@ -1,5 +1,6 @@
 -- The reading of PDN texts as a function: what a text is read as, by its tokens.
-use Rattle.std.specs.Prelude.{ℕ, zero, suc, ◌+◌, ◌-◌, ◌==◌, List, [], ◌∷◌, ◌++◌, length, Bool, true, false, Option, Some, None, Result, Ok, Err, codes, if◌then◌else◌}
+use Rattle.std.specs.Prelude.{ℕ, zero, suc, ◌+◌, ◌-◌, ◌==◌, List, [], ◌∷◌, ◌++◌, length, Bool, true, false, Option}
+use Rattle.std.specs.Prelude.{Some, None, Result, Ok, Err, codes, if◌then◌else◌}
 use Rattle.squares.specs.declared.sides.Score.{Score}
 use Rattle.squares.specs.declared.draughts.moves.DMove.{DMove}
 use Rattle.squares.specs.DraughtsOpening.{opening}
@@ -14,7 +15,8 @@ use Rattle.pdn_games.specs.Contents.{first_tag, move_texts, is_other_type}
 use Rattle.pdn_games.specs.Order.{bad_at}
 use Rattle.pdn_games.specs.Reading.{score_in}
 use Rattle.pdn_games.specs.Replaying.{at_ply}
-use Rattle.pdn_games.specs.Tokens.{Token, Placed, Front, ended, skipped, found, stuck, front_at, begins_feed, lets_follow}
+use Rattle.pdn_games.specs.Tokens.{Token, Placed, Front, ended, skipped, found, stuck, front_at, begins_feed}
+use Rattle.pdn_games.specs.Tokens.{lets_follow}
 use Rattle.club_rules.specs.declared.records.RecordFormat.TheVariants.{Pdn}
 use Rattle.club_rules.specs.declared.record_refusals.RecordRefusal.{RecordRefusal}
 use Rattle.club_rules.specs.declared.record_refusals.RecordRefusal.TheVariants as record_refusal
@@ -59,7 +61,8 @@ replay_next ms rest None (Ok m) = rest m
 abbrev pub replayed : List DMove → List (List ℕ) → Replayed
 replayed ms [] = Ok ms
 replayed ms (text ∷ texts) =
-    replay_next ms (λ m. replayed (ms ++ m ∷ []) texts) (end_of opening ms) (move_value.move_reading (last_position opening ms) text)
+    replay_next ms (λ m. replayed (ms ++ m ∷ []) texts) (end_of opening ms)
+    (move_value.move_reading (last_position opening ms) text)
 
 abbrev pub GameRead : Type 0
 GameRead = Result (Recorded DMove) PdnFault

@@ -28,7 +28,8 @@ use Rattle.club_rules.specs.declared.names.GameKind.TheVariants as game
 use Rattle.club_rules.specs.declared.names.EndName.{EndName}
 use Rattle.club_rules.specs.declared.names.EndName.TheVariants as name
 use Rattle.club_rules.specs.declared.refusals.MoveRefusal.{MoveRefusal}
-use Rattle.club_rules.specs.declared.refusals.MoveRefusal.TheVariants.{NoSuchMove, NotInHand, MustPromote, DeadDrop, TwoPawns, KingAttacked, DropMate, BadText}
+use Rattle.club_rules.specs.declared.refusals.MoveRefusal.TheVariants.{NoSuchMove, NotInHand, MustPromote, DeadDrop}
+use Rattle.club_rules.specs.declared.refusals.MoveRefusal.TheVariants.{TwoPawns, KingAttacked, DropMate, BadText}
 use Rattle.club_rules.specs.GameRules.{GameRules}
 use Rattle.club_rules.specs.MoveRefusal.{refused_by}
 

@@ -1,5 +1,7 @@
 -- What holds of shogi as a game of the club.
-use Rattle.std.proofs.Common.{Contains, ◌↔◌, ◌≡◌, ℕ, ◌+◌, ◌≤◌, ◌<◌, Bool, true, false, cond, not, ◌&&◌, nat_eq, List, [], ◌∷◌, length, take, Option, Some, None, Ok, IsSome, refl, sym, ap, ◌∙◌, arith, eqb-true, eq-eqb}
+use Rattle.std.proofs.Common.{Contains, ◌↔◌, ◌≡◌, ℕ, ◌+◌, ◌≤◌, ◌<◌, Bool, true, false, cond, not, ◌&&◌, nat_eq, List}
+use Rattle.std.proofs.Common.{[], ◌∷◌, length, take, Option, Some, None, Ok, IsSome, refl, sym, ap, ◌∙◌, arith}
+use Rattle.std.proofs.Common.{eqb-true, eq-eqb}
 use Rattle.std.specs.List.Sorted.{IsStrictlySortedBy}
 use Rattle.std.specs.Prelude.{if◌then◌else◌, count_by, map as list_map}
 use Rattle.std.specs.List.{range_with_len}
@@ -44,8 +46,11 @@ use Rattle.shogi_moves.specs.Listing.{move_cmp}
 use Rattle.club_rules.specs.Listed.{IsLegalList}
 use Rattle.club_rules.specs.Line.{position_after, positions, line_track, FirstStands}
 use Rattle.club_rules.specs.Line as game_line
-use Rattle.club_rules.specs.Laws.{FirstStarts, TurnPasses, ReadsBack, SameIs, SamePositionIs, EndsAtLimit, StandsForOne, WritesPositions, TextsTellPositions, TracksTellEnds, NumbersGiveTracks, TracksGiveNumbers, NumbersAreFew}
-use Rattle.club_rules.proofs.Proved.{holds-after, passed-by, passes-by, tells-equal, texts-tell, track-is, numbers-few, count-next}
+use Rattle.club_rules.specs.Laws.{FirstStarts, TurnPasses, ReadsBack, SameIs, SamePositionIs, EndsAtLimit, StandsForOne}
+use Rattle.club_rules.specs.Laws.{WritesPositions, TextsTellPositions, TracksTellEnds, NumbersGiveTracks}
+use Rattle.club_rules.specs.Laws.{TracksGiveNumbers, NumbersAreFew}
+use Rattle.club_rules.proofs.Proved.{holds-after, passed-by, passes-by, tells-equal, texts-tell, track-is, numbers-few}
+use Rattle.club_rules.proofs.Proved.{count-next}
 use Rattle.club_games.specs.Shogi.{shogi, refusal_of, move_read, IsPositionText, same_kind, same_move}
 
 -- ---- legal moves
@@ -56,9 +61,14 @@ check-legal p m e = (check_of-legal p m).0 (passed-by refusal_of (check_of p m) 
 pub legal-check : (p : ShogiPosition) (m : SMove) → Legal p m → shogi.check p m ≡ Ok tt
 legal-check p m legal = passes-by refusal_of (check_of p m) ((check_of-legal p m).1 legal)
 
-pub shogi-listed : (p : ShogiPosition) (ms : List SMove) → IsStrictlySortedBy move_cmp ms → ((m : SMove) → Contains ms m ↔ Legal p m) → IsLegalList shogi p ms
+pub shogi-listed : (p : ShogiPosition) (ms : List SMove) → IsStrictlySortedBy move_cmp ms
+    → ((m : SMove) → Contains ms m ↔ Legal p m) → IsLegalList shogi p ms
 shogi-listed p ms in_order members =
-    record { in_order = in_order; members = λ m. ((λ listed. legal-check p m ((members m).0 listed)), (λ e. (members m).1 (check-legal p m e))) }
+    record {
+      in_order = in_order;
+      members = λ m.
+          ((λ listed. legal-check p m ((members m).0 listed)), (λ e. (members m).1 (check-legal p m e)));
+    }
 
 pub shogi-first_starts : FirstStarts shogi
 unfolding opening
@@ -141,7 +151,8 @@ opening-on : IsOnSquares opening.board
 unfolding opening
 opening-on n h =
     get-shogi_board_of (list_map opening_cell (range_with_len 0 81)) n
-    ∙ get_or_past (list_map opening_cell (range_with_len 0 81)) n None (omega (arith, h, length-map-range_with_len opening_cell 0 81))
+    ∙ get_or_past (list_map opening_cell (range_with_len 0 81)) n None
+    (omega (arith, h, length-map-range_with_len opening_cell 0 81))
 
 opening-sound : IsSound opening
 opening-sound = record { sound = opening-IsShogiPosition; on = opening-on }
@@ -149,20 +160,25 @@ opening-sound = record { sound = opening-IsShogiPosition; on = opening-on }
 beyond : (n k : ℕ) → 81 ≤ n → k < 81 → eq_by_cmp nat_cmp n k ≡ false
 beyond n k h less = unsigned_tied n k ∙ nat_eq_other n k (λ e. absurd (omega (arith, e)))
 
-insert-on : (board : ShogiBoard) (to : ℕ) (piece : SPiece) → IsOnSquares board → to < 81 → IsOnSquares (map.insert board to piece)
+insert-on : (board : ShogiBoard) (to : ℕ) (piece : SPiece) → IsOnSquares board → to < 81
+    → IsOnSquares (map.insert board to piece)
 insert-on board to piece on less n h =
-    map.get-insert nat_cmp_total board to piece n ∙ ap (λ b. cond b (Some piece) (map.get board n)) (beyond n to h less) ∙ on n h
+    map.get-insert nat_cmp_total board to piece n ∙ ap (λ b. cond b (Some piece) (map.get board n)) (beyond n to h less)
+    ∙ on n h
 
 left-none : {A : Type 0} (b : Bool) (o : Option A) → o ≡ None → cond b None o ≡ None
 left-none true o e = refl
 left-none false o e = e
 
 remove-on : (board : ShogiBoard) (from : ℕ) → IsOnSquares board → IsOnSquares (map.remove board from)
-remove-on board from on n h = map.get-remove nat_cmp_total board from n ∙ left-none (eq_by_cmp nat_cmp n from) (map.get board n) (on n h)
+remove-on board from on n h = map.get-remove nat_cmp_total board from n
+    ∙ left-none (eq_by_cmp nat_cmp n from) (map.get board n) (on n h)
 
-step-on : (p : ShogiPosition) (from to : ℕ) (promote : Bool) (o : Option SPiece) → IsOnSquares p.board → to < 81 → IsOnSquares (option_map_or (λ piece. map.insert (map.remove p.board from) to (arrived piece promote)) o p.board)
+step-on : (p : ShogiPosition) (from to : ℕ) (promote : Bool) (o : Option SPiece) → IsOnSquares p.board → to < 81
+    → IsOnSquares (option_map_or (λ piece. map.insert (map.remove p.board from) to (arrived piece promote)) o p.board)
 step-on p from to promote None on less = on
-step-on p from to promote (Some piece) on less = insert-on (map.remove p.board from) to (arrived piece promote) (remove-on p.board from on) less
+step-on p from to promote (Some piece) on less =
+    insert-on (map.remove p.board from) to (arrived piece promote) (remove-on p.board from on) less
 
 board_after-on : (p : ShogiPosition) (m : SMove) → IsOnSquares p.board → IsOnBoard m → IsOnSquares (board_after p m)
 board_after-on p (Step from to promote) on within = step-on p from to promote (map.get p.board from) on within.1
@@ -170,11 +186,16 @@ board_after-on p (Drop kind to) on within = insert-on p.board to _ on within
 
 play-IsSound : (p : ShogiPosition) (m : SMove) → IsSound p → Legal p m → IsSound (play p m)
 play-IsSound p m s legal =
-    record { sound = play-sound p m legal.pseudo s.sound; on = board_after-on p m s.on (move-on p m legal.pseudo.moves) }
+    record {
+      sound = play-sound p m legal.pseudo s.sound;
+      on =
+          board_after-on p m s.on (move-on p m legal.pseudo.moves);
+    }
 
 pub shogi-writes_positions : WritesPositions shogi IsPositionText
 shogi-writes_positions ms legal =
-    let s = holds-after shogi IsSound (λ p m s e. play-IsSound p m s (check-legal p m e)) opening ms opening-sound legal in
+    let s = holds-after shogi IsSound (λ p m s e. play-IsSound p m s (check-legal p m e)) opening ms opening-sound legal
+    in
     (1, position-alone (position_after shogi opening ms) s.sound s.on)
 
 pub shogi-stands_for_one : StandsForOne IsPositionText
@@ -202,7 +223,8 @@ times-is : (start : ShogiPosition) (ms : List SMove) → game_line.times_stood s
 times-is start ms = λ i. count_by (λ q. same_shogi_position q (last-is start ms i)) (positions-is start ms i)
 
 -- a position that stands first by the club's words does so by those of shogi
-stands-first : (start : ShogiPosition) (ms : List SMove) (f : ℕ) → FirstStands shogi start ms f → ends.FirstStands start ms f
+stands-first : (start : ShogiPosition) (ms : List SMove) (f : ℕ) → FirstStands shogi start ms f
+    → ends.FirstStands start ms f
 stands-first start ms f s =
     record {
       within = s.within;
@@ -223,9 +245,11 @@ shogi-tracks_give_numbers a b = refl
 
 -- after a move of one side the other side's number stays
 checks-next : (track : Tail) (gives_check : Bool) (turn : Side) →
-    ((tail_after track gives_check turn).first_checks ≤ track.first_checks + 1) × ((tail_after track gives_check turn).second_checks ≤ track.second_checks + 1)
+    ((tail_after track gives_check turn).first_checks ≤ track.first_checks + 1)
+    × ((tail_after track gives_check turn).second_checks ≤ track.second_checks + 1)
 checks-next track gives_check First = (omega arith, count-next gives_check track.second_checks 0 (omega arith))
 checks-next track gives_check Second = (count-next gives_check track.first_checks 0 (omega arith), omega arith)
 
 pub shogi-numbers_are_few : NumbersAreFew shogi
-shogi-numbers_are_few = numbers-few shogi (λ track p m q. checks-next track (is_in_check q) q.turn) (omega arith) (omega arith)
+shogi-numbers_are_few = numbers-few shogi (λ track p m q. checks-next track (is_in_check q) q.turn) (omega arith)
+    (omega arith)

@@ -14,23 +14,33 @@ use Rattle.club_core.proofs.ImportedGames.{made-again, imported-result}
 use Rattle.club_imports.specs.OneMoment.{at_moment, clocks_with}
 use Rattle.club_imports.proofs.LeftLemmas.{moments-at}
 
-module _ {P M E T : Type 0} (rules : GameRules P M E T) (key : Option (List ℕ)) (pairing : Pairing) (moment : ℕ) (r : Recorded M) where
+module _ {P M E T : Type 0} (rules : GameRules P M E T) (key : Option (List ℕ)) (pairing : Pairing) (moment : ℕ)
+    (r : Recorded M) where
   pub row-plies : length r.moves ≡ length (imported rules key pairing moment r).entries
   row-plies = sym (length-map r.moves (λ m. record { made = m; moment = moment }))
 
-  pub row-clocks : (terms : Terms) (first second : ℕ) → clocks_with first second moment ≡ spend_all terms.increment First (at_moment moment (length r.moves)) (clocks_with terms.budget terms.budget moment) → clocks_with first second moment ≡ clocks_of (imported rules key pairing moment r) terms
-  row-clocks terms first second is = is ∙ ap (λ l. spend_all terms.increment First l (clocks_with terms.budget terms.budget moment)) (sym (moments-at moment r.moves))
+  pub row-clocks : (terms : Terms) (first second : ℕ)
+      → clocks_with first second moment ≡ spend_all terms.increment First (at_moment moment (length r.moves))
+      (clocks_with terms.budget terms.budget moment)
+      → clocks_with first second moment ≡ clocks_of (imported rules key pairing moment r) terms
+  row-clocks terms first second is = is ∙ ap
+      (λ l. spend_all terms.increment First l (clocks_with terms.budget terms.budget moment))
+      (sym (moments-at moment r.moves))
 
-  pub row-track : (t : T) → t ≡ line_track rules rules.start r.moves → t ≡ track_of_game rules (imported rules key pairing moment r)
+  pub row-track : (t : T) → t ≡ line_track rules rules.start r.moves
+      → t ≡ track_of_game rules (imported rules key pairing moment r)
   row-track t is = is ∙ ap (line_track rules rules.start) (sym (made-again moment r.moves))
 
-  pub row-position : (p : P) → p ≡ position_after rules rules.start r.moves → p ≡ last_position rules (imported rules key pairing moment r)
+  pub row-position : (p : P) → p ≡ position_after rules rules.start r.moves
+      → p ≡ last_position rules (imported rules key pairing moment r)
   row-position p is = is ∙ ap (position_after rules rules.start) (sym (made-again moment r.moves))
 
-  pub row-end : (end : Option E) → end ≡ rules.judge rules.start r.moves → end_with end (recorded_end end r.score) ≡ end_of rules (imported rules key pairing moment r)
+  pub row-end : (end : Option E) → end ≡ rules.judge rules.start r.moves
+      → end_with end (recorded_end end r.score) ≡ end_of rules (imported rules key pairing moment r)
   row-end end is =
       ap (λ e. end_with e (recorded_end e r.score)) is
-      ∙ ap (λ ms. end_with (rules.judge rules.start ms) (recorded_end (rules.judge rules.start r.moves) r.score)) (sym (made-again moment r.moves))
+      ∙ ap (λ ms. end_with (rules.judge rules.start ms) (recorded_end (rules.judge rules.start r.moves) r.score))
+      (sym (made-again moment r.moves))
 
   pub row-result : IsGameByRules rules r → Some r.score ≡ result_of rules (imported rules key pairing moment r)
   row-result by = sym (imported-result rules key pairing moment r by)

@@ -1,5 +1,6 @@
 -- The texts of draughts are in ASCII.
-use Rattle.std.proofs.Common.{◌≡◌, ℕ, zero, suc, ◌+◌, ◌/◌, ◌%◌, ◌≤◌, List, [], ◌∷◌, ◌++◌, Option, Some, None, Bool, true, false, cond, Ok, Err, inl, inr, refl, sym, subst, arith, nat_lt}
+use Rattle.std.proofs.Common.{◌≡◌, ℕ, zero, suc, ◌+◌, ◌/◌, ◌%◌, ◌≤◌, List, [], ◌∷◌, ◌++◌, Option, Some, None, Bool}
+use Rattle.std.proofs.Common.{true, false, cond, Ok, Err, inl, inr, refl, sym, subst, arith, nat_lt}
 use Rattle.std.specs.Prelude.{IfSome}
 use Rattle.std.specs.List.{AllByRecursion, cons_option, filter_map, join_with_byte, range_with_len}
 use Rattle.std.specs.FinMap as finite_map
@@ -44,18 +45,21 @@ piece_of-plain side n (Some piece) low = by (same_side piece.side side)
     by true = piece-plain n piece low
     by false = tt
 
-items-plain : (f : ℕ → Option (List ℕ)) → ((n : ℕ) → n ≤ 50 → PlainIfAny (f n)) → (ns : List ℕ) → AllByRecursion (λ n. n ≤ 50) ns → AllByRecursion Plain (filter_map f ns)
+items-plain : (f : ℕ → Option (List ℕ)) → ((n : ℕ) → n ≤ 50 → PlainIfAny (f n)) → (ns : List ℕ)
+    → AllByRecursion (λ n. n ≤ 50) ns → AllByRecursion Plain (filter_map f ns)
 items-plain f each [] low = tt
 items-plain f each (n ∷ ns) low = by (f n) (each n low.0) (items-plain f each ns low.1)
   where
-    by : (o : Option (List ℕ)) → PlainIfAny o → AllByRecursion Plain (filter_map f ns) → AllByRecursion Plain (cons_option o (filter_map f ns))
+    by : (o : Option (List ℕ)) → PlainIfAny o → AllByRecursion Plain (filter_map f ns)
+        → AllByRecursion Plain (cons_option o (filter_map f ns))
     by None plain rest = rest
     by (Some x) plain rest = (plain, rest)
 
 join-plain : (items : List (List ℕ)) → AllByRecursion Plain items → Plain (join_with_byte 44 items)
 join-plain [] plain = tt
 join-plain (x ∷ []) plain = plain.0
-join-plain (x ∷ y ∷ items) plain = plain-append x (44 ∷ join_with_byte 44 (y ∷ items)) plain.0 (omega arith, join-plain (y ∷ items) plain.1)
+join-plain (x ∷ y ∷ items) plain = plain-append x (44 ∷ join_with_byte 44 (y ∷ items)) plain.0
+    (omega arith, join-plain (y ∷ items) plain.1)
 
 range-low : (from count : ℕ) → from + count ≤ 51 → AllByRecursion (λ n. n ≤ 50) (range_with_len from count)
 range-low from zero most = tt
@@ -65,10 +69,13 @@ squares-low : AllByRecursion (λ n. n ≤ 50) all_squares
 unfolding all_squares
 squares-low = range-low 1 50 (omega arith)
 
-pieces-plain : (side : Side) (board : Board) (squares : List ℕ) → AllByRecursion (λ n. n ≤ 50) squares → Plain (pieces_on side board squares)
+pieces-plain : (side : Side) (board : Board) (squares : List ℕ) → AllByRecursion (λ n. n ≤ 50) squares
+    → Plain (pieces_on side board squares)
 unfolding pieces_on
 pieces-plain side board squares low =
-    join-plain _ (items-plain (λ square. piece_of side square (finite_map.get board square)) (λ n within. piece_of-plain side n (finite_map.get board n) within) squares low)
+    join-plain _
+    (items-plain (λ square. piece_of side square (finite_map.get board square))
+    (λ n within. piece_of-plain side n (finite_map.get board n) within) squares low)
 
 letter-plain : (side : Side) → Plain (side_letter side)
 letter-plain First = (omega arith, tt)
@@ -94,17 +101,26 @@ square_text-plain n text (on, inr is) = subst Plain (sym is) (omega arith, squar
 landings-plain : (ns : List ℕ) (text : List ℕ) → AreLandings ns text → Plain text
 landings-plain [] text is = subst Plain (sym is) tt
 landings-plain (n ∷ ns) text (landing, rest, (cross, square, inl x, on, first), more, is) =
-    subst Plain (sym is) (plain-append landing rest (subst Plain (sym first) (omega (arith, x), square_text-plain n square on)) (landings-plain ns rest more))
+    subst Plain (sym is)
+    (plain-append landing rest (subst Plain (sym first) (omega (arith, x), square_text-plain n square on))
+    (landings-plain ns rest more))
 landings-plain (n ∷ ns) text (landing, rest, (cross, square, inr colon, on, first), more, is) =
-    subst Plain (sym is) (plain-append landing rest (subst Plain (sym first) (omega (arith, colon), square_text-plain n square on)) (landings-plain ns rest more))
+    subst Plain (sym is)
+    (plain-append landing rest (subst Plain (sym first) (omega (arith, colon), square_text-plain n square on))
+    (landings-plain ns rest more))
 
 form-plain : (text : List ℕ) (form : Form) → HasForm text form → Plain text
 form-plain text (quiet from to) (first, second, from_is, to_is, is) =
-    subst Plain (sym is) (plain-append first (45 ∷ second) (square_text-plain from first from_is) (omega arith, square_text-plain to second to_is))
+    subst Plain (sym is)
+    (plain-append first (45 ∷ second) (square_text-plain from first from_is)
+    (omega arith, square_text-plain to second to_is))
 form-plain text (capture from middle to) (first, landings, from_is, are, is) =
-    subst Plain (sym is) (plain-append first landings (square_text-plain from first from_is) (landings-plain (middle ++ to ∷ []) landings are))
+    subst Plain (sym is)
+    (plain-append first landings (square_text-plain from first from_is)
+    (landings-plain (middle ++ to ∷ []) landings are))
 
-reading-plain : (p : Position) (text : List ℕ) (m : DMove) (r : FormReading) → read_form text ≡ r → move_read (with_form p r) ≡ Ok m → Plain text
+reading-plain : (p : Position) (text : List ℕ) (m : DMove) (r : FormReading) → read_form text ≡ r
+    → move_read (with_form p r) ≡ Ok m → Plain text
 reading-plain p text m (Ok form) is read = form-plain text form (read_form-text text form is)
 reading-plain p text m (Err offset) is read = cc
 

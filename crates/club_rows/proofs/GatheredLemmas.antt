@@ -1,5 +1,6 @@
 -- The rows that the elements of a list have, where an element changes or is added.
-use Rattle.std.proofs.Common.{◌≡◌, ℕ, zero, suc, ◌+◌, inl, inr, List, [], ◌∷◌, ◌++◌, length, Some, true, refl, ap, sym, subst, subst₂, arith}
+use Rattle.std.proofs.Common.{◌≡◌, ℕ, zero, suc, ◌+◌, inl, inr, List, [], ◌∷◌, ◌++◌, length, Some, true, refl, ap, sym}
+use Rattle.std.proofs.Common.{subst, subst₂, arith}
 use Rattle.std.specs.Prelude.{slice_get, slice_set}
 use Rattle.sqlite.specs.Order.{Row, column}
 use Rattle.sqlite_rules.specs.Lists.{Has}
@@ -12,7 +13,8 @@ use Rattle.club_rows.proofs.KeyPairs.{same-numbers}
 
 module _ {A : Type 0} (rows : ℕ → A → List Row) where
   -- a row is that of an element
-  pub gathered-had : (id : ℕ) (xs : List A) (z : Row) → Has (gathered_from rows id xs) z → (n : ℕ) × (x : A) × (slice_get xs n ≡ Some x) × Has (rows (id + n) x) z
+  pub gathered-had : (id : ℕ) (xs : List A) (z : Row) → Has (gathered_from rows id xs) z → (n : ℕ) × (x : A)
+      × (slice_get xs n ≡ Some x) × Has (rows (id + n) x) z
   gathered-had id [] z h = absurd h
   gathered-had id (x ∷ xs) z h = elim (has_either (rows id x) (gathered_from rows (suc id) xs) z h) [
     | inl here ↦ let same : id ≡ id + 0 = omega arith in (0, x, refl, subst (λ k. Has (rows k x) z) same here)
@@ -22,7 +24,8 @@ module _ {A : Type 0} (rows : ℕ → A → List Row) where
         (suc n, y, at, subst (λ k. Has (rows k y) z) same has)
   ]
 
-  pub gathered-has : (id : ℕ) (xs : List A) (n : ℕ) (x : A) (z : Row) → slice_get xs n ≡ Some x → Has (rows (id + n) x) z → Has (gathered_from rows id xs) z
+  pub gathered-has : (id : ℕ) (xs : List A) (n : ℕ) (x : A) (z : Row) → slice_get xs n ≡ Some x
+      → Has (rows (id + n) x) z → Has (gathered_from rows id xs) z
   gathered-has id [] n x z at h = cc
   gathered-has id (y ∷ ys) zero x z at h =
       let same : id + 0 ≡ id = omega arith in
@@ -30,10 +33,12 @@ module _ {A : Type 0} (rows : ℕ → A → List Row) where
       has_left (rows id y) (gathered_from rows (suc id) ys) z (subst₂ (λ k w. Has (rows k w) z) same is h)
   gathered-has id (y ∷ ys) (suc n) x z at h =
       let same : id + suc n ≡ suc id + n = omega arith in
-      has_right (rows id y) (gathered_from rows (suc id) ys) z (gathered-has (suc id) ys n x z at (subst (λ k. Has (rows k x) z) same h))
+      has_right (rows id y) (gathered_from rows (suc id) ys) z
+      (gathered-has (suc id) ys n x z at (subst (λ k. Has (rows k x) z) same h))
 
   -- an element with the same rows in place of another changes nothing
-  pub gathered-kept : (id : ℕ) (xs : List A) (n : ℕ) (old new : A) → slice_get xs n ≡ Some old → rows (id + n) new ≡ rows (id + n) old → gathered_from rows id (slice_set xs n new) ≡ gathered_from rows id xs
+  pub gathered-kept : (id : ℕ) (xs : List A) (n : ℕ) (old new : A) → slice_get xs n ≡ Some old
+      → rows (id + n) new ≡ rows (id + n) old → gathered_from rows id (slice_set xs n new) ≡ gathered_from rows id xs
   gathered-kept id [] n old new at same = cc
   gathered-kept id (x ∷ xs) zero old new at same =
       let here : id + 0 ≡ id = omega arith in
@@ -41,13 +46,16 @@ module _ {A : Type 0} (rows : ℕ → A → List Row) where
       ap (λ l. l ++ gathered_from rows (suc id) xs) (subst₂ (λ k w. rows k new ≡ rows k w) here is same)
   gathered-kept id (x ∷ xs) (suc n) old new at same =
       let later : id + suc n ≡ suc id + n = omega arith in
-      ap (λ l. rows id x ++ l) (gathered-kept (suc id) xs n old new at (subst (λ k. rows k new ≡ rows k old) later same))
+      ap (λ l. rows id x ++ l)
+      (gathered-kept (suc id) xs n old new at (subst (λ k. rows k new ≡ rows k old) later same))
 
   -- where the rows of each element begin with its number and no two of them have one key
   module _ (numbered : (id : ℕ) (x : A) (z : Row) → Has (rows id x) z → column z 0 ≡ number id)
-      (apart : (id : ℕ) (x : A) (z w : Row) → Has (rows id x) z → Has (rows id x) w → same_key (0 ∷ 1 ∷ []) z w ≡ true → z ≡ w) where
+      (apart : (id : ℕ) (x : A) (z w : Row) → Has (rows id x) z → Has (rows id x) w → same_key (0 ∷ 1 ∷ []) z w ≡ true
+      → z ≡ w) where
     -- no two rows of all have one key
-    pub gathered-apart : (xs : List A) (z w : Row) → Has (gathered_from rows 1 xs) z → Has (gathered_from rows 1 xs) w → same_key (0 ∷ 1 ∷ []) z w ≡ true → z ≡ w
+    pub gathered-apart : (xs : List A) (z w : Row) → Has (gathered_from rows 1 xs) z → Has (gathered_from rows 1 xs) w
+        → same_key (0 ∷ 1 ∷ []) z w ≡ true → z ≡ w
     gathered-apart xs z w h g same =
         let (m, x, at, has) = gathered-had 1 xs z h in
         let (n, y, there, had) = gathered-had 1 xs w g in
@@ -58,7 +66,9 @@ module _ {A : Type 0} (rows : ℕ → A → List Row) where
         apart (1 + n) y z w (subst₂ (λ k e. Has (rows (1 + k) e) z) place is has) had same
 
     -- what alters the rows of an element alters all rows
-    pub gathered-set : (xs : List A) (i : ℕ) (old new : A) (changed : List Row) → slice_get xs i ≡ Some old → Alters (0 ∷ 1 ∷ []) changed (rows (1 + i) old) (rows (1 + i) new) → Alters (0 ∷ 1 ∷ []) changed (gathered_from rows 1 xs) (gathered_from rows 1 (slice_set xs i new))
+    pub gathered-set : (xs : List A) (i : ℕ) (old new : A) (changed : List Row) → slice_get xs i ≡ Some old
+        → Alters (0 ∷ 1 ∷ []) changed (rows (1 + i) old) (rows (1 + i) new)
+        → Alters (0 ∷ 1 ∷ []) changed (gathered_from rows 1 xs) (gathered_from rows 1 (slice_set xs i new))
     gathered-set xs i old new changed at_i it = record {
       among = λ z h. gathered-has 1 (slice_set xs i new) i new z (put-at xs i old new at_i) (it.among z h);
       from = λ z h.
@@ -86,7 +96,9 @@ module _ {A : Type 0} (rows : ℕ → A → List Row) where
     }
 
     -- an element more adds its rows
-    pub gathered-added : (xs : List A) (new : A) → Alters (0 ∷ 1 ∷ []) (rows (1 + length xs) new) (gathered_from rows 1 xs) (gathered_from rows 1 (xs ++ new ∷ []))
+    pub gathered-added : (xs : List A) (new : A)
+        → Alters (0 ∷ 1 ∷ []) (rows (1 + length xs) new) (gathered_from rows 1 xs)
+        (gathered_from rows 1 (xs ++ new ∷ []))
     gathered-added xs new = record {
       among = λ z h. gathered-has 1 (xs ++ new ∷ []) (length xs) new z (at-last xs new) h;
       from = λ z h.

@@ -6,7 +6,8 @@ use Rattle.squares.specs.declared.shogi.moves.SMove.{SMove}
 use Rattle.club_rules.specs.declared.names.GameKind.{GameKind}
 use Rattle.club_rules.specs.declared.names.GameKind.TheVariants.{Draughts, Shogi}
 use Rattle.club_rules.specs.GameRules.{GameRules}
-use Rattle.club_games.specs.DraughtsLaws.{draughts-first_starts, draughts-turn_passes, draughts-same_is, draughts-ends_at_limit}
+use Rattle.club_games.specs.DraughtsLaws.{draughts-first_starts, draughts-turn_passes, draughts-same_is}
+use Rattle.club_games.specs.DraughtsLaws.{draughts-ends_at_limit}
 use Rattle.club_games.specs.ShogiLaws.{shogi-first_starts, shogi-turn_passes, shogi-same_is, shogi-ends_at_limit}
 use Rattle.club_core.specs.declared.requests.Caller.{Caller}
 use Rattle.club_core.specs.Events.{Event}
@@ -14,7 +15,8 @@ use Rattle.club_core.specs.Game.{Game}
 use Rattle.club_core.specs.LegalState.{IsGameOf, IsLegalIn}
 use Rattle.club_core.specs.Outcome.{map_outcome}
 use Rattle.club_core.specs.Seats.{Pairing}
-use Rattle.club_core.specs.State.{AnyGame, draughts, shogi, place, kind_at, terms_at, pairing_of, seated, seated_as, with_game, step_game}
+use Rattle.club_core.specs.State.{AnyGame, draughts, shogi, place, kind_at, terms_at, pairing_of, seated, seated_as}
+use Rattle.club_core.specs.State.{with_game, step_game}
 use Rattle.club_core.specs.Step.{GameCommand, game_step}
 use Rattle.club_core.proofs.Legals.{AreRules}
 use Rattle.club_rows.specs.Club.{both_games, ClubGame, ClubState}
@@ -37,24 +39,33 @@ pub record Kind {P M E T : Type 0} (rules : GameRules P M E T) (kind : GameKind)
   pub into : Game M → ClubGame
   pub event : (g : Game M) → event_in (into g) ≡ g.event
   pub plies : (g : Game M) → plies_in (into g) ≡ length g.entries
-  pub row : (events : List Event) (id : ℕ) (g : Game M) → row_of_game both_games events id (into g) ≡ game_row rules (terms_at (place events g.event)) id g
-  pub moves : (events : List Event) (id : ℕ) (g : Game M) → rows_of_moves both_games events id (into g) ≡ move_rows rules (terms_at (place events g.event)) id g
+  pub row : (events : List Event) (id : ℕ) (g : Game M)
+      → row_of_game both_games events id (into g) ≡ game_row rules (terms_at (place events g.event)) id g
+  pub moves : (events : List Event) (id : ℕ) (g : Game M)
+      → rows_of_moves both_games events id (into g) ≡ move_rows rules (terms_at (place events g.event)) id g
   pub seen : (id : ℕ) (g : Game M) → rows_of_seen both_games id (into g) ≡ seen_rows rules id g
   pub scores : (g : Game M) → meetings_in both_games (into g) ≡ meetings_of rules g
   pub legal : (s : ClubState) (g : Game M) → IsLegalIn both_games s (into g) → IsGameOf rules kind s g
   pub is_legal : (s : ClubState) (g : Game M) → IsGameOf rules kind s g → IsLegalIn both_games s (into g)
   -- the games of the events of this kind are the games of this kind
-  pub back : (s : ClubState) (any : ClubGame) → IsLegalIn both_games s any → kind_at (place s.events (event_in any)) ≡ kind → (g : Game M) × (any ≡ into g)
-  pub starts : (key : Option (List ℕ)) (pairing : Pairing) (moment : ℕ) → seated_as kind key pairing moment ≡ into (seated key pairing moment)
-  pub step : (s : ClubState) (moment id : ℕ) (who : Caller) (command : GameCommand) (g : Game M) → step_game both_games s moment id who command (Some (into g)) ≡ map_outcome (λ new. with_game s moment id (into new)) (game_step rules (terms_at (place s.events g.event)) g moment who command)
+  pub back : (s : ClubState) (any : ClubGame) → IsLegalIn both_games s any
+      → kind_at (place s.events (event_in any)) ≡ kind → (g : Game M) × (any ≡ into g)
+  pub starts : (key : Option (List ℕ)) (pairing : Pairing) (moment : ℕ)
+      → seated_as kind key pairing moment ≡ into (seated key pairing moment)
+  pub step : (s : ClubState) (moment id : ℕ) (who : Caller) (command : GameCommand) (g : Game M)
+      → step_game both_games s moment id who command (Some (into g))
+      ≡ map_outcome (λ new. with_game s moment id (into new))
+      (game_step rules (terms_at (place s.events g.event)) g moment who command)
 
-pub back-draughts : (s : ClubState) (any : ClubGame) → IsLegalIn both_games s any → kind_at (place s.events (event_in any)) ≡ Draughts → (g : Game DMove) × (any ≡ draughts g)
+pub back-draughts : (s : ClubState) (any : ClubGame) → IsLegalIn both_games s any
+    → kind_at (place s.events (event_in any)) ≡ Draughts → (g : Game DMove) × (any ≡ draughts g)
 back-draughts s (draughts g) legal is = (g, refl)
 back-draughts s (shogi g) legal is =
     let clash : Draughts ≡ Shogi = sym is ∙ (ap kind_at legal.in_event ∙ legal.of_kind) in
     absurd cc
 
-pub back-shogi : (s : ClubState) (any : ClubGame) → IsLegalIn both_games s any → kind_at (place s.events (event_in any)) ≡ Shogi → (g : Game SMove) × (any ≡ shogi g)
+pub back-shogi : (s : ClubState) (any : ClubGame) → IsLegalIn both_games s any
+    → kind_at (place s.events (event_in any)) ≡ Shogi → (g : Game SMove) × (any ≡ shogi g)
 back-shogi s (shogi g) legal is = (g, refl)
 back-shogi s (draughts g) legal is =
     let clash : Shogi ≡ Draughts = sym is ∙ (ap kind_at legal.in_event ∙ legal.of_kind) in

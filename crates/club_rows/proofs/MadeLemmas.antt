@@ -14,7 +14,12 @@ same-moved a b is = cc
 pub made-last : {P M E T : Type 0} (rules : GameRules P M E T) → AreRules rules → MadeRowIsLast rules
 made-last rules laws terms id game m moment reply line is =
     let shown = sym is ∙ reply-played rules laws.turn_passes laws.first_starts game line m moment terms in
-    let row : made_row id reply moment ≡ entry_row rules terms id game (record { made = m; moment = moment }) = ap (λ r. made_row id r moment) (same-moved reply _ shown) in
-    rows-append rules terms id (record game { entries = []; offer = None }) game.entries (record { made = m; moment = moment })
-    ∙ (ap (λ rs. rs ++ entry_row rules terms id game (record { made = m; moment = moment }) ∷ []) (rows-alike rules terms id (record game { entries = []; offer = None }) (record game { entries = [] }) game.entries refl refl)
+    let row : made_row id reply moment ≡ entry_row rules terms id game (record { made = m; moment = moment }) =
+    ap (λ r. made_row id r moment) (same-moved reply _ shown) in
+    rows-append rules terms id (record game { entries = []; offer = None }) game.entries
+    (record { made = m; moment = moment })
+    ∙
+    (ap (λ rs. rs ++ entry_row rules terms id game (record { made = m; moment = moment }) ∷ [])
+    (rows-alike rules terms id (record game { entries = []; offer = None }) (record game { entries = [] })
+    game.entries refl refl)
     ∙ ap (λ r. move_rows rules terms id game ++ r ∷ []) (sym row))

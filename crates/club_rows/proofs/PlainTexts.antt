@@ -1,5 +1,6 @@
 -- Texts in ASCII, as those of a club are.
-use Rattle.std.proofs.Common.{◌≡◌, ℕ, zero, suc, ◌+◌, ◌/◌, ◌%◌, ◌<◌, List, [], ◌∷◌, ◌++◌, Bool, true, false, cond, ◌&&◌, nat_eq, nat_lt, Ok, get_or, refl, arith}
+use Rattle.std.proofs.Common.{◌≡◌, ℕ, zero, suc, ◌+◌, ◌/◌, ◌%◌, ◌<◌, List, [], ◌∷◌, ◌++◌, Bool, true, false, cond, ◌&&◌}
+use Rattle.std.proofs.Common.{nat_eq, nat_lt, Ok, get_or, refl, arith}
 use Rattle.std.specs.Prelude.{IsTrue, decimal}
 use Rattle.std.specs.List.{AllByRecursion, list_all}
 use Rattle.std.specs.Char.{is_ascii_alphanumeric}
@@ -30,9 +31,11 @@ pub and-both : (a b : Bool) → (a && b) ≡ true → (a ≡ true) × (b ≡ tru
 and-both true b e = (refl, e)
 and-both false b e = cc
 
-pub all-plain : (test : ℕ → Bool) → ((c : ℕ) → test c ≡ true → c < 128) → (bs : List ℕ) → list_all test bs ≡ true → Plain bs
+pub all-plain : (test : ℕ → Bool) → ((c : ℕ) → test c ≡ true → c < 128) → (bs : List ℕ) → list_all test bs ≡ true
+    → Plain bs
 all-plain test low [] all = tt
-all-plain test low (b ∷ bs) all = let both = and-both (test b) (list_all test bs) all in (low b both.0, all-plain test low bs both.1)
+all-plain test low (b ∷ bs) all = let both = and-both (test b) (list_all test bs) all in
+    (low b both.0, all-plain test low bs both.1)
 
 letter-low : (c : ℕ) → is_ascii_alphanumeric c ≡ true → c < 128
 letter-low c is = grind (arith, nat_tests)
@@ -64,9 +67,14 @@ digit-low n = by (nat_lt (n % 10) 10)
 
 digits-plain : (k n : ℕ) (after : List ℕ) → Plain after → Plain (digits_onto k 10 false n after)
 digits-plain zero n after plain = plain
-digits-plain (suc k) n after plain = by (nat_eq (n / 10) 0) (digits-plain k (n / 10) (digit_glyph false (n % 10) ∷ after) (digit-low n, plain))
+digits-plain (suc k) n after plain = by (nat_eq (n / 10) 0)
+    (digits-plain k (n / 10) (digit_glyph false (n % 10) ∷ after) (digit-low n, plain))
   where
-    by : (b : Bool) → Plain (digits_onto k 10 false (n / 10) (digit_glyph false (n % 10) ∷ after)) → Plain (cond b (digit_glyph false (n % 10) ∷ after) (digits_onto k 10 false (n / 10) (digit_glyph false (n % 10) ∷ after)))
+    by : (b : Bool) → Plain (digits_onto k 10 false (n / 10) (digit_glyph false (n % 10) ∷ after))
+        →
+        Plain
+        (cond b (digit_glyph false (n % 10) ∷ after)
+        (digits_onto k 10 false (n / 10) (digit_glyph false (n % 10) ∷ after)))
     by true rest = (digit-low n, plain)
     by false rest = rest
 

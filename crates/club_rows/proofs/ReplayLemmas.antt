@@ -1,5 +1,6 @@
 -- What a replay keeps with each row.
-use Rattle.std.proofs.Common.{◌≡◌, ℕ, ◌+◌, ◌*◌, ◌≤◌, ◌<◌, List, [], ◌∷◌, ◌++◌, length, cond, None, Some, Ok, sym, ap, subst, ◌∙◌, arith, length-append}
+use Rattle.std.proofs.Common.{◌≡◌, ℕ, ◌+◌, ◌*◌, ◌≤◌, ◌<◌, List, [], ◌∷◌, ◌++◌, length, cond, None, Some, Ok, sym, ap}
+use Rattle.std.proofs.Common.{subst, ◌∙◌, arith, length-append}
 use Rattle.std.specs.Prelude.{string_bytes}
 use Rattle.squares.specs.declared.sides.Side.{Side}
 use Rattle.squares.specs.declared.sides.Side.TheVariants.{First, Second}
@@ -16,19 +17,27 @@ use Rattle.club_rows.specs.Replay.{IsCounted, IsReplayed, left_in}
 use Rattle.club_rows.proofs.TallyLemmas.{few-seldom, last-stood, stood-then, tally-more}
 
 -- a bound that both clocks keep, when one gains the increment at most
-rooms : {R P M E T : Type 0} (old new : Replayed R P M E T) (turn : Side) (increment bound more : ℕ) → bound + increment ≤ more → old.left_first ≤ bound → old.left_second ≤ bound → left_in new turn ≤ left_in old turn + increment → left_in new (other turn) ≡ left_in old (other turn) → (new.left_first ≤ more) × (new.left_second ≤ more)
+rooms : {R P M E T : Type 0} (old new : Replayed R P M E T) (turn : Side) (increment bound more : ℕ)
+    → bound + increment ≤ more → old.left_first ≤ bound → old.left_second ≤ bound
+    → left_in new turn ≤ left_in old turn + increment → left_in new (other turn) ≡ left_in old (other turn)
+    → (new.left_first ≤ more) × (new.left_second ≤ more)
 rooms old new First increment bound more room first second mover rest = (omega arith, omega arith)
 rooms old new Second increment bound more room first second mover rest = (omega arith, omega arith)
 
 -- the numbers of a line's track can grow
-pub few-numbers : {P M E T : Type 0} (rules : GameRules P M E T) → NumbersAreFew rules → (track : T) (ms : List M) → track ≡ line_track rules rules.start ms → length ms < 600 → ((rules.track_numbers track).0 < 4294967295) × ((rules.track_numbers track).1 < 4294967295)
+pub few-numbers : {P M E T : Type 0} (rules : GameRules P M E T) → NumbersAreFew rules → (track : T) (ms : List M)
+    → track ≡ line_track rules rules.start ms → length ms < 600 → ((rules.track_numbers track).0 < 4294967295)
+    × ((rules.track_numbers track).1 < 4294967295)
 few-numbers rules few track ms is low =
     let bound = few ms in
     rw is (omega (arith, bound.0, low), omega (arith, bound.1, low))
 
 module _ {R P M E T : Type 0} (rules : GameRules P M E T) where
   -- the end of what was replayed, by its track and by how its last position stood
-  pub end-told : TracksTellEnds rules → (game : Replayed R P M E T) → IsPlayedLine rules rules.start game.line.items → game.position ≡ position_after rules rules.start game.line.items → IsCounted rules game → rules.track_end game.track game.position (length game.line.items) game.stood.times game.stood.first_ply ≡ rules.judge rules.start game.line.items
+  pub end-told : TracksTellEnds rules → (game : Replayed R P M E T) → IsPlayedLine rules rules.start game.line.items
+      → game.position ≡ position_after rules rules.start game.line.items → IsCounted rules game
+      → rules.track_end game.track game.position (length game.line.items) game.stood.times game.stood.first_ply
+      ≡ rules.judge rules.start game.line.items
   end-told tell game played position counted =
       let last = last-stood rules game.line.items game.stood counted.stood in
       (λ i. rules.track_end (counted.track i) (position i) (length game.line.items) (last.0 i) game.stood.first_ply)
@@ -38,36 +47,57 @@ module _ {R P M E T : Type 0} (rules : GameRules P M E T) where
   pub record Counts (old new : Replayed R P M E T) (made : M) (position : P) (text : PositionText) : Type 0 where
     pub text_is : string_bytes text ≡ rules.write_position (rules.play old.position made)
     pub track : new.track ≡ rules.track_next old.track old.position made position
-    pub stood : stood_seldom (seen_at old.tally text) → new.stood ≡ stood_then (seen_at old.tally text) (length old.line.items + 1)
-    pub adds : (other : PositionText) → seen_at new.tally other ≡ cond (same_text text other) (Some new.stood) (seen_at old.tally other)
+    pub stood : stood_seldom (seen_at old.tally text)
+        → new.stood ≡ stood_then (seen_at old.tally text) (length old.line.items + 1)
+    pub adds : (other : PositionText) → seen_at new.tally other ≡
+        cond (same_text text other) (Some new.stood) (seen_at old.tally other)
 
   -- a replay goes on by a legal move
-  pub replayed-more : SamePositionIs rules → TextsTellPositions rules → (increment plies : ℕ) (old new : Replayed R P M E T) (turn : Side) (made : M) (position : P) (text : PositionText) → IsReplayed rules increment plies old → plies < 600 → rules.judge rules.start old.line.items ≡ None → rules.check old.position made ≡ Ok tt → position ≡ rules.play old.position made → new.line.items ≡ old.line.items ++ made ∷ [] → new.position ≡ position → left_in new turn ≤ left_in old turn + increment → left_in new (other turn) ≡ left_in old (other turn) → Counts old new made position text → IsReplayed rules increment (plies + 1) new
-  replayed-more same_is tell increment plies old new turn made position text is low running legal played line stands mover rest counts =
+  pub replayed-more : SamePositionIs rules → TextsTellPositions rules
+      → (increment plies : ℕ) (old new : Replayed R P M E T) (turn : Side) (made : M) (position : P)
+      (text : PositionText) → IsReplayed rules increment plies old → plies < 600
+      → rules.judge rules.start old.line.items ≡ None → rules.check old.position made ≡ Ok tt
+      → position ≡ rules.play old.position made → new.line.items ≡ old.line.items ++ made ∷ [] → new.position ≡ position
+      → left_in new turn ≤ left_in old turn + increment → left_in new (other turn) ≡ left_in old (other turn)
+      → Counts old new made position text → IsReplayed rules increment (plies + 1) new
+  replayed-more same_is tell increment plies old new turn made position text is low running legal played line stands
+      mover rest counts =
       let ms = old.line.items in
       let more_line : List M = ms ++ made ∷ [] in
-      let here : rules.check (position_after rules rules.start ms) made ≡ Ok tt = subst (λ p. rules.check p made ≡ Ok tt) is.position legal in
+      let here : rules.check (position_after rules rules.start ms) made ≡ Ok tt =
+      subst (λ p. rules.check p made ≡ Ok tt) is.position legal in
       let more : 31536000 + increment * plies + increment ≤ 31536000 + increment * (plies + 1) = grind arith in
-      let room = rooms old new turn increment (31536000 + increment * plies) (31536000 + increment * (plies + 1)) more is.room_first is.room_second mover rest in
+      let room = rooms old new turn increment (31536000 + increment * plies) (31536000 + increment * (plies + 1)) more
+      is.room_first is.room_second mover rest in
       let all_legal = IsLegalLine-append rules rules.start ms made is.line.legal here in
-      let after : position ≡ rules.play (position_after rules rules.start ms) made = played ∙ ap (λ p. rules.play p made) is.position in
+      let after : position ≡ rules.play (position_after rules rules.start ms) made = played
+      ∙ ap (λ p. rules.play p made) is.position in
       let text_is : string_bytes text ≡ rules.write_position (position_after rules rules.start more_line) =
-      counts.text_is ∙ (ap (λ p. rules.write_position (rules.play p made)) is.position ∙ ap rules.write_position (sym (position_after-append rules rules.start ms made))) in
+      counts.text_is
+      ∙ (ap (λ p. rules.write_position (rules.play p made)) is.position
+      ∙ ap rules.write_position (sym (position_after-append rules rules.start ms made))) in
       let track : new.track ≡ line_track rules rules.start more_line =
-      counts.track ∙ ((λ i. rules.track_next (is.counted.track i) (is.position i) made (after i)) ∙ sym (line_track-append rules rules.start ms made)) in
+      counts.track
+      ∙ ((λ i. rules.track_next (is.counted.track i) (is.position i) made (after i))
+      ∙ sym (line_track-append rules rules.start ms made)) in
       let count = is.plies_are in
-      let stood = counts.stood (few-seldom (seen_at old.tally text) (length ms) (is.counted.tally.few text) (omega (arith, count, low))) in
-      let tally = tally-more rules same_is tell ms made all_legal old.tally is.counted.tally text text_is new.tally new.stood stood counts.adds in
+      let stood =
+      counts.stood
+      (few-seldom (seen_at old.tally text) (length ms) (is.counted.tally.few text) (omega (arith, count, low))) in
+      let tally = tally-more rules same_is tell ms made all_legal old.tally is.counted.tally text text_is new.tally
+      new.stood stood counts.adds in
       let last = stood-then rules same_is tell ms made all_legal old.tally is.counted.tally text text_is in
       record {
-        line = subst (IsPlayedLine rules rules.start) (sym line) (IsPlayedLine-append rules rules.start ms made is.line running here);
+        line = subst (IsPlayedLine rules rules.start) (sym line)
+            (IsPlayedLine-append rules rules.start ms made is.line running here);
         position =
             stands ∙ played ∙ ap (λ p. rules.play p made) is.position
             ∙ sym (position_after-append rules rules.start ms made) ∙ ap (position_after rules rules.start) (sym line);
         counted = record {
           track = subst (λ l. new.track ≡ line_track rules rules.start l) (sym line) track;
           tally = subst (λ l. IsTallyOf rules l new.tally) (sym line) tally;
-          stood = subst (λ l. HasStood rules l (position_after rules rules.start l) new.stood) (sym line) (subst (HasStood rules more_line (position_after rules rules.start more_line)) (sym stood) last);
+          stood = subst (λ l. HasStood rules l (position_after rules rules.start l) new.stood) (sym line)
+              (subst (HasStood rules more_line (position_after rules rules.start more_line)) (sym stood) last);
         };
         plies_are = ap length line ∙ length-append ms (made ∷ []) ∙ ap (λ n. n + 1) is.plies_are;
         room_first = room.0;
@@ -75,7 +105,10 @@ module _ {R P M E T : Type 0} (rules : GameRules P M E T) where
       }
 
   -- what stands at the start is a replay of no plies
-  pub start-replayed : (increment : ℕ) (game : Replayed R P M E T) → game.line.items ≡ [] → game.position ≡ rules.start → game.track ≡ rules.track_start rules.start → IsTallyOf rules [] game.tally → HasStood rules [] rules.start game.stood → game.left_first ≤ 31536000 → game.left_second ≤ 31536000 → IsReplayed rules increment 0 game
+  pub start-replayed : (increment : ℕ) (game : Replayed R P M E T) → game.line.items ≡ [] → game.position ≡ rules.start
+      → game.track ≡ rules.track_start rules.start → IsTallyOf rules [] game.tally
+      → HasStood rules [] rules.start game.stood → game.left_first ≤ 31536000 → game.left_second ≤ 31536000
+      → IsReplayed rules increment 0 game
   start-replayed increment game line position track tally stood first second =
       record {
         line = subst (IsPlayedLine rules rules.start) (sym line) (IsPlayedLine-none rules rules.start);

@@ -1,5 +1,6 @@
 -- What a game's row alone shows of it, and what the rows of one ply show of that ply.
-use Rattle.std.proofs.Common.{◌≡◌, ◌≢◌, ℕ, zero, suc, pos, ◌+◌, ◌-◌, ◌<◌, ◌≤◌, ◌^◌, List, [], ◌∷◌, ◌++◌, length, map, take, Option, Some, None, Result, Ok, true, false, refl, ap, sym, subst, ◌∙◌, arith}
+use Rattle.std.proofs.Common.{◌≡◌, ◌≢◌, ℕ, zero, suc, pos, ◌+◌, ◌-◌, ◌<◌, ◌≤◌, ◌^◌, List, [], ◌∷◌, ◌++◌, length, map}
+use Rattle.std.proofs.Common.{take, Option, Some, None, Result, Ok, true, false, refl, ap, sym, subst, ◌∙◌, arith}
 use Rattle.std.specs.Prelude.{string_bytes, slice_get, is_some, IsSome, IfSome, IsTrue}
 use Rattle.std.specs.Option.{option_map}
 use Rattle.std.proofs.lemmas.List.{length-map, take-map}
@@ -14,7 +15,8 @@ use Rattle.club_rules.specs.GameRules.{GameRules}
 use Rattle.club_rules.specs.Line.{position_after, line_numbers, line_track, IsLegalLine}
 use Rattle.club_rules.proofs.Proved.{check-at}
 use Rattle.club_rows.proofs.LineLemmas.{IsLegalLine-take}
-use Rattle.club_rules.specs.Laws.{TracksTellEnds, NumbersGiveTracks, NumbersAreFew, ReadsBack, WritesPositions, StandsForOne, IsPositionRead}
+use Rattle.club_rules.specs.Laws.{TracksTellEnds, NumbersGiveTracks, NumbersAreFew, ReadsBack, WritesPositions}
+use Rattle.club_rules.specs.Laws.{StandsForOne, IsPositionRead}
 use Rattle.club_core.specs.declared.rows.Asked.{Asked}
 use Rattle.club_core.specs.declared.rows.Offer.{Offer}
 use Rattle.club_core.specs.declared.rows.OutsideEnd.{OutsideEnd}
@@ -22,7 +24,8 @@ use Rattle.club_core.specs.declared.rows.OutsideEnd.TheVariants.{Recorded}
 use Rattle.club_core.specs.OutsideEnd.{outside_text}
 use Rattle.club_core.specs.Limits.{last_moment, most_plies}
 use Rattle.club_core.specs.Events.{Terms}
-use Rattle.club_core.specs.Game.{Entry, Game, Clocks, spend, spend_all, clocks_of, moves_of, left_of, side_after, game_at, last_position, rule_end, end_of, end_with, turn_of}
+use Rattle.club_core.specs.Game.{Entry, Game, Clocks, spend, spend_all, clocks_of, moves_of, left_of, side_after}
+use Rattle.club_core.specs.Game.{game_at, last_position, rule_end, end_of, end_with, turn_of}
 use Rattle.club_core.specs.Legal.{IsLegalGame, IsOffer}
 use Rattle.club_core.specs.LegalState.{Each}
 use Rattle.club_core.specs.Step.{move_at}
@@ -43,7 +46,8 @@ use Rattle.club_rows.specs.declared.tally.Stood.{Stood}
 use Rattle.club_rows.proofs.NextLemmas.{six-parts}
 use Rattle.club_rows.proofs.SameLemmas.{seventeen-parts, same-int, same-bytes}
 use Rattle.club_rows.proofs.TallyLemmas.{last-stood}
-use Rattle.club_rows.proofs.ToldLemmas.{IsToldBy, columns-told, told-outside, told-recorded, same-pos, is_some-none, spend-since}
+use Rattle.club_rows.proofs.ToldLemmas.{IsToldBy, columns-told, told-outside, told-recorded, same-pos, is_some-none}
+use Rattle.club_rows.proofs.ToldLemmas.{spend-since}
 use Rattle.club_rows.proofs.WholeLemmas.{rows-from, rows-count, entry-left, entry-more}
 
 -- ---- the counts of a row
@@ -58,26 +62,38 @@ counts_of rules terms game = record {
   track = line_numbers rules (moves_of game);
 }
 
-since-fits : (increment : ℕ) (side : Side) (ms : List ℕ) (c : Clocks) → c.since ≤ last_moment → Each (λ m. m ≤ last_moment) ms → (spend_all increment side ms c).since ≤ last_moment
+since-fits : (increment : ℕ) (side : Side) (ms : List ℕ) (c : Clocks) → c.since ≤ last_moment
+    → Each (λ m. m ≤ last_moment) ms → (spend_all increment side ms c).since ≤ last_moment
 since-fits increment side [] c low each = low
 since-fits increment side (m ∷ ms) c low each =
     let is = spend-since increment side m c in
     let here = each 0 m refl in
-    since-fits increment (other side) ms (spend increment side m c) (omega (arith, is, here)) (λ k x at. each (suc k) x at)
+    since-fits increment (other side) ms (spend increment side m c) (omega (arith, is, here))
+    (λ k x at. each (suc k) x at)
 
-each-moment : {M : Type 0} (es : List (Entry M)) → Each (λ e. e.moment ≤ last_moment) es → Each (λ m. m ≤ last_moment) (map (λ e. e.moment) es)
+each-moment : {M : Type 0} (es : List (Entry M)) → Each (λ e. e.moment ≤ last_moment) es
+    → Each (λ m. m ≤ last_moment) (map (λ e. e.moment) es)
 each-moment [] each k m at = cc
 each-moment (e ∷ es) each zero m at = subst (λ n. n ≤ last_moment) (same_Some _ m at) (each 0 e refl)
 each-moment (e ∷ es) each (suc k) m at = each-moment es (λ n x is. each (suc n) x is) k m at
 
-module _ {P M E T : Type 0} (rules : GameRules P M E T) (terms : Terms) (id : ℕ) (stored : GameRecord) (game : Game M) (is : IsRecordOf rules terms id stored game) where
+module _ {P M E T : Type 0} (rules : GameRules P M E T) (terms : Terms) (id : ℕ) (stored : GameRecord) (game : Game M)
+    (is : IsRecordOf rules terms id stored game) where
   told-by : IsToldBy rules id game stored
   told-by = columns-told rules terms id game stored is.row
 
   pub counts-are : HasCounts stored (counts_of rules terms game)
   counts-are =
       let p = seventeen-parts _ _ _ _ _ _ _ _ _ _ _ _ _ _ _ _ _ _ _ _ _ _ _ _ _ _ _ _ _ _ _ _ _ _ is.row in
-      record { since = same-int _ _ p.p6; plies = same-int _ _ p.p7; left_first = same-int _ _ p.p8; left_second = same-int _ _ p.p9; track_first = same-int _ _ p.p15; track_second = same-int _ _ p.p16 }
+      record {
+        since = same-int _ _ p.p6;
+        plies = same-int _ _ p.p7;
+        left_first = same-int _ _ p.p8;
+        left_second =
+            same-int _ _ p.p9;
+        track_first = same-int _ _ p.p15;
+        track_second = same-int _ _ p.p16;
+      }
 
   pub position-text : string_bytes stored.position ≡ rules.write_position (last_position rules game)
   position-text =
@@ -90,7 +106,9 @@ module _ {P M E T : Type 0} (rules : GameRules P M E T) (terms : Terms) (id : �
       let count : length (moves_of game) ≡ length game.entries = simp length-map in
       let plies = is.legal.plies in
       record {
-        since = since-fits terms.increment First (map (λ e. e.moment) game.entries) (record { left_first = terms.budget; left_second = terms.budget; since = game.start }) is.fits.start (each-moment game.entries is.fits.entries);
+        since = since-fits terms.increment First (map (λ e. e.moment) game.entries)
+            (record { left_first = terms.budget; left_second = terms.budget; since = game.start }) is.fits.start
+            (each-moment game.entries is.fits.entries);
         plies = is.legal.plies;
         left_first = room.0;
         left_second = room.1;
@@ -111,27 +129,39 @@ module _ {P M E T : Type 0} (rules : GameRules P M E T) (terms : Terms) (id : �
 
   -- ---- the end of the game
 
-  module _ (tell : TracksTellEnds rules) (give : NumbersGiveTracks rules) (stood : Stood) (stands : HasLastStood rules game stood) (counts : Counts) (has : HasCounts stored counts) (position : P) (last : position ≡ last_position rules game) where
-    pub ruled-is : rules.track_end (rules.track_of counts.track.0 counts.track.1) position counts.plies stood.times stood.first_ply ≡ rule_end rules game
+  module _ (tell : TracksTellEnds rules) (give : NumbersGiveTracks rules) (stood : Stood)
+      (stands : HasLastStood rules game stood) (counts : Counts) (has : HasCounts stored counts) (position : P)
+      (last : position ≡ last_position rules game) where
+    pub ruled-is : rules.track_end (rules.track_of counts.track.0 counts.track.1) position counts.plies stood.times
+        stood.first_ply ≡ rule_end rules game
     ruled-is =
         let same = counts-same counts has in
         let told = last-stood rules (moves_of game) stood stands in
         let count : length (moves_of game) ≡ length game.entries = simp length-map in
-        tracked-end rules tell give (moves_of game) counts.track position counts.plies stood.times stood.first_ply is.legal.line told.1 (ap (λ c. c.track) same) last (ap (λ c. c.plies) same ∙ sym count) told.0
+        tracked-end rules tell give (moves_of game) counts.track position counts.plies stood.times stood.first_ply
+        is.legal.line told.1 (ap (λ c. c.track) same) last (ap (λ c. c.plies) same ∙ sym count) told.0
 
     pub track-is : rules.track_of counts.track.0 counts.track.1 ≡ track_of_game rules game
     track-is = ap (λ c. rules.track_of c.track.0 c.track.1) (counts-same counts has) ∙ give (track_of_game rules game)
 
     pub outside-is : (o : Option E) → o ≡ rule_end rules game → (left : Option OutsideEnd)
         → (is_some o ≡ true → left ≡ None)
-        → (is_some o ≡ false → (outside : Option OutsideEnd) → option_map (λ s. string_bytes s) stored.end ≡ option_map outside_text outside → ((s : Score) → outside ≡ Some (Recorded s) → option_map (λ s. string_bytes s) stored.result ≡ Some (score_text s)) → left ≡ outside)
+        → (is_some o ≡ false → (outside : Option OutsideEnd)
+        → option_map (λ s. string_bytes s) stored.end ≡ option_map outside_text outside
+        → ((s : Score) → outside ≡ Some (Recorded s)
+        → option_map (λ s. string_bytes s) stored.result ≡ Some (score_text s)) → left ≡ outside)
         → left ≡ game.outside
     outside-is None none left ruled told =
-        told refl game.outside (told-outside rules id game stored told-by (sym none)) (told-recorded rules id game stored told-by (sym none))
+        told refl game.outside (told-outside rules id game stored told-by (sym none))
+        (told-recorded rules id game stored told-by (sym none))
     outside-is (Some e) some left ruled told =
-        ruled refl ∙ sym (is_some-none game.outside (alone-false game.outside (rule_end rules game) e (sym some) is.legal.outside_alone))
+        ruled refl
+        ∙ sym
+        (is_some-none game.outside
+        (alone-false game.outside (rule_end rules game) e (sym some) is.legal.outside_alone))
       where
-        alone-false : {A : Type 0} (o : Option A) (r : Option E) (e : E) → r ≡ Some e → (IsSome o → r ≡ None) → is_some o ≡ false
+        alone-false : {A : Type 0} (o : Option A) (r : Option E) (e : E) → r ≡ Some e → (IsSome o → r ≡ None)
+            → is_some o ≡ false
         alone-false None r e some alone = refl
         alone-false (Some x) r e some alone = let none = alone refl in cc
 
@@ -139,7 +169,10 @@ module _ {P M E T : Type 0} (rules : GameRules P M E T) (terms : Terms) (id : �
   offer-fits None offer = tt
   offer-fits (Some o) offer = omega (arith, offer.next_ply, is.legal.plies)
 
-  pub offer-is : (found : Option Offer) → ((offer : Option Offer) → stored.offer_side ≡ option_map (λ o. pos (side_number o.side)) offer → stored.offer_ply ≡ option_map (λ o. pos o.ply) offer → IfSome offer (λ o. o.ply < 2 ^ 32) → found ≡ offer) → found ≡ game.offer
+  pub offer-is : (found : Option Offer)
+      → ((offer : Option Offer) → stored.offer_side ≡ option_map (λ o. pos (side_number o.side)) offer
+      → stored.offer_ply ≡ option_map (λ o. pos o.ply) offer → IfSome offer (λ o. o.ply < 2 ^ 32) → found ≡ offer)
+      → found ≡ game.offer
   offer-is found told = told game.offer told-by.offer_side told-by.offer_ply (offer-fits game.offer is.legal.offer)
 
   pub numbers-told : HasNumbers stored id game.event game.first game.second game.start
@@ -151,7 +184,8 @@ module _ {P M E T : Type 0} (rules : GameRules P M E T) (terms : Terms) (id : �
   -- ---- the row of the machine
 
   -- the ids and the start that a row has
-  pub numbers-same : (game_id event first second start : ℕ) → HasNumbers stored game_id event first second start → (event ≡ game.event) × (first ≡ game.first) × (second ≡ game.second) × (start ≡ game.start)
+  pub numbers-same : (game_id event first second start : ℕ) → HasNumbers stored game_id event first second start
+      → (event ≡ game.event) × (first ≡ game.first) × (second ≡ game.second) × (start ≡ game.start)
   numbers-same game_id event first second start has =
       let mine = numbers-told in (
         same-pos event game.event (sym has.event ∙ mine.event),
@@ -160,8 +194,13 @@ module _ {P M E T : Type 0} (rules : GameRules P M E T) (terms : Terms) (id : �
         same-pos start game.start (sym has.start ∙ mine.start),
       )
 
-  pub clocks-are : (counts : Counts) → HasCounts stored counts → ◌≡◌ {A = Clocks} (record { left_first = counts.left_first; left_second = counts.left_second; since = counts.since }) (clocks_of game terms)
-  clocks-are counts has = let same = counts-same counts has in λ i. record { left_first = (same i).left_first; left_second = (same i).left_second; since = (same i).since }
+  pub clocks-are : (counts : Counts) → HasCounts stored counts
+      →
+      ◌≡◌ {A = Clocks}
+      (record { left_first = counts.left_first; left_second = counts.left_second; since = counts.since })
+      (clocks_of game terms)
+  clocks-are counts has = let same = counts-same counts has in
+      λ i. record { left_first = (same i).left_first; left_second = (same i).left_second; since = (same i).since }
 
   pub plies-are : (counts : Counts) → HasCounts stored counts → counts.plies ≡ length game.entries
   plies-are counts has = ap (λ c. c.plies) (counts-same counts has)
@@ -176,15 +215,18 @@ not-some (Some x) is some = cc
 -- ---- the rows of a ply
 
 -- what the row of a ply, counted from 0, tells
-pub record IsPlyRow {P M E T : Type 0} (rules : GameRules P M E T) (terms : Terms) (game : Game M) (k : ℕ) (row : MoveRow) : Type 0 where
+pub record IsPlyRow {P M E T : Type 0} (rules : GameRules P M E T) (terms : Terms) (game : Game M) (k : ℕ)
+    (row : MoveRow) : Type 0 where
   pub made : M
   pub made_is : slice_get (moves_of game) k ≡ Some made
   pub text : string_bytes row.text ≡ rules.write_move (last_position rules (game_at game k)) made
   pub left : row.left ≡ pos (left_of (side_after k) (clocks_of (game_at game (suc k)) terms))
   pub position : string_bytes row.position ≡ rules.write_position (last_position rules (game_at game (suc k)))
 
-module _ {P M E T : Type 0} (rules : GameRules P M E T) (are : AreRules rules) (terms : Terms) (id : ℕ) (game : Game M) (legal : IsLegalGame rules terms game) where
-  pub ply-row : (k : ℕ) (row : MoveRow) → slice_get (move_rows rules terms id game) k ≡ Some (move_cells row) → IsPlyRow rules terms game k row
+module _ {P M E T : Type 0} (rules : GameRules P M E T) (are : AreRules rules) (terms : Terms) (id : ℕ) (game : Game M)
+    (legal : IsLegalGame rules terms game) where
+  pub ply-row : (k : ℕ) (row : MoveRow) → slice_get (move_rows rules terms id game) k ≡ Some (move_cells row)
+      → IsPlyRow rules terms game k row
   ply-row k row at =
       let got = rows-from rules terms id (record game { entries = [] }) game.entries k (move_cells row) at in
       let e = got.0 in
@@ -195,7 +237,8 @@ module _ {P M E T : Type 0} (rules : GameRules P M E T) (are : AreRules rules) (
         made_is = slice_get-map (λ x. x.made) game.entries k ∙ ap (option_map (λ x. x.made)) got.1;
         text = parts.c_is;
         left = parts.e_is ∙ ap pos (entry-left rules terms id are game legal k e got.1);
-        position = parts.f_is ∙ ap (λ es. rules.write_position (position_after rules rules.start (map (λ x. x.made) es))) more;
+        position = parts.f_is
+            ∙ ap (λ es. rules.write_position (position_after rules rules.start (map (λ x. x.made) es))) more;
       }
 
   -- a ply has a row where a move was played
@@ -212,7 +255,8 @@ module _ {P M E T : Type 0} (rules : GameRules P M E T) (are : AreRules rules) (
       got-some (x ∷ xs) (suc k) inside = got-some xs k (omega (arith, inside))
 
   -- and none where none was
-  pub row-none : (ply : ℕ) (row : Option MoveRow) → option_map move_cells row ≡ row_at rules terms id game ply → row ≡ None → move_at game ply ≡ None
+  pub row-none : (ply : ℕ) (row : Option MoveRow) → option_map move_cells row ≡ row_at rules terms id game ply
+      → row ≡ None → move_at game ply ≡ None
   row-none zero row at none = refl
   row-none (suc k) row at none = gone (slice_get (moves_of game) k) refl
     where
@@ -234,62 +278,88 @@ module _ {P M E T : Type 0} (rules : GameRules P M E T) (are : AreRules rules) (
 
   -- the line up to a ply is legal, and so is its move
   pub line-at : (k : ℕ) → IsLegalLine rules rules.start (moves_of (game_at game k))
-  line-at k = subst (IsLegalLine rules rules.start) (take-map (λ x. x.made) k game.entries) (IsLegalLine-take rules k rules.start (moves_of game) legal.line.legal)
+  line-at k = subst (IsLegalLine rules rules.start) (take-map (λ x. x.made) k game.entries)
+      (IsLegalLine-take rules k rules.start (moves_of game) legal.line.legal)
 
-  pub legal-at : (k : ℕ) (m : M) → slice_get (moves_of game) k ≡ Some m → rules.check (last_position rules (game_at game k)) m ≡ Ok tt
-  legal-at k m at = subst (λ l. rules.check (position_after rules rules.start l) m ≡ Ok tt) (take-map (λ x. x.made) k game.entries) (check-at rules rules.start (moves_of game) k m legal.line.legal at)
+  pub legal-at : (k : ℕ) (m : M) → slice_get (moves_of game) k ≡ Some m
+      → rules.check (last_position rules (game_at game k)) m ≡ Ok tt
+  legal-at k m at = subst (λ l. rules.check (position_after rules rules.start l) m ≡ Ok tt)
+      (take-map (λ x. x.made) k game.entries) (check-at rules rules.start (moves_of game) k m legal.line.legal at)
 
 -- two legal moves with one text are one
-pub one-text : {P M E T : Type 0} (rules : GameRules P M E T) → ReadsBack rules → (p : P) (a b : M) → rules.check p a ≡ Ok tt → rules.check p b ≡ Ok tt → rules.write_move p a ≡ rules.write_move p b → a ≡ b
+pub one-text : {P M E T : Type 0} (rules : GameRules P M E T) → ReadsBack rules → (p : P) (a b : M)
+    → rules.check p a ≡ Ok tt → rules.check p b ≡ Ok tt → rules.write_move p a ≡ rules.write_move p b → a ≡ b
 one-text rules back p a b one two same = same-ok a b (sym (back p a one) ∙ (ap (rules.read_move p) same ∙ back p b two))
   where
     same-ok : {A : Type 0} (a b : A) → ◌≡◌ {A = Result A MoveRefusal} (Ok a) (Ok b) → a ≡ b
     same-ok a b is = cc
 
 -- what a reader answers to the text of a position on a line
-pub position-found : {P M E T : Type 0} (rules : GameRules P M E T) (StandsFor : List ℕ → P → Type 0) → WritesPositions rules StandsFor → StandsForOne StandsFor → (ms : List M) → IsLegalLine rules rules.start ms
-    → (text : List ℕ) → text ≡ rules.write_position (position_after rules rules.start ms) → (found : Option P) → IsPositionRead StandsFor text found → found ≡ Some (position_after rules rules.start ms)
-position-found rules StandsFor writes one ms line text is None read = absurd (read _ (subst (λ t. StandsFor t (position_after rules rules.start ms)) (sym is) (writes ms line)))
-position-found rules StandsFor writes one ms line text is (Some p) read = ap Some (one text p _ read (subst (λ t. StandsFor t (position_after rules rules.start ms)) (sym is) (writes ms line)))
+pub position-found : {P M E T : Type 0} (rules : GameRules P M E T) (StandsFor : List ℕ → P → Type 0)
+    → WritesPositions rules StandsFor → StandsForOne StandsFor → (ms : List M) → IsLegalLine rules rules.start ms
+    → (text : List ℕ) → text ≡ rules.write_position (position_after rules rules.start ms) → (found : Option P)
+    → IsPositionRead StandsFor text found → found ≡ Some (position_after rules rules.start ms)
+position-found rules StandsFor writes one ms line text is None read =
+    absurd (read _ (subst (λ t. StandsFor t (position_after rules rules.start ms)) (sym is) (writes ms line)))
+position-found rules StandsFor writes one ms line text is (Some p) read =
+    ap Some
+    (one text p _ read (subst (λ t. StandsFor t (position_after rules rules.start ms)) (sym is) (writes ms line)))
 
-module _ {P M E T : Type 0} (rules : GameRules P M E T) (are : AreRules rules) (terms : Terms) (id : ℕ) (game : Game M) (legal : IsLegalGame rules terms game) where
+module _ {P M E T : Type 0} (rules : GameRules P M E T) (are : AreRules rules) (terms : Terms) (id : ℕ) (game : Game M)
+    (legal : IsLegalGame rules terms game) where
   -- the row before a ply tells the position there
-  pub before-some : (StandsFor : List ℕ → P → Type 0) → WritesPositions rules StandsFor → StandsForOne StandsFor → (ply : ℕ) → 2 ≤ ply → (row : MoveRow) → Some (move_cells row) ≡ row_at rules terms id game (ply - 1)
-      → (text : List ℕ) → text ≡ string_bytes row.position → (found : Option P) → IsPositionRead StandsFor text found → found ≡ Some (last_position rules (game_at game (ply - 1)))
+  pub before-some : (StandsFor : List ℕ → P → Type 0) → WritesPositions rules StandsFor → StandsForOne StandsFor
+      → (ply : ℕ) → 2 ≤ ply → (row : MoveRow) → Some (move_cells row) ≡ row_at rules terms id game (ply - 1)
+      → (text : List ℕ) → text ≡ string_bytes row.position → (found : Option P) → IsPositionRead StandsFor text found
+      → found ≡ Some (last_position rules (game_at game (ply - 1)))
   before-some StandsFor writes one zero low row at text is found read = absurd (omega (arith, low))
   before-some StandsFor writes one (suc zero) low row at text is found read = absurd (omega (arith, low))
   before-some StandsFor writes one (suc (suc n)) low row at text is found read =
       let back : suc (suc n) - 1 ≡ suc n = omega arith in
-      let here : slice_get (move_rows rules terms id game) n ≡ Some (move_cells row) = sym (at ∙ ap (row_at rules terms id game) back) in
+      let here : slice_get (move_rows rules terms id game) n ≡ Some (move_cells row) =
+      sym (at ∙ ap (row_at rules terms id game) back) in
       let told = ply-row rules are terms id game legal n row here in
-      position-found rules StandsFor writes one (moves_of (game_at game (suc n))) (line-at rules are terms id game legal (suc n)) text (is ∙ told.position) found read
+      position-found rules StandsFor writes one (moves_of (game_at game (suc n)))
+      (line-at rules are terms id game legal (suc n)) text (is ∙ told.position) found read
       ∙ ap (λ k. Some (last_position rules (game_at game k))) (sym back)
 
   -- there is one where the ply was played
-  pub before-none : (ply : ℕ) → 2 ≤ ply → (row : Option MoveRow) → option_map move_cells row ≡ row_at rules terms id game (ply - 1) → row ≡ None → IsSome (move_at game ply) → ⊥
+  pub before-none : (ply : ℕ) → 2 ≤ ply → (row : Option MoveRow)
+      → option_map move_cells row ≡ row_at rules terms id game (ply - 1) → row ≡ None → IsSome (move_at game ply) → ⊥
   before-none zero low row at none some = omega (arith, low)
   before-none (suc zero) low row at none some = omega (arith, low)
   before-none (suc (suc n)) low row at none some =
       let back : suc (suc n) - 1 ≡ suc n = omega arith in
-      not-some (move_at game (suc n)) (row-none rules are terms id game legal (suc n) row (at ∙ ap (row_at rules terms id game) back) none) (played-before rules are terms id game legal n some)
+      not-some (move_at game (suc n))
+      (row-none rules are terms id game legal (suc n) row (at ∙ ap (row_at rules terms id game) back) none)
+      (played-before rules are terms id game legal n some)
 
   -- what was played at a ply, by its row
-  pub asked-shown : {R : Type 0} (ply : ℕ) → 1 ≤ ply → (row : MoveRow) → Some (move_cells row) ≡ row_at rules terms id game ply → (before : P) → (IsSome (move_at game ply) → before ≡ last_position rules (game_at game (ply - 1)))
+  pub asked-shown : {R : Type 0} (ply : ℕ) → 1 ≤ ply → (row : MoveRow)
+      → Some (move_cells row) ≡ row_at rules terms id game ply → (before : P)
+      → (IsSome (move_at game ply) → before ≡ last_position rules (game_at game (ply - 1)))
       → (found : Option (Asked R P M E T))
-      → ((made : M) (left : ℕ) → rules.check before made ≡ Ok tt → string_bytes row.text ≡ rules.write_move before made → row.left ≡ pos left → (asked : Asked R P M E T) × (found ≡ Some asked) × IsPlayed asked ply made left before)
+      → ((made : M) (left : ℕ) → rules.check before made ≡ Ok tt → string_bytes row.text ≡ rules.write_move before made
+      → row.left ≡ pos left → (asked : Asked R P M E T) × (found ≡ Some asked)
+      × IsPlayed asked ply made left before)
       → IsAsked rules terms game ply (move_at game ply) found
   asked-shown zero low row at before before_is found shows = absurd (omega (arith, low))
   asked-shown (suc k) low row at before before_is found shows =
       let back : suc k - 1 ≡ k = omega arith in
       let told = ply-row rules are terms id game legal k row (sym at) in
-      let here : before ≡ last_position rules (game_at game k) = before_is (ap is_some told.made_is) ∙ ap (λ n. last_position rules (game_at game n)) back in
-      let legal_here = subst (λ p. rules.check p told.made ≡ Ok tt) (sym here) (legal-at rules are terms id game legal k told.made told.made_is) in
+      let here : before ≡ last_position rules (game_at game k) = before_is (ap is_some told.made_is)
+      ∙ ap (λ n. last_position rules (game_at game n)) back in
+      let legal_here = subst (λ p. rules.check p told.made ≡ Ok tt) (sym here)
+      (legal-at rules are terms id game legal k told.made told.made_is) in
       let text = told.text ∙ ap (λ p. rules.write_move p told.made) (sym here) in
-      let (asked, found_is, played) = shows told.made (left_of (side_after k) (clocks_of (game_at game (suc k)) terms)) legal_here text told.left in
-      let left = played.left_is ∙ ap (λ n. left_of (side_after n) (clocks_of (game_at game (suc k)) terms)) (sym back) in
+      let (asked, found_is, played) = shows told.made (left_of (side_after k) (clocks_of (game_at game (suc k)) terms))
+      legal_here text told.left in
+      let left = played.left_is ∙ ap (λ n. left_of (side_after n) (clocks_of (game_at game (suc k)) terms)) (sym back)
+      in
       let before_asked = played.before_is ∙ (here ∙ ap (λ n. last_position rules (game_at game n)) (sym back)) in
       subst (λ o. IsAsked rules terms game (suc k) o found) (sym told.made_is)
-      (subst (λ f. IsAsked rules terms game (suc k) (Some told.made) f) (sym found_is) (played.made_is, left, before_asked, played.ply_is))
+      (subst (λ f. IsAsked rules terms game (suc k) (Some told.made) f) (sym found_is)
+      (played.made_is, left, before_asked, played.ply_is))
 
 pub some-same : {A : Type 0} {x y : A} → Some x ≡ Some y → x ≡ y
 some-same is = cc

@@ -11,7 +11,9 @@ use Rattle.store_tables.specs.declared.rows.GameRecord.{GameRecord}
 use Rattle.club_rows.specs.Records.{HaveSameIds, HaveSameCounts}
 use Rattle.club_rows.proofs.RowLemmas.{or_null-same}
 
-pub record AreSeventeen (v0 v1 v2 v3 v4 v5 v6 v7 v8 v9 v10 v11 v12 v13 v14 v15 v16 w0 w1 w2 w3 w4 w5 w6 w7 w8 w9 w10 w11 w12 w13 w14 w15 w16 : Value) : Type 0 where
+pub record AreSeventeen
+    (v0 v1 v2 v3 v4 v5 v6 v7 v8 v9 v10 v11 v12 v13 v14 v15 v16 w0 w1 w2 w3 w4 w5 w6 w7 w8 w9 w10 w11 w12 w13 w14 w15
+    w16 : Value) : Type 0 where
   pub p0 : v0 ≡ w0
   pub p1 : v1 ≡ w1
   pub p2 : v2 ≡ w2
@@ -31,11 +33,34 @@ pub record AreSeventeen (v0 v1 v2 v3 v4 v5 v6 v7 v8 v9 v10 v11 v12 v13 v14 v15 v
   pub p16 : v16 ≡ w16
 
 -- rows of seventeen columns that are one have the same value in each column
-pub seventeen-parts : (v0 v1 v2 v3 v4 v5 v6 v7 v8 v9 v10 v11 v12 v13 v14 v15 v16 w0 w1 w2 w3 w4 w5 w6 w7 w8 w9 w10 w11 w12 w13 w14 w15 w16 : Value)
-    → ◌≡◌ {A = Row} (v0 ∷ v1 ∷ v2 ∷ v3 ∷ v4 ∷ v5 ∷ v6 ∷ v7 ∷ v8 ∷ v9 ∷ v10 ∷ v11 ∷ v12 ∷ v13 ∷ v14 ∷ v15 ∷ v16 ∷ []) (w0 ∷ w1 ∷ w2 ∷ w3 ∷ w4 ∷ w5 ∷ w6 ∷ w7 ∷ w8 ∷ w9 ∷ w10 ∷ w11 ∷ w12 ∷ w13 ∷ w14 ∷ w15 ∷ w16 ∷ [])
-    → AreSeventeen v0 v1 v2 v3 v4 v5 v6 v7 v8 v9 v10 v11 v12 v13 v14 v15 v16 w0 w1 w2 w3 w4 w5 w6 w7 w8 w9 w10 w11 w12 w13 w14 w15 w16
-seventeen-parts v0 v1 v2 v3 v4 v5 v6 v7 v8 v9 v10 v11 v12 v13 v14 v15 v16 w0 w1 w2 w3 w4 w5 w6 w7 w8 w9 w10 w11 w12 w13 w14 w15 w16 is =
-    record { p0 = cc; p1 = cc; p2 = cc; p3 = cc; p4 = cc; p5 = cc; p6 = cc; p7 = cc; p8 = cc; p9 = cc; p10 = cc; p11 = cc; p12 = cc; p13 = cc; p14 = cc; p15 = cc; p16 = cc }
+pub seventeen-parts : (v0 v1 v2 v3 v4 v5 v6 v7 v8 v9 v10 v11 v12 v13 v14 v15 v16 w0 w1 w2 w3 w4 w5 w6 w7 w8 w9 w10 w11
+    w12 w13 w14 w15 w16 : Value)
+    → ◌≡◌ {A = Row} (v0 ∷ v1 ∷ v2 ∷ v3 ∷ v4 ∷ v5 ∷ v6 ∷ v7 ∷ v8 ∷ v9 ∷ v10 ∷ v11 ∷ v12 ∷ v13 ∷ v14 ∷ v15 ∷ v16 ∷ [])
+    (w0 ∷ w1 ∷ w2 ∷ w3 ∷ w4 ∷ w5 ∷ w6 ∷ w7 ∷ w8 ∷ w9 ∷ w10 ∷ w11 ∷ w12 ∷ w13 ∷ w14 ∷ w15 ∷ w16 ∷ [])
+    → AreSeventeen v0 v1 v2 v3 v4 v5 v6 v7 v8 v9 v10 v11 v12 v13 v14 v15 v16 w0 w1 w2 w3 w4 w5 w6 w7 w8 w9 w10 w11 w12
+    w13 w14 w15 w16
+seventeen-parts v0 v1 v2 v3 v4 v5 v6 v7 v8 v9 v10 v11 v12 v13 v14 v15 v16 w0 w1 w2 w3 w4 w5 w6 w7 w8 w9 w10 w11 w12 w13
+    w14 w15 w16 is =
+    record {
+      p0 = cc;
+      p1 = cc;
+      p2 = cc;
+      p3 = cc;
+      p4 = cc;
+      p5 = cc;
+      p6 = cc;
+      p7 = cc;
+      p8 = cc;
+      p9 = cc;
+      p10 = cc;
+      p11 =
+          cc;
+      p12 = cc;
+      p13 = cc;
+      p14 = cc;
+      p15 = cc;
+      p16 = cc;
+    }
 
 pub same-int : (a b : ℤ) → Int a ≡ Int b → a ≡ b
 same-int a b is = cc
@@ -44,14 +69,16 @@ pub same-bytes : (a b : List ℕ) → Text a ≡ Text b → a ≡ b
 same-bytes a b is = cc
 
 -- a text that may be null, in one column
-pub same-texts : {A B : Type 0} (f : A → List ℕ) (g : B → List ℕ) (a : Option A) (b : Option B) → or_null (λ x. Text (f x)) a ≡ or_null (λ x. Text (g x)) b → option_map f a ≡ option_map g b
+pub same-texts : {A B : Type 0} (f : A → List ℕ) (g : B → List ℕ) (a : Option A) (b : Option B)
+    → or_null (λ x. Text (f x)) a ≡ or_null (λ x. Text (g x)) b → option_map f a ≡ option_map g b
 same-texts f g None None is = refl
 same-texts f g (Some x) (Some y) is = ap Some (same-bytes (f x) (g y) is)
 same-texts f g None (Some y) is = cc
 same-texts f g (Some x) None is = cc
 
 -- a number that may be null, in one column
-pub same-ints : {A B : Type 0} (f : A → ℤ) (g : B → ℤ) (a : Option A) (b : Option B) → or_null (λ x. Int (f x)) a ≡ or_null (λ x. Int (g x)) b → option_map f a ≡ option_map g b
+pub same-ints : {A B : Type 0} (f : A → ℤ) (g : B → ℤ) (a : Option A) (b : Option B)
+    → or_null (λ x. Int (f x)) a ≡ or_null (λ x. Int (g x)) b → option_map f a ≡ option_map g b
 same-ints f g None None is = refl
 same-ints f g (Some x) (Some y) is = ap Some (same-int (f x) (g y) is)
 same-ints f g None (Some y) is = cc
@@ -90,7 +117,8 @@ same-cells one other same =
     let position = ap (λ (t : List ℕ). Text t) same.position in
     let a = int _ _ same.counts.track_a in
     let b = int _ _ same.counts.track_b in
-    λ i. id i ∷ key i ∷ event i ∷ first i ∷ second i ∷ start i ∷ since i ∷ plies i ∷ left1 i ∷ left2 i ∷ side i ∷ ply i ∷ end i ∷ result i ∷ position i ∷ a i ∷ b i ∷ []
+    λ i. id i ∷ key i ∷ event i ∷ first i ∷ second i ∷ start i ∷ since i ∷ plies i ∷ left1 i ∷ left2 i ∷ side i ∷ ply i
+    ∷ end i ∷ result i ∷ position i ∷ a i ∷ b i ∷ []
 
 pub cells-same : (one other : GameRecord) → game_cells one ≡ game_cells other → AreSame one other
 cells-same one other is =
@@ -101,8 +129,10 @@ cells-same one other is =
         event = same-int _ _ p.p2;
         first = same-int _ _ p.p3;
         second = same-int _ _ p.p4;
-        offer_side = sym (option_map-itself one.offer_side) ∙ (same-ints (λ z. z) (λ z. z) one.offer_side other.offer_side p.p10 ∙ option_map-itself other.offer_side);
-        offer_ply = sym (option_map-itself one.offer_ply) ∙ (same-ints (λ z. z) (λ z. z) one.offer_ply other.offer_ply p.p11 ∙ option_map-itself other.offer_ply);
+        offer_side = sym (option_map-itself one.offer_side)
+            ∙ (same-ints (λ z. z) (λ z. z) one.offer_side other.offer_side p.p10 ∙ option_map-itself other.offer_side);
+        offer_ply = sym (option_map-itself one.offer_ply)
+            ∙ (same-ints (λ z. z) (λ z. z) one.offer_ply other.offer_ply p.p11 ∙ option_map-itself other.offer_ply);
       };
       counts = record {
         start = same-int _ _ p.p5;

@@ -1,5 +1,6 @@
 -- The rows of two players after one more game, from the sums of the rows that were found.
-use Rattle.std.proofs.Common.{◌≡◌, ◌≢◌, ℕ, ◌+◌, ◌<◌, ◌≤◌, ◌^◌, List, [], ◌∷◌, ◌++◌, length, Bool, true, false, cond, Option, Some, None, pos, FitsSigned, w64, ap, sym, subst, ◌∙◌, arith, inl, inr}
+use Rattle.std.proofs.Common.{◌≡◌, ◌≢◌, ℕ, ◌+◌, ◌<◌, ◌≤◌, ◌^◌, List, [], ◌∷◌, ◌++◌, length, Bool, true, false, cond}
+use Rattle.std.proofs.Common.{Option, Some, None, pos, FitsSigned, w64, ap, sym, subst, ◌∙◌, arith, inl, inr}
 use Rattle.std.specs.Prelude.{count_by}
 use Rattle.std.proofs.lemmas.Bool.{cases_Bool, cases_lt}
 use Rattle.std.proofs.lemmas.List.Sums.{sum_by-append, count_by-le-length}
@@ -7,18 +8,22 @@ use Rattle.squares.specs.declared.sides.Score.{Score}
 use Rattle.store_tables.specs.Cells.{score_cells}
 use Rattle.store_tables.specs.declared.rows.ScoreRow.{ScoreRow}
 use Rattle.store_tables.specs.Content.{same_key}
-use Rattle.club_rows.specs.NextScores.{IsFound, AreNext, Fit, pair_of, pair_cells, gains_of, plus_sums, sums_found, sums_over, row_with}
-use Rattle.club_rows.specs.Scores.{Meeting, same_pair, scores_of, score_row, score_rows, is_win, is_draw, is_loss, wins, draws, losses, points, meetings, own_first, own_second}
+use Rattle.club_rows.specs.NextScores.{IsFound, AreNext, Fit, pair_of, pair_cells, gains_of, plus_sums, sums_found}
+use Rattle.club_rows.specs.NextScores.{sums_over, row_with}
+use Rattle.club_rows.specs.Scores.{Meeting, same_pair, scores_of, score_row, score_rows, is_win, is_draw, is_loss, wins}
+use Rattle.club_rows.specs.Scores.{draws, losses, points, meetings, own_first, own_second}
 use Rattle.club_rows.specs.declared.scores.Pair.{Pair}
 use Rattle.club_rows.specs.declared.scores.OwnScore.{OwnScore}
 use Rattle.club_rows.specs.declared.scores.OwnScore.TheVariants.{Won, Drew, Lost}
 use Rattle.club_rows.specs.declared.scores.ScorePair.{ScorePair}
-use Rattle.club_rows.proofs.ScoreRows.{pair_same, pair_itself, row_in, sums_in, rows_had, rows_has, keys_same, keys_agree, scores_append, scores_between, scores_none}
+use Rattle.club_rows.proofs.ScoreRows.{pair_same, pair_itself, row_in, sums_in, rows_had, rows_has, keys_same}
+use Rattle.club_rows.proofs.ScoreRows.{keys_agree, scores_append, scores_between, scores_none}
 
 pos_same : (m n : ℕ) → pos m ≡ pos n → m ≡ n
 pos_same m n is = cc
 
-sums_row : (pair other : Pair) (ss : List OwnScore) (row : ScoreRow) → score_cells row ≡ score_row other ss → sums_found (Some row) ≡ sums_over ss
+sums_row : (pair other : Pair) (ss : List OwnScore) (row : ScoreRow) → score_cells row ≡ score_row other ss
+    → sums_found (Some row) ≡ sums_over ss
 sums_row pair other ss row is =
     let p : row.points ≡ pos (points ss) = cc in
     let w : row.wins ≡ pos (wins ss) = cc in
@@ -27,17 +32,22 @@ sums_row pair other ss row is =
     λ i. record { points = p i; wins = w i; draws = d i; losses = l i }
 
 -- what was found are the sums of the pair's scores
-pub found_sums : (ms : List Meeting) (pair : Pair) (found : Option ScoreRow) → IsFound (score_rows ms) pair found → sums_found found ≡ sums_over (scores_of pair ms)
-found_sums ms pair None none = ap sums_over (sym (scores_none pair ms (λ met. none (row_in ms pair) (rows_has ms pair met) (keys_agree pair (sums_in ms pair) []))))
+pub found_sums : (ms : List Meeting) (pair : Pair) (found : Option ScoreRow) → IsFound (score_rows ms) pair found
+    → sums_found found ≡ sums_over (scores_of pair ms)
+found_sums ms pair None none = ap sums_over
+    (sym
+    (scores_none pair ms (λ met. none (row_in ms pair) (rows_has ms pair met) (keys_agree pair (sums_in ms pair) []))))
 found_sums ms pair (Some row) found =
     let (other, met, is) = rows_had ms (score_cells row) found.0 in
-    let one : other ≡ pair = keys_same other pair (sums_in ms other) [] (subst (λ x. same_key (0 ∷ 1 ∷ 2 ∷ []) x (pair_cells pair) ≡ true) is found.1) in
+    let one : other ≡ pair = keys_same other pair (sums_in ms other) []
+    (subst (λ x. same_key (0 ∷ 1 ∷ 2 ∷ []) x (pair_cells pair) ≡ true) is found.1) in
     sums_row pair other (scores_of other ms) row is ∙ ap (λ p. sums_over (scores_of p ms)) one
 
 -- ---- one more
 
 module _ (test : OwnScore → Bool) where
-  more : (left right : List OwnScore) (own : OwnScore) → count_by test (left ++ (own ∷ right)) ≡ count_by test (left ++ right) + cond (test own) 1 0
+  more : (left right : List OwnScore) (own : OwnScore)
+      → count_by test (left ++ (own ∷ right)) ≡ count_by test (left ++ right) + cond (test own) 1 0
   more left right own =
       let whole = sum_by-append (λ s. cond (test s) 1 0) left (own ∷ right) in
       let head = sum_by-append (λ s. cond (test s) 1 0) (own ∷ []) right in
@@ -45,7 +55,8 @@ module _ (test : OwnScore → Bool) where
       let one : count_by test (own ∷ []) ≡ cond (test own) 1 0 = omega arith in
       omega (arith, whole, head, parts, one)
 
-pub gained : (left right : List OwnScore) (own : OwnScore) → plus_sums (sums_over (left ++ right)) (gains_of own) ≡ sums_over (left ++ (own ∷ right))
+pub gained : (left right : List OwnScore) (own : OwnScore)
+    → plus_sums (sums_over (left ++ right)) (gains_of own) ≡ sums_over (left ++ (own ∷ right))
 gained left right Won =
     let w = more is_win left right Won in
     let d = more is_draw left right Won in
@@ -75,13 +86,16 @@ gained left right Lost =
     λ i. record { points = pos (p i); wins = pos (ww i); draws = pos (dd i); losses = pos (ll i) }
 
 -- the row of the sums with one score more
-pub next_row : (before new after : List Meeting) (pair : Pair) (own : OwnScore) (found : Option ScoreRow) → IsFound (score_rows (before ++ after)) pair found → scores_of pair new ≡ own ∷ []
+pub next_row : (before new after : List Meeting) (pair : Pair) (own : OwnScore) (found : Option ScoreRow)
+    → IsFound (score_rows (before ++ after)) pair found → scores_of pair new ≡ own ∷ []
     → score_cells (row_with pair (plus_sums (sums_found found) (gains_of own))) ≡ row_in (before ++ (new ++ after)) pair
 next_row before new after pair own found is one =
     let left = scores_of pair before in
     let right = scores_of pair after in
-    let was : sums_found found ≡ sums_over (left ++ right) = found_sums (before ++ after) pair found is ∙ ap sums_over (scores_append pair before after) in
-    let now : scores_of pair (before ++ (new ++ after)) ≡ left ++ (own ∷ right) = scores_between pair before new after ∙ ap (λ ss. left ++ (ss ++ right)) one in
+    let was : sums_found found ≡ sums_over (left ++ right) = found_sums (before ++ after) pair found is
+    ∙ ap sums_over (scores_append pair before after) in
+    let now : scores_of pair (before ++ (new ++ after)) ≡ left ++ (own ∷ right) = scores_between pair before new after
+    ∙ ap (λ ss. left ++ (ss ++ right)) one in
     ap (λ s. score_cells (row_with pair (plus_sums s (gains_of own)))) was
     ∙ (ap (λ s. score_cells (row_with pair s)) (gained left right own) ∙ ap (score_row pair) (sym now))
 
@@ -102,25 +116,48 @@ fit ss Won low =
     let w = count_by-le-length is_win ss in
     let d = count_by-le-length is_draw ss in
     let l = count_by-le-length is_loss ss in
-    record { points = fits _ (omega (arith, w, d)); wins = fits _ (omega (arith, w)); draws = fits _ (omega (arith, d)); losses = fits _ (omega (arith, l)) }
+    record {
+      points = fits _ (omega (arith, w, d));
+      wins = fits _ (omega (arith, w));
+      draws =
+          fits _ (omega (arith, d));
+      losses = fits _ (omega (arith, l));
+    }
 fit ss Drew low =
     let w = count_by-le-length is_win ss in
     let d = count_by-le-length is_draw ss in
     let l = count_by-le-length is_loss ss in
-    record { points = fits _ (omega (arith, w, d)); wins = fits _ (omega (arith, w)); draws = fits _ (omega (arith, d)); losses = fits _ (omega (arith, l)) }
+    record {
+      points = fits _ (omega (arith, w, d));
+      wins = fits _ (omega (arith, w));
+      draws =
+          fits _ (omega (arith, d));
+      losses = fits _ (omega (arith, l));
+    }
 fit ss Lost low =
     let w = count_by-le-length is_win ss in
     let d = count_by-le-length is_draw ss in
     let l = count_by-le-length is_loss ss in
-    record { points = fits _ (omega (arith, w, d)); wins = fits _ (omega (arith, w)); draws = fits _ (omega (arith, d)); losses = fits _ (omega (arith, l)) }
+    record {
+      points = fits _ (omega (arith, w, d));
+      wins = fits _ (omega (arith, w));
+      draws =
+          fits _ (omega (arith, d));
+      losses = fits _ (omega (arith, l));
+    }
 
 -- sums that do not fit are those of very many games
-pub unfit_many : (ms : List Meeting) (pair : Pair) (own : OwnScore) (found : Option ScoreRow) → IsFound (score_rows ms) pair found → (Fit (plus_sums (sums_found found) (gains_of own)) → ⊥) → 2 ^ 61 ≤ length ms
+pub unfit_many : (ms : List Meeting) (pair : Pair) (own : OwnScore) (found : Option ScoreRow)
+    → IsFound (score_rows ms) pair found → (Fit (plus_sums (sums_found found) (gains_of own)) → ⊥) → 2 ^ 61 ≤ length ms
 unfit_many ms pair own found is unfit =
     let few = scores_few pair ms in
     elim (cases_lt (length (scores_of pair ms)) (2 ^ 61)) [
       | inr many ↦ omega (arith, few, many)
-      | inl low ↦ absurd (unfit (subst (λ s. Fit (plus_sums s (gains_of own))) (sym (found_sums ms pair found is)) (fit (scores_of pair ms) own low)))
+      | inl low ↦
+          absurd
+          (unfit
+          (subst (λ s. Fit (plus_sums s (gains_of own))) (sym (found_sums ms pair found is))
+          (fit (scores_of pair ms) own low)))
     ]
 
 -- ---- both players
@@ -134,13 +171,17 @@ module _ (event first second : ℕ) (score : Score) (apart : first ≢ second) w
 
   other_way : same_pair seconds_pair firsts_pair ≡ false
   other_way = elim (cases_Bool (same_pair seconds_pair firsts_pair)) [
-    | inl same ↦ let turned : pos second ≡ pos first = ap (λ (p : Pair). p.member) (pair_same seconds_pair firsts_pair same) in absurd (apart (sym (pos_same second first turned)))
+    | inl same ↦ let turned : pos second ≡ pos first =
+        ap (λ (p : Pair). p.member) (pair_same seconds_pair firsts_pair same) in
+        absurd (apart (sym (pos_same second first turned)))
     | inr other ↦ other
   ]
 
   one_way : same_pair firsts_pair seconds_pair ≡ false
   one_way = elim (cases_Bool (same_pair firsts_pair seconds_pair)) [
-    | inl same ↦ let turned : pos first ≡ pos second = ap (λ (p : Pair). p.member) (pair_same firsts_pair seconds_pair same) in absurd (apart (pos_same first second turned))
+    | inl same ↦ let turned : pos first ≡ pos second =
+        ap (λ (p : Pair). p.member) (pair_same firsts_pair seconds_pair same) in
+        absurd (apart (pos_same first second turned))
     | inr other ↦ other
   ]
 
@@ -153,8 +194,13 @@ module _ (event first second : ℕ) (score : Score) (apart : first ≢ second) w
   of_second : scores_of seconds_pair new ≡ own_second score ∷ []
   of_second = rw (one_way, pair_itself seconds_pair)
 
-  pub next_rows : (firsts seconds : Option ScoreRow) (rows : ScorePair) → rows.first ≡ row_with firsts_pair (plus_sums (sums_found firsts) (gains_of (own_first score))) → rows.second ≡ row_with seconds_pair (plus_sums (sums_found seconds) (gains_of (own_second score))) → AreNext event first second score firsts seconds rows
+  pub next_rows : (firsts seconds : Option ScoreRow) (rows : ScorePair)
+      → rows.first ≡ row_with firsts_pair (plus_sums (sums_found firsts) (gains_of (own_first score)))
+      → rows.second ≡ row_with seconds_pair (plus_sums (sums_found seconds) (gains_of (own_second score)))
+      → AreNext event first second score firsts seconds rows
   next_rows firsts seconds rows one other before after found = record {
-    of_first = ap score_cells one ∙ next_row before new after firsts_pair (own_first score) firsts found.of_first of_first;
-    of_second = ap score_cells other ∙ next_row before new after seconds_pair (own_second score) seconds found.of_second of_second;
+    of_first = ap score_cells one ∙ next_row before new after firsts_pair (own_first score) firsts found.of_first
+        of_first;
+    of_second = ap score_cells other ∙ next_row before new after seconds_pair (own_second score) seconds found.of_second
+        of_second;
   }

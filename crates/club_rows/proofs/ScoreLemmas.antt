@@ -1,5 +1,6 @@
 -- The rows of scores of a club, as its games change: what is offered to the crates above.
-use Rattle.std.proofs.Common.{◌≡◌, ◌≢◌, ℕ, pos, List, [], ◌∷◌, ◌++◌, Option, Some, None, true, refl, ap, sym, subst, subst₂, ◌∙◌}
+use Rattle.std.proofs.Common.{◌≡◌, ◌≢◌, ℕ, pos, List, [], ◌∷◌, ◌++◌, Option, Some, None, true, refl, ap, sym, subst}
+use Rattle.std.proofs.Common.{subst₂, ◌∙◌}
 use Rattle.std.specs.Prelude.{slice_get, slice_set}
 use Rattle.std.specs.List.{AllByRecursion, flat_map}
 use Rattle.std.proofs.lemmas.List.{append-nil}
@@ -26,87 +27,123 @@ use Rattle.club_rows.proofs.ScoreRows.{rows_alter, rows_had, rows_one, met_betwe
 -- ---- one game
 
 -- a game that has not ended is met by none
-pub met_running : {P M E T : Type 0} (rules : GameRules P M E T) (game : Game M) → result_of rules game ≡ None → meetings_of rules game ≡ []
+pub met_running : {P M E T : Type 0} (rules : GameRules P M E T) (game : Game M) → result_of rules game ≡ None
+    → meetings_of rules game ≡ []
 met_running rules game running = ap (meetings_if (pos game.event) (pos game.first) (pos game.second)) running
 
 -- one that has ended so is met by both players
-pub met_ended : {P M E T : Type 0} (rules : GameRules P M E T) (game : Game M) (score : Score) → result_of rules game ≡ Some score → meetings_of rules game ≡ meetings (pos game.event) (pos game.first) (pos game.second) score
+pub met_ended : {P M E T : Type 0} (rules : GameRules P M E T) (game : Game M) (score : Score)
+    → result_of rules game ≡ Some score → meetings_of rules game
+    ≡ meetings (pos game.event) (pos game.first) (pos game.second) score
 met_ended rules game score ended = ap (meetings_if (pos game.event) (pos game.first) (pos game.second)) ended
 
 -- ---- what a look for a pair's row finds
 
-pub found_none : (rows : List Row) (pair : Pair) → AreThose (0 ∷ 1 ∷ 2 ∷ []) (pair_cells pair) rows [] → IsFound rows pair None
+pub found_none : (rows : List Row) (pair : Pair) → AreThose (0 ∷ 1 ∷ 2 ∷ []) (pair_cells pair) rows []
+    → IsFound rows pair None
 found_none rows pair those row has same = those.complete row has same
 
-pub found_some : (rows : List Row) (pair : Pair) (row : ScoreRow) (found : List Row) → AreThose (0 ∷ 1 ∷ 2 ∷ []) (pair_cells pair) rows found → Has found (score_cells row) → IsFound rows pair (Some row)
+pub found_some : (rows : List Row) (pair : Pair) (row : ScoreRow) (found : List Row)
+    → AreThose (0 ∷ 1 ∷ 2 ∷ []) (pair_cells pair) rows found → Has found (score_cells row)
+    → IsFound rows pair (Some row)
 found_some rows pair row found those has = those.sound (score_cells row) has
 
 -- ---- the rows of a club
 
 -- the two rows of a game that ends between others
-module _ (before after : List Meeting) (event first second : ℕ) (score : Score) (firsts seconds : Option ScoreRow) (rows : ScorePair) where
-  rows_next : IsFound (score_rows (before ++ after)) (pair_of event first second) firsts → IsFound (score_rows (before ++ after)) (pair_of event second first) seconds → AreNext event first second score firsts seconds rows
-      → Alters (0 ∷ 1 ∷ 2 ∷ []) (score_cells rows.first ∷ score_cells rows.second ∷ []) (score_rows (before ++ after)) (score_rows (before ++ (meetings (pos event) (pos first) (pos second) score ++ after)))
+module _ (before after : List Meeting) (event first second : ℕ) (score : Score) (firsts seconds : Option ScoreRow)
+    (rows : ScorePair) where
+  rows_next : IsFound (score_rows (before ++ after)) (pair_of event first second) firsts
+      → IsFound (score_rows (before ++ after)) (pair_of event second first) seconds
+      → AreNext event first second score firsts seconds rows
+      → Alters (0 ∷ 1 ∷ 2 ∷ []) (score_cells rows.first ∷ score_cells rows.second ∷ []) (score_rows (before ++ after))
+      (score_rows (before ++ (meetings (pos event) (pos first) (pos second) score ++ after)))
   rows_next first_is second_is next =
       let are = next before after (record { of_first = first_is; of_second = second_is }) in
-      subst₂ (λ one other. Alters (0 ∷ 1 ∷ 2 ∷ []) (one ∷ other ∷ []) (score_rows (before ++ after)) (score_rows (before ++ (meetings (pos event) (pos first) (pos second) score ++ after))))
+      subst₂
+      (λ one other. Alters (0 ∷ 1 ∷ 2 ∷ []) (one ∷ other ∷ []) (score_rows (before ++ after))
+      (score_rows (before ++ (meetings (pos event) (pos first) (pos second) score ++ after))))
       (sym are.of_first) (sym are.of_second)
       (rows_alter before (meetings (pos event) (pos first) (pos second) score) after)
 
 module _ {DP DM DE DT SP SM SE ST : Type 0} (kinds : ClubRules DP DM DE DT SP SM SE ST) where
   -- First and Second of a legal game differ
-  pub players_apart : (s : State DM SM) (any : AnyGame DM SM) → IsLegalIn kinds s any → (pairing_of any).first ≢ (pairing_of any).second
+  pub players_apart : (s : State DM SM) (any : AnyGame DM SM) → IsLegalIn kinds s any
+      → (pairing_of any).first ≢ (pairing_of any).second
   players_apart s (draughts g) legal = legal.legal.players
   players_apart s (shogi g) legal = legal.legal.players
 
   -- where no game's result changes, the rows stay
-  pub scores_stay : (games : List (AnyGame DM SM)) (n : ℕ) (old new : AnyGame DM SM) → slice_get games n ≡ Some old → meetings_in kinds new ≡ meetings_in kinds old → scores_in kinds (slice_set games n new) ≡ scores_in kinds games
+  pub scores_stay : (games : List (AnyGame DM SM)) (n : ℕ) (old new : AnyGame DM SM) → slice_get games n ≡ Some old
+      → meetings_in kinds new ≡ meetings_in kinds old → scores_in kinds (slice_set games n new) ≡ scores_in kinds games
   scores_stay games n old new at same = ap score_rows (met_alike (meetings_in kinds) games n old new at same)
 
   -- where a game is added that has not ended, the rows stay
-  pub scores_seated : (games : List (AnyGame DM SM)) (new : AnyGame DM SM) → meetings_in kinds new ≡ [] → scores_in kinds (games ++ new ∷ []) ≡ scores_in kinds games
-  scores_seated games new none = ap score_rows (met_last (meetings_in kinds) games new ∙ (ap (λ ms. flat_map (meetings_in kinds) games ++ ms) none ∙ append-nil (flat_map (meetings_in kinds) games)))
+  pub scores_seated : (games : List (AnyGame DM SM)) (new : AnyGame DM SM) → meetings_in kinds new ≡ []
+      → scores_in kinds (games ++ new ∷ []) ≡ scores_in kinds games
+  scores_seated games new none = ap score_rows
+      (met_last (meetings_in kinds) games new ∙
+      (ap (λ ms. flat_map (meetings_in kinds) games ++ ms) none ∙ append-nil (flat_map (meetings_in kinds) games)))
 
   -- one row for a key
-  pub scores_one : (games : List (AnyGame DM SM)) (x y : Row) → Has (scores_in kinds games) x → Has (scores_in kinds games) y → same_key (0 ∷ 1 ∷ 2 ∷ []) x y ≡ true → x ≡ y
+  pub scores_one : (games : List (AnyGame DM SM)) (x y : Row) → Has (scores_in kinds games) x
+      → Has (scores_in kinds games) y → same_key (0 ∷ 1 ∷ 2 ∷ []) x y ≡ true → x ≡ y
   scores_one games = rows_one (flat_map (meetings_in kinds) games)
 
   -- each row has the types of its columns
   pub scores_typed : (games : List (AnyGame DM SM)) → AllByRecursion IsScore (scores_in kinds games)
-  scores_typed games = all_from IsScore (scores_in kinds games) (λ z has. let (p, met, is) = rows_had (flat_map (meetings_in kinds) games) z has in subst IsScore (sym is) (record {
-    width = refl;
-    event = (_, refl);
-    member = (_, refl);
-    opponent = (_, refl);
-    points = (_, refl);
-    wins = (_, refl);
-    draws = (_, refl);
-    losses = (_, refl);
-  }))
+  scores_typed games = all_from IsScore (scores_in kinds games)
+      (λ z has. let (p, met, is) = rows_had (flat_map (meetings_in kinds) games) z has in
+      subst IsScore (sym is) (record {
+        width = refl;
+        event = (_, refl);
+        member = (_, refl);
+        opponent = (_, refl);
+        points = (_, refl);
+        wins = (_, refl);
+        draws = (_, refl);
+        losses = (_, refl);
+      }))
 
-  module _ (games : List (AnyGame DM SM)) (event first second : ℕ) (score : Score) (firsts seconds : Option ScoreRow) (rows : ScorePair)
-      (firsts_is : IsFound (scores_in kinds games) (pair_of event first second) firsts) (seconds_is : IsFound (scores_in kinds games) (pair_of event second first) seconds)
+  module _ (games : List (AnyGame DM SM)) (event first second : ℕ) (score : Score) (firsts seconds : Option ScoreRow)
+      (rows : ScorePair)
+      (firsts_is : IsFound (scores_in kinds games) (pair_of event first second) firsts)
+      (seconds_is : IsFound (scores_in kinds games) (pair_of event second first) seconds)
       (next : AreNext event first second score firsts seconds rows) where
     -- where a game ends, the rows of its two players are put
-    pub scores_next : (n : ℕ) (old new : AnyGame DM SM) → slice_get games n ≡ Some old → meetings_in kinds old ≡ [] → meetings_in kinds new ≡ meetings (pos event) (pos first) (pos second) score
-        → Alters (0 ∷ 1 ∷ 2 ∷ []) (score_cells rows.first ∷ score_cells rows.second ∷ []) (scores_in kinds games) (scores_in kinds (slice_set games n new))
+    pub scores_next : (n : ℕ) (old new : AnyGame DM SM) → slice_get games n ≡ Some old → meetings_in kinds old ≡ []
+        → meetings_in kinds new ≡ meetings (pos event) (pos first) (pos second) score
+        → Alters (0 ∷ 1 ∷ 2 ∷ []) (score_cells rows.first ∷ score_cells rows.second ∷ []) (scores_in kinds games)
+        (scores_in kinds (slice_set games n new))
     scores_next n old new at none ends =
         let (before, after, was, now) = met_between (meetings_in kinds) games n old new at none in
-        let first_is : IsFound (score_rows (before ++ after)) (pair_of event first second) firsts = subst (λ ms. IsFound (score_rows ms) (pair_of event first second) firsts) was firsts_is in
-        let second_is : IsFound (score_rows (before ++ after)) (pair_of event second first) seconds = subst (λ ms. IsFound (score_rows ms) (pair_of event second first) seconds) was seconds_is in
-        subst₂ (λ was_ms now_ms. Alters (0 ∷ 1 ∷ 2 ∷ []) (score_cells rows.first ∷ score_cells rows.second ∷ []) (score_rows was_ms) (score_rows now_ms))
+        let first_is : IsFound (score_rows (before ++ after)) (pair_of event first second) firsts =
+        subst (λ ms. IsFound (score_rows ms) (pair_of event first second) firsts) was firsts_is in
+        let second_is : IsFound (score_rows (before ++ after)) (pair_of event second first) seconds =
+        subst (λ ms. IsFound (score_rows ms) (pair_of event second first) seconds) was seconds_is in
+        subst₂
+        (λ was_ms now_ms. Alters (0 ∷ 1 ∷ 2 ∷ []) (score_cells rows.first ∷ score_cells rows.second ∷ [])
+        (score_rows was_ms) (score_rows now_ms))
         (sym was) (sym (now ∙ ap (λ ms. before ++ (ms ++ after)) ends))
         (rows_next before after event first second score firsts seconds rows first_is second_is next)
 
     -- where a game is added that has ended, the rows of its two players are put
-    pub scores_added : (new : AnyGame DM SM) → meetings_in kinds new ≡ meetings (pos event) (pos first) (pos second) score
-        → Alters (0 ∷ 1 ∷ 2 ∷ []) (score_cells rows.first ∷ score_cells rows.second ∷ []) (scores_in kinds games) (scores_in kinds (games ++ new ∷ []))
+    pub scores_added : (new : AnyGame DM SM)
+        → meetings_in kinds new ≡ meetings (pos event) (pos first) (pos second) score
+        → Alters (0 ∷ 1 ∷ 2 ∷ []) (score_cells rows.first ∷ score_cells rows.second ∷ []) (scores_in kinds games)
+        (scores_in kinds (games ++ new ∷ []))
     scores_added new ends =
         let before = flat_map (meetings_in kinds) games in
         let was : before ≡ before ++ [] = sym (append-nil before) in
-        let now : flat_map (meetings_in kinds) (games ++ new ∷ []) ≡ before ++ (meetings (pos event) (pos first) (pos second) score ++ []) = met_last (meetings_in kinds) games new ∙ ap (λ ms. before ++ ms) (ends ∙ sym (append-nil (meetings (pos event) (pos first) (pos second) score))) in
-        let first_is : IsFound (score_rows (before ++ [])) (pair_of event first second) firsts = subst (λ ms. IsFound (score_rows ms) (pair_of event first second) firsts) was firsts_is in
-        let second_is : IsFound (score_rows (before ++ [])) (pair_of event second first) seconds = subst (λ ms. IsFound (score_rows ms) (pair_of event second first) seconds) was seconds_is in
-        subst₂ (λ was_ms now_ms. Alters (0 ∷ 1 ∷ 2 ∷ []) (score_cells rows.first ∷ score_cells rows.second ∷ []) (score_rows was_ms) (score_rows now_ms))
+        let now : flat_map (meetings_in kinds) (games ++ new ∷ []) ≡ before
+        ++ (meetings (pos event) (pos first) (pos second) score ++ []) = met_last (meetings_in kinds) games new
+        ∙ ap (λ ms. before ++ ms) (ends ∙ sym (append-nil (meetings (pos event) (pos first) (pos second) score))) in
+        let first_is : IsFound (score_rows (before ++ [])) (pair_of event first second) firsts =
+        subst (λ ms. IsFound (score_rows ms) (pair_of event first second) firsts) was firsts_is in
+        let second_is : IsFound (score_rows (before ++ [])) (pair_of event second first) seconds =
+        subst (λ ms. IsFound (score_rows ms) (pair_of event second first) seconds) was seconds_is in
+        subst₂
+        (λ was_ms now_ms. Alters (0 ∷ 1 ∷ 2 ∷ []) (score_cells rows.first ∷ score_cells rows.second ∷ [])
+        (score_rows was_ms) (score_rows now_ms))
         (sym was) (sym now)
         (rows_next before [] event first second score firsts seconds rows first_is second_is next)

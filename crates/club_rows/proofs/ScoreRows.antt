@@ -1,5 +1,6 @@
 -- The rows of scores: which there are, by what they are told apart, and what one more ended game makes of them.
-use Rattle.std.proofs.Common.{◌≡◌, ℕ, zero, suc, List, [], ◌∷◌, ◌++◌, map, true, not, ◌⊎◌, inl, inr, Some, pos, refl, ap, sym, subst, subst₂, ◌∙◌, true≢false, append_assoc}
+use Rattle.std.proofs.Common.{◌≡◌, ℕ, zero, suc, List, [], ◌∷◌, ◌++◌, map, true, not, ◌⊎◌, inl, inr, Some, pos, refl}
+use Rattle.std.proofs.Common.{ap, sym, subst, subst₂, ◌∙◌, true≢false, append_assoc}
 use Rattle.std.specs.Prelude.{ℤ, filter, slice_get, slice_set}
 use Rattle.std.specs.List.{flat_map}
 use Rattle.std.specs.Cmp.{tied_itself}
@@ -18,7 +19,8 @@ use Rattle.sqlite_rules.proofs.ListLemmas.{has_filtered, has_kept, has_either, h
 use Rattle.store_tables.specs.Content.{same_key}
 use Rattle.store_tables.specs.Changes.{Alters}
 use Rattle.store_tables.proofs.Laws.{equal_ints, equal_from}
-use Rattle.club_rows.specs.Scores.{Meeting, same_pair, scores_of, once_each, score_row, score_rows, wins, draws, losses, points}
+use Rattle.club_rows.specs.Scores.{Meeting, same_pair, scores_of, once_each, score_row, score_rows, wins, draws, losses}
+use Rattle.club_rows.specs.Scores.{points}
 use Rattle.club_rows.specs.declared.scores.Pair.{Pair}
 
 abbrev pub pair_key : List ℕ
@@ -36,7 +38,8 @@ pair_same p q same =
     λ i. record { event = event i; member = member i; opponent = opponent i }
 
 pub pair_itself : (p : Pair) → same_pair p p ≡ true
-pair_itself p = and_from _ _ ((Decides-int_eq p.event p.event).1 refl) (and_from _ _ ((Decides-int_eq p.member p.member).1 refl) ((Decides-int_eq p.opponent p.opponent).1 refl))
+pair_itself p = and_from _ _ ((Decides-int_eq p.event p.event).1 refl)
+    (and_from _ _ ((Decides-int_eq p.member p.member).1 refl) ((Decides-int_eq p.opponent p.opponent).1 refl))
 
 pub once_had : (ps : List Pair) (p : Pair) → Has (once_each ps) p → Has ps p
 once_had [] p h = absurd h
@@ -67,7 +70,9 @@ ints_agree : (m : ℤ) → equal Binary (Int m) (Int m) ≡ true
 ints_agree m = equal_from (Int m) (Int m) refl refl (tied_itself value_cmp_total (Int m))
 
 -- rows that begin with pairs have the same key where the pairs are one
-pub keys_same : (p q : Pair) (xs ys : Row) → same_key pair_key (Int p.event ∷ Int p.member ∷ Int p.opponent ∷ xs) (Int q.event ∷ Int q.member ∷ Int q.opponent ∷ ys) ≡ true → p ≡ q
+pub keys_same : (p q : Pair) (xs ys : Row)
+    → same_key pair_key (Int p.event ∷ Int p.member ∷ Int p.opponent ∷ xs)
+    (Int q.event ∷ Int q.member ∷ Int q.opponent ∷ ys) ≡ true → p ≡ q
 unfolding first_key
 keys_same p q xs ys same =
     let parts = and_parts _ _ same in
@@ -78,9 +83,12 @@ keys_same p q xs ys same =
     let opponent : p.opponent ≡ q.opponent = equal_ints p.opponent q.opponent last.0 in
     λ i. record { event = event i; member = member i; opponent = opponent i }
 
-pub keys_agree : (p : Pair) (xs ys : Row) → same_key pair_key (Int p.event ∷ Int p.member ∷ Int p.opponent ∷ xs) (Int p.event ∷ Int p.member ∷ Int p.opponent ∷ ys) ≡ true
+pub keys_agree : (p : Pair) (xs ys : Row)
+    → same_key pair_key (Int p.event ∷ Int p.member ∷ Int p.opponent ∷ xs)
+    (Int p.event ∷ Int p.member ∷ Int p.opponent ∷ ys) ≡ true
 unfolding first_key
-keys_agree p xs ys = and_from _ _ (ints_agree p.event) (and_from _ _ (ints_agree p.member) (and_from _ _ (ints_agree p.opponent) refl))
+keys_agree p xs ys = and_from _ _ (ints_agree p.event)
+    (and_from _ _ (ints_agree p.member) (and_from _ _ (ints_agree p.opponent) refl))
 
 -- ---- the rows of meetings
 
@@ -91,9 +99,11 @@ abbrev pub row_in : List Meeting → Pair → Row
 row_in ms pair = score_row pair (scores_of pair ms)
 
 abbrev pub sums_in : List Meeting → Pair → Row
-sums_in ms pair = let ss = scores_of pair ms in Int (pos (points ss)) ∷ Int (pos (wins ss)) ∷ Int (pos (draws ss)) ∷ Int (pos (losses ss)) ∷ []
+sums_in ms pair = let ss = scores_of pair ms in
+    Int (pos (points ss)) ∷ Int (pos (wins ss)) ∷ Int (pos (draws ss)) ∷ Int (pos (losses ss)) ∷ []
 
-pub rows_had : (ms : List Meeting) (z : Row) → Has (score_rows ms) z → (p : Pair) × Has (pairs_of ms) p × (z ≡ row_in ms p)
+pub rows_had : (ms : List Meeting) (z : Row) → Has (score_rows ms) z → (p : Pair) × Has (pairs_of ms) p
+    × (z ≡ row_in ms p)
 rows_had ms z h =
     let (p, once, is) = mapped_had (row_in ms) (once_each (pairs_of ms)) z h in
     (p, once_had (pairs_of ms) p once, is)
@@ -102,11 +112,13 @@ pub rows_has : (ms : List Meeting) (p : Pair) → Has (pairs_of ms) p → Has (s
 rows_has ms p h = mapped_has (row_in ms) (once_each (pairs_of ms)) p (once_has (pairs_of ms) p h)
 
 -- one row for a key
-pub rows_one : (ms : List Meeting) (x y : Row) → Has (score_rows ms) x → Has (score_rows ms) y → same_key pair_key x y ≡ true → x ≡ y
+pub rows_one : (ms : List Meeting) (x y : Row) → Has (score_rows ms) x → Has (score_rows ms) y
+    → same_key pair_key x y ≡ true → x ≡ y
 rows_one ms x y h k same =
     let (p, met, x_is) = rows_had ms x h in
     let (q, met_too, y_is) = rows_had ms y k in
-    let one : p ≡ q = keys_same p q (sums_in ms p) (sums_in ms q) (subst₂ (λ a b. same_key pair_key a b ≡ true) x_is y_is same) in
+    let one : p ≡ q = keys_same p q (sums_in ms p) (sums_in ms q)
+    (subst₂ (λ a b. same_key pair_key a b ≡ true) x_is y_is same) in
     x_is ∙ (ap (row_in ms) one ∙ sym y_is)
 
 -- ---- more meetings
@@ -114,10 +126,13 @@ rows_one ms x y h k same =
 pub scores_append : (p : Pair) (ms ns : List Meeting) → scores_of p (ms ++ ns) ≡ scores_of p ms ++ scores_of p ns
 scores_append p ms ns =
     ap (map (λ (m : Meeting). m.score)) (filter-append (λ (m : Meeting). same_pair m.pair p) ms ns)
-    ∙ map-append (λ (m : Meeting). m.score) (filter (λ (m : Meeting). same_pair m.pair p) ms) (filter (λ (m : Meeting). same_pair m.pair p) ns)
+    ∙ map-append (λ (m : Meeting). m.score) (filter (λ (m : Meeting). same_pair m.pair p) ms)
+    (filter (λ (m : Meeting). same_pair m.pair p) ns)
 
-pub scores_between : (p : Pair) (before new after : List Meeting) → scores_of p (before ++ (new ++ after)) ≡ scores_of p before ++ (scores_of p new ++ scores_of p after)
-scores_between p before new after = scores_append p before (new ++ after) ∙ ap (λ ss. scores_of p before ++ ss) (scores_append p new after)
+pub scores_between : (p : Pair) (before new after : List Meeting)
+    → scores_of p (before ++ (new ++ after)) ≡ scores_of p before ++ (scores_of p new ++ scores_of p after)
+scores_between p before new after = scores_append p before (new ++ after)
+    ∙ ap (λ ss. scores_of p before ++ ss) (scores_append p new after)
 
 -- the pair has none of the meetings
 pub scores_none : (p : Pair) (ms : List Meeting) → (Has (pairs_of ms) p → ⊥) → scores_of p ms ≡ []
@@ -139,28 +154,39 @@ module _ (before new after : List Meeting) where
   pairs_had p h =
       let (m, has, is) = mapped_had (λ (m : Meeting). m.pair) all p h in
       elim (has_either before (new ++ after) m has) [
-        | inl early ↦ inr (subst (Has (pairs_of old_ms)) (sym is) (mapped_has (λ (m : Meeting). m.pair) old_ms m (has_left before after m early)))
+        | inl early ↦
+            inr
+            (subst (Has (pairs_of old_ms)) (sym is)
+            (mapped_has (λ (m : Meeting). m.pair) old_ms m (has_left before after m early)))
         | inr later ↦ elim (has_either new after m later) [
           | inl now ↦ inl (subst (Has (pairs_of new)) (sym is) (mapped_has (λ (m : Meeting). m.pair) new m now))
-          | inr late ↦ inr (subst (Has (pairs_of old_ms)) (sym is) (mapped_has (λ (m : Meeting). m.pair) old_ms m (has_right before after m late)))
+          | inr late ↦
+              inr
+              (subst (Has (pairs_of old_ms)) (sym is)
+              (mapped_has (λ (m : Meeting). m.pair) old_ms m (has_right before after m late)))
         ]
       ]
 
   new_among : (p : Pair) → Has (pairs_of new) p → Has (pairs_of all) p
   new_among p h =
       let (m, has, is) = mapped_had (λ (m : Meeting). m.pair) new p h in
-      subst (Has (pairs_of all)) (sym is) (mapped_has (λ (m : Meeting). m.pair) all m (has_right before (new ++ after) m (has_left new after m has)))
+      subst (Has (pairs_of all)) (sym is)
+      (mapped_has (λ (m : Meeting). m.pair) all m (has_right before (new ++ after) m (has_left new after m has)))
 
   old_among : (p : Pair) → Has (pairs_of old_ms) p → Has (pairs_of all) p
   old_among p h =
       let (m, has, is) = mapped_had (λ (m : Meeting). m.pair) old_ms p h in
-      subst (Has (pairs_of all)) (sym is) (mapped_has (λ (m : Meeting). m.pair) all m (elim (has_either before after m has) [
+      subst (Has (pairs_of all)) (sym is)
+      (mapped_has (λ (m : Meeting). m.pair) all m (elim (has_either before after m has) [
         | inl early ↦ has_left before (new ++ after) m early
         | inr late ↦ has_right before (new ++ after) m (has_right new after m late)
       ]))
 
   row_stays : (p : Pair) → (Has (pairs_of new) p → ⊥) → row_in all p ≡ row_in old_ms p
-  row_stays p none = ap (score_row p) (scores_between p before new after ∙ (ap (λ ss. scores_of p before ++ (ss ++ scores_of p after)) (scores_none p new none) ∙ sym (scores_append p before after)))
+  row_stays p none =
+      ap (score_row p) (scores_between p before new after
+      ∙ (ap (λ ss. scores_of p before ++ (ss ++ scores_of p after)) (scores_none p new none)
+      ∙ sym (scores_append p before after)))
 
   among : (p : Pair) (ps : List Pair) → Has ps p ⊎ (Has ps p → ⊥)
   among p [] = inr (λ h. absurd h)
@@ -168,18 +194,28 @@ module _ (before new after : List Meeting) where
     | inl same ↦ inl (inl (pair_same p q same))
     | inr other ↦ elim (among p ps) [
       | inl has ↦ inl (inr has)
-      | inr none ↦ inr (λ h. elim h [ inl is ↦ true≢false (sym (subst (λ x. same_pair p x ≡ true) is (pair_itself p)) ∙ other) | inr has ↦ none has ])
+      | inr none ↦
+          inr
+          (λ h.
+          elim h [
+            | inl is ↦ true≢false (sym (subst (λ x. same_pair p x ≡ true) is (pair_itself p)) ∙ other)
+            | inr has ↦
+                none has
+          ])
     ]
   ]
 
   -- the rows of the new meetings' pairs, put, make the rows of all meetings of the old
   pub rows_alter : Alters pair_key (map (row_in all) (pairs_of new)) (score_rows old_ms) (score_rows all)
   rows_alter = record {
-    among = λ z h. let (p, has, is) = mapped_had (row_in all) (pairs_of new) z h in subst (Has (score_rows all)) (sym is) (rows_has all p (new_among p has));
+    among = λ z h. let (p, has, is) = mapped_had (row_in all) (pairs_of new) z h in
+        subst (Has (score_rows all)) (sym is) (rows_has all p (new_among p has));
     from = λ z h.
         let (p, has, is) = rows_had all z h in
         elim (among p (pairs_of new)) [
-          | inl now ↦ inr (subst (Has (map (row_in all) (pairs_of new))) (sym is) (mapped_has (row_in all) (pairs_of new) p now))
+          | inl now ↦
+              inr
+              (subst (Has (map (row_in all) (pairs_of new))) (sym is) (mapped_has (row_in all) (pairs_of new) p now))
           | inr none ↦ elim (pairs_had p has) [
             | inl now ↦ absurd (none now)
             | inr was ↦ inl (subst (Has (score_rows old_ms)) (sym (is ∙ row_stays p none)) (rows_has old_ms p was))
@@ -188,8 +224,15 @@ module _ (before new after : List Meeting) where
     stays = λ z h.
         let (p, has, is) = rows_had old_ms z h in
         elim (among p (pairs_of new)) [
-          | inl now ↦ inr (row_in all p, mapped_has (row_in all) (pairs_of new) p now, subst (λ x. same_key pair_key x (row_in all p) ≡ true) (sym is) (keys_agree p (sums_in old_ms p) (sums_in all p)))
-          | inr none ↦ inl (subst (Has (score_rows all)) (sym (is ∙ sym (row_stays p none))) (rows_has all p (old_among p has)))
+          | inl now ↦
+              inr (
+                row_in all p,
+                mapped_has (row_in all) (pairs_of new) p now,
+                subst (λ x. same_key pair_key x (row_in all p) ≡ true) (sym is)
+                    (keys_agree p (sums_in old_ms p) (sums_in all p)),
+              )
+          | inr none ↦
+              inl (subst (Has (score_rows all)) (sym (is ∙ sym (row_stays p none))) (rows_has all p (old_among p has)))
         ];
     one = rows_one all;
   }
@@ -199,7 +242,8 @@ module _ (before new after : List Meeting) where
 module _ {A : Type 0} (meetings_in : A → List Meeting) where
   -- where a game with no meeting stands, the new game's come between those before and those after
   pub met_between : (games : List A) (n : ℕ) (old new : A) → slice_get games n ≡ Some old → meetings_in old ≡ []
-      → (before : List Meeting) × (after : List Meeting) × (flat_map meetings_in games ≡ before ++ after) × (flat_map meetings_in (slice_set games n new) ≡ before ++ (meetings_in new ++ after))
+      → (before : List Meeting) × (after : List Meeting) × (flat_map meetings_in games ≡ before ++ after)
+      × (flat_map meetings_in (slice_set games n new) ≡ before ++ (meetings_in new ++ after))
   met_between [] n old new at none = cc
   met_between (g ∷ games) zero old new at none =
       let same : g ≡ old = cc in
@@ -212,11 +256,15 @@ module _ {A : Type 0} (meetings_in : A → List Meeting) where
         ap (λ ms. meetings_in g ++ ms) is ∙ sym (append_assoc (meetings_in g) before (meetings_in new ++ after)),
       )
 
-  pub met_alike : (games : List A) (n : ℕ) (old new : A) → slice_get games n ≡ Some old → meetings_in new ≡ meetings_in old → flat_map meetings_in (slice_set games n new) ≡ flat_map meetings_in games
+  pub met_alike : (games : List A) (n : ℕ) (old new : A) → slice_get games n ≡ Some old
+      → meetings_in new ≡ meetings_in old → flat_map meetings_in (slice_set games n new) ≡ flat_map meetings_in games
   met_alike [] n old new at same = cc
-  met_alike (g ∷ games) zero old new at same = let here : g ≡ old = cc in ap (λ ms. ms ++ flat_map meetings_in games) (same ∙ ap meetings_in (sym here))
+  met_alike (g ∷ games) zero old new at same = let here : g ≡ old = cc in
+      ap (λ ms. ms ++ flat_map meetings_in games) (same ∙ ap meetings_in (sym here))
   met_alike (g ∷ games) (suc n) old new at same = ap (λ ms. meetings_in g ++ ms) (met_alike games n old new at same)
 
-  pub met_last : (games : List A) (new : A) → flat_map meetings_in (games ++ new ∷ []) ≡ flat_map meetings_in games ++ meetings_in new
+  pub met_last : (games : List A) (new : A)
+      → flat_map meetings_in (games ++ new ∷ []) ≡ flat_map meetings_in games ++ meetings_in new
   met_last [] new = append-nil (meetings_in new)
-  met_last (g ∷ games) new = ap (λ ms. meetings_in g ++ ms) (met_last games new) ∙ sym (append_assoc (meetings_in g) (flat_map meetings_in games) (meetings_in new))
+  met_last (g ∷ games) new = ap (λ ms. meetings_in g ++ ms) (met_last games new)
+      ∙ sym (append_assoc (meetings_in g) (flat_map meetings_in games) (meetings_in new))

@@ -1,5 +1,6 @@
 -- The table of the positions of all games, where a game changes or is added.
-use Rattle.std.proofs.Common.{◌≡◌, ℕ, ℤ, ◌+◌, List, [], ◌∷◌, ◌++◌, length, map, pos, Some, true, inl, refl, ap, sym, subst, subst₂, ◌∙◌, arith}
+use Rattle.std.proofs.Common.{◌≡◌, ℕ, ℤ, ◌+◌, List, [], ◌∷◌, ◌++◌, length, map, pos, Some, true, inl, refl, ap, sym}
+use Rattle.std.proofs.Common.{subst, subst₂, ◌∙◌, arith}
 use Rattle.std.specs.Prelude.{slice_get, slice_set, string_bytes}
 use Rattle.sqlite_value.specs.declared.value.Value.{Value}
 use Rattle.sqlite_value.specs.declared.value.Value.TheVariants.{Int, Text}
@@ -17,7 +18,8 @@ use Rattle.club_core.specs.Seats.{Pairing}
 use Rattle.club_core.specs.State.{AnyGame, draughts, shogi, State, place, kind_at, seated_as, with_new_game}
 use Rattle.club_rows.specs.Tables.{number, gathered_from, rows_of_seen, tables_of}
 use Rattle.club_rows.specs.Seen.{texts_of, seen_rows, IsFound}
-use Rattle.club_rows.proofs.GatheredLemmas.{gathered-had, gathered-has, gathered-apart, gathered-set, gathered-added, gathered-kept}
+use Rattle.club_rows.proofs.GatheredLemmas.{gathered-had, gathered-has, gathered-apart, gathered-set, gathered-added}
+use Rattle.club_rows.proofs.GatheredLemmas.{gathered-kept}
 use Rattle.club_rows.proofs.KeyPairs.{same-numbers, same-ids, ids-agree, same-texts, pairs-agree}
 use Rattle.club_rows.proofs.SeenGame.{seen-id, seen-apart}
 
@@ -35,39 +37,53 @@ module _ {DP DM DE DT SP SM SE ST : Type 0} (kinds : ClubRules DP DM DE DT SP SM
   numbered id (draughts g) z h = seen-id id (texts_of kinds.draughts g) z h
   numbered id (shogi g) z h = seen-id id (texts_of kinds.shogi g) z h
 
-  apart : (id : ℕ) (g : AnyGame DM SM) (z w : Row) → Has (rows_of_seen kinds id g) z → Has (rows_of_seen kinds id g) w → same_key (0 ∷ 1 ∷ []) z w ≡ true → z ≡ w
+  apart : (id : ℕ) (g : AnyGame DM SM) (z w : Row) → Has (rows_of_seen kinds id g) z → Has (rows_of_seen kinds id g) w
+      → same_key (0 ∷ 1 ∷ []) z w ≡ true → z ≡ w
   apart id (draughts g) z w h k same = seen-apart kinds.draughts id g z w h k same
   apart id (shogi g) z w h k same = seen-apart kinds.shogi id g z w h k same
 
   -- no two rows of the table have one key
-  pub seen-table-apart : (s : State DM SM) (z w : Row) → Has (tables_of kinds s 12) z → Has (tables_of kinds s 12) w → same_key (0 ∷ 1 ∷ []) z w ≡ true → z ≡ w
+  pub seen-table-apart : (s : State DM SM) (z w : Row) → Has (tables_of kinds s 12) z → Has (tables_of kinds s 12) w
+      → same_key (0 ∷ 1 ∷ []) z w ≡ true → z ≡ w
   seen-table-apart s z w h k same = gathered-apart (rows_of_seen kinds) numbered apart s.games z w h k same
 
   -- a game that changes alters the table as it alters the rows of the game
-  pub seen-table-set : (s : State DM SM) (n : ℕ) (old new : AnyGame DM SM) (moment : ℕ) (changed : List Row) → slice_get s.games n ≡ Some old → Alters (0 ∷ 1 ∷ []) changed (rows_of_seen kinds (1 + n) old) (rows_of_seen kinds (1 + n) new)
-      → Alters (0 ∷ 1 ∷ []) changed (tables_of kinds s 12) (tables_of kinds (record s { last = moment; games = slice_set s.games n new }) 12)
-  seen-table-set s n old new moment changed at it = gathered-set (rows_of_seen kinds) numbered apart s.games n old new changed at it
+  pub seen-table-set : (s : State DM SM) (n : ℕ) (old new : AnyGame DM SM) (moment : ℕ) (changed : List Row)
+      → slice_get s.games n ≡ Some old → Alters (0 ∷ 1 ∷ []) changed (rows_of_seen kinds (1 + n) old)
+      (rows_of_seen kinds (1 + n) new)
+      → Alters (0 ∷ 1 ∷ []) changed (tables_of kinds s 12)
+      (tables_of kinds (record s { last = moment; games = slice_set s.games n new }) 12)
+  seen-table-set s n old new moment changed at it =
+      gathered-set (rows_of_seen kinds) numbered apart s.games n old new changed at it
 
   -- a game whose rows do not change leaves the table as it is
-  pub seen-table-kept : (s : State DM SM) (n : ℕ) (old new : AnyGame DM SM) (moment : ℕ) → slice_get s.games n ≡ Some old → rows_of_seen kinds (1 + n) new ≡ rows_of_seen kinds (1 + n) old
+  pub seen-table-kept : (s : State DM SM) (n : ℕ) (old new : AnyGame DM SM) (moment : ℕ)
+      → slice_get s.games n ≡ Some old → rows_of_seen kinds (1 + n) new ≡ rows_of_seen kinds (1 + n) old
       → tables_of kinds (record s { last = moment; games = slice_set s.games n new }) 12 ≡ tables_of kinds s 12
   seen-table-kept s n old new moment at same = gathered-kept (rows_of_seen kinds) 1 s.games n old new at same
 
   -- a game more adds its rows
-  pub seen-added : (games : List (AnyGame DM SM)) (new : AnyGame DM SM) → Alters (0 ∷ 1 ∷ []) (rows_of_seen kinds (1 + length games) new) (gathered_from (rows_of_seen kinds) 1 games) (gathered_from (rows_of_seen kinds) 1 (games ++ new ∷ []))
+  pub seen-added : (games : List (AnyGame DM SM)) (new : AnyGame DM SM)
+      → Alters (0 ∷ 1 ∷ []) (rows_of_seen kinds (1 + length games) new) (gathered_from (rows_of_seen kinds) 1 games)
+      (gathered_from (rows_of_seen kinds) 1 (games ++ new ∷ []))
   seen-added games new = gathered-added (rows_of_seen kinds) numbered apart games new
 
   -- a game that was just seated adds the row of its opening
-  pub seen-table-added : (s : State DM SM) (key : List ℕ) (pairing : Pairing) (moment : ℕ) (row : Row) → rows_of_seen kinds (1 + length s.games) (seated_as (kind_at (place s.events pairing.event)) (Some key) pairing moment) ≡ row ∷ []
+  pub seen-table-added : (s : State DM SM) (key : List ℕ) (pairing : Pairing) (moment : ℕ) (row : Row)
+      → rows_of_seen kinds (1 + length s.games)
+      (seated_as (kind_at (place s.events pairing.event)) (Some key) pairing moment) ≡ row ∷ []
       → Alters (0 ∷ 1 ∷ []) (row ∷ []) (tables_of kinds s 12) (tables_of kinds (with_new_game s moment key pairing) 12)
   seen-table-added s key pairing moment row is =
-      subst (λ rows. Alters (0 ∷ 1 ∷ []) rows (tables_of kinds s 12) (tables_of kinds (with_new_game s moment key pairing) 12)) is
+      subst
+      (λ rows. Alters (0 ∷ 1 ∷ []) rows (tables_of kinds s 12)
+      (tables_of kinds (with_new_game s moment key pairing) 12)) is
       (seen-added s.games (seated_as (kind_at (place s.events pairing.event)) (Some key) pairing moment))
 
   -- ---- the row of a position
 
   -- a row of the table that has the number of a game is that game's
-  pub game-had : (s : State DM SM) (n : ℕ) (g : AnyGame DM SM) (z : Row) → slice_get s.games n ≡ Some g → Has (tables_of kinds s 12) z → column z 0 ≡ number (1 + n) → Has (rows_of_seen kinds (1 + n) g) z
+  pub game-had : (s : State DM SM) (n : ℕ) (g : AnyGame DM SM) (z : Row) → slice_get s.games n ≡ Some g
+      → Has (tables_of kinds s 12) z → column z 0 ≡ number (1 + n) → Has (rows_of_seen kinds (1 + n) g) z
   game-had s n g z at h first =
       let (m, x, there, has) = gathered-had (rows_of_seen kinds) 1 s.games z h in
       let id = number-same (1 + m) (1 + n) (sym (numbered (1 + m) x z has) ∙ first) in
@@ -77,7 +93,9 @@ module _ {DP DM DE DT SP SM SE ST : Type 0} (kinds : ClubRules DP DM DE DT SP SM
       subst₂ (λ k e. Has (rows_of_seen kinds (1 + k) e) z) place is has
 
   -- The rows of the table that have the number of a game are that game's.
-  pub seen-read : (s : State DM SM) (n : ℕ) (g : AnyGame DM SM) (rows : List Row) → slice_get s.games n ≡ Some g → AreThose (0 ∷ []) (number (1 + n) ∷ []) (tables_of kinds s 12) rows → HaveSame rows (rows_of_seen kinds (1 + n) g)
+  pub seen-read : (s : State DM SM) (n : ℕ) (g : AnyGame DM SM) (rows : List Row) → slice_get s.games n ≡ Some g
+      → AreThose (0 ∷ []) (number (1 + n) ∷ []) (tables_of kinds s 12) rows
+      → HaveSame rows (rows_of_seen kinds (1 + n) g)
   seen-read s n g rows at those = record {
     there = λ z h.
         let (in_table, alike) = those.sound z h in
@@ -91,31 +109,46 @@ module _ {DP DM DE DT SP SM SE ST : Type 0} (kinds : ClubRules DP DM DE DT SP SM
   }
 
   -- A table in which each row has the number of a game, and each game its rows, is the club's.
-  pub seen-gathered : (s : State DM SM) (table : List Row) → ((z : Row) → Has table z → (n : ℕ) × (g : AnyGame DM SM) × (slice_get s.games n ≡ Some g) × (column z 0 ≡ number (1 + n)))
-      → ((n : ℕ) (g : AnyGame DM SM) → slice_get s.games n ≡ Some g → (rows : List Row) × AreThose (0 ∷ []) (number (1 + n) ∷ []) table rows × HaveSame rows (rows_of_seen kinds (1 + n) g))
+  pub seen-gathered : (s : State DM SM) (table : List Row)
+      → ((z : Row) → Has table z → (n : ℕ) × (g : AnyGame DM SM) × (slice_get s.games n ≡ Some g)
+      × (column z 0 ≡ number (1 + n)))
+      → ((n : ℕ) (g : AnyGame DM SM) → slice_get s.games n ≡ Some g → (rows : List Row)
+      × AreThose (0 ∷ []) (number (1 + n) ∷ []) table rows × HaveSame rows (rows_of_seen kinds (1 + n) g))
       → HaveSame table (tables_of kinds s 12)
   seen-gathered s table of_games games = record {
     there = λ z h.
         let (n, g, at, first) = of_games z h in
         let (rows, those, same) = games n g at in
-        gathered-has (rows_of_seen kinds) 1 s.games n g z at (same.there z (those.complete z h (ids-agree z (number (1 + n) ∷ []) (1 + n) first refl)));
+        gathered-has (rows_of_seen kinds) 1 s.games n g z at
+        (same.there z (those.complete z h (ids-agree z (number (1 + n) ∷ []) (1 + n) first refl)));
     back = λ z h.
         let (n, g, at, has) = gathered-had (rows_of_seen kinds) 1 s.games z h in
         let (rows, those, same) = games n g at in
         (those.sound z (same.back z has)).0;
   }
 
-  -- The first of the rows of the table that have the number of a game and a text is what is found for the text in the game.
-  pub seen-found : {P M E T : Type 0} (rules : GameRules P M E T) (s : State DM SM) (n : ℕ) (any : AnyGame DM SM) (game : Game M) (text : List ℕ) (found : List SeenRow) → slice_get s.games n ≡ Some any → rows_of_seen kinds (1 + n) any ≡ seen_rows rules (1 + n) game
-      → AreThose (0 ∷ 1 ∷ []) (number (1 + n) ∷ Text text ∷ []) (tables_of kinds s 12) (map seen_cells found) → IsFound rules (1 + n) game text (slice_get found 0)
+  -- The first of the rows of the table that have the number of a game and a text is what is found for the text in the
+  -- game.
+  pub seen-found : {P M E T : Type 0} (rules : GameRules P M E T) (s : State DM SM) (n : ℕ) (any : AnyGame DM SM)
+      (game : Game M) (text : List ℕ) (found : List SeenRow) → slice_get s.games n ≡ Some any
+      → rows_of_seen kinds (1 + n) any ≡ seen_rows rules (1 + n) game
+      → AreThose (0 ∷ 1 ∷ []) (number (1 + n) ∷ Text text ∷ []) (tables_of kinds s 12) (map seen_cells found)
+      → IsFound rules (1 + n) game text (slice_get found 0)
   seen-found rules s n any game text [] at same those = λ z is.
       let here : Has (rows_of_seen kinds (1 + n) any) z = subst (λ l. Has l z) (sym same) is.there in
       let in_table = gathered-has (rows_of_seen kinds) 1 s.games n any z at here in
-      those.complete z in_table (pairs-agree z (number (1 + n) ∷ Text text ∷ []) (1 + n) text (numbered (1 + n) any z here) refl is.text_is refl)
+      those.complete z in_table
+      (pairs-agree z (number (1 + n) ∷ Text text ∷ []) (1 + n) text (numbered (1 + n) any z here) refl is.text_is
+      refl)
   seen-found rules s n any game text (r ∷ rs) at same those =
       let (in_table, alike) = those.sound (seen_cells r) (inl refl) in
       let it = gathered-had (rows_of_seen kinds) 1 s.games (seen_cells r) in_table in
       let first = numbered (1 + it.0) it.1 (seen_cells r) it.3 in
       let id = same-numbers (seen_cells r) (number (1 + n) ∷ Text text ∷ []) (1 + it.0) (1 + n) first refl alike in
-      let is = same-texts (seen_cells r) (number (1 + n) ∷ Text text ∷ []) (string_bytes r.position) text refl refl alike in
-      record { there = subst (λ l. Has l (seen_cells r)) same (game-had s n any (seen_cells r) at in_table (first ∙ ap number id)); text_is = ap Text is }
+      let is = same-texts (seen_cells r) (number (1 + n) ∷ Text text ∷ []) (string_bytes r.position) text refl refl
+      alike in
+      record {
+        there = subst (λ l. Has l (seen_cells r)) same
+            (game-had s n any (seen_cells r) at in_table (first ∙ ap number id));
+        text_is = ap Text is;
+      }

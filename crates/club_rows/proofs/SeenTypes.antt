@@ -26,20 +26,27 @@ module _ {P M E T : Type 0} (laws : GameRules P M E T) (plain : ArePlain laws) (
     first_ply = (_, refl);
   }
 
-  rows-typed : (texts : List (List ℕ)) (ply : ℕ) (ps : List P) → AllByRecursion IsSeen (rows_from id texts ply (map laws.write_position ps))
+  rows-typed : (texts : List (List ℕ)) (ply : ℕ) (ps : List P)
+      → AllByRecursion IsSeen (rows_from id texts ply (map laws.write_position ps))
   rows-typed texts ply [] = tt
   rows-typed texts ply (p ∷ ps) = by (stood_before texts ply (laws.write_position p)) (rows-typed texts (suc ply) ps)
     where
-      by : (b : Bool) → AllByRecursion IsSeen (rows_from id texts (suc ply) (map laws.write_position ps)) → AllByRecursion IsSeen (if b then rows_from id texts (suc ply) (map laws.write_position ps) else seen_row id (laws.write_position p) (times_in texts (laws.write_position p)) ply ∷ rows_from id texts (suc ply) (map laws.write_position ps))
+      by : (b : Bool) → AllByRecursion IsSeen (rows_from id texts (suc ply) (map laws.write_position ps))
+          →
+          AllByRecursion IsSeen
+          (if b then rows_from id texts (suc ply) (map laws.write_position ps) else seen_row id (laws.write_position p)
+          (times_in texts (laws.write_position p)) ply ∷ rows_from id texts (suc ply) (map laws.write_position ps))
       by true rest = rest
       by false rest = (row-typed p (times_in texts (laws.write_position p)) ply, rest)
 
   pub seen-rows-typed : (game : Game M) → AllByRecursion IsSeen (seen_rows laws id game)
   seen-rows-typed game = rows-typed (texts_of laws game) 0 (positions laws laws.start (moves_of game))
 
-any-seen : (s : ClubState) (id : ℕ) (any : ClubGame) → IsLegalIn both_games s any → AllByRecursion IsSeen (rows_of_seen both_games id any)
+any-seen : (s : ClubState) (id : ℕ) (any : ClubGame) → IsLegalIn both_games s any
+    → AllByRecursion IsSeen (rows_of_seen both_games id any)
 any-seen s id (draughts g) legal = seen-rows-typed both_games.draughts draughts-plain id g
 any-seen s id (shogi g) legal = seen-rows-typed both_games.shogi shogi-plain id g
 
 pub seen-typed : (s : ClubState) → IsClub s → AllByRecursion IsSeen (tables_of both_games s 12)
-seen-typed s club = gathered-all (rows_of_seen both_games) (IsLegalIn both_games s) IsSeen (any-seen s) 1 s.games club.games
+seen-typed s club = gathered-all (rows_of_seen both_games) (IsLegalIn both_games s) IsSeen (any-seen s) 1 s.games
+    club.games

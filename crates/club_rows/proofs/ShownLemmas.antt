@@ -1,5 +1,6 @@
 -- What is shown of a game that was replayed, where its row stands.
-use Rattle.std.proofs.Common.{◌≡◌, ℕ, ◌<◌, ◌≤◌, ◌^◌, List, [], length, map, take, Option, Some, None, false, refl, ap, sym, ◌∙◌, subst, arith}
+use Rattle.std.proofs.Common.{◌≡◌, ℕ, ◌<◌, ◌≤◌, ◌^◌, List, [], length, map, take, Option, Some, None, false, refl, ap}
+use Rattle.std.proofs.Common.{sym, ◌∙◌, subst, arith}
 use Rattle.std.specs.Prelude.{is_some, IsSome, IfSome, IsTrue}
 use Rattle.std.proofs.Math.Seq.{take-length}
 use Rattle.club_rules.specs.GameRules.{GameRules}
@@ -24,16 +25,29 @@ use Rattle.club_rows.specs.declared.view.Told.{Told}
 use Rattle.club_rows.specs.declared.view.Played.{Played}
 use Rattle.club_rows.specs.declared.view.Shown.{Shown}
 use Rattle.club_rows.specs.declared.view.Shown.TheVariants as shown
-use Rattle.club_rows.proofs.ToldLemmas.{IsToldBy, columns-told, same-pos, told-outside, told-recorded, rows-played, row-stands, stands-legal, legal-stands, is_some-none}
+use Rattle.club_rows.proofs.ToldLemmas.{IsToldBy, columns-told, same-pos, told-outside, told-recorded, rows-played}
+use Rattle.club_rows.proofs.ToldLemmas.{row-stands, stands-legal, legal-stands, is_some-none}
 use Rattle.club_rows.proofs.WholeLemmas.{played-count, rows-alike}
 
 -- games with the same parts are one
-games-are : {M : Type 0} (a b : Game M) → a.key ≡ b.key → a.event ≡ b.event → a.first ≡ b.first → a.second ≡ b.second → a.start ≡ b.start → a.entries ≡ b.entries → a.offer ≡ b.offer → a.outside ≡ b.outside → a ≡ b
+games-are : {M : Type 0} (a b : Game M) → a.key ≡ b.key → a.event ≡ b.event → a.first ≡ b.first → a.second ≡ b.second
+    → a.start ≡ b.start → a.entries ≡ b.entries → a.offer ≡ b.offer → a.outside ≡ b.outside → a ≡ b
 games-are a b key event first second start entries offer outside =
-    λ i. record { key = key i; event = event i; first = first i; second = second i; start = start i; entries = entries i; offer = offer i; outside = outside i }
+    λ i. record {
+      key = key i;
+      event = event i;
+      first = first i;
+      second = second i;
+      start = start i;
+      entries =
+          entries i;
+      offer = offer i;
+      outside = outside i;
+    }
 
 -- what is known of a view that was made of rows
-pub record WasViewed {R P M E T : Type 0} (rules : GameRules P M E T) (terms : Terms) (stored : GameRecord) (moves : List MoveRow) (given : Numbers) (replayed : Replayed R P M E T) (full : Played R P M E T) : Type 0 where
+pub record WasViewed {R P M E T : Type 0} (rules : GameRules P M E T) (terms : Terms) (stored : GameRecord)
+    (moves : List MoveRow) (given : Numbers) (replayed : Replayed R P M E T) (full : Played R P M E T) : Type 0 where
   pub budget : IsTrue (is_budget terms.budget)
   pub increment : IsTrue (is_increment terms.increment)
   pub has : HasNumbers stored given.game given.event given.first given.second given.start
@@ -41,13 +55,16 @@ pub record WasViewed {R P M E T : Type 0} (rules : GameRules P M E T) (terms : T
   pub was : WasReplayed rules terms given.game given.start moves (length moves) replayed
   pub told : Told E
   pub is_told : IsTold rules stored given replayed.line.items told
-  pub shows : (entries : List (Entry M)) → Replays rules terms (game_from given.start entries) replayed → Shows rules (game_told told entries) full.view
+  pub shows : (entries : List (Entry M)) → Replays rules terms (game_from given.start entries) replayed
+      → Shows rules (game_told told entries) full.view
   pub terms_are : terms_of full.view ≡ terms
   pub sound : IsSound rules full.view
   pub line : full.line.items ≡ replayed.line.items
   pub tally : IsTallyOf rules replayed.line.items full.tally
 
-module _ {R P M E T : Type 0} (rules : GameRules P M E T) (terms : Terms) (stored : GameRecord) (moves : List MoveRow) (given : Numbers) (replayed : Replayed R P M E T) (full : Played R P M E T) (known : WasViewed rules terms stored moves given replayed full) where
+module _ {R P M E T : Type 0} (rules : GameRules P M E T) (terms : Terms) (stored : GameRecord) (moves : List MoveRow)
+    (given : Numbers) (replayed : Replayed R P M E T) (full : Played R P M E T)
+    (known : WasViewed rules terms stored moves given replayed full) where
   abbrev view : GameView R P M E T
   view = full.view
 
@@ -71,7 +88,8 @@ module _ {R P M E T : Type 0} (rules : GameRules P M E T) (terms : Terms) (store
   ruled-is : known.told.ruled ≡ rule_end rules shown_game
   ruled-is = known.is_told.ruled ∙ ap (rules.judge rules.start) known.was.replays.line
 
-  pub shown-sound : (s : Shown R P M E T) → StandsAs rules stored given.game full s → IsSoundIfShown rules terms stored moves s
+  pub shown-sound : (s : Shown R P M E T) → StandsAs rules stored given.game full s
+      → IsSoundIfShown rules terms stored moves s
   shown-sound shown.WrongMoves stands = tt
   shown-sound shown.WrongGame stands = tt
   shown-sound (shown.Game v) stands =
@@ -96,7 +114,9 @@ module _ {R P M E T : Type 0} (rules : GameRules P M E T) (terms : Terms) (store
         row = stands.2 terms shown_game row-of;
         moves =
             ap (map move_cells) (sym (take-length moves))
-            ∙ (known.was.played.moves ∙ rows-alike rules terms given.game (game_from given.start []) (record shown_game { entries = [] }) known.was.entries (sym start-is) refl);
+            ∙
+            (known.was.played.moves ∙ rows-alike rules terms given.game (game_from given.start [])
+            (record shown_game { entries = [] }) known.was.entries (sym start-is) refl);
       } in (
         given.game,
         shown_game,
@@ -123,7 +143,8 @@ module _ {R P M E T : Type 0} (rules : GameRules P M E T) (terms : Terms) (store
     entries-same : known.was.entries ≡ game.entries
     entries-same =
         sym (known.was.only game played)
-        ∙ (ap (λ n. take n game.entries) (played-count rules terms given.game given.start moves game played) ∙ take-length game.entries)
+        ∙ (ap (λ n. take n game.entries) (played-count rules terms given.game given.start moves game played)
+        ∙ take-length game.entries)
 
     ruled-same : known.told.ruled ≡ rule_end rules game
     ruled-same = ruled-is ∙ ap (λ es. rules.judge rules.start (map (λ e. e.made) es)) entries-same
@@ -135,12 +156,16 @@ module _ {R P M E T : Type 0} (rules : GameRules P M E T) (terms : Terms) (store
     absent : (o : Option E) → o ≡ known.told.ruled → known.told.outside ≡ game.outside
     absent None none =
         let ended : rule_end rules game ≡ None = sym ruled-same ∙ sym none in
-        known.is_told.outside (sym none) game.outside (told-outside rules id game stored told-by ended) (told-recorded rules id game stored told-by ended)
+        known.is_told.outside (sym none) game.outside (told-outside rules id game stored told-by ended)
+        (told-recorded rules id game stored told-by ended)
     absent (Some e) some =
         let ended : rule_end rules game ≡ Some e = sym ruled-same ∙ sym some in
-        known.is_told.nothing (ap is_some (sym some)) ∙ sym (is_some-none game.outside (alone-false game.outside e (rule_end rules game) ended is.legal.outside_alone))
+        known.is_told.nothing (ap is_some (sym some))
+        ∙ sym
+        (is_some-none game.outside (alone-false game.outside e (rule_end rules game) ended is.legal.outside_alone))
       where
-        alone-false : {A : Type 0} (o : Option A) (e : E) (r : Option E) → r ≡ Some e → (IsSome o → r ≡ None) → is_some o ≡ false
+        alone-false : {A : Type 0} (o : Option A) (e : E) (r : Option E) → r ≡ Some e → (IsSome o → r ≡ None)
+            → is_some o ≡ false
         alone-false None e r some alone = refl
         alone-false (Some x) e r some alone = let none = alone refl in cc
 
@@ -166,7 +191,8 @@ module _ {R P M E T : Type 0} (rules : GameRules P M E T) (terms : Terms) (store
     pub shown-complete : (s : Shown R P M E T) → StandsAs rules stored given.game full s → ShowsGame rules terms game s
     shown-complete shown.WrongMoves stands = stands
     shown-complete shown.WrongGame stands =
-        stands terms game row-it (row-stands rules terms game view.row row-it ∙ legal-stands rules terms game is.legal is.fits.key)
+        stands terms game row-it (row-stands rules terms game view.row row-it
+        ∙ legal-stands rules terms game is.legal is.fits.key)
         (is.row ∙ ap (λ n. game_row rules terms n game) (sym id-same))
     shown-complete (shown.Game v) stands = (
       subst (λ x. terms_of x.view ≡ terms) (sym stands.0) known.terms_are,

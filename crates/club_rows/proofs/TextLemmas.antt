@@ -1,5 +1,6 @@
 -- The texts of a club are in ASCII, so each row of its tables has the types of its columns.
-use Rattle.std.proofs.Common.{◌≡◌, ℕ, suc, pos, List, [], ◌∷◌, ◌++◌, map, Option, Some, None, refl, ap, sym, subst, ◌∙◌, inl, inr}
+use Rattle.std.proofs.Common.{◌≡◌, ℕ, suc, pos, List, [], ◌∷◌, ◌++◌, map, Option, Some, None, refl, ap, sym, subst, ◌∙◌}
+use Rattle.std.proofs.Common.{inl, inr}
 use Rattle.std.specs.Prelude.{codes, IfSome, IsTrue}
 use Rattle.std.specs.List.{AllByRecursion}
 use Rattle.sqlite_value.specs.declared.value.Value.TheVariants.{Int, Text}
@@ -9,7 +10,8 @@ use Rattle.squares.specs.declared.sides.Score.{Score}
 use Rattle.squares.specs.declared.sides.Score.TheVariants.{FirstWins, Draw, SecondWins}
 use Rattle.squares.specs.Sides.{score_text}
 use Rattle.club_rules.specs.declared.names.EndName.{EndName}
-use Rattle.club_rules.specs.declared.names.EndName.TheVariants.{NoMove, Repetition, KingMoves, ThreeToOne, TwoToOne, PlyLimit, PerpetualCheck, Fourfold}
+use Rattle.club_rules.specs.declared.names.EndName.TheVariants.{NoMove, Repetition, KingMoves, ThreeToOne, TwoToOne}
+use Rattle.club_rules.specs.declared.names.EndName.TheVariants.{PlyLimit, PerpetualCheck, Fourfold}
 use Rattle.club_rules.specs.EndName.{end_text}
 use Rattle.club_rules.specs.GameRules.{GameRules}
 use Rattle.club_rules.specs.Line.{IsLegalLine, position_after}
@@ -27,7 +29,8 @@ use Rattle.club_core.specs.State.{draughts, shogi, place, terms_at}
 use Rattle.store_tables.specs.Cells.{IsText, OrNull, IsMember, IsEvent, IsMove, IsGame}
 use Rattle.club_rows.specs.Club.{ClubGame, ClubState, IsClub, both_games}
 use Rattle.club_core.specs.OutsideEnd.{outside_text}
-use Rattle.club_rows.specs.Tables.{member_row, event_row, game_row, entry_rows, with_entry, end_name_text, numbered_from, gathered_from, row_of_game, rows_of_moves, tables_of}
+use Rattle.club_rows.specs.Tables.{member_row, event_row, game_row, entry_rows, with_entry, end_name_text}
+use Rattle.club_rows.specs.Tables.{numbered_from, gathered_from, row_of_game, rows_of_moves, tables_of}
 use Rattle.club_rows.proofs.PlainTexts.{is-text, name-plain, key-plain, written, ArePlain}
 use Rattle.club_rows.proofs.DraughtsTexts.{draughts-plain}
 use Rattle.club_rows.proofs.ShogiTexts.{shogi-plain}
@@ -60,7 +63,8 @@ score-is_text SecondWins = written (codes "0-2") refl
 int : (n : ℕ) → IsInt (Int (pos n))
 int n = (pos n, refl)
 
-or-text : {A : Type 0} (f : A → List ℕ) (o : Option A) → IfSome o (λ x. IsText (Text (f x))) → OrNull IsText (or_null (λ x. Text (f x)) o)
+or-text : {A : Type 0} (f : A → List ℕ) (o : Option A) → IfSome o (λ x. IsText (Text (f x)))
+    → OrNull IsText (or_null (λ x. Text (f x)) o)
 or-text f None is = inl refl
 or-text f (Some x) is = inr is
 
@@ -80,31 +84,56 @@ end-is_text : {P M E T : Type 0} (laws : GameRules P M E T) (end : GameEnd E) �
 end-is_text laws (Rule e) = end-text (laws.end_name e)
 end-is_text laws (Outside o) = outside-is_text o
 
-numbered-all : {A : Type 0} (row : ℕ → A → Row) (P : A → Type 0) (Q : Row → Type 0) → ((id : ℕ) (x : A) → P x → Q (row id x)) → (n : ℕ) (xs : List A) → Each P xs → AllByRecursion Q (numbered_from row n xs)
+numbered-all : {A : Type 0} (row : ℕ → A → Row) (P : A → Type 0) (Q : Row → Type 0)
+    → ((id : ℕ) (x : A) → P x → Q (row id x)) → (n : ℕ) (xs : List A) → Each P xs
+    → AllByRecursion Q (numbered_from row n xs)
 numbered-all row P Q makes n [] each = tt
-numbered-all row P Q makes n (x ∷ xs) each = (makes n x (each 0 x refl), numbered-all row P Q makes (suc n) xs (λ k y at. each (suc k) y at))
+numbered-all row P Q makes n (x ∷ xs) each =
+    (makes n x (each 0 x refl), numbered-all row P Q makes (suc n) xs (λ k y at. each (suc k) y at))
 
 all-append : (Q : Row → Type 0) (a b : List Row) → AllByRecursion Q a → AllByRecursion Q b → AllByRecursion Q (a ++ b)
 all-append Q [] b one two = two
 all-append Q (x ∷ a) b one two = (one.0, all-append Q a b one.1 two)
 
 -- what holds of the rows of each element holds of all
-pub gathered-all : {A : Type 0} (rows : ℕ → A → List Row) (P : A → Type 0) (Q : Row → Type 0) → ((id : ℕ) (x : A) → P x → AllByRecursion Q (rows id x)) → (n : ℕ) (xs : List A) → Each P xs → AllByRecursion Q (gathered_from rows n xs)
+pub gathered-all : {A : Type 0} (rows : ℕ → A → List Row) (P : A → Type 0) (Q : Row → Type 0)
+    → ((id : ℕ) (x : A) → P x → AllByRecursion Q (rows id x)) → (n : ℕ) (xs : List A) → Each P xs
+    → AllByRecursion Q (gathered_from rows n xs)
 gathered-all rows P Q makes n [] each = tt
-gathered-all rows P Q makes n (x ∷ xs) each = all-append Q (rows n x) _ (makes n x (each 0 x refl)) (gathered-all rows P Q makes (suc n) xs (λ k y at. each (suc k) y at))
+gathered-all rows P Q makes n (x ∷ xs) each =
+    all-append Q (rows n x) _ (makes n x (each 0 x refl))
+    (gathered-all rows P Q makes (suc n) xs (λ k y at. each (suc k) y at))
 
 member-typed : (id : ℕ) (m : Member) → IsLegalMember m → IsMember (member_row id m)
-member-typed id m legal = record { width = refl; id = int id; name = is-text m.name (name-plain m.name legal.name); key = is-text m.key (key-plain m.key legal.key) }
+member-typed id m legal =
+    record {
+      width = refl;
+      id = int id;
+      name = is-text m.name (name-plain m.name legal.name);
+      key =
+          is-text m.key (key-plain m.key legal.key);
+    }
 
 event-typed : (id : ℕ) (e : Event) → IsLegalEvent e → IsEvent (event_row id e)
-event-typed id e legal = record { width = refl; id = int id; name = is-text e.name (name-plain e.name legal.name); game = (_, refl); budget = int e.terms.budget; increment = int e.terms.increment }
+event-typed id e legal =
+    record {
+      width = refl;
+      id = int id;
+      name = is-text e.name (name-plain e.name legal.name);
+      game = (_, refl);
+      budget =
+          int e.terms.budget;
+      increment = int e.terms.increment;
+    }
 
-made-append : {M : Type 0} (es : List (Entry M)) (e : Entry M) → map (λ x. x.made) (es ++ e ∷ []) ≡ map (λ x. x.made) es ++ e.made ∷ []
+made-append : {M : Type 0} (es : List (Entry M)) (e : Entry M)
+    → map (λ x. x.made) (es ++ e ∷ []) ≡ map (λ x. x.made) es ++ e.made ∷ []
 made-append [] e = refl
 made-append (x ∷ es) e = ap (λ ms. x.made ∷ ms) (made-append es e)
 
 module _ {P M E T : Type 0} (laws : GameRules P M E T) (plain : ArePlain laws) where
-  game-typed : (terms : Terms) (id : ℕ) (g : Game M) → IfSome g.key (λ k. IsTrue (is_name k)) → IsGame (game_row laws terms id g)
+  game-typed : (terms : Terms) (id : ℕ) (g : Game M) → IfSome g.key (λ k. IsTrue (is_name k))
+      → IsGame (game_row laws terms id g)
   game-typed terms id g named = record {
     width = refl;
     id = int id;
@@ -126,11 +155,14 @@ module _ {P M E T : Type 0} (laws : GameRules P M E T) (plain : ArePlain laws) w
     track_b = (_, refl);
   }
 
-  entries-typed : (terms : Terms) (id : ℕ) (g : Game M) (es : List (Entry M)) → IsLegalLine laws (last_position laws g) (map (λ e. e.made) es) → AllByRecursion IsMove (entry_rows laws terms id g es)
+  entries-typed : (terms : Terms) (id : ℕ) (g : Game M) (es : List (Entry M))
+      → IsLegalLine laws (last_position laws g) (map (λ e. e.made) es)
+      → AllByRecursion IsMove (entry_rows laws terms id g es)
   entries-typed terms id g [] line = tt
   entries-typed terms id g (e ∷ es) line =
       let after : last_position laws (with_entry g e) ≡ laws.play (last_position laws g) e.made =
-      ap (position_after laws laws.start) (made-append g.entries e) ∙ position_after-append laws laws.start (moves_of g) e.made in (
+      ap (position_after laws laws.start) (made-append g.entries e)
+      ∙ position_after-append laws laws.start (moves_of g) e.made in (
         record {
           width = refl;
           game = int id;
@@ -140,7 +172,8 @@ module _ {P M E T : Type 0} (laws : GameRules P M E T) (plain : ArePlain laws) w
           left = (_, refl);
           position = is-text _ (plain.position (last_position laws (with_entry g e)));
         },
-        entries-typed terms id (with_entry g e) es (subst (λ p. IsLegalLine laws p (map (λ x. x.made) es)) (sym after) line.1),
+        entries-typed terms id (with_entry g e) es
+            (subst (λ p. IsLegalLine laws p (map (λ x. x.made) es)) (sym after) line.1),
       )
 
 module _ (s : ClubState) (club : IsClub s) where
@@ -151,15 +184,22 @@ module _ (s : ClubState) (club : IsClub s) where
   events-typed = numbered-all event_row IsLegalEvent IsEvent event-typed 1 s.events club.events
 
   any-game : (id : ℕ) (any : ClubGame) → IsLegalIn both_games s any → IsGame (row_of_game both_games s.events id any)
-  any-game id (draughts g) legal = game-typed both_games.draughts draughts-plain (terms_at (place s.events g.event)) id g legal.key
-  any-game id (shogi g) legal = game-typed both_games.shogi shogi-plain (terms_at (place s.events g.event)) id g legal.key
+  any-game id (draughts g) legal = game-typed both_games.draughts draughts-plain (terms_at (place s.events g.event)) id
+      g legal.key
+  any-game id (shogi g) legal = game-typed both_games.shogi shogi-plain (terms_at (place s.events g.event)) id g
+      legal.key
 
-  any-moves : (id : ℕ) (any : ClubGame) → IsLegalIn both_games s any → AllByRecursion IsMove (rows_of_moves both_games s.events id any)
-  any-moves id (draughts g) legal = entries-typed both_games.draughts draughts-plain (terms_at (place s.events g.event)) id (record g { entries = [] }) g.entries legal.legal.line.legal
-  any-moves id (shogi g) legal = entries-typed both_games.shogi shogi-plain (terms_at (place s.events g.event)) id (record g { entries = [] }) g.entries legal.legal.line.legal
+  any-moves : (id : ℕ) (any : ClubGame) → IsLegalIn both_games s any
+      → AllByRecursion IsMove (rows_of_moves both_games s.events id any)
+  any-moves id (draughts g) legal = entries-typed both_games.draughts draughts-plain (terms_at (place s.events g.event))
+      id (record g { entries = [] }) g.entries legal.legal.line.legal
+  any-moves id (shogi g) legal = entries-typed both_games.shogi shogi-plain (terms_at (place s.events g.event)) id
+      (record g { entries = [] }) g.entries legal.legal.line.legal
 
   pub moves-typed : AllByRecursion IsMove (tables_of both_games s 8)
-  moves-typed = gathered-all (rows_of_moves both_games s.events) (IsLegalIn both_games s) IsMove any-moves 1 s.games club.games
+  moves-typed = gathered-all (rows_of_moves both_games s.events) (IsLegalIn both_games s) IsMove any-moves 1 s.games
+      club.games
 
   pub games-typed : AllByRecursion IsGame (tables_of both_games s 10)
-  games-typed = numbered-all (row_of_game both_games s.events) (IsLegalIn both_games s) IsGame any-game 1 s.games club.games
+  games-typed = numbered-all (row_of_game both_games s.events) (IsLegalIn both_games s) IsGame any-game 1 s.games
+      club.games

@@ -1,5 +1,6 @@
 -- What the columns of a game's row tell of the game, and when a game that is told so is legal.
-use Rattle.std.proofs.Common.{◌≡◌, ◌≢◌, ℕ, zero, suc, pos, ◌+◌, ◌≤◌, List, [], ◌∷◌, length, map, Option, Some, None, Bool, true, false, ◌&&◌, not, nat_eq, refl, ap, sym, ◌∙◌, arith}
+use Rattle.std.proofs.Common.{◌≡◌, ◌≢◌, ℕ, zero, suc, pos, ◌+◌, ◌≤◌, List, [], ◌∷◌, length, map, Option, Some, None}
+use Rattle.std.proofs.Common.{Bool, true, false, ◌&&◌, not, nat_eq, refl, ap, sym, ◌∙◌, arith}
 use Rattle.std.specs.Prelude.{string_bytes, slice_get, is_some, IsSome, IfSome, IsTrue}
 use Rattle.std.specs.Option.{option_map}
 use Rattle.std.proofs.lemmas.Bool.{eqb-true, eq-eqb}
@@ -15,7 +16,8 @@ use Rattle.club_core.specs.declared.rows.OutsideEnd.{OutsideEnd}
 use Rattle.club_core.specs.declared.rows.OutsideEnd.TheVariants.{Resigned, Agreed, Time, Recorded}
 use Rattle.club_core.specs.Limits.{is_name}
 use Rattle.club_core.specs.Events.{Terms}
-use Rattle.club_core.specs.Game.{Entry, Game, Clocks, spend, spend_all, clocks_of, moments_of, opening_clocks, end_with, score_with, rule_end, end_of, result_of, turn_of}
+use Rattle.club_core.specs.Game.{Entry, Game, Clocks, spend, spend_all, clocks_of, moments_of, opening_clocks, end_with}
+use Rattle.club_core.specs.Game.{score_with, rule_end, end_of, result_of, turn_of}
 use Rattle.club_core.specs.Legal.{IsTimely, IsOffer, IsLegalGame}
 use Rattle.club_core.specs.View.{IsRowOf, rule_in}
 use Rattle.store_tables.specs.Cells.{game_cells}
@@ -29,7 +31,8 @@ use Rattle.club_rows.specs.Told.{HasNumbers, may_have_key, may_have_offer, may_h
 use Rattle.club_rows.proofs.SameLemmas.{seventeen-parts, same-int, same-texts, same-ints, option_map-itself}
 
 -- what the columns of the row of a game are
-pub record IsToldBy {P M E T : Type 0} (rules : GameRules P M E T) (id : ℕ) (game : Game M) (stored : GameRecord) : Type 0 where
+pub record IsToldBy {P M E T : Type 0} (rules : GameRules P M E T) (id : ℕ) (game : Game M) (stored : GameRecord) : Type
+    0 where
   pub numbers : HasNumbers stored id game.event game.first game.second game.start
   pub key : option_map (λ s. string_bytes s) stored.key ≡ game.key
   pub offer_side : stored.offer_side ≡ option_map (λ o. pos (side_number o.side)) game.offer
@@ -65,39 +68,65 @@ none-is_some None is = refl
 none-is_some (Some x) is = cc
 
 eqb-false : (a b : ℕ) → a ≢ b → nat_eq a b ≡ false
-eqb-false a b apart = elim (nat_eq a b) as (λ v. nat_eq a b ≡ v → v ≡ false) [ true ↦ λ is. absurd (apart (eqb-true a b is)) | false ↦ λ is. refl ] refl
+eqb-false a b apart = elim (nat_eq a b) as (λ v. nat_eq a b ≡ v → v ≡ false)
+    [ true ↦ λ is. absurd (apart (eqb-true a b is)) | false ↦ λ is. refl ] refl
 
 module _ {P M E T : Type 0} (rules : GameRules P M E T) where
-  pub columns-told : (terms : Terms) (id : ℕ) (game : Game M) (stored : GameRecord) → game_cells stored ≡ game_row rules terms id game → IsToldBy rules id game stored
+  pub columns-told : (terms : Terms) (id : ℕ) (game : Game M) (stored : GameRecord)
+      → game_cells stored ≡ game_row rules terms id game → IsToldBy rules id game stored
   columns-told terms id game stored is =
       let p = seventeen-parts _ _ _ _ _ _ _ _ _ _ _ _ _ _ _ _ _ _ _ _ _ _ _ _ _ _ _ _ _ _ _ _ _ _ is in
       record {
-        numbers = record { id = same-int _ _ p.p0; event = same-int _ _ p.p2; first = same-int _ _ p.p3; second = same-int _ _ p.p4; start = same-int _ _ p.p5 };
+        numbers =
+            record {
+              id = same-int _ _ p.p0;
+              event = same-int _ _ p.p2;
+              first = same-int _ _ p.p3;
+              second =
+                  same-int _ _ p.p4;
+              start = same-int _ _ p.p5;
+            };
         key = same-texts (λ s. string_bytes s) (λ s. s) stored.key game.key p.p1 ∙ option_map-itself game.key;
-        offer_side = sym (option_map-itself stored.offer_side) ∙ same-ints (λ z. z) (λ o. pos (side_number o.side)) stored.offer_side game.offer p.p10;
-        offer_ply = sym (option_map-itself stored.offer_ply) ∙ same-ints (λ z. z) (λ o. pos o.ply) stored.offer_ply game.offer p.p11;
+        offer_side = sym (option_map-itself stored.offer_side)
+            ∙ same-ints (λ z. z) (λ o. pos (side_number o.side)) stored.offer_side game.offer p.p10;
+        offer_ply = sym (option_map-itself stored.offer_ply)
+            ∙ same-ints (λ z. z) (λ o. pos o.ply) stored.offer_ply game.offer p.p11;
         end = same-texts (λ s. string_bytes s) (end_name_text rules) stored.end (end_of rules game) p.p12;
         result = same-texts (λ s. string_bytes s) score_text stored.result (result_of rules game) p.p13;
       }
 
   -- an end from outside stands in the row by its name
-  outside-named : (e : Option E) (o : Option OutsideEnd) → e ≡ None → option_map (end_name_text rules) (end_with e o) ≡ option_map outside_text o
+  outside-named : (e : Option E) (o : Option OutsideEnd) → e ≡ None
+      → option_map (end_name_text rules) (end_with e o) ≡ option_map outside_text o
   outside-named (Some e) o none = cc
   outside-named None None none = refl
   outside-named None (Some o) none = refl
 
-  pub told-outside : (id : ℕ) (game : Game M) (stored : GameRecord) → IsToldBy rules id game stored → rule_end rules game ≡ None → option_map (λ s. string_bytes s) stored.end ≡ option_map outside_text game.outside
+  pub told-outside : (id : ℕ) (game : Game M) (stored : GameRecord) → IsToldBy rules id game stored
+      → rule_end rules game ≡ None → option_map (λ s. string_bytes s) stored.end ≡ option_map outside_text game.outside
   told-outside id game stored told none = told.end ∙ outside-named (rule_end rules game) game.outside none
 
-  recorded-named : (e : Option E) (o : Option OutsideEnd) (turn : Side) (s : Score) → e ≡ None → o ≡ Some (Recorded s) → option_map score_text (score_with rules (end_with e o) turn) ≡ Some (score_text s)
+  recorded-named : (e : Option E) (o : Option OutsideEnd) (turn : Side) (s : Score) → e ≡ None → o ≡ Some (Recorded s)
+      → option_map score_text (score_with rules (end_with e o) turn) ≡ Some (score_text s)
   recorded-named e o turn s none is = rw (none, is) refl
 
-  pub told-recorded : (id : ℕ) (game : Game M) (stored : GameRecord) → IsToldBy rules id game stored → rule_end rules game ≡ None → (s : Score) → game.outside ≡ Some (Recorded s) → option_map (λ s. string_bytes s) stored.result ≡ Some (score_text s)
-  told-recorded id game stored told none s is = told.result ∙ recorded-named (rule_end rules game) game.outside (turn_of rules game) s none is
+  pub told-recorded : (id : ℕ) (game : Game M) (stored : GameRecord) → IsToldBy rules id game stored
+      → rule_end rules game ≡ None → (s : Score) → game.outside ≡ Some (Recorded s)
+      → option_map (λ s. string_bytes s) stored.result ≡ Some (score_text s)
+  told-recorded id game stored told none s is = told.result
+      ∙ recorded-named (rule_end rules game) game.outside (turn_of rules game) s none is
 
-  pub rows-played : (terms : Terms) (id number from : ℕ) (stored : GameRecord) (moves : List MoveRow) (game : Game M) → AreRowsOf rules terms id stored moves game → number ≡ id → game.start ≡ from → IsPlayedAs rules terms number from moves game
+  pub rows-played : (terms : Terms) (id number from : ℕ) (stored : GameRecord) (moves : List MoveRow) (game : Game M)
+      → AreRowsOf rules terms id stored moves game → number ≡ id → game.start ≡ from
+      → IsPlayedAs rules terms number from moves game
   rows-played terms id number from stored moves game is same start =
-      record { legal = is.legal; start = start; moments = is.fits.entries; moves = is.moves ∙ ap (λ n. move_rows rules terms n game) (sym same) }
+      record {
+        legal = is.legal;
+        start = start;
+        moments = is.fits.entries;
+        moves = is.moves
+            ∙ ap (λ n. move_rows rules terms n game) (sym same);
+      }
 
 -- ---- the moments of a game that was recorded
 
@@ -105,14 +134,16 @@ pub spend-since : (increment : ℕ) (side : Side) (m : ℕ) (c : Clocks) → (sp
 spend-since increment First m c = refl
 spend-since increment Second m c = refl
 
-pub since-rises : (increment : ℕ) (side : Side) (ms : List ℕ) (c : Clocks) → IsTimely increment side ms c → c.since ≤ (spend_all increment side ms c).since
+pub since-rises : (increment : ℕ) (side : Side) (ms : List ℕ) (c : Clocks) → IsTimely increment side ms c
+    → c.since ≤ (spend_all increment side ms c).since
 since-rises increment side [] c timely = omega arith
 since-rises increment side (m ∷ ms) c timely =
     let rest = since-rises increment (other side) ms (spend increment side m c) timely.2 in
     let here = spend-since increment side m c in
     omega (arith, timely.0, rest, here)
 
-all-at-once : (increment : ℕ) (side : Side) (ms : List ℕ) (c : Clocks) → IsTimely increment side ms c → (spend_all increment side ms c).since ≤ c.since → (n m : ℕ) → slice_get ms n ≡ Some m → m ≡ c.since
+all-at-once : (increment : ℕ) (side : Side) (ms : List ℕ) (c : Clocks) → IsTimely increment side ms c
+    → (spend_all increment side ms c).since ≤ c.since → (n m : ℕ) → slice_get ms n ≡ Some m → m ≡ c.since
 all-at-once increment side [] c timely most n m at = cc
 all-at-once increment side (x ∷ ms) c timely most zero m at =
     let e : x ≡ m = same_Some x m at in
@@ -123,26 +154,35 @@ all-at-once increment side (x ∷ ms) c timely most (suc n) m at =
     let later = timely.0 in
     let rest = since-rises increment (other side) ms (spend increment side x c) timely.2 in
     let here = spend-since increment side x c in
-    let is = all-at-once increment (other side) ms (spend increment side x c) timely.2 (omega (arith, here, most, later)) n m at in
+    let is = all-at-once increment (other side) ms (spend increment side x c) timely.2
+    (omega (arith, here, most, later)) n m at in
     omega (arith, is, later, rest, here, most)
 
-stays-at-once : (increment : ℕ) (side : Side) (ms : List ℕ) (c : Clocks) (start : ℕ) → c.since ≡ start → ((n m : ℕ) → slice_get ms n ≡ Some m → m ≡ start) → (spend_all increment side ms c).since ≡ start
+stays-at-once : (increment : ℕ) (side : Side) (ms : List ℕ) (c : Clocks) (start : ℕ) → c.since ≡ start
+    → ((n m : ℕ) → slice_get ms n ≡ Some m → m ≡ start) → (spend_all increment side ms c).since ≡ start
 stays-at-once increment side [] c start is each = is
 stays-at-once increment side (m ∷ ms) c start is each =
-    stays-at-once increment (other side) ms (spend increment side m c) start (spend-since increment side m c ∙ each zero m refl) (λ n x at. each (suc n) x at)
+    stays-at-once increment (other side) ms (spend increment side m c) start
+    (spend-since increment side m c ∙ each zero m refl) (λ n x at. each (suc n) x at)
 
 module _ {P M E T : Type 0} (rules : GameRules P M E T) (terms : Terms) (game : Game M) where
-  pub recorded-at_once : IsTimely terms.increment First (moments_of game) (opening_clocks game terms) → (clocks_of game terms).since ≡ game.start → (n : ℕ) (e : Entry M) → slice_get game.entries n ≡ Some e → e.moment ≡ game.start
+  pub recorded-at_once : IsTimely terms.increment First (moments_of game) (opening_clocks game terms)
+      → (clocks_of game terms).since ≡ game.start → (n : ℕ) (e : Entry M) → slice_get game.entries n ≡ Some e
+      → e.moment ≡ game.start
   recorded-at_once timely since n e at =
-      all-at-once terms.increment First (moments_of game) (opening_clocks game terms) timely (omega (arith, since)) n e.moment (slice_get-map (λ x. x.moment) game.entries n ∙ ap (option_map (λ x. x.moment)) at)
+      all-at-once terms.increment First (moments_of game) (opening_clocks game terms) timely (omega (arith, since)) n
+      e.moment (slice_get-map (λ x. x.moment) game.entries n ∙ ap (option_map (λ x. x.moment)) at)
 
-  moment-got : (es : List (Entry M)) (start : ℕ) → ((n : ℕ) (e : Entry M) → slice_get es n ≡ Some e → e.moment ≡ start) → (n m : ℕ) → slice_get (map (λ x. x.moment) es) n ≡ Some m → m ≡ start
+  moment-got : (es : List (Entry M)) (start : ℕ) → ((n : ℕ) (e : Entry M) → slice_get es n ≡ Some e → e.moment ≡ start)
+      → (n m : ℕ) → slice_get (map (λ x. x.moment) es) n ≡ Some m → m ≡ start
   moment-got [] start each n m at = cc
   moment-got (e ∷ es) start each zero m at = sym (same_Some e.moment m at) ∙ each zero e refl
   moment-got (e ∷ es) start each (suc n) m at = moment-got es start (λ k x is. each (suc k) x is) n m at
 
-  pub recorded-since : ((n : ℕ) (e : Entry M) → slice_get game.entries n ≡ Some e → e.moment ≡ game.start) → (clocks_of game terms).since ≡ game.start
-  recorded-since each = stays-at-once terms.increment First (moments_of game) (opening_clocks game terms) game.start refl (moment-got game.entries game.start each)
+  pub recorded-since : ((n : ℕ) (e : Entry M) → slice_get game.entries n ≡ Some e → e.moment ≡ game.start)
+      → (clocks_of game terms).since ≡ game.start
+  recorded-since each = stays-at-once terms.increment First (moments_of game) (opening_clocks game terms) game.start
+      refl (moment-got game.entries game.start each)
 
   -- ---- whether the row may stand
 
@@ -157,7 +197,8 @@ module _ {P M E T : Type 0} (rules : GameRules P M E T) (terms : Terms) (game : 
       may_have_key game.key
       && not (nat_eq game.first game.second)
       && may_have_offer rules.has_draw_offers (length game.entries) (is_some (rule_end rules game)) game.offer
-      && may_have_end (is_some game.key) (is_some game.offer) game.start (clocks_of game terms).since (end_of rules game)
+      && may_have_end (is_some game.key) (is_some game.offer) game.start (clocks_of game terms).since
+      (end_of rules game)
 
   is_some-map : {A B : Type 0} (f : A → B) (o : Option A) → is_some (option_map f o) ≡ is_some o
   is_some-map f None = refl
@@ -168,11 +209,17 @@ module _ {P M E T : Type 0} (rules : GameRules P M E T) (terms : Terms) (game : 
       let key = ap may_have_key is.key in
       let has_key = sym (is_some-map (λ k. string_bytes k) row.key) ∙ ap is_some is.key in
       let ended = ap (λ e. is_some (rule_in e)) is.end ∙ ap is_some (rule_in-with (rule_end rules game) game.outside) in
-      let offer : may_have_offer rules.has_draw_offers row.plies (is_some (rule_in row.end)) row.offer ≡ may_have_offer rules.has_draw_offers (length game.entries) (is_some (rule_end rules game)) game.offer = λ i. may_have_offer rules.has_draw_offers (is.plies i) (ended i) (is.offer i) in
-      let end : may_have_end (is_some row.key) (is_some row.offer) row.start row.since row.end ≡ may_have_end (is_some game.key) (is_some game.offer) game.start (clocks_of game terms).since (end_of rules game) = λ i. may_have_end (has_key i) (is_some (is.offer i)) (is.start i) (is.clocks i).since (is.end i) in
+      let offer : may_have_offer rules.has_draw_offers row.plies (is_some (rule_in row.end)) row.offer
+      ≡ may_have_offer rules.has_draw_offers (length game.entries) (is_some (rule_end rules game)) game.offer =
+      λ i. may_have_offer rules.has_draw_offers (is.plies i) (ended i) (is.offer i) in
+      let end : may_have_end (is_some row.key) (is_some row.offer) row.start row.since row.end
+      ≡ may_have_end (is_some game.key) (is_some game.offer) game.start (clocks_of game terms).since
+      (end_of rules game) = λ i. may_have_end (has_key i) (is_some (is.offer i)) (is.start i) (is.clocks i).since
+      (is.end i) in
       λ i. key i && not (nat_eq (is.first i) (is.second i)) && offer i && end i
 
-  offer-legal : (o : Option Offer) → may_have_offer rules.has_draw_offers (length game.entries) (is_some (rule_end rules game)) o ≡ true → IfSome o (λ offer. IsOffer rules game offer)
+  offer-legal : (o : Option Offer) → may_have_offer rules.has_draw_offers (length game.entries)
+      (is_some (rule_end rules game)) o ≡ true → IfSome o (λ offer. IsOffer rules game offer)
   offer-legal None is = tt
   offer-legal (Some offer) is =
       let parts = and-both _ _ is in
@@ -183,19 +230,26 @@ module _ {P M E T : Type 0} (rules : GameRules P M E T) (terms : Terms) (game : 
         no_rule_end = is_some-none (rule_end rules game) (not-true _ first.1);
       }
 
-  legal-offer : (o : Option Offer) → IfSome o (λ offer. IsOffer rules game offer) → may_have_offer rules.has_draw_offers (length game.entries) (is_some (rule_end rules game)) o ≡ true
+  legal-offer : (o : Option Offer) → IfSome o (λ offer. IsOffer rules game offer)
+      → may_have_offer rules.has_draw_offers (length game.entries) (is_some (rule_end rules game)) o ≡ true
   legal-offer None is = refl
   legal-offer (Some offer) is =
-      both-and _ _ (both-and _ _ is.allowed (not-false _ (none-is_some (rule_end rules game) is.no_rule_end))) (eq-eqb offer.ply (length game.entries + 1) is.next_ply)
+      both-and _ _ (both-and _ _ is.allowed (not-false _ (none-is_some (rule_end rules game) is.no_rule_end)))
+      (eq-eqb offer.ply (length game.entries + 1) is.next_ply)
 
-  end-agreed : (key offer : Bool) (start since : ℕ) (e : Option E) (o : Option OutsideEnd) → e ≡ None → o ≡ Some Agreed → may_have_end key offer start since (end_with e o) ≡ true → offer ≡ true
+  end-agreed : (key offer : Bool) (start since : ℕ) (e : Option E) (o : Option OutsideEnd) → e ≡ None → o ≡ Some Agreed
+      → may_have_end key offer start since (end_with e o) ≡ true → offer ≡ true
   end-agreed key offer start since e o none is stand = rw (none, is) at stand
 
-  end-recorded : (key offer : Bool) (start since : ℕ) (e : Option E) (o : Option OutsideEnd) (s : Score) → e ≡ None → o ≡ Some (Recorded s) → may_have_end key offer start since (end_with e o) ≡ true → (key && not offer && nat_eq since start) ≡ true
+  end-recorded : (key offer : Bool) (start since : ℕ) (e : Option E) (o : Option OutsideEnd) (s : Score) → e ≡ None
+      → o ≡ Some (Recorded s) → may_have_end key offer start since (end_with e o) ≡ true
+      → (key && not offer && nat_eq since start) ≡ true
   end-recorded key offer start since e o s none is stand = rw (none, is) at stand
 
   -- a game that was replayed and whose row may stand is legal
-  pub stands-legal : IsLegalGame rules terms (game_from game.start game.entries) → (IsSome game.outside → rule_end rules game ≡ None) → stands ≡ true → IsLegalGame rules terms game × IfSome game.key (λ k. IsTrue (is_name k))
+  pub stands-legal : IsLegalGame rules terms (game_from game.start game.entries)
+      → (IsSome game.outside → rule_end rules game ≡ None) → stands ≡ true → IsLegalGame rules terms game
+      × IfSome game.key (λ k. IsTrue (is_name k))
   stands-legal moves alone stand =
       let parts = and-both _ _ stand in
       let front = and-both _ _ parts.0 in
@@ -206,9 +260,11 @@ module _ {P M E T : Type 0} (rules : GameRules P M E T) (terms : Terms) (game : 
           timely = moves.timely;
           outside_alone = alone;
           offer = offer-legal game.offer front.1;
-          agreed = λ is. end-agreed _ _ _ _ (rule_end rules game) game.outside (alone (some-is game.outside Agreed is)) is parts.1;
+          agreed = λ is. end-agreed _ _ _ _ (rule_end rules game) game.outside (alone (some-is game.outside Agreed is))
+              is parts.1;
           recorded = λ s is.
-              let test = end-recorded _ _ _ _ (rule_end rules game) game.outside s (alone (some-is game.outside (Recorded s) is)) is parts.1 in
+              let test = end-recorded _ _ _ _ (rule_end rules game) game.outside s
+              (alone (some-is game.outside (Recorded s) is)) is parts.1 in
               let both = and-both _ _ test in
               let keyed = and-both _ _ both.0 in
               record {
@@ -216,7 +272,8 @@ module _ {P M E T : Type 0} (rules : GameRules P M E T) (terms : Terms) (game : 
                 no_offer = is_some-none game.offer (not-true _ keyed.1);
                 at_once = recorded-at_once moves.timely (eqb-true _ _ both.1);
               };
-          players = λ same. let e : nat_eq game.first game.second ≡ true = eq-eqb game.first game.second same in let f = not-true _ head.1 in absurd cc;
+          players = λ same. let e : nat_eq game.first game.second ≡ true = eq-eqb game.first game.second same in
+              let f = not-true _ head.1 in absurd cc;
         },
         key-named game.key head.0,
       )
@@ -228,7 +285,10 @@ module _ {P M E T : Type 0} (rules : GameRules P M E T) (terms : Terms) (game : 
       key-named None is = tt
       key-named (Some key) is = is
 
-  end-legal : (key offer : Bool) (start since : ℕ) (e : Option E) (o : Option OutsideEnd) → (o ≡ Some Agreed → offer ≡ true) → ((s : Score) → o ≡ Some (Recorded s) → (key && not offer && nat_eq since start) ≡ true) → may_have_end key offer start since (end_with e o) ≡ true
+  end-legal : (key offer : Bool) (start since : ℕ) (e : Option E) (o : Option OutsideEnd)
+      → (o ≡ Some Agreed → offer ≡ true)
+      → ((s : Score) → o ≡ Some (Recorded s) → (key && not offer && nat_eq since start) ≡ true)
+      → may_have_end key offer start since (end_with e o) ≡ true
   end-legal key offer start since (Some e) o agreed recorded = refl
   end-legal key offer start since None None agreed recorded = refl
   end-legal key offer start since None (Some Resigned) agreed recorded = refl
@@ -239,10 +299,14 @@ module _ {P M E T : Type 0} (rules : GameRules P M E T) (terms : Terms) (game : 
   -- the row of a legal game may stand
   pub legal-stands : IsLegalGame rules terms game → IfSome game.key (λ k. IsTrue (is_name k)) → stands ≡ true
   legal-stands legal named =
-      both-and _ _ (both-and _ _ (both-and _ _ (named-key game.key named) (not-false _ (eqb-false game.first game.second legal.players))) (legal-offer game.offer legal.offer))
+      both-and _ _
+      (both-and _ _
+      (both-and _ _ (named-key game.key named) (not-false _ (eqb-false game.first game.second legal.players)))
+      (legal-offer game.offer legal.offer))
       (end-legal _ _ _ _ (rule_end rules game) game.outside legal.agreed (λ s is.
       let recorded = legal.recorded s is in
-      both-and _ _ (both-and _ _ recorded.keyed (not-false _ (none-is_some game.offer recorded.no_offer))) (eq-eqb _ _ (recorded-since recorded.at_once))))
+      both-and _ _ (both-and _ _ recorded.keyed (not-false _ (none-is_some game.offer recorded.no_offer)))
+      (eq-eqb _ _ (recorded-since recorded.at_once))))
     where
       named-key : (key : Option (List ℕ)) → IfSome key (λ k. IsTrue (is_name k)) → may_have_key key ≡ true
       named-key None is = refl

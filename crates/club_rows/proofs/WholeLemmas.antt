@@ -1,5 +1,7 @@
 -- The rows of a game's moves one after another, and what a replay of so many of them shows.
-use Rattle.std.proofs.Common.{◌≡◌, ℕ, zero, suc, pos, ◌+◌, ◌-◌, ◌<◌, ◌≤◌, List, [], ◌∷◌, ◌++◌, length, map, take, Some, None, Result, Ok, refl, ap, sym, ◌∙◌, subst, arith, append_assoc, append-nil, add-one, length-append}
+use Rattle.std.proofs.Common.{◌≡◌, ℕ, zero, suc, pos, ◌+◌, ◌-◌, ◌<◌, ◌≤◌, List, [], ◌∷◌, ◌++◌, length, map, take, Some}
+use Rattle.std.proofs.Common.{None, Result, Ok, refl, ap, sym, ◌∙◌, subst, arith, append_assoc, append-nil, add-one}
+use Rattle.std.proofs.Common.{length-append}
 use Rattle.std.specs.Prelude.{slice_get, IsSome}
 use Rattle.std.specs.Option.{option_map}
 use Rattle.std.proofs.lemmas.List.{map-append, length-map, take-map, take_more, length-take-le}
@@ -15,7 +17,9 @@ use Rattle.club_rules.proofs.Proved.{check-at}
 use Rattle.club_core.specs.declared.rows.OutsideEnd.{OutsideEnd}
 use Rattle.club_core.specs.Limits.{last_moment}
 use Rattle.club_core.specs.Events.{Terms}
-use Rattle.club_core.specs.Game.{Entry, Game, Clocks, spend, spend_all, turns, side_after, clocks_of, moves_of, moments_of, opening_clocks, left_of, last_position, game_at, turn_of, result_of, end_with, score_with}
+use Rattle.club_core.specs.Game.{Entry, Game, Clocks, spend, spend_all, turns, side_after, clocks_of, moves_of}
+use Rattle.club_core.specs.Game.{moments_of, opening_clocks, left_of, last_position, game_at, turn_of, result_of}
+use Rattle.club_core.specs.Game.{end_with, score_with}
 use Rattle.club_core.specs.Legal.{IsTimely, IsLegalGame}
 use Rattle.club_core.proofs.Legals.{AreRules, legal-played}
 use Rattle.club_core.proofs.Lists.{each-append}
@@ -30,23 +34,32 @@ use Rattle.club_rows.proofs.LineLemmas.{IsLegalLine-take}
 use Rattle.club_rows.proofs.NextLemmas.{six-parts}
 
 -- the moves at those moments being in time, so is each of them
-pub timely-at : (increment : ℕ) (side : Side) (ms : List ℕ) (k m : ℕ) (c : Clocks) → IsTimely increment side ms c → slice_get ms k ≡ Some m → ((spend_all increment side (take k ms) c).since ≤ m) × (m - (spend_all increment side (take k ms) c).since ≤ left_of (turns k side) (spend_all increment side (take k ms) c))
+pub timely-at : (increment : ℕ) (side : Side) (ms : List ℕ) (k m : ℕ) (c : Clocks) → IsTimely increment side ms c
+    → slice_get ms k ≡ Some m → ((spend_all increment side (take k ms) c).since ≤ m)
+    ×
+    (m - (spend_all increment side (take k ms) c).since ≤ left_of (turns k side)
+    (spend_all increment side (take k ms) c))
 timely-at increment side [] k m c timely at = cc
 timely-at increment side (x ∷ ms) zero m c timely at =
     let e : x ≡ m = same_Some x m at in
     (subst (λ n. c.since ≤ n) e timely.0, subst (λ n. n - c.since ≤ left_of side c) e timely.1)
-timely-at increment side (x ∷ ms) (suc k) m c timely at = timely-at increment (other side) ms k m (spend increment side x c) timely.2 at
+timely-at increment side (x ∷ ms) (suc k) m c timely at =
+    timely-at increment (other side) ms k m (spend increment side x c) timely.2 at
 
 -- the beginning of a list up to an element, and with it
-pub take-got : {A : Type 0} (xs : List A) (k : ℕ) (x : A) → slice_get xs k ≡ Some x → take (k + 1) xs ≡ take k xs ++ x ∷ []
-take-got xs k x at = take_more xs k x (slice_get_within xs k x at) ∙ ap (λ y. take k xs ++ y ∷ []) (get_or_from_slice_get xs k x x at)
+pub take-got : {A : Type 0} (xs : List A) (k : ℕ) (x : A) → slice_get xs k ≡ Some x
+    → take (k + 1) xs ≡ take k xs ++ x ∷ []
+take-got xs k x at = take_more xs k x (slice_get_within xs k x at)
+    ∙ ap (λ y. take k xs ++ y ∷ []) (get_or_from_slice_get xs k x x at)
 
 module _ {P M E T : Type 0} (rules : GameRules P M E T) (terms : Terms) (id : ℕ) where
   abbrev pub row_at : ℕ → List (Entry M) → Entry M → Row
   row_at start es e = entry_row rules terms id (game_from start es) e
 
   -- the row at a place is that of the entry there, in the game before it
-  pub rows-from : (game : Game M) (es : List (Entry M)) (k : ℕ) (row : Row) → slice_get (entry_rows rules terms id game es) k ≡ Some row → (e : Entry M) × (slice_get es k ≡ Some e) × (row ≡ row_at game.start (game.entries ++ take k es) e)
+  pub rows-from : (game : Game M) (es : List (Entry M)) (k : ℕ) (row : Row)
+      → slice_get (entry_rows rules terms id game es) k ≡ Some row → (e : Entry M) × (slice_get es k ≡ Some e)
+      × (row ≡ row_at game.start (game.entries ++ take k es) e)
   rows-from game [] k row at = cc
   rows-from game (e ∷ es) zero row at =
       (e, refl, sym (same_Some _ row at) ∙ ap (λ l. row_at game.start l e) (sym (append-nil game.entries)))
@@ -55,19 +68,25 @@ module _ {P M E T : Type 0} (rules : GameRules P M E T) (terms : Terms) (id : �
       (rest.0, rest.1, rest.2 ∙ ap (λ l. row_at game.start l rest.0) (append_assoc game.entries (e ∷ []) (take k es)))
 
   -- the rows with one entry more
-  pub rows-append : (game : Game M) (es : List (Entry M)) (e : Entry M) → entry_rows rules terms id game (es ++ e ∷ []) ≡ entry_rows rules terms id game es ++ row_at game.start (game.entries ++ es) e ∷ []
+  pub rows-append : (game : Game M) (es : List (Entry M)) (e : Entry M)
+      → entry_rows rules terms id game (es ++ e ∷ []) ≡ entry_rows rules terms id game es
+      ++ row_at game.start (game.entries ++ es) e ∷ []
   rows-append game [] e = ap (λ l. row_at game.start l e ∷ []) (sym (append-nil game.entries))
   rows-append game (x ∷ es) e =
       ap (λ l. entry_row rules terms id game x ∷ l)
       (rows-append (with_entry game x) es e
-      ∙ ap (λ l. entry_rows rules terms id (with_entry game x) es ++ row_at game.start l e ∷ []) (append_assoc game.entries (x ∷ []) es))
+      ∙ ap (λ l. entry_rows rules terms id (with_entry game x) es ++ row_at game.start l e ∷ [])
+      (append_assoc game.entries (x ∷ []) es))
 
   -- two legal entries with one row are one
-  entry-only : ((p : P) (m : M) → rules.check p m ≡ Ok tt → rules.read_move p (rules.write_move p m) ≡ Ok m) → (game : Game M) (stored : MoveRow) (e f : Entry M) → Follows rules terms id game stored e → Follows rules terms id game stored f → e ≡ f
+  entry-only : ((p : P) (m : M) → rules.check p m ≡ Ok tt → rules.read_move p (rules.write_move p m) ≡ Ok m)
+      → (game : Game M) (stored : MoveRow) (e f : Entry M) → Follows rules terms id game stored e
+      → Follows rules terms id game stored f → e ≡ f
   entry-only reads_back game stored e f one two =
       let p = last_position rules game in
       let parts = six-parts _ _ _ _ _ _ _ _ _ _ _ _ (sym one.row ∙ two.row) in
-      let made : Ok e.made ≡ Ok f.made = sym (reads_back p e.made one.legal) ∙ (ap (rules.read_move p) parts.c_is ∙ reads_back p f.made two.legal) in
+      let made : Ok e.made ≡ Ok f.made = sym (reads_back p e.made one.legal)
+      ∙ (ap (rules.read_move p) parts.c_is ∙ reads_back p f.made two.legal) in
       let made_is : e.made ≡ f.made = same-ok e.made f.made made in
       let moment_is : e.moment ≡ f.moment = same-pos e.moment f.moment parts.d_is in
       λ i. record { made = made_is i; moment = moment_is i }
@@ -80,29 +99,50 @@ module _ {P M E T : Type 0} (rules : GameRules P M E T) (terms : Terms) (id : �
 
   module _ (laws : AreRules rules) (from : ℕ) (rows : List MoveRow) where
     -- each row of a legal game's moves is that of an entry that may be played where it stands
-    pub played-follows : (game : Game M) (k : ℕ) (row : MoveRow) → IsPlayedAs rules terms id from rows game → slice_get rows k ≡ Some row → (e : Entry M) × (slice_get game.entries k ≡ Some e) × Follows rules terms id (game_from from (take k game.entries)) row e
+    pub played-follows : (game : Game M) (k : ℕ) (row : MoveRow) → IsPlayedAs rules terms id from rows game
+        → slice_get rows k ≡ Some row → (e : Entry M) × (slice_get game.entries k ≡ Some e)
+        × Follows rules terms id (game_from from (take k game.entries)) row e
     played-follows game k row is at =
         let legal = is.legal in
-        let cells : slice_get (map move_cells rows) k ≡ Some (move_cells row) = slice_get-map move_cells rows k ∙ ap (option_map move_cells) at in
-        let got = rows-from (record game { entries = [] }) game.entries k (move_cells row) (sym (ap (λ l. slice_get l k) is.moves) ∙ cells) in
+        let cells : slice_get (map move_cells rows) k ≡ Some (move_cells row) = slice_get-map move_cells rows k
+        ∙ ap (option_map move_cells) at in
+        let got = rows-from (record game { entries = [] }) game.entries k (move_cells row)
+        (sym (ap (λ l. slice_get l k) is.moves) ∙ cells) in
         let e = got.0 in
         let inside : k < length game.entries = slice_get_within game.entries k e got.1 in
-        let made : slice_get (moves_of game) k ≡ Some e.made = slice_get-map (λ x. x.made) game.entries k ∙ ap (option_map (λ x. x.made)) got.1 in
-        let moment : slice_get (moments_of game) k ≡ Some e.moment = slice_get-map (λ x. x.moment) game.entries k ∙ ap (option_map (λ x. x.moment)) got.1 in
+        let made : slice_get (moves_of game) k ≡ Some e.made = slice_get-map (λ x. x.made) game.entries k
+        ∙ ap (option_map (λ x. x.made)) got.1 in
+        let moment : slice_get (moments_of game) k ≡ Some e.moment = slice_get-map (λ x. x.moment) game.entries k
+        ∙ ap (option_map (λ x. x.moment)) got.1 in
         let before = take k game.entries in
-        let line : IsLegalLine rules rules.start (map (λ x. x.made) before) = subst (IsLegalLine rules rules.start) (take-map (λ x. x.made) k game.entries) (IsLegalLine-take rules k rules.start (moves_of game) legal.line.legal) in
+        let line : IsLegalLine rules rules.start (map (λ x. x.made) before) =
+        subst (IsLegalLine rules rules.start) (take-map (λ x. x.made) k game.entries)
+        (IsLegalLine-take rules k rules.start (moves_of game) legal.line.legal) in
         let count : length before ≡ k = length-take-le k game.entries (omega arith) in
-        let turn : turn_of rules (game_from from before) ≡ turns k First = turn-of-game rules laws.turn_passes laws.first_starts (game_from from before) line ∙ ap (λ n. turns n First) count in
-        let clocks : spend_all terms.increment First (take k (moments_of game)) (opening_clocks game terms) ≡ clocks_of (game_from from before) terms =
-        ap (λ l. spend_all terms.increment First l (opening_clocks game terms)) (take-map (λ x. x.moment) k game.entries) ∙ ap (λ n. spend_all terms.increment First (map (λ x. x.moment) before) (record { left_first = terms.budget; left_second = terms.budget; since = n })) is.start in
-        let timely = timely-at terms.increment First (moments_of game) k e.moment (opening_clocks game terms) legal.timely moment in (
+        let turn : turn_of rules (game_from from before) ≡ turns k First =
+        turn-of-game rules laws.turn_passes laws.first_starts (game_from from before) line
+        ∙ ap (λ n. turns n First) count in
+        let clocks : spend_all terms.increment First (take k (moments_of game)) (opening_clocks game terms)
+        ≡ clocks_of (game_from from before) terms =
+        ap (λ l. spend_all terms.increment First l (opening_clocks game terms))
+        (take-map (λ x. x.moment) k game.entries)
+        ∙ ap
+        (λ n. spend_all terms.increment First (map (λ x. x.moment) before)
+        (record { left_first = terms.budget; left_second = terms.budget; since = n })) is.start in
+        let timely = timely-at terms.increment First (moments_of game) k e.moment (opening_clocks game terms)
+        legal.timely moment in (
           e,
           got.1,
           record {
             running = running-before rules terms game legal k inside;
-            legal = subst (λ l. rules.check (position_after rules rules.start l) e.made ≡ Ok tt) (take-map (λ x. x.made) k game.entries) (check-at rules rules.start (moves_of game) k e.made legal.line.legal made);
+            legal = subst (λ l. rules.check (position_after rules rules.start l) e.made ≡ Ok tt)
+                (take-map (λ x. x.made) k game.entries)
+                (check-at rules rules.start (moves_of game) k e.made legal.line.legal made);
             later = subst (λ c. c.since ≤ e.moment) clocks timely.0;
-            in_time = subst (λ s. e.moment - (clocks_of (game_from from before) terms).since ≤ left_of s (clocks_of (game_from from before) terms)) (sym turn) (subst (λ c. e.moment - c.since ≤ left_of (turns k First) c) clocks timely.1);
+            in_time =
+                subst (λ s. e.moment - (clocks_of (game_from from before) terms).since
+                ≤ left_of s (clocks_of (game_from from before) terms)) (sym turn)
+                (subst (λ c. e.moment - c.since ≤ left_of (turns k First) c) clocks timely.1);
             moment = is.moments k e got.1;
             row = got.2 ∙ ap (λ n. row_at n before e) is.start;
           },
@@ -110,7 +150,8 @@ module _ {P M E T : Type 0} (rules : GameRules P M E T) (terms : Terms) (id : �
 
     module _ {R : Type 0} where
       -- nothing was replayed
-      pub was-start : (replayed : Replayed R P M E T) → Replays rules terms (game_from from []) replayed → WasReplayed rules terms id from rows 0 replayed
+      pub was-start : (replayed : Replayed R P M E T) → Replays rules terms (game_from from []) replayed
+          → WasReplayed rules terms id from rows 0 replayed
       was-start replayed replays =
           record {
             entries = [];
@@ -138,16 +179,23 @@ module _ {P M E T : Type 0} (rules : GameRules P M E T) (terms : Terms) (id : �
           absent A is = cc
 
       -- one row more was replayed
-      pub was-more : ((p : P) (m : M) → rules.check p m ≡ Ok tt → rules.read_move p (rules.write_move p m) ≡ Ok m) → (plies : ℕ) (old new : Replayed R P M E T) (row : MoveRow) (e : Entry M) → (was : WasReplayed rules terms id from rows plies old) → plies < 600 → slice_get rows plies ≡ Some row → Follows rules terms id (game_from from was.entries) row e → Replays rules terms (with_entry (game_from from was.entries) e) new → WasReplayed rules terms id from rows (plies + 1) new
+      pub was-more : ((p : P) (m : M) → rules.check p m ≡ Ok tt → rules.read_move p (rules.write_move p m) ≡ Ok m)
+          → (plies : ℕ) (old new : Replayed R P M E T) (row : MoveRow) (e : Entry M)
+          → (was : WasReplayed rules terms id from rows plies old) → plies < 600 → slice_get rows plies ≡ Some row
+          → Follows rules terms id (game_from from was.entries) row e
+          → Replays rules terms (with_entry (game_from from was.entries) e) new
+          → WasReplayed rules terms id from rows (plies + 1) new
       was-more reads_back plies old new row e was room at follows replays =
           let before = game_from from was.entries in
-          let running : result_of rules before ≡ None = ap (λ o. score_with rules (end_with o None) (turn_of rules before)) follows.running in
+          let running : result_of rules before ≡ None =
+          ap (λ o. score_with rules (end_with o None) (turn_of rules before)) follows.running in
           let taken : take (plies + 1) rows ≡ take plies rows ++ row ∷ [] = take-got rows plies row at in
           record {
             entries = was.entries ++ e ∷ [];
             replays = replays;
             played = record {
-              legal = legal-played rules laws terms before was.played.legal e.made e.moment running follows.later follows.in_time follows.legal;
+              legal = legal-played rules laws terms before was.played.legal e.made e.moment running follows.later
+                  follows.in_time follows.legal;
               start = refl;
               moments = each-append (λ x. x.moment ≤ last_moment) was.entries e was.played.moments follows.moment;
               moves =
@@ -161,13 +209,19 @@ module _ {P M E T : Type 0} (rules : GameRules P M E T) (terms : Terms) (id : �
             only = λ game is.
                 let got = played-follows game plies row is at in
                 let same = was.only game is in
-                let one : Follows rules terms id before row got.0 = subst (λ es. Follows rules terms id (game_from from es) row got.0) same got.2 in
+                let one : Follows rules terms id before row got.0 =
+                subst (λ es. Follows rules terms id (game_from from es) row got.0) same got.2 in
                 take-got game.entries plies got.0 got.1
-                ∙ (ap (λ l. l ++ got.0 ∷ []) same ∙ ap (λ x. was.entries ++ x ∷ []) (entry-only reads_back before row got.0 e one follows));
+                ∙
+                (ap (λ l. l ++ got.0 ∷ []) same ∙ ap (λ x. was.entries ++ x ∷ [])
+                (entry-only reads_back before row got.0 e one follows));
           }
 
       -- where the next row shows no entry, no game has these rows
-      pub was-none : (plies : ℕ) (old : Replayed R P M E T) (row : MoveRow) → (was : WasReplayed rules terms id from rows plies old) → slice_get rows plies ≡ Some row → ((e : Entry M) → Follows rules terms id (game_from from was.entries) row e → ⊥) → (game : Game M) → IsPlayedAs rules terms id from rows game → ⊥
+      pub was-none : (plies : ℕ) (old : Replayed R P M E T) (row : MoveRow)
+          → (was : WasReplayed rules terms id from rows plies old) → slice_get rows plies ≡ Some row
+          → ((e : Entry M) → Follows rules terms id (game_from from was.entries) row e → ⊥) → (game : Game M)
+          → IsPlayedAs rules terms id from rows game → ⊥
       was-none plies old row was at none game is =
           let got = played-follows game plies row is at in
           none got.0 (subst (λ es. Follows rules terms id (game_from from es) row got.0) (was.only game is) got.2)
@@ -178,39 +232,55 @@ module _ {P M E T : Type 0} (rules : GameRules P M E T) (terms : Terms) (id : �
   rows-count game (e ∷ es) = ap suc (rows-count (with_entry game e) es)
 
   -- a legal game has as many rows as plies
-  pub played-count : (from : ℕ) (rows : List MoveRow) (game : Game M) → IsPlayedAs rules terms id from rows game → length rows ≡ length game.entries
+  pub played-count : (from : ℕ) (rows : List MoveRow) (game : Game M) → IsPlayedAs rules terms id from rows game
+      → length rows ≡ length game.entries
   played-count from rows game is =
       let count : length (map move_cells rows) ≡ length rows = simp length-map in
       sym count ∙ (ap length is.moves ∙ rows-count (record game { entries = [] }) game.entries)
 
   -- the entries up to one, and with it
-  pub entry-more : (game : Game M) (k : ℕ) (e : Entry M) → slice_get game.entries k ≡ Some e → take k game.entries ++ e ∷ [] ≡ take (suc k) game.entries
+  pub entry-more : (game : Game M) (k : ℕ) (e : Entry M) → slice_get game.entries k ≡ Some e
+      → take k game.entries ++ e ∷ [] ≡ take (suc k) game.entries
   entry-more game k e at = sym (take-got game.entries k e at) ∙ ap (λ n. take n game.entries) (add-one k)
 
   -- the seconds that the mover of an entry has after it
-  pub entry-left : (laws : AreRules rules) (game : Game M) → IsLegalGame rules terms game → (k : ℕ) (e : Entry M) → slice_get game.entries k ≡ Some e
-      → left_of (turn_of rules (game_from game.start (take k game.entries))) (clocks_of (game_from game.start (take k game.entries ++ e ∷ [])) terms)
+  pub entry-left : (laws : AreRules rules) (game : Game M) → IsLegalGame rules terms game → (k : ℕ) (e : Entry M)
+      → slice_get game.entries k ≡ Some e
+      → left_of (turn_of rules (game_from game.start (take k game.entries)))
+      (clocks_of (game_from game.start (take k game.entries ++ e ∷ [])) terms)
       ≡ left_of (side_after k) (clocks_of (game_at game (suc k)) terms)
   entry-left laws game legal k e at =
       let before = take k game.entries in
       let inside : k < length game.entries = slice_get_within game.entries k e at in
-      let line : IsLegalLine rules rules.start (map (λ x. x.made) before) = subst (IsLegalLine rules rules.start) (take-map (λ x. x.made) k game.entries) (IsLegalLine-take rules k rules.start (moves_of game) legal.line.legal) in
+      let line : IsLegalLine rules rules.start (map (λ x. x.made) before) =
+      subst (IsLegalLine rules rules.start) (take-map (λ x. x.made) k game.entries)
+      (IsLegalLine-take rules k rules.start (moves_of game) legal.line.legal) in
       let count : length before ≡ k = length-take-le k game.entries (omega arith) in
-      let turn : turn_of rules (game_from game.start before) ≡ side_after k = turn-of-game rules laws.turn_passes laws.first_starts (game_from game.start before) line ∙ ap side_after count in
-      ap (λ s. left_of s (clocks_of (game_from game.start (before ++ e ∷ [])) terms)) turn ∙ ap (λ es. left_of (side_after k) (clocks_of (game_from game.start es) terms)) (entry-more game k e at)
+      let turn : turn_of rules (game_from game.start before) ≡ side_after k =
+      turn-of-game rules laws.turn_passes laws.first_starts (game_from game.start before) line
+      ∙ ap side_after count in
+      ap (λ s. left_of s (clocks_of (game_from game.start (before ++ e ∷ [])) terms)) turn
+      ∙ ap (λ es. left_of (side_after k) (clocks_of (game_from game.start es) terms)) (entry-more game k e at)
 
   -- the seconds in the row of a ply are those that the mover has after it
-  pub row-left : (laws : AreRules rules) (rows : List MoveRow) (game : Game M) → IsLegalGame rules terms game → map move_cells rows ≡ move_rows rules terms id game → (k : ℕ) (row : MoveRow) → slice_get rows k ≡ Some row → row.left ≡ pos (left_of (side_after k) (clocks_of (game_at game (suc k)) terms))
+  pub row-left : (laws : AreRules rules) (rows : List MoveRow) (game : Game M) → IsLegalGame rules terms game
+      → map move_cells rows ≡ move_rows rules terms id game → (k : ℕ) (row : MoveRow) → slice_get rows k ≡ Some row
+      → row.left ≡ pos (left_of (side_after k) (clocks_of (game_at game (suc k)) terms))
   row-left laws rows game legal are k row at =
-      let cells : slice_get (map move_cells rows) k ≡ Some (move_cells row) = slice_get-map move_cells rows k ∙ ap (option_map move_cells) at in
-      let got = rows-from rules terms id (record game { entries = [] }) game.entries k (move_cells row) (sym (ap (λ l. slice_get l k) are) ∙ cells) in
+      let cells : slice_get (map move_cells rows) k ≡ Some (move_cells row) = slice_get-map move_cells rows k
+      ∙ ap (option_map move_cells) at in
+      let got = rows-from rules terms id (record game { entries = [] }) game.entries k (move_cells row)
+      (sym (ap (λ l. slice_get l k) are) ∙ cells) in
       let parts = six-parts _ _ _ _ _ _ _ _ _ _ _ _ got.2 in
       parts.e_is ∙ ap pos (entry-left laws game legal k got.0 got.1)
 
 -- the rows of a game's moves depend on its start and its entries alone
-pub rows-alike : {P M E T : Type 0} (rules : GameRules P M E T) (terms : Terms) (id : ℕ) (a b : Game M) (es : List (Entry M)) → a.start ≡ b.start → a.entries ≡ b.entries → entry_rows rules terms id a es ≡ entry_rows rules terms id b es
+pub rows-alike : {P M E T : Type 0} (rules : GameRules P M E T) (terms : Terms) (id : ℕ) (a b : Game M)
+    (es : List (Entry M)) → a.start ≡ b.start → a.entries ≡ b.entries
+    → entry_rows rules terms id a es ≡ entry_rows rules terms id b es
 rows-alike rules terms id a b [] start entries = refl
 rows-alike rules terms id a b (e ∷ es) start entries =
-    let head : entry_row rules terms id a e ≡ entry_row rules terms id b e = λ i. entry_row rules terms id (game_from (start i) (entries i)) e in
+    let head : entry_row rules terms id a e ≡ entry_row rules terms id b e = λ i.
+    entry_row rules terms id (game_from (start i) (entries i)) e in
     let tail = rows-alike rules terms id (with_entry a e) (with_entry b e) es start (ap (λ l. l ++ e ∷ []) entries) in
     λ i. head i ∷ tail i

@@ -33,5 +33,7 @@ challenge_key member own_number = number member ∷ number own_number ∷ []
 
 -- the one of the rows that is of this member under this number, if there is one
 abbrev pub IsChallengeFound : List Row → (member own_number : ℕ) → Option ChallengeRow → Type 0
-IsChallengeFound rows member own_number None = (row : Row) → Has rows row → same_key (0 ∷ 1 ∷ []) row (challenge_key member own_number) ≡ true → ⊥
-IsChallengeFound rows member own_number (Some found) = Has rows (challenge_cells found) × (same_key (0 ∷ 1 ∷ []) (challenge_cells found) (challenge_key member own_number) ≡ true)
+IsChallengeFound rows member own_number None = (row : Row) → Has rows row
+    → same_key (0 ∷ 1 ∷ []) row (challenge_key member own_number) ≡ true → ⊥
+IsChallengeFound rows member own_number (Some found) = Has rows (challenge_cells found)
+    × (same_key (0 ∷ 1 ∷ []) (challenge_cells found) (challenge_key member own_number) ≡ true)

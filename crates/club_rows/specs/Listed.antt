@@ -11,6 +11,7 @@ pub record AreMovesWritten {P M E T : Type 0} (rules : GameRules P M E T) (p : P
   pub written : texts ≡ map (rules.write_move p) moves
 
 -- those of the last position of a running game; an ended game has none
-pub record AreLegalTexts {P M E T : Type 0} (rules : GameRules P M E T) (game : Game M) (texts : List (List ℕ)) : Type 0 where
-  pub ended : IsSome (result_of rules game) → texts ≡ []
-  pub running : result_of rules game ≡ None → AreMovesWritten rules (last_position rules game) texts
+pub record AreLegalTexts {P M E T : Type 0} (rules : GameRules P M E T) (game : Game M) (texts : List (List ℕ)) : Type 0
+  where
+    pub ended : IsSome (result_of rules game) → texts ≡ []
+    pub running : result_of rules game ≡ None → AreMovesWritten rules (last_position rules game) texts

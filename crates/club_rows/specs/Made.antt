@@ -12,11 +12,13 @@ use Rattle.club_rows.specs.Tables.{number, move_rows}
 
 -- the row of the move that was answered so, at that moment
 abbrev pub made_row : ℕ → MoveReply → ℕ → Row
-made_row id reply moment = number id ∷ number reply.ply ∷ Text reply.text ∷ number moment ∷ number reply.left ∷ Text reply.position ∷ []
+made_row id reply moment = number id ∷ number reply.ply ∷ Text reply.text ∷ number moment ∷ number reply.left
+    ∷ Text reply.position ∷ []
 
 -- a move that is played adds the row of its answer to the rows of the game
 abbrev pub MadeRowIsLast : {P M E T : Type 0} → GameRules P M E T → Type 0
 MadeRowIsLast {P} {M} {E} {T} rules =
-    (terms : Terms) (id : ℕ) (game : Game M) (m : M) (moment : ℕ) (reply : MoveReply) → IsLegalLine rules rules.start (moves_of game)
+    (terms : Terms) (id : ℕ) (game : Game M) (m : M) (moment : ℕ) (reply : MoveReply)
+    → IsLegalLine rules rules.start (moves_of game)
     → reply_of_move rules terms (played game m moment) (length game.entries + 1) m ≡ moved reply
     → move_rows rules terms id (played game m moment) ≡ move_rows rules terms id game ++ made_row id reply moment ∷ []

@@ -27,12 +27,15 @@ pair_cells pair = Int pair.event ∷ Int pair.member ∷ Int pair.opponent ∷ [
 -- the one of the rows that is of this pair, if there is one
 abbrev pub IsFound : List Row → Pair → Option ScoreRow → Type 0
 IsFound rows pair None = (row : Row) → Has rows row → same_key (0 ∷ 1 ∷ 2 ∷ []) row (pair_cells pair) ≡ true → ⊥
-IsFound rows pair (Some found) = Has rows (score_cells found) × (same_key (0 ∷ 1 ∷ 2 ∷ []) (score_cells found) (pair_cells pair) ≡ true)
+IsFound rows pair (Some found) = Has rows (score_cells found)
+    × (same_key (0 ∷ 1 ∷ 2 ∷ []) (score_cells found) (pair_cells pair) ≡ true)
 
 -- the rows of First and of Second are those that stand for these ended games
 pub record AreScoresOf (ms : List Meeting) (event first second : ℕ) (rows : ScorePair) : Type 0 where
-  pub of_first : score_cells rows.first ≡ score_row (pair_of event first second) (scores_of (pair_of event first second) ms)
-  pub of_second : score_cells rows.second ≡ score_row (pair_of event second first) (scores_of (pair_of event second first) ms)
+  pub of_first : score_cells rows.first ≡ score_row (pair_of event first second)
+      (scores_of (pair_of event first second) ms)
+  pub of_second : score_cells rows.second ≡ score_row (pair_of event second first)
+      (scores_of (pair_of event second first) ms)
 
 -- the rows found are those that First and Second have in the rows of these ended games
 pub record AreFound (event first second : ℕ) (firsts seconds : Option ScoreRow) (ms : List Meeting) : Type 0 where
@@ -49,7 +52,14 @@ AreNext event first second score firsts seconds rows =
 
 -- those of scores
 abbrev pub sums_over : List OwnScore → Sums
-sums_over scores = record { points = pos (points scores); wins = pos (wins scores); draws = pos (draws scores); losses = pos (losses scores) }
+sums_over scores =
+    record {
+      points = pos (points scores);
+      wins = pos (wins scores);
+      draws = pos (draws scores);
+      losses =
+          pos (losses scores);
+    }
 
 -- what one score adds
 abbrev pub gains_of : OwnScore → Sums
@@ -59,7 +69,13 @@ gains_of Lost = record { points = pos 0; wins = pos 0; draws = pos 0; losses = p
 
 abbrev pub plus_sums : Sums → Sums → Sums
 plus_sums a b =
-    record { points = a.points +ℤ b.points; wins = a.wins +ℤ b.wins; draws = a.draws +ℤ b.draws; losses = a.losses +ℤ b.losses }
+    record {
+      points = a.points +ℤ b.points;
+      wins = a.wins +ℤ b.wins;
+      draws = a.draws +ℤ b.draws;
+      losses =
+          a.losses +ℤ b.losses;
+    }
 
 pub record Fit (sums : Sums) : Type 0 where
   pub points : FitsSigned w64 sums.points

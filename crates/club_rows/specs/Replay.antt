@@ -8,7 +8,8 @@ use Rattle.club_core.specs.Limits.{last_moment}
 use Rattle.club_core.specs.Events.{Terms}
 use Rattle.club_core.specs.Legal.{IsLegalGame}
 use Rattle.club_core.specs.LegalState.{Each}
-use Rattle.club_core.specs.Game.{Entry, Game, Clocks, clocks_of, moves_of, left_after, left_of, last_position, rule_end, turn_of}
+use Rattle.club_core.specs.Game.{Entry, Game, Clocks, clocks_of, moves_of, left_after, left_of, last_position, rule_end}
+use Rattle.club_core.specs.Game.{turn_of}
 use Rattle.store_tables.specs.Cells.{move_cells}
 use Rattle.store_tables.specs.declared.rows.MoveRow.{MoveRow}
 use Rattle.club_rows.specs.Tables.{entry_row, move_rows}
@@ -28,7 +29,8 @@ pub record IsCounted {R P M E T : Type 0} (rules : GameRules P M E T) (game : Re
   pub stood : HasStood rules game.line.items (position_after rules rules.start game.line.items) game.stood
 
 -- The line is played by the rules, its last position stands, and so many plies were played by clocks of these terms.
-pub record IsReplayed {R P M E T : Type 0} (rules : GameRules P M E T) (increment plies : ℕ) (game : Replayed R P M E T) : Type 0 where
+pub record IsReplayed {R P M E T : Type 0} (rules : GameRules P M E T) (increment plies : ℕ)
+    (game : Replayed R P M E T) : Type 0 where
   pub line : IsPlayedLine rules rules.start game.line.items
   pub position : game.position ≡ position_after rules rules.start game.line.items
   pub counted : IsCounted rules game
@@ -46,13 +48,15 @@ abbrev pub clocks_replayed : {R P M E T : Type 0} → Replayed R P M E T → Clo
 clocks_replayed r = record { left_first = r.left_first; left_second = r.left_second; since = r.since }
 
 -- what was replayed is this game, as far as its moves go
-pub record Replays {R P M E T : Type 0} (rules : GameRules P M E T) (terms : Terms) (game : Game M) (replayed : Replayed R P M E T) : Type 0 where
+pub record Replays {R P M E T : Type 0} (rules : GameRules P M E T) (terms : Terms) (game : Game M)
+    (replayed : Replayed R P M E T) : Type 0 where
   pub line : replayed.line.items ≡ moves_of game
   pub position : replayed.position ≡ last_position rules game
   pub clocks : clocks_replayed replayed ≡ clocks_of game terms
 
 -- a move at that moment is in time, and the row has the moment and the seconds that are left after it
-pub record TakesTime {R P M E T : Type 0} (game : Replayed R P M E T) (turn : Side) (increment : ℕ) (row : MoveRow) (moment after : ℕ) : Type 0 where
+pub record TakesTime {R P M E T : Type 0} (game : Replayed R P M E T) (turn : Side) (increment : ℕ) (row : MoveRow)
+    (moment after : ℕ) : Type 0 where
   pub last : moment ≤ last_moment
   pub later : game.since ≤ moment
   pub in_time : moment - game.since ≤ left_in game turn
@@ -61,7 +65,8 @@ pub record TakesTime {R P M E T : Type 0} (game : Replayed R P M E T) (turn : Si
   pub left_is : row.left ≡ pos after
 
 -- The move may be played next, at that moment and with so many seconds left after it, and the row shows it.
-pub record IsNext {R P M E T : Type 0} (rules : GameRules P M E T) (increment id : ℕ) (game : Replayed R P M E T) (stored : MoveRow) (made : M) (moment left : ℕ) : Type 0 where
+pub record IsNext {R P M E T : Type 0} (rules : GameRules P M E T) (increment id : ℕ) (game : Replayed R P M E T)
+    (stored : MoveRow) (made : M) (moment left : ℕ) : Type 0 where
   pub running : rules.judge rules.start game.line.items ≡ None
   pub legal : rules.check game.position made ≡ Ok tt
   pub time : TakesTime game (rules.turn game.position) increment stored moment left
@@ -71,7 +76,8 @@ pub record IsNext {R P M E T : Type 0} (rules : GameRules P M E T) (increment id
   pub position_is : string_bytes stored.position ≡ rules.write_position (rules.play game.position made)
 
 -- the row is that of an entry that may be played next, at a moment that there is
-pub record Follows {P M E T : Type 0} (rules : GameRules P M E T) (terms : Terms) (id : ℕ) (game : Game M) (stored : MoveRow) (e : Entry M) : Type 0 where
+pub record Follows {P M E T : Type 0} (rules : GameRules P M E T) (terms : Terms) (id : ℕ) (game : Game M)
+    (stored : MoveRow) (e : Entry M) : Type 0 where
   pub running : rule_end rules game ≡ None
   pub legal : rules.check (last_position rules game) e.made ≡ Ok tt
   pub later : (clocks_of game terms).since ≤ e.moment
@@ -82,17 +88,29 @@ pub record Follows {P M E T : Type 0} (rules : GameRules P M E T) (terms : Terms
 -- a game of these entries, from that moment on
 abbrev pub game_from : {M : Type 0} → ℕ → List (Entry M) → Game M
 game_from start entries =
-    record { key = None; event = 0; first = 0; second = 1; start = start; entries = entries; offer = None; outside = None }
+    record {
+      key = None;
+      event = 0;
+      first = 0;
+      second = 1;
+      start = start;
+      entries = entries;
+      offer = None;
+      outside =
+          None;
+    }
 
 -- the rows are those of the moves of this legal game, which starts at that moment
-pub record IsPlayedAs {P M E T : Type 0} (rules : GameRules P M E T) (terms : Terms) (id from : ℕ) (rows : List MoveRow) (game : Game M) : Type 0 where
+pub record IsPlayedAs {P M E T : Type 0} (rules : GameRules P M E T) (terms : Terms) (id from : ℕ) (rows : List MoveRow)
+    (game : Game M) : Type 0 where
   pub legal : IsLegalGame rules terms game
   pub start : game.start ≡ from
   pub moments : Each (λ e. e.moment ≤ last_moment) game.entries
   pub moves : map move_cells rows ≡ move_rows rules terms id game
 
 -- So many of the rows were replayed: they are those of a legal game, and of no other entries.
-pub record WasReplayed {R P M E T : Type 0} (rules : GameRules P M E T) (terms : Terms) (id from : ℕ) (rows : List MoveRow) (plies : ℕ) (replayed : Replayed R P M E T) : Type 0 where
+pub record WasReplayed {R P M E T : Type 0} (rules : GameRules P M E T) (terms : Terms) (id from : ℕ)
+    (rows : List MoveRow) (plies : ℕ) (replayed : Replayed R P M E T) : Type 0 where
   pub entries : List (Entry M)
   pub replays : Replays rules terms (game_from from entries) replayed
   pub played : IsPlayedAs rules terms id from (take plies rows) (game_from from entries)

@@ -38,11 +38,12 @@ abbrev pub HasLastStood : {P M E T : Type 0} → GameRules P M E T → Game M �
 HasLastStood rules game stood = HasStood rules (moves_of game) (last_position rules game) stood
 
 -- this move was played at the ply, with so many seconds left after it, in that position
-pub record IsPlayed {R P M E T : Type 0} (asked : Asked R P M E T) (ply : ℕ) (made : M) (left : ℕ) (before : P) : Type 0 where
-  pub ply_is : asked.ply ≡ ply
-  pub made_is : asked.made ≡ made
-  pub left_is : asked.left ≡ left
-  pub before_is : asked.before ≡ before
+pub record IsPlayed {R P M E T : Type 0} (asked : Asked R P M E T) (ply : ℕ) (made : M) (left : ℕ) (before : P) : Type 0
+  where
+    pub ply_is : asked.ply ≡ ply
+    pub made_is : asked.made ≡ made
+    pub left_is : asked.left ≡ left
+    pub before_is : asked.before ≡ before
 
 module _ {P M E T : Type 0} (rules : GameRules P M E T) (terms : Terms) (id : ℕ) (game : Game M) where
   -- the row of a ply, counted from 1

@@ -1,5 +1,6 @@
 -- What each member scored against each opponent in the ended games of an event: 2 points for a win, 1 for a draw.
-use Rattle.std.specs.Prelude.{◌+◌, ◌*◌, ◌&&◌, ℕ, ℤ, pos, Bool, true, false, not, List, [], ◌∷◌, map, filter, count_by, Option, Some, None}
+use Rattle.std.specs.Prelude.{◌+◌, ◌*◌, ◌&&◌, ℕ, ℤ, pos, Bool, true, false, not, List, [], ◌∷◌, map, filter, count_by}
+use Rattle.std.specs.Prelude.{Option, Some, None}
 use Rattle.std.specs.Ordering.{int_eq}
 use Rattle.std.specs.List.{flat_map}
 use Rattle.sqlite_value.specs.declared.value.Value.{Value}
@@ -76,7 +77,8 @@ points scores = 2 * wins scores + draws scores
 -- ---- the rows
 
 abbrev pub same_pair : Pair → Pair → Bool
-same_pair one other = int_eq one.event other.event && (int_eq one.member other.member && int_eq one.opponent other.opponent)
+same_pair one other = int_eq one.event other.event &&
+    (int_eq one.member other.member && int_eq one.opponent other.opponent)
 
 -- the member's scores against the opponent in the event
 abbrev pub scores_of : Pair → List Meeting → List OwnScore

@@ -1,5 +1,6 @@
 -- The positions of a game, each once: how often it stood, and after which ply first.
-use Rattle.std.specs.Prelude.{◌≡◌, ◌<◌, ℕ, suc, pos, Bool, List, [], ◌∷◌, map, take, count_by, Option, Some, None, slice_get, if◌then◌else◌}
+use Rattle.std.specs.Prelude.{◌≡◌, ◌<◌, ℕ, suc, pos, Bool, List, [], ◌∷◌, map, take, count_by, Option, Some, None}
+use Rattle.std.specs.Prelude.{slice_get, if◌then◌else◌}
 use Rattle.std.specs.List.{list_any}
 use Rattle.std.specs.Str.{bytes_eq}
 use Rattle.sqlite_value.specs.declared.value.Value.TheVariants.{Int, Text}

@@ -28,7 +28,8 @@ pub record FitsTables {M : Type 0} (number : ℕ) (game : Game M) : Type 0 where
   pub entries : Each (λ e. e.moment ≤ last_moment) game.entries
 
 -- the row is that of this legal game, whose values fit the tables
-pub record IsRecordOf {P M E T : Type 0} (rules : GameRules P M E T) (terms : Terms) (id : ℕ) (stored : GameRecord) (game : Game M) : Type 0 where
+pub record IsRecordOf {P M E T : Type 0} (rules : GameRules P M E T) (terms : Terms) (id : ℕ) (stored : GameRecord)
+    (game : Game M) : Type 0 where
   pub budget : IsTrue (is_budget terms.budget)
   pub increment : IsTrue (is_increment terms.increment)
   pub legal : IsLegalGame rules terms game
@@ -36,7 +37,8 @@ pub record IsRecordOf {P M E T : Type 0} (rules : GameRules P M E T) (terms : Te
   pub row : game_cells stored ≡ game_row rules terms id game
 
 -- the rows are those of this legal game, which has this id and is played by these terms
-pub record AreRowsOf {P M E T : Type 0} (rules : GameRules P M E T) (terms : Terms) (id : ℕ) (stored : GameRecord) (stored_moves : List MoveRow) (game : Game M) : Type 0 where
+pub record AreRowsOf {P M E T : Type 0} (rules : GameRules P M E T) (terms : Terms) (id : ℕ) (stored : GameRecord)
+    (stored_moves : List MoveRow) (game : Game M) : Type 0 where
   pub budget : IsTrue (is_budget terms.budget)
   pub increment : IsTrue (is_increment terms.increment)
   pub legal : IsLegalGame rules terms game
@@ -45,7 +47,8 @@ pub record AreRowsOf {P M E T : Type 0} (rules : GameRules P M E T) (terms : Ter
   pub moves : map move_cells stored_moves ≡ move_rows rules terms id game
 
 -- the moves are the game's, and the tally is that of its line
-pub record IsHistoryOf {R P M E T : Type 0} (rules : GameRules P M E T) (game : Game M) (played : Played R P M E T) : Type 0 where
+pub record IsHistoryOf {R P M E T : Type 0} (rules : GameRules P M E T) (game : Game M)
+    (played : Played R P M E T) : Type 0 where
   pub line : played.line.items ≡ moves_of game
   pub tally : IsTallyOf rules (moves_of game) played.tally
 
@@ -57,7 +60,8 @@ ShowsGame rules terms game shown.WrongMoves = ⊥
 ShowsGame rules terms game shown.WrongGame = ⊥
 
 -- where a view is shown, the rows are those of a legal game that it shows
-abbrev pub IsSoundIfShown : {R P M E T : Type 0} → GameRules P M E T → Terms → GameRecord → List MoveRow → Shown R P M E T → Type 0
+abbrev pub IsSoundIfShown : {R P M E T : Type 0} → GameRules P M E T → Terms → GameRecord → List MoveRow
+    → Shown R P M E T → Type 0
 IsSoundIfShown {R} {P} {M} {E} {T} rules terms row moves (shown.Game played) =
     (id : ℕ) × (game : Game M) × AreRowsOf rules terms id row moves game × (terms_of played.view ≡ terms)
     × Shows rules game played.view × IsSound rules played.view × IsHistoryOf rules game played
@@ -65,9 +69,13 @@ IsSoundIfShown rules terms row moves shown.WrongMoves = Unit {0}
 IsSoundIfShown rules terms row moves shown.WrongGame = Unit {0}
 
 -- a game is shown where its row may stand and is the one that is stored under that id
-abbrev pub StandsAs : {R P M E T : Type 0} → GameRules P M E T → GameRecord → ℕ → Played R P M E T → Shown R P M E T → Type 0
+abbrev pub StandsAs : {R P M E T : Type 0} → GameRules P M E T → GameRecord → ℕ → Played R P M E T → Shown R P M E T
+    → Type 0
 StandsAs {R} {P} {M} {E} {T} rules stored id played (shown.Game p) =
-    (p ≡ played) × (may_stand rules.has_draw_offers played.view.row ≡ true) × ((terms : Terms) (game : Game M) → IsRowOf rules terms game played.view.row → game_cells stored ≡ game_row rules terms id game)
+    (p ≡ played) × (may_stand rules.has_draw_offers played.view.row ≡ true)
+    × ((terms : Terms) (game : Game M) → IsRowOf rules terms game played.view.row
+    → game_cells stored ≡ game_row rules terms id game)
 StandsAs rules stored id played shown.WrongMoves = ⊥
 StandsAs {R} {P} {M} {E} {T} rules stored id played shown.WrongGame =
-    (terms : Terms) (game : Game M) → IsRowOf rules terms game played.view.row → may_stand rules.has_draw_offers played.view.row ≡ true → game_cells stored ≡ game_row rules terms id game → ⊥
+    (terms : Terms) (game : Game M) → IsRowOf rules terms game played.view.row
+    → may_stand rules.has_draw_offers played.view.row ≡ true → game_cells stored ≡ game_row rules terms id game → ⊥

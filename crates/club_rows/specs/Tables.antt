@@ -1,5 +1,6 @@
 -- The tables of a club: the rows that stand for a state, each column by what follows from the games.
-use Rattle.std.specs.Prelude.{ℕ, suc, pos, ◌+◌, ◌==◌, Bool, true, false, List, [], ◌∷◌, ◌++◌, length, map, Option, Some, None, if◌then◌else◌}
+use Rattle.std.specs.Prelude.{ℕ, suc, pos, ◌+◌, ◌==◌, Bool, true, false, List, [], ◌∷◌, ◌++◌, length, map, Option, Some}
+use Rattle.std.specs.Prelude.{None, if◌then◌else◌}
 use Rattle.sqlite_value.specs.declared.value.Value.{Value}
 use Rattle.sqlite_value.specs.declared.value.Value.TheVariants.{Int, Text}
 use Rattle.sqlite.specs.Values.{or_null}
@@ -88,7 +89,8 @@ module _ {P M E T : Type 0} (rules : GameRules P M E T) (terms : Terms) (id : �
       ∷ number (line_numbers rules (moves_of game)).1
       ∷ []
 
-  -- the row of an entry that is played in the game: the move as it is written where it is played, and the mover's seconds and the position after it
+  -- the row of an entry that is played in the game: the move as it is written where it is played, and the mover's
+  -- seconds and the position after it
   abbrev pub entry_row : Game M → Entry M → Row
   entry_row game e =
       number id
@@ -114,7 +116,8 @@ abbrev pub member_row : ℕ → Member → Row
 member_row id m = number id ∷ Text m.name ∷ Text m.key ∷ []
 
 abbrev pub event_row : ℕ → Event → Row
-event_row id e = number id ∷ Text e.name ∷ number (kind_number e.game) ∷ number e.terms.budget ∷ number e.terms.increment ∷ []
+event_row id e = number id ∷ Text e.name ∷ number (kind_number e.game) ∷ number e.terms.budget
+    ∷ number e.terms.increment ∷ []
 
 -- the game that a challenge has started, if it was accepted
 abbrev pub game_started : Standing → Option ℕ
@@ -158,7 +161,8 @@ module _ {DP DM DE DT SP SM SE ST : Type 0} (rules : ClubRules DP DM DE DT SP SM
     rows_of_moves id (draughts g) = move_rows rules.draughts (terms_at (place events g.event)) id g
     rows_of_moves id (shogi g) = move_rows rules.shogi (terms_at (place events g.event)) id g
 
-  -- The rows of each table by its number: 0 meta, 1 members, 4 events, 6 challenges, 8 moves, 10 games, 12 seen, 14 scores. Ids count from 1.
+  -- The rows of each table by its number: 0 meta, 1 members, 4 events, 6 challenges, 8 moves, 10 games, 12 seen, 14
+  -- scores. Ids count from 1.
   abbrev pub tables_of : State DM SM → Content
   tables_of s t =
       if t == 0 then (number 1 ∷ number 1 ∷ number s.last ∷ []) ∷ []

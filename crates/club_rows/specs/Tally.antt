@@ -1,5 +1,6 @@
 -- How often the positions of a line stood and after which ply first, told by their texts.
-use Rattle.std.specs.Prelude.{◌≡◌, ◌≤◌, ◌<◌, ◌+◌, ◌^◌, ℕ, Bool, List, length, take, count_by, Option, Some, None, IfSome, string_bytes}
+use Rattle.std.specs.Prelude.{◌≡◌, ◌≤◌, ◌<◌, ◌+◌, ◌^◌, ℕ, Bool, List, length, take, count_by, Option, Some, None}
+use Rattle.std.specs.Prelude.{IfSome, string_bytes}
 use Rattle.std.specs.declared.alloc.Global.{Global}
 use Rattle.std.specs.declared.string.String.{String}
 use Rattle.std.specs.HashMap.{get}
@@ -49,5 +50,7 @@ module _ {P M E T : Type 0} (rules : GameRules P M E T) (line : List M) (positio
 
 -- the tally tells of each position on a line from the start, by its text, how often it stood on this line
 pub record IsTallyOf {P M E T : Type 0} (rules : GameRules P M E T) (line : List M) (tally : Tally) : Type 0 where
-  pub stood : (ms : List M) (text : PositionText) → IsLegalLine rules rules.start ms → string_bytes text ≡ rules.write_position (position_after rules rules.start ms) → IsStood rules line (position_after rules rules.start ms) (seen_at tally text)
+  pub stood : (ms : List M) (text : PositionText) → IsLegalLine rules rules.start ms
+      → string_bytes text ≡ rules.write_position (position_after rules rules.start ms)
+      → IsStood rules line (position_after rules rules.start ms) (seen_at tally text)
   pub few : (text : PositionText) → IfSome (seen_at tally text) (λ stood. stood.times ≤ length line + 1)

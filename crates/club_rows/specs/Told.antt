@@ -1,5 +1,6 @@
 -- What the row of a game tells beside its moves, and whether it may stand.
-use Rattle.std.specs.Prelude.{◌≡◌, ◌≤◌, ◌<◌, ◌^◌, ◌+◌, ◌==◌, ◌&&◌, ℕ, pos, List, Option, Some, None, Bool, true, not, is_some, IfSome, string_bytes}
+use Rattle.std.specs.Prelude.{◌≡◌, ◌≤◌, ◌<◌, ◌^◌, ◌+◌, ◌==◌, ◌&&◌, ℕ, pos, List, Option, Some, None, Bool, true, not}
+use Rattle.std.specs.Prelude.{is_some, IfSome, string_bytes}
 use Rattle.std.specs.Option.{option_map}
 use Rattle.club_core.specs.declared.rows.GameRow.{GameRow}
 use Rattle.club_core.specs.declared.rows.GameEnd.{GameEnd}
@@ -75,11 +76,16 @@ may_stand allowed row =
     && may_have_end (is_some row.key) (is_some row.offer) row.start row.since row.end
 
 -- what is told is what the stored row says, beside the end that the rules give to the line
-pub record IsTold {P M E T : Type 0} (rules : GameRules P M E T) (stored : GameRecord) (given : Numbers) (line : List M) (told : Told E) : Type 0 where
+pub record IsTold {P M E T : Type 0} (rules : GameRules P M E T) (stored : GameRecord) (given : Numbers) (line : List M)
+    (told : Told E) : Type 0 where
   pub key : option_map (λ s. string_bytes s) told.key ≡ option_map (λ s. string_bytes s) stored.key
   pub numbers : told.numbers ≡ given
   pub ruled : told.ruled ≡ rules.judge rules.start line
-  pub offer : (offer : Option Offer) → stored.offer_side ≡ option_map (λ o. pos (side_number o.side)) offer → stored.offer_ply ≡ option_map (λ o. pos o.ply) offer → IfSome offer (λ o. o.ply < 2 ^ 32) → told.offer ≡ offer
+  pub offer : (offer : Option Offer) → stored.offer_side ≡ option_map (λ o. pos (side_number o.side)) offer
+      → stored.offer_ply ≡ option_map (λ o. pos o.ply) offer → IfSome offer (λ o. o.ply < 2 ^ 32) → told.offer ≡ offer
   pub alone : is_some told.outside ≡ true → told.ruled ≡ None
   pub nothing : is_some told.ruled ≡ true → told.outside ≡ None
-  pub outside : told.ruled ≡ None → (outside : Option OutsideEnd) → option_map (λ s. string_bytes s) stored.end ≡ option_map outside_text outside → ((s : Score) → outside ≡ Some (Recorded s) → option_map (λ s. string_bytes s) stored.result ≡ Some (score_text s)) → told.outside ≡ outside
+  pub outside : told.ruled ≡ None → (outside : Option OutsideEnd)
+      → option_map (λ s. string_bytes s) stored.end ≡ option_map outside_text outside
+      → ((s : Score) → outside ≡ Some (Recorded s)
+      → option_map (λ s. string_bytes s) stored.result ≡ Some (score_text s)) → told.outside ≡ outside

@@ -5,13 +5,17 @@ use Rattle.club_rules.specs.Line.{position_after, IsLegalLine}
 use Rattle.club_rules.specs.Laws.{IsPositionRead, StandsForOne, WritesPositions, TextsTellPositions}
 
 -- a text is read as the position that it stands for
-pub position-read : {P : Type 0} (StandsFor : List ℕ → P → Type 0) → StandsForOne StandsFor → (text : List ℕ) (read : Option P) (p : P) → IsPositionRead StandsFor text read → StandsFor text p → read ≡ Some p
+pub position-read : {P : Type 0} (StandsFor : List ℕ → P → Type 0) → StandsForOne StandsFor
+    → (text : List ℕ) (read : Option P) (p : P) → IsPositionRead StandsFor text read → StandsFor text p → read ≡ Some p
 position-read StandsFor one text (Some q) p is stands = ap Some (one text q p is stands)
 position-read StandsFor one text None p is stands = absurd (is p stands)
 
-module _ {P M E T : Type 0} (rules : GameRules P M E T) (StandsFor : List ℕ → P → Type 0) (one : StandsForOne StandsFor) (writes : WritesPositions rules StandsFor) where
+module _ {P M E T : Type 0} (rules : GameRules P M E T) (StandsFor : List ℕ → P → Type 0) (one : StandsForOne StandsFor)
+    (writes : WritesPositions rules StandsFor) where
   -- the text of a position on a line is read as that position
-  pub line-read : (text : List ℕ) (read : Option P) (ms : List M) → IsPositionRead StandsFor text read → IsLegalLine rules rules.start ms → text ≡ rules.write_position (position_after rules rules.start ms) → read ≡ Some (position_after rules rules.start ms)
+  pub line-read : (text : List ℕ) (read : Option P) (ms : List M) → IsPositionRead StandsFor text read
+      → IsLegalLine rules rules.start ms → text ≡ rules.write_position (position_after rules rules.start ms)
+      → read ≡ Some (position_after rules rules.start ms)
   line-read text read ms is legal e =
       let p = position_after rules rules.start ms in
       position-read StandsFor one text read p is (subst (λ t. StandsFor t p) (sym e) (writes ms legal))

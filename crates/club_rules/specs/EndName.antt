@@ -1,7 +1,8 @@
 -- The names of the ends that the rules of both games give, as they are printed and stored.
 use Rattle.std.specs.Prelude.{List, ℕ, codes}
 use Rattle.club_rules.specs.declared.names.EndName.{EndName}
-use Rattle.club_rules.specs.declared.names.EndName.TheVariants.{NoMove, Repetition, KingMoves, ThreeToOne, TwoToOne, PlyLimit, PerpetualCheck, Fourfold}
+use Rattle.club_rules.specs.declared.names.EndName.TheVariants.{NoMove, Repetition, KingMoves, ThreeToOne, TwoToOne}
+use Rattle.club_rules.specs.declared.names.EndName.TheVariants.{PlyLimit, PerpetualCheck, Fourfold}
 
 abbrev pub end_text : EndName → List ℕ
 end_text NoMove = codes "NoMove"

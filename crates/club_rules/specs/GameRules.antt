@@ -29,7 +29,8 @@ pub record GameRules (P M E T : Type 0) : Type 0 where
   pub track_start : P → T
   -- the track after one move more, made in the one position and leading to the other
   pub track_next : T → P → M → P → T
-  -- the end by a track, the last position, the number of plies, how often that position stood, and after which ply first
+  -- the end by a track, the last position, the number of plies, how often that position stood, and after which ply
+  -- first
   pub track_end : T → P → ℕ → ℕ → ℕ → Option E
   -- the two numbers of a track, by which it is stored
   pub track_numbers : T → ℕ × ℕ

@@ -3,7 +3,8 @@ use Rattle.std.specs.Prelude.{◌≡◌, ◌≤◌, ◌+◌, ◌↔◌, ℕ, Lis
 use Rattle.squares.specs.declared.sides.Side.TheVariants.{First}
 use Rattle.squares.specs.Sides.{other}
 use Rattle.club_rules.specs.GameRules.{GameRules, ply_limit}
-use Rattle.club_rules.specs.Line.{position_after, IsLegalLine, IsPlayedLine, line_track, line_numbers, times_stood, FirstStands}
+use Rattle.club_rules.specs.Line.{position_after, IsLegalLine, IsPlayedLine, line_track, line_numbers, times_stood}
+use Rattle.club_rules.specs.Line.{FirstStands}
 
 -- texts that stand for positions
 module _ {P : Type 0} (StandsFor : List ℕ → P → Type 0) where
@@ -56,7 +57,8 @@ module _ {P M E T : Type 0} (rules : GameRules P M E T) where
       ≡ rules.write_position (position_after rules rules.start ns) →
       position_after rules rules.start ms ≡ position_after rules rules.start ns
 
-  -- Of a line from the start that is played by the rules, the track, made ply by ply, tells the end: by the last position,
+  -- Of a line from the start that is played by the rules, the track, made ply by ply, tells the end: by the last
+  -- position,
   -- the number of plies, how often that position stood, and after which ply first.
   abbrev pub TracksTellEnds : Type 0
   TracksTellEnds =

@@ -3,7 +3,9 @@ use Rattle.std.specs.Prelude.{List, [], ℕ, ◌++◌, codes, decimal, Result, O
 use Rattle.club_rules.specs.declared.names.GameKind.{GameKind}
 use Rattle.club_rules.specs.declared.names.GameKind.TheVariants.{Draughts, Shogi}
 use Rattle.club_rules.specs.declared.refusals.MoveRefusal.{MoveRefusal}
-use Rattle.club_rules.specs.declared.refusals.MoveRefusal.TheVariants.{NoSuchMove, MustCapture, NotLongest, NotInHand, MustPromote, DeadDrop, TwoPawns, KingAttacked, DropMate, BadText, Ambiguous}
+use Rattle.club_rules.specs.declared.refusals.MoveRefusal.TheVariants.{NoSuchMove, MustCapture, NotLongest, NotInHand}
+use Rattle.club_rules.specs.declared.refusals.MoveRefusal.TheVariants.{MustPromote, DeadDrop, TwoPawns, KingAttacked}
+use Rattle.club_rules.specs.declared.refusals.MoveRefusal.TheVariants.{DropMate, BadText, Ambiguous}
 
 -- the club's answer where the rules of a game answer so to a move
 abbrev pub refused_by : {Cause : Type 0} →

@@ -3,7 +3,9 @@ use Rattle.std.specs.Prelude.{List, [], ℕ, ◌++◌, codes, decimal}
 use Rattle.club_rules.specs.declared.records.RecordFormat.{RecordFormat}
 use Rattle.club_rules.specs.declared.records.RecordFormat.TheVariants.{Pdn, Csa}
 use Rattle.club_rules.specs.declared.record_refusals.RecordRefusal.{RecordRefusal}
-use Rattle.club_rules.specs.declared.record_refusals.RecordRefusal.TheVariants.{BadText, Version, OtherType, OtherOpening, Ambiguous, Illegal, AfterEnd, Unfinished, ResultDiffers}
+use Rattle.club_rules.specs.declared.record_refusals.RecordRefusal.TheVariants.{BadText, Version, OtherType}
+use Rattle.club_rules.specs.declared.record_refusals.RecordRefusal.TheVariants.{OtherOpening, Ambiguous, Illegal}
+use Rattle.club_rules.specs.declared.record_refusals.RecordRefusal.TheVariants.{AfterEnd, Unfinished, ResultDiffers}
 use Rattle.club_rules.specs.MoveRefusal.{move_refusal_number}
 
 -- each format has a number of its own
@@ -37,7 +39,8 @@ record_refusal_name (ResultDiffers format) = codes "ResultDiffers"
 abbrev pub record_refusal_tail : RecordRefusal → List ℕ
 record_refusal_tail (BadText format place) = codes " " ++ decimal place
 record_refusal_tail (Ambiguous ply) = codes " " ++ decimal ply
-record_refusal_tail (Illegal format ply cause) = codes " " ++ decimal ply ++ codes " " ++ decimal (move_refusal_number cause)
+record_refusal_tail (Illegal format ply cause) =
+    codes " " ++ decimal ply ++ codes " " ++ decimal (move_refusal_number cause)
 record_refusal_tail (AfterEnd format ply) = codes " " ++ decimal ply
 record_refusal_tail Version = []
 record_refusal_tail OtherType = []

@@ -39,7 +39,8 @@ module _ {M : Type 0} where
 -- The rules allow the moves, none of them after an end, and where they ended the game the score is theirs.
 pub record IsGameByRules {P M E T : Type 0} (rules : GameRules P M E T) (r : Recorded M) : Type 0 where
   pub line : IsPlayedLine rules rules.start r.moves
-  pub score : (end : E) → rules.judge rules.start r.moves ≡ Some end → r.score ≡ rules.outcome end (rules.turn (position_after rules rules.start r.moves))
+  pub score : (end : E) → rules.judge rules.start r.moves ≡ Some end
+      → r.score ≡ rules.outcome end (rules.turn (position_after rules rules.start r.moves))
 
 -- what is read is such a game
 module _ {P M E T : Type 0} (rules : GameRules P M E T) (records : GameRecords M) where

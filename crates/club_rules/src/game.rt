@@ -2,7 +2,9 @@
 
 ghost use Rattle.std.specs.Prelude.{◌≡◌, ◌<◌, ℕ, List, IfOk, Ok, string_bytes};
 ghost use Rattle.club_rules.specs.GameRules.{GameRules};
-ghost use Rattle.club_rules.specs.Laws.{FirstStarts, TurnPasses, ReadsBack, SameIs, SamePositionIs, EndsAtLimit, IsPositionRead, WritesPositions, StandsForOne, TextsTellPositions, TracksTellEnds, NumbersGiveTracks, TracksGiveNumbers, NumbersAreFew};
+ghost use Rattle.club_rules.specs.Laws.{FirstStarts, TurnPasses, ReadsBack, SameIs, SamePositionIs, EndsAtLimit};
+ghost use Rattle.club_rules.specs.Laws.{IsPositionRead, WritesPositions, StandsForOne, TextsTellPositions};
+ghost use Rattle.club_rules.specs.Laws.{TracksTellEnds, NumbersGiveTracks, TracksGiveNumbers, NumbersAreFew};
 ghost use Rattle.club_rules.specs.Line.{IsPlayedLine};
 ghost use Rattle.club_rules.specs.Listed.{IsLegalList};
 

@@ -1,7 +1,8 @@
 //! Why a record is refused.
 
 ghost use Rattle.std.specs.Prelude.{◌≡◌};
-ghost use Rattle.club_rules.specs.RecordRefusal.{by_format, record_refusal_number, record_refusal_name, record_refusal_text};
+ghost use Rattle.club_rules.specs.RecordRefusal.{by_format, record_refusal_number, record_refusal_name};
+ghost use Rattle.club_rules.specs.RecordRefusal.{record_refusal_text};
 
 use crate::records::RecordFormat;
 use crate::refusals::MoveRefusal;
@@ -10,7 +11,8 @@ use std::fmt;
 /// Why a record is refused. Plies count from 1. Each format has numbers of its own.
 #[derive(Clone, Copy, Debug, PartialEq, Eq)]
 pub enum RecordRefusal {
-    /// The text has not the form of a record: at this byte, counted from 0, of a PDN text, or on this line, counted from
+    /// The text has not the form of a record: at this byte, counted from 0, of a PDN text, or on this line, counted
+    /// from
     /// 1, of a CSA text.
     BadText(RecordFormat, usize),
     /// CSA: the text begins with no known version.

@@ -1,7 +1,8 @@
 //! Why a text or a move is refused.
 
 ghost use Rattle.std.specs.Prelude.{◌≡◌};
-ghost use Rattle.club_rules.specs.MoveRefusal.{no_such_move_number, bad_text_number, move_refusal_number, move_refusal_name, move_refusal_text};
+ghost use Rattle.club_rules.specs.MoveRefusal.{no_such_move_number, bad_text_number, move_refusal_number};
+ghost use Rattle.club_rules.specs.MoveRefusal.{move_refusal_name, move_refusal_text};
 
 use crate::names::GameKind;
 use std::fmt;

@@ -9,13 +9,17 @@ use Rattle.store.specs.Exported.{IsExported, IsWrittenSome}
 use Rattle.club_words.specs.Report.{WritesRecord, export_report}
 
 -- a club that was open tells no fault of an earlier call
-not_reopen : (export_fault.Club store_fault.Reopen ≡ export_fault.Output) ⊎ ((export_fault.Club store_fault.Reopen ≡ export_fault.Club store_fault.Store) ⊎ (export_fault.Club store_fault.Reopen ≡ export_fault.Club store_fault.Memory)) → ⊥
+not_reopen : (export_fault.Club store_fault.Reopen ≡ export_fault.Output)
+    ⊎ ((export_fault.Club store_fault.Reopen ≡ export_fault.Club store_fault.Store)
+    ⊎ (export_fault.Club store_fault.Reopen ≡ export_fault.Club store_fault.Memory)) → ⊥
 not_reopen (inl e) = cc
 not_reopen (inr (inl e)) = cc
 not_reopen (inr (inr e)) = cc
 
-pub writes_record : (s : ClubState) (game : ℕ) (before now : Option (List ℕ)) (written : Result Bool ExportFault) → IfOk written (λ found. IsExported s game found before now) → IsWrittenSome s game before now
-    → IfErr written (λ fault. (fault ≡ export_fault.Output) ⊎ ((fault ≡ export_fault.Club store_fault.Store) ⊎ (fault ≡ export_fault.Club store_fault.Memory)))
+pub writes_record : (s : ClubState) (game : ℕ) (before now : Option (List ℕ)) (written : Result Bool ExportFault)
+    → IfOk written (λ found. IsExported s game found before now) → IsWrittenSome s game before now
+    → IfErr written (λ fault. (fault ≡ export_fault.Output)
+    ⊎ ((fault ≡ export_fault.Club store_fault.Store) ⊎ (fault ≡ export_fault.Club store_fault.Memory)))
     → WritesRecord s game before now (export_report written)
 writes_record s game before now (Ok true) done some fault = done
 writes_record s game before now (Ok false) done some fault = (refl, done)

@@ -11,5 +11,8 @@ pub led_still : (sessions : List Session) (db : Trees) → IsReachable sessions 
 led_still sessions db led = subst (λ xs. IsReachable xs db) (sym (append-nil sessions)) led
 
 -- where the tables stayed as they were
-pub stands_still : (sessions : List Session) (old new : State) → ((content : Content) → IsExactly content old → IsExactly content new) → IsHistory sessions old → IsHistory sessions new
-stands_still sessions old new same at = record { after = at.after; legal = at.legal; leads = at.leads; exactly = same _ at.exactly }
+pub stands_still : (sessions : List Session) (old new : State)
+    → ((content : Content) → IsExactly content old → IsExactly content new) → IsHistory sessions old
+    → IsHistory sessions new
+stands_still sessions old new same at =
+    record { after = at.after; legal = at.legal; leads = at.leads; exactly = same _ at.exactly }

@@ -1,5 +1,6 @@
 -- What an order came to: what is printed, the status of the program, and the sessions that it adds to a club's history.
-use Rattle.std.specs.Prelude.{◌≡◌, ◌⊎◌, ℕ, List, [], ◌∷◌, ◌++◌, map, Option, Some, None, Result, Ok, Err, Bool, true, false, codes, decimal, string_bytes, ⊤}
+use Rattle.std.specs.Prelude.{◌≡◌, ◌⊎◌, ℕ, List, [], ◌∷◌, ◌++◌, map, Option, Some, None, Result, Ok, Err, Bool, true}
+use Rattle.std.specs.Prelude.{false, codes, decimal, string_bytes, ⊤}
 use Rattle.std.specs.declared.alloc.Global.{Global}
 use Rattle.std.specs.declared.vec.Vec.{Vec}
 use Rattle.sqlite.specs.Tree.{Trees}
@@ -25,7 +26,9 @@ use Rattle.store.specs.CrossTable.{AreTableRows}
 use Rattle.store.specs.Exported.{IsExported, IsWrittenSome}
 use Rattle.store.specs.Stored.{AreLegalRows}
 use Rattle.club_words.specs.declared.report.Report.{Report}
-use Rattle.club_words.specs.declared.report.Report.TheVariants.{Ready, Sound, Answered, Listed, Exported, Unwritten, Unopened, Stopped, InUse, NotOpened, NoMoment, Unread, Listening, Unbound, NoMemory}
+use Rattle.club_words.specs.declared.report.Report.TheVariants.{Ready, Sound, Answered, Listed, Exported, Unwritten}
+use Rattle.club_words.specs.declared.report.Report.TheVariants.{Unopened, Stopped, InUse, NotOpened, NoMoment, Unread}
+use Rattle.club_words.specs.declared.report.Report.TheVariants.{Listening, Unbound, NoMemory}
 use Rattle.club_words.specs.declared.words.Task.{Task}
 use Rattle.club_words.specs.declared.words.Task.TheVariants as task
 
@@ -165,7 +168,8 @@ IfExport (task.Table name) Holds = ⊤
 IfExport (task.Export game) Holds = Holds game
 IfExport task.Verify Holds = ⊤
 
--- the legal moves of the game are listed, or there is no such game; or a call of the database failed, or memory was refused
+-- the legal moves of the game are listed, or there is no such game; or a call of the database failed, or memory was
+-- refused
 abbrev pub ListsMoves : ClubState → ℕ → Report → Type 0
 ListsMoves s game (Listed texts) = AreLegalRows s game (Some (map (λ t. string_bytes t) texts.items))
 ListsMoves s game (Answered answer) = (answer ≡ outcome.Refused UnknownGame) × AreLegalRows s game None
@@ -193,7 +197,8 @@ export_report (Err (export_fault.Club fault)) = Stopped fault
 -- failed, or memory was refused, and a beginning of the record was written
 abbrev pub WritesRecord : ClubState → ℕ → Option (List ℕ) → Option (List ℕ) → Report → Type 0
 WritesRecord s game before now Exported = IsExported s game true before now
-WritesRecord s game before now (Answered answer) = (answer ≡ outcome.Refused UnknownGame) × IsExported s game false before now
+WritesRecord s game before now (Answered answer) = (answer ≡ outcome.Refused UnknownGame)
+    × IsExported s game false before now
 WritesRecord s game before now Unwritten = IsWrittenSome s game before now
 WritesRecord s game before now (Unopened fault) =
     ((fault ≡ open_fault.Store) ⊎ (fault ≡ open_fault.Memory)) × (now ≡ before)

@@ -1,5 +1,6 @@
 -- Sums over standings and rows, as one row is added.
-use Rattle.std.proofs.Common.{◌≡◌, ◌∙◌, ◌+◌, ◌<◌, ◌≤◌, ◌==◌, ℕ, zero, suc, Bool, true, false, not, cond, nat_lt, Some, None, List, [], ◌∷◌, ◌++◌, length, get_or, set, refl, sym, ap, subst, arith}
+use Rattle.std.proofs.Common.{◌≡◌, ◌∙◌, ◌+◌, ◌<◌, ◌≤◌, ◌==◌, ℕ, zero, suc, Bool, true, false, not, cond, nat_lt, Some}
+use Rattle.std.proofs.Common.{None, List, [], ◌∷◌, ◌++◌, length, get_or, set, refl, sym, ap, subst, arith}
 use Rattle.std.specs.Prelude.{if◌then◌else◌, Result, Ok, Err, OnOk, OnErr}
 use Rattle.std.specs.List.{sum_by, count_by, position, position_or_len}
 use Rattle.std.proofs.lemmas.List.Sums.{sum_by-cons, sum_by-set, sum_by_push, get_or-le-sum_by}
@@ -35,7 +36,8 @@ module _ (xs : List Standing) (i : ℕ) (d : Standing) (more : Sums) (h : i < le
   times-raised member = omega (arith, sum_by-set (λ s. if s.member == member then 1 else 0) xs i (raised old more) d h)
 
   times-here : (member : ℕ) → (old.member == member) ≡ true → 0 < times member xs
-  times-here member e = let least : adds (old.member == member) 1 ≤ times member xs = get_or-le-sum_by (λ s. if s.member == member then 1 else 0) xs i d h in
+  times-here member e = let least : adds (old.member == member) 1 ≤ times member xs =
+      get_or-le-sum_by (λ s. if s.member == member then 1 else 0) xs i d h in
       let one : adds (old.member == member) 1 ≡ 1 = ap (λ b. adds b 1) e in omega (arith, least, one)
 
 -- with the row, from what stood and what was scored before
@@ -56,19 +58,25 @@ module _ (xs : List Standing) (rows : List Scored) (row : Scored) (i : ℕ) (d :
   rows-more : (member : ℕ) → rows_of member then_rows ≡ rows_of member rows + adds (row.member == member) 1
   rows-more member = sum_by_push (λ r. if r.member == member then 1 else 0) rows row
 
-  total-more : (part : Sums → ℕ) (member : ℕ) → total part member then_rows ≡ total part member rows + adds (row.member == member) (part row.sums)
+  total-more : (part : Sums → ℕ) (member : ℕ)
+      → total part member then_rows ≡ total part member rows + adds (row.member == member) (part row.sums)
   total-more part member = sum_by_push (λ r. if r.member == member then part r.sums else 0) rows row
 
   -- the row's member stands, and others have no more rows than before
-  stands-still : (member : ℕ) (b : Bool) → (row.member == member) ≡ b → 0 < rows_of member rows + adds b 1 → 0 < times member xs
+  stands-still : (member : ℕ) (b : Bool) → (row.member == member) ≡ b → 0 < rows_of member rows + adds b 1
+      → 0 < times member xs
   stands-still member true e _ = times-here xs i d row.sums h member (ap (λ m. m == member) same ∙ e)
   stands-still member false e more = t.listed member (omega (arith, more))
 
-  part-raised : (part : Sums → ℕ) → part (plus_sums (get_or xs i d).sums row.sums) ≡ part (get_or xs i d).sums + part row.sums
-      → ((member : ℕ) → shown part member xs ≡ total part member rows) → (member : ℕ) → shown part member then_stands ≡ total part member then_rows
+  part-raised : (part : Sums → ℕ) → part (plus_sums (get_or xs i d).sums row.sums)
+      ≡ part (get_or xs i d).sums + part row.sums
+      → ((member : ℕ) → shown part member xs ≡ total part member rows) → (member : ℕ)
+      → shown part member then_stands ≡ total part member then_rows
   part-raised part e before member =
-      joined (shown part member xs) (total part member rows) _ _ (adds (row.member == member) (part row.sums)) (before member)
-      (shown-raised xs i d row.sums h part e member ∙ ap (λ m. shown part member xs + adds (m == member) (part row.sums)) same)
+      joined (shown part member xs) (total part member rows) _ _ (adds (row.member == member) (part row.sums))
+      (before member)
+      (shown-raised xs i d row.sums h part e member
+      ∙ ap (λ m. shown part member xs + adds (m == member) (part row.sums)) same)
       (total-more part member)
 
   pub AreTotals-raised : AreTotals then_stands then_rows
@@ -79,8 +87,10 @@ module _ (xs : List Standing) (rows : List Scored) (row : Scored) (i : ℕ) (d :
             subst (λ n. 0 < n) (sym (times-raised xs i d row.sums h member))
             (stands-still member (row.member == member) refl (subst (λ n. 0 < n) (rows-more member) more));
         scored = λ member is.
-            let was : 0 < rows_of member rows = t.scored member (subst (λ n. 0 < n) (times-raised xs i d row.sums h member) is) in
-            let more : rows_of member then_rows ≡ rows_of member rows + adds (row.member == member) 1 = rows-more member in
+            let was : 0 < rows_of member rows = t.scored member
+            (subst (λ n. 0 < n) (times-raised xs i d row.sums h member) is) in
+            let more : rows_of member then_rows ≡ rows_of member rows + adds (row.member == member) 1 =
+            rows-more member in
             omega (arith, was, more);
         points = part-raised (λ s. s.points) refl t.points;
         wins = part-raised (λ s. s.wins) refl t.wins;
@@ -97,8 +107,10 @@ module _ (xs : List Standing) (rows : List Scored) (row : Scored) (i : ℕ) (d :
       get_or-le-sum_by (λ s. if s.member == row.member then part s.sums else 0) xs i d h in
       let here : adds ((get_or xs i d).member == row.member) (part (get_or xs i d).sums) ≡ part (get_or xs i d).sums =
       ap (λ b. adds b (part (get_or xs i d).sums)) (ap (λ m. m == row.member) same ∙ mine) in
-      let counted : adds (row.member == row.member) (part row.sums) ≡ part row.sums = ap (λ b. adds b (part row.sums)) mine in
-      let more : total part row.member then_rows ≡ total part row.member rows + adds (row.member == row.member) (part row.sums) = total-more part row.member in
+      let counted : adds (row.member == row.member) (part row.sums) ≡ part row.sums =
+      ap (λ b. adds b (part row.sums)) mine in
+      let more : total part row.member then_rows ≡ total part row.member rows + adds (row.member == row.member)
+      (part row.sums) = total-more part row.member in
       omega (arith, stands, here, counted, more, before row.member)
 
   pub Fit-raised : Fit (totals row.member then_rows) → Fit (plus_sums (get_or xs i d).sums row.sums)
@@ -119,7 +131,8 @@ none-counted : {X : Type 0} (p : X → Bool) (xs : List X) → length xs ≤ pos
 none-counted p [] h = refl
 none-counted p (x ∷ xs) h =
     sum_by-cons (λ y. if p y then 1 else 0) x xs ∙
-    (elim (p x) as (λ b. length (x ∷ xs) ≤ cond (not b) (1 + position_or_len p xs) 0 → (if b then 1 else 0) + count_by p xs ≡ 0) [
+    (elim (p x) as (λ b. length (x ∷ xs) ≤ cond (not b) (1 + position_or_len p xs) 0
+    → (if b then 1 else 0) + count_by p xs ≡ 0) [
       | true ↦ λ k. absurd (omega (arith, k))
       | false ↦ λ k. let none : count_by p xs ≡ 0 = none-counted p xs (omega (arith, k)) in omega (arith, none)
     ] h)
@@ -127,7 +140,8 @@ none-counted p (x ∷ xs) h =
 pub position-none : {X : Type 0} (p : X → Bool) (xs : List X) → position p xs ≡ None → count_by p xs ≡ 0
 position-none p xs e = none-counted p xs (not-over (position_or_len p xs) (length xs) e)
 
-module _ (xs : List Standing) (rows : List Scored) (row : Scored) (absent : times row.member xs ≡ 0) (t : AreTotals xs rows) where
+module _ (xs : List Standing) (rows : List Scored) (row : Scored) (absent : times row.member xs ≡ 0)
+    (t : AreTotals xs rows) where
   abbrev entered : List Standing
   entered = xs ++ record { member = row.member; sums = row.sums } ∷ []
 
@@ -139,7 +153,8 @@ module _ (xs : List Standing) (rows : List Scored) (row : Scored) (absent : time
 
   still-once : (member : ℕ) (b : Bool) → (row.member == member) ≡ b → times member xs + adds b 1 ≤ 1
   still-once member true e =
-      let is : row.member ≡ member = grind arith in let none : times member xs ≡ 0 = subst (λ m. times m xs ≡ 0) is absent in omega (arith, none)
+      let is : row.member ≡ member = grind arith in
+      let none : times member xs ≡ 0 = subst (λ m. times m xs ≡ 0) is absent in omega (arith, none)
   still-once member false e = omega (arith, t.once member)
 
   both : (a b more : ℕ) → (0 < a → 0 < b) → 0 < a + more → 0 < b + more
@@ -150,7 +165,8 @@ module _ (xs : List Standing) (rows : List Scored) (row : Scored) (absent : time
   part-entered : (part : Sums → ℕ) → ((member : ℕ) → shown part member xs ≡ total part member rows)
       → (member : ℕ) → shown part member entered ≡ total part member (rows ++ row ∷ [])
   part-entered part before member =
-      joined (shown part member xs) (total part member rows) _ _ (adds (row.member == member) (part row.sums)) (before member)
+      joined (shown part member xs) (total part member rows) _ _ (adds (row.member == member) (part row.sums))
+      (before member)
       (sum_by_push (λ s. if s.member == member then part s.sums else 0) xs _)
       (sum_by_push (λ r. if r.member == member then part r.sums else 0) rows row)
 
@@ -160,10 +176,12 @@ module _ (xs : List Standing) (rows : List Scored) (row : Scored) (absent : time
         once = λ member. subst (λ n. n ≤ 1) (sym (times-more member)) (still-once member (row.member == member) refl);
         listed = λ member more.
             subst (λ n. 0 < n) (sym (times-more member))
-            (both (rows_of member rows) (times member xs) _ (t.listed member) (subst (λ n. 0 < n) (with-row member) more));
+            (both (rows_of member rows) (times member xs) _ (t.listed member)
+            (subst (λ n. 0 < n) (with-row member) more));
         scored = λ member more.
             subst (λ n. 0 < n) (sym (with-row member))
-            (both (times member xs) (rows_of member rows) _ (t.scored member) (subst (λ n. 0 < n) (times-more member) more));
+            (both (times member xs) (rows_of member rows) _ (t.scored member)
+            (subst (λ n. 0 < n) (times-more member) more));
         points = part-entered (λ s. s.points) t.points;
         wins = part-entered (λ s. s.wins) t.wins;
         draws = part-entered (λ s. s.draws) t.draws;

@@ -1,5 +1,6 @@
 -- Standings of the same rows that are both in the order of the places are the same.
-use Rattle.std.proofs.Common.{◌≡◌, ◌∙◌, ◌+◌, ◌<◌, ◌≤◌, ◌==◌, inl, inr, ℕ, suc, true, false, List, [], ◌∷◌, length, get_or, refl, sym, ap, subst, arith}
+use Rattle.std.proofs.Common.{◌≡◌, ◌∙◌, ◌+◌, ◌<◌, ◌≤◌, ◌==◌, inl, inr, ℕ, suc, true, false, List, [], ◌∷◌, length}
+use Rattle.std.proofs.Common.{get_or, refl, sym, ap, subst, arith}
 use Rattle.std.proofs.lemmas.Grind.{common_steps}
 use Rattle.std.proofs.lemmas.List.Sorted.{sorted_far}
 use Rattle.squares.specs.In.{In}
@@ -38,7 +39,8 @@ in-times s xs h =
 twice : (s x : Standing) (xs : List Standing) → In s xs → times s.member (x ∷ xs) ≤ 1 → x.member ≡ s.member → ⊥
 twice s x xs h once e =
     let more : 0 < times s.member xs = in-times s xs h in
-    let split : times s.member (x ∷ xs) ≡ adds (x.member == s.member) 1 + times s.member xs = times-cons (λ _. 0) s.member x xs in
+    let split : times s.member (x ∷ xs) ≡ adds (x.member == s.member) 1 + times s.member xs =
+    times-cons (λ _. 0) s.member x xs in
     let one : adds (x.member == s.member) 1 ≡ 1 = ap (λ b. adds b 1) (ap (λ m. m == s.member) e ∙ itself s.member) in
     omega (arith, more, split, one, once)
 
@@ -60,10 +62,12 @@ Once-tail x xs once = λ m.
     omega (arith, all, split)
 
 -- the first of one is the first of the other
-same-head : (x y : Standing) (xs ys : List Standing) → Far (x ∷ xs) → Far (y ∷ ys) → Once (y ∷ ys) → In x (y ∷ ys) → In y (x ∷ xs) → y ≡ x
+same-head : (x y : Standing) (xs ys : List Standing) → Far (x ∷ xs) → Far (y ∷ ys) → Once (y ∷ ys) → In x (y ∷ ys)
+    → In y (x ∷ xs) → y ≡ x
 same-head x y xs ys far-x far-y once (inl e) back = e
 same-head x y xs ys far-x far-y once (inr h) back =
-    let same : x.member ≡ y.member = ties-member x y (none-before x y ys far-y (inr h)) (none-before y x xs far-x back) in
+    let same : x.member ≡ y.member = ties-member x y (none-before x y ys far-y (inr h)) (none-before y x xs far-x back)
+    in
     absurd (twice x y ys h (once x.member) (sym same))
 
 Within-tail : (x y : Standing) (xs ys : List Standing) → y ≡ x → Once (x ∷ xs) → Within (x ∷ xs) (y ∷ ys) → Within xs ys
@@ -89,12 +93,14 @@ alike (x ∷ xs) (y ∷ ys) fx fy ox oy into back =
 named : (m : ℕ) (xs : List Standing) → 0 < times m xs → (s : Standing) × In s xs × (s.member ≡ m)
 named m [] h = absurd (omega (arith, h))
 named m (x ∷ xs) h =
-    elim (x.member == m) as (λ b. (x.member == m) ≡ b → 0 < adds b 1 + times m xs → (s : Standing) × In s (x ∷ xs) × (s.member ≡ m)) [
+    elim (x.member == m) as (λ b. (x.member == m) ≡ b → 0 < adds b 1 + times m xs → (s : Standing) × In s (x ∷ xs)
+    × (s.member ≡ m)) [
       | true ↦ λ e _. (x, inl refl, member-is x.member m e)
       | false ↦ λ _ k. let w = named m xs (omega (arith, k)) in (w.0, inr w.1, w.2)
     ] refl (subst (λ n. 0 < n) (times-cons (λ _. 0) m x xs) h)
 
-own-sums : (xs : List Standing) (rows : List Scored) → AreTotals xs rows → (s : Standing) → In s xs → s.sums ≡ totals s.member rows
+own-sums : (xs : List Standing) (rows : List Scored) → AreTotals xs rows → (s : Standing) → In s xs
+    → s.sums ≡ totals s.member rows
 own-sums xs rows t s h =
     let w = in-at s xs h in
     subst (λ y. y.sums ≡ totals y.member rows) (w.2 s) (sums-at xs rows t w.0 s w.1)
@@ -109,7 +115,9 @@ totals-within xs ys rows tx ty = λ s h.
     own-sums ys rows ty w.0 w.1 ∙ (ap (λ m. totals m rows) w.2 ∙ sym (own-sums xs rows tx s h)) in
     subst (λ z. In z ys) (same-standing w.0 s w.2 sums) w.1
 
-pub only-one : (xs ys : List Standing) (rows : List Scored) → AreTotals xs rows → AreTotals ys rows → AreRanked xs → AreRanked ys → xs ≡ ys
+pub only-one : (xs ys : List Standing) (rows : List Scored) → AreTotals xs rows → AreTotals ys rows → AreRanked xs
+    → AreRanked ys → xs ≡ ys
 only-one xs ys rows tx ty rx ry =
-    alike xs ys (sorted_far precedes precedes_is_order xs rx) (sorted_far precedes precedes_is_order ys ry) tx.once ty.once
+    alike xs ys (sorted_far precedes precedes_is_order xs rx) (sorted_far precedes precedes_is_order ys ry) tx.once
+    ty.once
     (totals-within xs ys rows tx ty) (totals-within ys xs rows ty tx)

@@ -1,5 +1,6 @@
 -- What stands where totals stand.
-use Rattle.std.proofs.Common.{◌≡◌, ◌∙◌, ◌+◌, ◌<◌, ◌≤◌, ◌==◌, ℕ, zero, suc, Bool, true, false, List, [], ◌∷◌, length, get_or, take, refl, sym, ap, subst, arith}
+use Rattle.std.proofs.Common.{◌≡◌, ◌∙◌, ◌+◌, ◌<◌, ◌≤◌, ◌==◌, ℕ, zero, suc, Bool, true, false, List, [], ◌∷◌, length}
+use Rattle.std.proofs.Common.{get_or, take, refl, sym, ap, subst, arith}
 use Rattle.std.specs.Prelude.{if◌then◌else◌}
 use Rattle.std.specs.List.Sorted.{IsPermutation}
 use Rattle.std.proofs.lemmas.List.Sums.{sum_by-cons, sum_by-take-le, get_or-le-sum_by}
@@ -46,7 +47,8 @@ module _ (xs ys : List Standing) (rows : List Scored) (same : IsPermutation xs y
 -- ---- at a place
 
 module _ (part : Sums → ℕ) (m : ℕ) where
-  shown-cons : (x : Standing) (xs : List Standing) → shown part m (x ∷ xs) ≡ adds (x.member == m) (part x.sums) + shown part m xs
+  shown-cons : (x : Standing) (xs : List Standing)
+      → shown part m (x ∷ xs) ≡ adds (x.member == m) (part x.sums) + shown part m xs
   shown-cons x xs = sum_by-cons (λ s. if s.member == m then part s.sums else 0) x xs
 
   pub times-cons : (x : Standing) (xs : List Standing) → times m (x ∷ xs) ≡ adds (x.member == m) 1 + times m xs
@@ -69,17 +71,21 @@ module _ (part : Sums → ℕ) (m : ℕ) where
   at-later true n k s p more once e = absurd (omega (arith, more, once))
   at-later false n k s p more once e = omega (arith, e)
 
-  pub stands-here : (xs : List Standing) (i : ℕ) (d : Standing) → i < length xs → ((get_or xs i d).member == m) ≡ true → 0 < times m xs
+  pub stands-here : (xs : List Standing) (i : ℕ) (d : Standing) → i < length xs → ((get_or xs i d).member == m) ≡ true
+      → 0 < times m xs
   stands-here xs i d h e =
-      let least : adds ((get_or xs i d).member == m) 1 ≤ times m xs = get_or-le-sum_by (λ s. if s.member == m then 1 else 0) xs i d h in
+      let least : adds ((get_or xs i d).member == m) 1 ≤ times m xs =
+      get_or-le-sum_by (λ s. if s.member == m then 1 else 0) xs i d h in
       let one : adds ((get_or xs i d).member == m) 1 ≡ 1 = ap (λ b. adds b 1) e in omega (arith, least, one)
 
-  alone : (xs : List Standing) (i : ℕ) (d : Standing) → i < length xs → ((get_or xs i d).member == m) ≡ true → times m xs ≤ 1
+  alone : (xs : List Standing) (i : ℕ) (d : Standing) → i < length xs → ((get_or xs i d).member == m) ≡ true
+      → times m xs ≤ 1
       → shown part m xs ≡ part (get_or xs i d).sums
   alone [] i d h e once = absurd (omega (arith, h))
   alone (x ∷ xs) zero d h e once =
       shown-cons x xs ∙
-      at-first (x.member == m) (part x.sums) (times m xs) (shown part m xs) e (subst (λ n. n ≤ 1) (times-cons x xs) once) (none-shown xs)
+      at-first (x.member == m) (part x.sums) (times m xs) (shown part m xs) e
+      (subst (λ n. n ≤ 1) (times-cons x xs) once) (none-shown xs)
   alone (x ∷ xs) (suc i) d h e once =
       let within : i < length xs = omega (arith, h) in
       let more : 0 < times m xs = stands-here xs i d within e in
@@ -92,7 +98,8 @@ module _ (part : Sums → ℕ) (m : ℕ) where
 pub itself : (m : ℕ) → (m == m) ≡ true
 itself m = grind arith
 
-module _ (xs : List Standing) (rows : List Scored) (t : AreTotals xs rows) (i : ℕ) (d : Standing) (h : i < length xs) where
+module _ (xs : List Standing) (rows : List Scored) (t : AreTotals xs rows) (i : ℕ) (d : Standing)
+    (h : i < length xs) where
   part-at : (part : Sums → ℕ) → ((member : ℕ) → shown part member xs ≡ total part member rows)
       → part (get_or xs i d).sums ≡ total part (get_or xs i d).member rows
   part-at part e =

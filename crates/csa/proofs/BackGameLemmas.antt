@@ -1,5 +1,6 @@
 -- The statements of a game's text.
-use Rattle.std.proofs.Common.{◌≡◌, ℕ, zero, suc, ◌+◌, List, [], ◌∷◌, ◌++◌, length, Option, Some, None, true, false, refl, sym, ap, subst, ◌∙◌, append_assoc, append-nil, arith}
+use Rattle.std.proofs.Common.{◌≡◌, ℕ, zero, suc, ◌+◌, List, [], ◌∷◌, ◌++◌, length, Option, Some, None, true, false}
+use Rattle.std.proofs.Common.{refl, sym, ap, subst, ◌∙◌, append_assoc, append-nil, arith}
 use Rattle.std.proofs.lemmas.Bool.Decides.{nat_tests}
 use Rattle.std.proofs.lemmas.List.Splits.{slice_split_none}
 use Rattle.std.proofs.lemmas.Option.{slice_get_within}
@@ -33,7 +34,8 @@ use Rattle.csa.specs.Statements.{statement_of}
 use Rattle.csa.specs.Writing.{line_of, date_text, head_text, move_text, entry_text, entries_text, word_of, end_text}
 use Rattle.csa.specs.WrittenGame.{IsGameText}
 use Rattle.csa.specs.BackLaws.{IsKept, moves_of}
-use Rattle.csa.proofs.BackLineLemmas.{Every, every-all, IsOfLine, IsWithin, one-line, line-then, first-then, alone-then, dollar-line, player-line}
+use Rattle.csa.proofs.BackLineLemmas.{Every, every-all, IsOfLine, IsWithin, one-line, line-then, first-then, alone-then}
+use Rattle.csa.proofs.BackLineLemmas.{dollar-line, player-line}
 use Rattle.csa.proofs.BackMoveLemmas.{move-read, decimal-digits, seconds-read}
 
 -- ---- the moves and the end
@@ -47,20 +49,32 @@ record Continues (p : ShogiPosition) (ms : List SMove) (word : EndWord) (ss : Li
   end : end_in ss ≡ Some word
   whole : Every (λ each. is_parting each.statement ≡ false) ss
 
-at-end : (n : ℕ) (p : ShogiPosition) (word : EndWord) → Continues p [] word (record { line = n; statement = statement.End (Some word) } ∷ [])
+at-end : (n : ℕ) (p : ShogiPosition) (word : EndWord)
+    → Continues p [] word (record { line = n; statement = statement.End (Some word) } ∷ [])
 at-end n p word = record { mean = tt; sided = refl; moved = refl; even = refl; end = refl; whole = (refl, tt) }
 
-at-move : (n k : ℕ) (p : ShogiPosition) (m : SMove) (ms : List SMove) (w : WrittenMove) (word : EndWord) (ss : List Placed) → Means p w m → Continues (play p m) ms word ss →
-    Continues p (m ∷ ms) word (record { line = n; statement = statement.Move w } ∷ record { line = k; statement = statement.Seconds } ∷ ss)
+at-move : (n k : ℕ) (p : ShogiPosition) (m : SMove) (ms : List SMove) (w : WrittenMove) (word : EndWord)
+    (ss : List Placed) → Means p w m → Continues (play p m) ms word ss →
+    Continues p (m ∷ ms) word (record { line = n; statement = statement.Move w }
+    ∷ record { line = k; statement = statement.Seconds } ∷ ss)
 at-move n k p m ms w word ss means c =
-    record { mean = (means, c.mean); sided = c.moved; moved = c.moved; even = c.even; end = c.end; whole = (refl, (refl, c.whole)) }
+    record {
+      mean = (means, c.mean);
+      sided = c.moved;
+      moved = c.moved;
+      even = c.even;
+      end = c.end;
+      whole =
+          (refl, (refl, c.whole));
+    }
 
 -- each move of a line is legal in its position
 abbrev AreLegal : ShogiPosition → List SMove → Type 0
 AreLegal p [] = Unit {0}
 AreLegal p (m ∷ ms) = Legal p m × AreLegal (play p m) ms
 
-legal-line : (p : ShogiPosition) (ms : List SMove) → ((k : ℕ) (m : SMove) → slice_get ms k ≡ Some m → Legal (position_after p ms k) m) → AreLegal p ms
+legal-line : (p : ShogiPosition) (ms : List SMove)
+    → ((k : ℕ) (m : SMove) → slice_get ms k ≡ Some m → Legal (position_after p ms k) m) → AreLegal p ms
 legal-line p [] h = tt
 legal-line p (m ∷ ms) h = (h zero m refl, legal-line (play p m) ms (λ k n e. h (suc k) n e))
 
@@ -69,7 +83,8 @@ played-legal ms played = legal-line opening ms (λ k m e. (played k (slice_get_w
 
 -- a text that ends with a word is that statement, on whatever line
 abbrev IsEnd : EndWord → List ℕ → Type 0
-IsEnd word text = (n : ℕ) → statements_from n (lines text) ≡ record { line = n; statement = statement.End (Some word) } ∷ []
+IsEnd word text = (n : ℕ) → statements_from n (lines text) ≡ record { line = n; statement = statement.End (Some word) }
+    ∷ []
 
 end-read : (word : EndWord) → IsEnd word (line_of (word_text word) [])
 end-read word.Resigned = λ n. refl
@@ -87,46 +102,60 @@ time-header : (l : List ℕ) → is_header (84 ∷ l) ≡ false
 time-header [] = refl
 time-header (c ∷ l) = refl
 
-seconds-then : (n seconds : ℕ) (rest : List ℕ) → statements_from n (lines (line_of (codes "T") (decimal seconds) ++ rest)) ≡ record { line = n; statement = statement.Seconds } ∷ statements_from (suc n) (lines rest)
+seconds-then : (n seconds : ℕ) (rest : List ℕ)
+    → statements_from n (lines (line_of (codes "T") (decimal seconds) ++ rest))
+    ≡ record { line = n; statement = statement.Seconds } ∷ statements_from (suc n) (lines rest)
 seconds-then n seconds rest =
     let within : Every IsWithin (84 ∷ decimal seconds) = ((refl, refl, refl), (decimal-digits seconds).within) in
-    alone-then n (codes "T") (decimal seconds) 84 (decimal seconds) rest refl within refl (time-header (decimal seconds))
+    alone-then n (codes "T") (decimal seconds) 84 (decimal seconds) rest refl within refl
+    (time-header (decimal seconds))
     ∙ ap (λ s. record { line = n; statement = s } ∷ statements_from (suc n) (lines rest)) (seconds-read seconds)
 
 -- the lines of a move, and what follows them
 entry-then : (n : ℕ) (p : ShogiPosition) (m : SMove) (seconds : ℕ) (rest : List ℕ) → Legal p m →
     (w : WrittenMove) × Means p w m
-    × (statements_from n (lines (entry_text p m seconds ++ rest)) ≡ record { line = n; statement = statement.Move w } ∷ record { line = suc n; statement = statement.Seconds } ∷ statements_from (suc (suc n)) (lines rest))
+    ×
+    (statements_from n (lines (entry_text p m seconds ++ rest)) ≡ record { line = n; statement = statement.Move w }
+    ∷ record { line = suc n; statement = statement.Seconds } ∷ statements_from (suc (suc n)) (lines rest))
 entry-then n p m seconds rest legal =
     let r = move-read p m legal in
     let first : List ℕ = line_of (move_text p m) [] in
     let second : List ℕ = line_of (codes "T") (decimal seconds) in
-    let here : Statement → List Placed = λ s. record { line = n; statement = s } ∷ record { line = suc n; statement = statement.Seconds } ∷ statements_from (suc (suc n)) (lines rest) in (
+    let here : Statement → List Placed = λ s. record { line = n; statement = s }
+    ∷ record { line = suc n; statement = statement.Seconds } ∷ statements_from (suc (suc n)) (lines rest) in (
       r.written,
       r.means,
       ap (λ l. statements_from n (lines l)) (append_assoc first second rest)
-          ∙ alone-then n (move_text p m) [] r.sign r.more (second ++ rest) (append-nil (move_text p m) ∙ r.is) r.within r.comment r.header
-          ∙ ap (λ l. record { line = n; statement = statement_of (r.sign ∷ r.more) } ∷ l) (seconds-then (suc n) seconds rest)
+          ∙ alone-then n (move_text p m) [] r.sign r.more (second ++ rest) (append-nil (move_text p m) ∙ r.is) r.within
+          r.comment r.header
+          ∙ ap (λ l. record { line = n; statement = statement_of (r.sign ∷ r.more) } ∷ l)
+          (seconds-then (suc n) seconds rest)
           ∙ ap here r.reads,
     )
 
-entries-read : (p : ShogiPosition) (es : List (SMove × ℕ)) (n : ℕ) (word : EndWord) (last : List ℕ) → AreLegal p (moves_of es) → IsEnd word last → Continues p (moves_of es) word (statements_from n (lines (entries_text p es ++ last)))
+entries-read : (p : ShogiPosition) (es : List (SMove × ℕ)) (n : ℕ) (word : EndWord) (last : List ℕ)
+    → AreLegal p (moves_of es) → IsEnd word last
+    → Continues p (moves_of es) word (statements_from n (lines (entries_text p es ++ last)))
 entries-read p [] n word last legal end = subst (Continues p [] word) (sym (end n)) (at-end n p word)
 entries-read p (e ∷ es) n word last legal end =
     let next : ShogiPosition = play p e.0 in
     let rest : List ℕ = entries_text next es ++ last in
     let here = entry-then n p e.0 e.1 rest legal.0 in
     let later = entries-read next es (suc (suc n)) word last legal.1 end in
-    let is = ap (λ l. statements_from n (lines l)) (append_assoc (entry_text p e.0 e.1) (entries_text next es) last) ∙ here.2 in
-    subst (Continues p (e.0 ∷ moves_of es) word) (sym is) (at-move n (suc n) p e.0 (moves_of es) here.0 word (statements_from (suc (suc n)) (lines rest)) here.1 later)
+    let is = ap (λ l. statements_from n (lines l)) (append_assoc (entry_text p e.0 e.1) (entries_text next es) last)
+    ∙ here.2 in
+    subst (Continues p (e.0 ∷ moves_of es) word) (sym is)
+    (at-move n (suc n) p e.0 (moves_of es) here.0 word (statements_from (suc (suc n)) (lines rest)) here.1 later)
 
 -- ---- the head
 
 -- the statements of a head, and those of a rest
 abbrev with_head : List Placed → List Placed
 with_head rest =
-    record { line = 1; statement = statement.Version } ∷ record { line = 2; statement = statement.Header } ∷ record { line = 3; statement = statement.Header }
-    ∷ record { line = 4; statement = statement.Header } ∷ record { line = 5; statement = statement.Header } ∷ record { line = 6; statement = statement.Opening true }
+    record { line = 1; statement = statement.Version } ∷ record { line = 2; statement = statement.Header }
+    ∷ record { line = 3; statement = statement.Header }
+    ∷ record { line = 4; statement = statement.Header } ∷ record { line = 5; statement = statement.Header }
+    ∷ record { line = 6; statement = statement.Opening true }
     ∷ record { line = 7; statement = statement.Turn First } ∷ rest
 
 digit-line : (k : ℕ) → IsOfLine (48 + k)
@@ -153,7 +182,16 @@ date-line at = (
                   digit-line _,
                   (
                     digit-line _,
-                    (refl, (digit-line _, (digit-line _, (refl, (digit-line _, (digit-line _, (refl, (digit-line _, (digit-line _, tt))))))))),
+                    (
+                      refl,
+                      (
+                        digit-line _,
+                        (
+                          digit-line _,
+                          (refl, (digit-line _, (digit-line _, (refl, (digit-line _, (digit-line _, tt)))))),
+                        ),
+                      ),
+                    ),
                   ),
                 ),
               ),
@@ -165,7 +203,8 @@ date-line at = (
   ),
 )
 
-head-then : (event black white : List ℕ) (at : CivilTime) (rest : List ℕ) → Every IsOfLine event → Every IsOfLine black → Every IsOfLine white →
+head-then : (event black white : List ℕ) (at : CivilTime) (rest : List ℕ) → Every IsOfLine event → Every IsOfLine black
+    → Every IsOfLine white →
     statements_from 1 (lines (head_text event black white at ++ rest)) ≡ with_head (statements_from 8 (lines rest))
 head-then event black white at rest event_in black_in white_in =
     let date : List ℕ = date_text at in
@@ -180,10 +219,19 @@ head-then event black white at rest event_in black_in white_in =
     let o : Placed = record { line = 6; statement = statement.Opening true } in
     let t : Placed = record { line = 7; statement = statement.Turn First } in
     first-then 1 (codes "V2.2") [] first rest (v ∷ []) (refl, (refl, (refl, (refl, tt)))) refl
-    ∙ ap (λ l. v ∷ l) (first-then 2 (codes "N+") black second rest (h 2 ∷ []) (refl, (refl, black_in)) (player-line 2 43 black refl refl)
-    ∙ ap (λ l. h 2 ∷ l) (first-then 3 (codes "N-") white name rest (h 3 ∷ []) (refl, (refl, white_in)) (player-line 3 45 white refl refl)
-    ∙ ap (λ l. h 3 ∷ l) (first-then 4 (codes "$EVENT:") event time rest (h 4 ∷ []) (refl, (refl, (refl, (refl, (refl, (refl, (refl, event_in))))))) (dollar-line 4 (codes "EVENT:" ++ event))
-    ∙ ap (λ l. h 4 ∷ l) (first-then 5 (codes "$START_TIME:") date start rest (h 5 ∷ []) (refl, (refl, (refl, (refl, (refl, (refl, (refl, (refl, (refl, (refl, (refl, (refl, date-line at)))))))))))) (dollar-line 5 (codes "START_TIME:" ++ date))
+    ∙ ap (λ l. v ∷ l)
+    (first-then 2 (codes "N+") black second rest (h 2 ∷ []) (refl, (refl, black_in))
+    (player-line 2 43 black refl refl)
+    ∙ ap (λ l. h 2 ∷ l)
+    (first-then 3 (codes "N-") white name rest (h 3 ∷ []) (refl, (refl, white_in))
+    (player-line 3 45 white refl refl)
+    ∙ ap (λ l. h 3 ∷ l)
+    (first-then 4 (codes "$EVENT:") event time rest (h 4 ∷ [])
+    (refl, (refl, (refl, (refl, (refl, (refl, (refl, event_in))))))) (dollar-line 4 (codes "EVENT:" ++ event))
+    ∙ ap (λ l. h 4 ∷ l)
+    (first-then 5 (codes "$START_TIME:") date start rest (h 5 ∷ [])
+    (refl, (refl, (refl, (refl, (refl, (refl, (refl, (refl, (refl, (refl, (refl, (refl, date-line at))))))))))))
+    (dollar-line 5 (codes "START_TIME:" ++ date))
     ∙ ap (λ l. h 5 ∷ l) (first-then 6 (codes "PI") [] side rest (o ∷ []) (refl, (refl, tt)) refl
     ∙ ap (λ l. o ∷ l) (line-then 7 (codes "+") [] rest (t ∷ []) (refl, tt) refl))))))
 
@@ -197,13 +245,18 @@ pub record IsWhole (ms : List SMove) (word : EndWord) (ss : List Placed) : Type 
   pub mean : MeanAll opening (written_moves ss) ms
   pub end : end_in ss ≡ Some word
 
-with-head : (ms : List SMove) (word : EndWord) (rest : List Placed) → Continues opening ms word rest → IsWhole ms word (with_head rest)
+with-head : (ms : List SMove) (word : EndWord) (rest : List Placed) → Continues opening ms word rest
+    → IsWhole ms word (with_head rest)
 with-head ms word rest c =
     let ss : List Placed = with_head rest in
-    let no_parting : Every (λ each. is_parting each.statement ≡ false) ss = (refl, (refl, (refl, (refl, (refl, (refl, (refl, c.whole))))))) in
+    let no_parting : Every (λ each. is_parting each.statement ≡ false) ss =
+    (refl, (refl, (refl, (refl, (refl, (refl, (refl, c.whole))))))) in
     record {
       ordered = record { version = refl; order = c.sided };
-      alone = ap without_bare_last (slice_split_none (λ each. is_parting each.statement) ss (every-all (λ each. is_parting each.statement ≡ false) ss no_parting));
+      alone =
+          ap without_bare_last
+          (slice_split_none (λ each. is_parting each.statement) ss
+          (every-all (λ each. is_parting each.statement ≡ false) ss no_parting));
       even = c.even;
       mean = c.mean;
       end = c.end;
@@ -214,11 +267,13 @@ long [] = refl
 long (e ∷ es) = let more = long es in omega (arith, more)
 
 -- all moves of the list are played
-pub played-all : (es : List (SMove × ℕ)) → IsPlayed opening (moves_of es) (length es) → IsPlayed opening (moves_of es) (length (moves_of es))
+pub played-all : (es : List (SMove × ℕ)) → IsPlayed opening (moves_of es) (length es)
+    → IsPlayed opening (moves_of es) (length (moves_of es))
 played-all es played = subst (IsPlayed opening (moves_of es)) (long es) played
 
 -- the text of a game is the one record of its moves, and ends with the word of its end
-pub text-whole : (event black white : List ℕ) (start : ℕ) (end : Option CsaEnd) (es : List (SMove × ℕ)) (text : List ℕ) → IsKept event black white end es → IsGameText event black white start end es text →
+pub text-whole : (event black white : List ℕ) (start : ℕ) (end : Option CsaEnd) (es : List (SMove × ℕ)) (text : List ℕ)
+    → IsKept event black white end es → IsGameText event black white start end es text →
     IsWhole (moves_of es) (word_of end (last_position opening (moves_of es)).turn) (text_statements text)
 unfolding text_statements
 text-whole event black white start end es text kept is =
@@ -229,5 +284,8 @@ text-whole event black white start end es text kept is =
     let legal : AreLegal opening (moves_of es) = played-legal (moves_of es) (played-all es kept.played) in
     let said : statements_from 1 (lines text) ≡ with_head (statements_from 8 (lines (moves ++ last))) =
     ap (λ l. statements_from 1 (lines l)) (is.written ∙ append_assoc head moves last)
-    ∙ head-then event black white is.at (moves ++ last) (one-line event kept.event_line) (one-line black kept.black_line) (one-line white kept.white_line) in
-    subst (IsWhole (moves_of es) word) (sym said) (with-head (moves_of es) word (statements_from 8 (lines (moves ++ last))) (entries-read opening es 8 word last legal (end-read word)))
+    ∙ head-then event black white is.at (moves ++ last) (one-line event kept.event_line)
+    (one-line black kept.black_line) (one-line white kept.white_line) in
+    subst (IsWhole (moves_of es) word) (sym said)
+    (with-head (moves_of es) word (statements_from 8 (lines (moves ++ last)))
+    (entries-read opening es 8 word last legal (end-read word)))

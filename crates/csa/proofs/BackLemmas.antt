@@ -1,5 +1,6 @@
 -- The text of a game that ended is read as that game, and that of a game that goes on is refused as unfinished.
-use Rattle.std.proofs.Common.{◌≡◌, ◌⊎◌, inl, inr, ℕ, List, [], ◌∷◌, ◌++◌, true, false, cond, ◌&&◌, Option, Some, None, Result, Ok, Err, refl, sym, ap, subst, ◌∙◌}
+use Rattle.std.proofs.Common.{◌≡◌, ◌⊎◌, inl, inr, ℕ, List, [], ◌∷◌, ◌++◌, true, false, cond, ◌&&◌, Option, Some, None}
+use Rattle.std.proofs.Common.{Result, Ok, Err, refl, sym, ap, subst, ◌∙◌}
 use Rattle.squares.specs.declared.sides.Side.{Side}
 use Rattle.squares.specs.declared.sides.Side.TheVariants.{First, Second}
 use Rattle.squares.specs.declared.sides.Score.{Score}
@@ -41,7 +42,8 @@ same-self score.Draw = refl
 same-self score.SecondWins = refl
 
 -- a claim that is settled
-settles : (w : EndWord) (turn : Side) (claim : Score) (end : Option SEnd) → claimed w turn ≡ Some claim → fits_rules w end ≡ true → agrees claim turn end ≡ true → ending (Some w) turn end ≡ Ok claim
+settles : (w : EndWord) (turn : Side) (claim : Score) (end : Option SEnd) → claimed w turn ≡ Some claim
+    → fits_rules w end ≡ true → agrees claim turn end ≡ true → ending (Some w) turn end ≡ Ok claim
 settles w turn claim end says fits agreed =
     ap (λ c. claim_settled w c turn end) says
     ∙ ap (λ b. cond (b && agrees claim turn end) (Ok claim) (Err fault.ResultDiffers)) fits
@@ -78,25 +80,29 @@ rule-fits by_rule.Fourfold = refl
 rule-fits by_rule.PlyLimit = refl
 
 -- an end that fits the rules is read as its score
-end-back : (end : CsaEnd) (turn : Side) (given : Option SEnd) → TellsEnd given (Some end) turn → ending (Some (word_of (Some end) turn)) turn given ≡ Ok (score_of end turn)
+end-back : (end : CsaEnd) (turn : Side) (given : Option SEnd) → TellsEnd given (Some end) turn
+    → ending (Some (word_of (Some end) turn)) turn given ≡ Ok (score_of end turn)
 end-back (csa_end.Rule told) turn None tells = absurd tells
 end-back csa_end.Resigned turn None tells = refl
 end-back csa_end.Time turn None tells = refl
 end-back (csa_end.Recorded claim) turn None tells =
     settles (recorded_word claim turn) turn claim None (recorded-says claim turn) (recorded-fits claim turn None) refl
 end-back (csa_end.Rule told) turn (Some given) tells =
-    settles (rule_word told) turn (outcome_of told turn) (Some given) (rule-says told turn) (subst (λ e. fits_rules (rule_word told) (Some e) ≡ true) tells (rule-fits told))
+    settles (rule_word told) turn (outcome_of told turn) (Some given) (rule-says told turn)
+    (subst (λ e. fits_rules (rule_word told) (Some e) ≡ true) tells (rule-fits told))
     (ap (λ e. same_score (outcome_of told turn) (outcome_of e turn)) (sym tells) ∙ same-self (outcome_of told turn))
 end-back csa_end.Resigned turn (Some given) tells = absurd tells
 end-back csa_end.Time turn (Some given) tells = absurd tells
 end-back (csa_end.Recorded claim) turn (Some given) tells =
-    settles (recorded_word claim turn) turn claim (Some given) (recorded-says claim turn) (recorded-fits claim turn (Some given))
+    settles (recorded_word claim turn) turn claim (Some given) (recorded-says claim turn)
+    (recorded-fits claim turn (Some given))
     (ap (same_score claim) (sym tells) ∙ same-self claim)
 
 -- ---- the game
 
 -- the record of a kept game plays its moves to the end that the rules give them
-plays : (event black white : List ℕ) (end : Option CsaEnd) (es : List (SMove × ℕ)) (w : EndWord) (ss : List Placed) (kept : IsKept event black white end es) → IsWhole (moves_of es) w ss → Plays ss (moves_of es) kept.fits.0
+plays : (event black white : List ℕ) (end : Option CsaEnd) (es : List (SMove × ℕ)) (w : EndWord) (ss : List Placed)
+    (kept : IsKept event black white end es) → IsWhole (moves_of es) w ss → Plays ss (moves_of es) kept.fits.0
 plays event black white end es w ss kept whole = record {
   even = whole.even;
   moves = record { mean = whole.mean; played = played-all es kept.played };
@@ -108,12 +114,15 @@ written-back = λ event black white start end es text game kept is of.
     let ss : List Placed = text_statements text in
     let ms : List SMove = moves_of es in
     let turn : Side = (last_position opening ms).turn in
-    let whole : IsWhole ms (word_of (Some end) turn) ss = text-whole event black white start (Some end) es text kept is in
+    let whole : IsWhole ms (word_of (Some end) turn) ss =
+    text-whole event black white start (Some end) es text kept is in
     let given : Option SEnd = kept.fits.0 in
-    let said : score_in ss ms given ≡ Ok (score_of end turn) = ap (λ w. ending w turn given) whole.end ∙ end-back end turn given kept.fits.2 in
+    let said : score_in ss ms given ≡ Ok (score_of end turn) = ap (λ w. ending w turn given) whole.end
+    ∙ end-back end turn given kept.fits.2 in
     let one : IsRecordOf ss game = record {
       end = given;
-      plays = subst (λ l. Plays ss l given) (sym of.moves) (plays event black white (Some end) es (word_of (Some end) turn) ss kept whole);
+      plays = subst (λ l. Plays ss l given) (sym of.moves)
+          (plays event black white (Some end) es (word_of (Some end) turn) ss kept whole);
       score = ap (λ l. score_in ss l given) of.moves ∙ said ∙ ap (λ s. Ok s) (sym of.score);
     } in
     record { ordered = whole.ordered; records = subst (λ rs. AreRecordsOf rs (game ∷ [])) (sym whole.alone) (one, tt) }
@@ -124,37 +133,60 @@ abbrev IsUnfinished : CsaFault → Type 0
 IsUnfinished f = (f ≡ fault.Memory) ⊎ (f ≡ fault.Unfinished)
 
 -- the fault of the one record
-of-one : (ss failing : List Placed) (before after : List (List Placed)) (games : List CsaGame) (f : CsaFault) → ss ∷ [] ≡ before ++ failing ∷ after → RecordFails failing f → RecordFails ss f
-of-one ss failing [] after games f parts fails = let is : ss ≡ failing = cc in subst (λ l. RecordFails l f) (sym is) fails
+of-one : (ss failing : List Placed) (before after : List (List Placed)) (games : List CsaGame) (f : CsaFault)
+    → ss ∷ [] ≡ before ++ failing ∷ after → RecordFails failing f → RecordFails ss f
+of-one ss failing [] after games f parts fails = let is : ss ≡ failing = cc in
+    subst (λ l. RecordFails l f) (sym is) fails
 of-one ss failing (b ∷ []) after games f parts fails = let never : [] ≡ failing ∷ after = cc in absurd (cc)
-of-one ss failing (b ∷ c ∷ before) after games f parts fails = let never : [] ≡ c ∷ (before ++ failing ∷ after) = cc in absurd (cc)
+of-one ss failing (b ∷ c ∷ before) after games f parts fails = let never : [] ≡ c ∷ (before ++ failing ∷ after) = cc in
+    absurd (cc)
 
-one-fails : (ms : List SMove) (w : EndWord) (ss : List Placed) (f : CsaFault) → IsWhole ms w ss → SomeRecordFails ss f → RecordFails ss f
-one-fails ms w ss f whole h = of-one ss h.1.failing h.1.before h.1.after h.1.games f (sym whole.alone ∙ h.1.parts) h.1.fails
+one-fails : (ms : List SMove) (w : EndWord) (ss : List Placed) (f : CsaFault) → IsWhole ms w ss → SomeRecordFails ss f
+    → RecordFails ss f
+one-fails ms w ss f whole h = of-one ss h.1.failing h.1.before h.1.after h.1.games f (sym whole.alone ∙ h.1.parts)
+    h.1.fails
 
-unfinished : CheckIs → NoLineHasTwoEnds → (ms : List SMove) (ss : List Placed) (given : Option SEnd) (f : CsaFault) → Plays ss ms given → score_in ss ms given ≡ Err fault.Unfinished → RecordFails ss f → IsUnfinished f
+unfinished : CheckIs → NoLineHasTwoEnds → (ms : List SMove) (ss : List Placed) (given : Option SEnd) (f : CsaFault)
+    → Plays ss ms given → score_in ss ms given ≡ Err fault.Unfinished → RecordFails ss f → IsUnfinished f
 unfinished laws one ms ss given fault.Memory p said h = inl refl
 unfinished laws one ms ss given (fault.BadText line) p said h = absurd h
 unfinished laws one ms ss given fault.Version p said h = absurd h
 unfinished laws one ms ss given fault.OtherOpening p said h = let never : true ≡ false = sym p.even ∙ h in absurd (cc)
-unfinished laws one ms ss given (fault.Illegal ply cause) p said h = absurd (moves-unrefused laws one (written_moves ss) ms (fault.Illegal ply cause) p.moves h.1)
+unfinished laws one ms ss given (fault.Illegal ply cause) p said h =
+    absurd (moves-unrefused laws one (written_moves ss) ms (fault.Illegal ply cause) p.moves h.1)
 unfinished laws one ms ss given fault.Unfinished p said h = inr refl
-unfinished laws one ms ss given (fault.AfterEnd ply) p said h = absurd (moves-unrefused laws one (written_moves ss) ms (fault.AfterEnd ply) p.moves h.1)
+unfinished laws one ms ss given (fault.AfterEnd ply) p said h =
+    absurd (moves-unrefused laws one (written_moves ss) ms (fault.AfterEnd ply) p.moves h.1)
 unfinished laws one ms ss given fault.ResultDiffers p said h =
     let same = same-score one ss ms h.moves given h.end p h.plays in
-    let never : ◌≡◌ {A = Result Score CsaFault} (Err fault.Unfinished) (Err fault.ResultDiffers) = sym said ∙ same.1 ∙ h.score in
+    let never : ◌≡◌ {A = Result Score CsaFault} (Err fault.Unfinished) (Err fault.ResultDiffers) = sym said ∙ same.1
+    ∙ h.score in
     absurd (cc)
 
-text-unfinished : CheckIs → NoLineHasTwoEnds → (ms : List SMove) (w : EndWord) (text : List ℕ) (given : Option SEnd) (f : CsaFault) → IsWhole ms w (text_statements text) → Plays (text_statements text) ms given → score_in (text_statements text) ms given ≡ Err fault.Unfinished → IsRefused text f → IsUnfinished f
+text-unfinished : CheckIs → NoLineHasTwoEnds
+    → (ms : List SMove) (w : EndWord) (text : List ℕ) (given : Option SEnd) (f : CsaFault)
+    → IsWhole ms w (text_statements text) → Plays (text_statements text) ms given
+    → score_in (text_statements text) ms given ≡ Err fault.Unfinished → IsRefused text f → IsUnfinished f
 text-unfinished laws one ms w text given fault.Memory whole p said h = inl refl
-text-unfinished laws one ms w text given (fault.BadText line) whole p said (inl empty) = let never : Some statement.Version ≡ None = sym whole.ordered.version ∙ empty.0 in absurd (cc)
-text-unfinished laws one ms w text given (fault.BadText line) whole p said (inr stray) = let never : None ≡ Some line = sym whole.ordered.order ∙ stray.1 in absurd (cc)
-text-unfinished laws one ms w text given fault.Version whole p said h = let both : Some statement.Version ≡ Some h.0 = sym whole.ordered.version ∙ h.1 in let is : h.0 ≡ statement.Version = cc in absurd (h.2 is)
-text-unfinished laws one ms w text given fault.OtherOpening whole p said h = unfinished laws one ms (text_statements text) given fault.OtherOpening p said (one-fails ms w (text_statements text) fault.OtherOpening whole h)
-text-unfinished laws one ms w text given (fault.Illegal ply cause) whole p said h = unfinished laws one ms (text_statements text) given (fault.Illegal ply cause) p said (one-fails ms w (text_statements text) (fault.Illegal ply cause) whole h)
+text-unfinished laws one ms w text given (fault.BadText line) whole p said (inl empty) =
+    let never : Some statement.Version ≡ None = sym whole.ordered.version ∙ empty.0 in absurd (cc)
+text-unfinished laws one ms w text given (fault.BadText line) whole p said (inr stray) = let never : None ≡ Some line =
+    sym whole.ordered.order ∙ stray.1 in absurd (cc)
+text-unfinished laws one ms w text given fault.Version whole p said h = let both : Some statement.Version ≡ Some h.0 =
+    sym whole.ordered.version ∙ h.1 in let is : h.0 ≡ statement.Version = cc in absurd (h.2 is)
+text-unfinished laws one ms w text given fault.OtherOpening whole p said h =
+    unfinished laws one ms (text_statements text) given fault.OtherOpening p said
+    (one-fails ms w (text_statements text) fault.OtherOpening whole h)
+text-unfinished laws one ms w text given (fault.Illegal ply cause) whole p said h =
+    unfinished laws one ms (text_statements text) given (fault.Illegal ply cause) p said
+    (one-fails ms w (text_statements text) (fault.Illegal ply cause) whole h)
 text-unfinished laws one ms w text given fault.Unfinished whole p said h = inr refl
-text-unfinished laws one ms w text given (fault.AfterEnd ply) whole p said h = unfinished laws one ms (text_statements text) given (fault.AfterEnd ply) p said (one-fails ms w (text_statements text) (fault.AfterEnd ply) whole h)
-text-unfinished laws one ms w text given fault.ResultDiffers whole p said h = unfinished laws one ms (text_statements text) given fault.ResultDiffers p said (one-fails ms w (text_statements text) fault.ResultDiffers whole h)
+text-unfinished laws one ms w text given (fault.AfterEnd ply) whole p said h =
+    unfinished laws one ms (text_statements text) given (fault.AfterEnd ply) p said
+    (one-fails ms w (text_statements text) (fault.AfterEnd ply) whole h)
+text-unfinished laws one ms w text given fault.ResultDiffers whole p said h =
+    unfinished laws one ms (text_statements text) given fault.ResultDiffers p said
+    (one-fails ms w (text_statements text) fault.ResultDiffers whole h)
 
 pub running-back : CheckIs → NoLineHasTwoEnds → RunningIsRefused
 running-back laws one = λ event black white start es text kept is.

@@ -1,5 +1,6 @@
 -- Lines that are written are read as their statements.
-use Rattle.std.proofs.Common.{◌≡◌, ℕ, zero, suc, ◌-◌, ◌<◌, List, [], ◌∷◌, ◌++◌, length, take, get_or, true, false, cond, refl, sym, ap, subst, ◌∙◌, append_assoc, arith}
+use Rattle.std.proofs.Common.{◌≡◌, ℕ, zero, suc, ◌-◌, ◌<◌, List, [], ◌∷◌, ◌++◌, length, take, get_or, true, false, cond}
+use Rattle.std.proofs.Common.{refl, sym, ap, subst, ◌∙◌, append_assoc, arith}
 use Rattle.std.proofs.lemmas.Bool.Decides.{nat_tests}
 use Rattle.std.proofs.lemmas.List.Splits.{slice_split_at, slice_split_none, length-slice_split}
 use Rattle.std.specs.Prelude.{◌==◌, ◌||◌}
@@ -42,7 +43,8 @@ one-line (c ∷ text) one = let other = one.0 in ((grind (arith, nat_tests, othe
 
 -- ---- lines
 
-first-of : (x : List ℕ) (parts : List (List ℕ)) → 0 < length parts → lines_of_parts (x ∷ parts) ≡ strip_carriage_return x ∷ lines_of_parts parts
+first-of : (x : List ℕ) (parts : List (List ℕ)) → 0 < length parts
+    → lines_of_parts (x ∷ parts) ≡ strip_carriage_return x ∷ lines_of_parts parts
 first-of x [] h = absurd (omega (arith, h))
 first-of x (y ∷ more) h = refl
 
@@ -53,13 +55,19 @@ lines-then x rest within =
     ap lines_of_parts (slice_split_at (λ b. b == 10) x 10 rest (every-all IsOfLine x within) refl)
     ∙ first-of x (slice_split (λ b. b == 10) rest) (omega (arith, parts))
 
-pub statements-then : (n : ℕ) (x rest : List ℕ) (here : List Placed) → Every IsOfLine x → statements_on n (strip_carriage_return x) ≡ here → statements_from n (lines (x ++ 10 ∷ rest)) ≡ here ++ statements_from (suc n) (lines rest)
-statements-then n x rest here within is = ap (λ l. statements_from n l) (lines-then x rest within) ∙ ap (λ l. l ++ statements_from (suc n) (lines rest)) is
+pub statements-then : (n : ℕ) (x rest : List ℕ) (here : List Placed) → Every IsOfLine x
+    → statements_on n (strip_carriage_return x) ≡ here
+    → statements_from n (lines (x ++ 10 ∷ rest)) ≡ here ++ statements_from (suc n) (lines rest)
+statements-then n x rest here within is = ap (λ l. statements_from n l) (lines-then x rest within)
+    ∙ ap (λ l. l ++ statements_from (suc n) (lines rest)) is
 
 -- the same of a line of two parts
-pub line-then : (n : ℕ) (name value rest : List ℕ) (here : List Placed) → Every IsOfLine (name ++ value) → statements_on n (strip_carriage_return (name ++ value)) ≡ here → statements_from n (lines (line_of name value ++ rest)) ≡ here ++ statements_from (suc n) (lines rest)
+pub line-then : (n : ℕ) (name value rest : List ℕ) (here : List Placed) → Every IsOfLine (name ++ value)
+    → statements_on n (strip_carriage_return (name ++ value)) ≡ here
+    → statements_from n (lines (line_of name value ++ rest)) ≡ here ++ statements_from (suc n) (lines rest)
 line-then n name value rest here within is =
-    ap (λ l. statements_from n (lines l)) (append_assoc name (value ++ 10 ∷ []) rest ∙ ap (λ l. name ++ l) (append_assoc value (10 ∷ []) rest) ∙ sym (append_assoc name value (10 ∷ rest)))
+    ap (λ l. statements_from n (lines l)) (append_assoc name (value ++ 10 ∷ []) rest
+    ∙ ap (λ l. name ++ l) (append_assoc value (10 ∷ []) rest) ∙ sym (append_assoc name value (10 ∷ rest)))
     ∙ statements-then n (name ++ value) rest here within is
 
 -- ---- lines of one statement
@@ -71,10 +79,13 @@ at-within P (x ∷ l) (suc i) none e = at-within P l i none e.1
 
 no-return : (l : List ℕ) → Every IsWithin l → strip_carriage_return l ≡ l
 no-return l e =
-    ap (λ b. cond b (take (length l - 1) l) l) (at-within (λ c. (c == 13) ≡ false) l (length l - 1) refl (every-goes IsWithin (λ c. (c == 13) ≡ false) (λ c w. w.1) l e))
+    ap (λ b. cond b (take (length l - 1) l) l)
+    (at-within (λ c. (c == 13) ≡ false) l (length l - 1) refl
+    (every-goes IsWithin (λ c. (c == 13) ≡ false) (λ c w. w.1) l e))
 
 -- a statement alone on its line
-pub alone : (n c : ℕ) (x : List ℕ) → Every IsWithin (c ∷ x) → is_comment (c ∷ x) ≡ false → is_header (c ∷ x) ≡ false → statements_on n (strip_carriage_return (c ∷ x)) ≡ record { line = n; statement = statement_of (c ∷ x) } ∷ []
+pub alone : (n c : ℕ) (x : List ℕ) → Every IsWithin (c ∷ x) → is_comment (c ∷ x) ≡ false → is_header (c ∷ x) ≡ false
+    → statements_on n (strip_carriage_return (c ∷ x)) ≡ record { line = n; statement = statement_of (c ∷ x) } ∷ []
 alone n c x e comment header =
     let text : List ℕ = c ∷ x in
     let parts : List Placed = placed_all n (slice_split (λ b. b == 44) text) in
@@ -82,7 +93,9 @@ alone n c x e comment header =
     ap (statements_on n) (no-return text e)
     ∙ ap (λ b. cond b [] (cond (is_header text) above parts)) comment
     ∙ ap (λ b. cond b above parts) header
-    ∙ ap (placed_all n) (slice_split_none (λ b. b == 44) text (every-all (λ c. (c == 44) ≡ false) text (every-goes IsWithin (λ c. (c == 44) ≡ false) (λ c w. w.2) text e)))
+    ∙ ap (placed_all n)
+    (slice_split_none (λ b. b == 44) text
+    (every-all (λ c. (c == 44) ≡ false) text (every-goes IsWithin (λ c. (c == 44) ≡ false) (λ c w. w.2) text e)))
 
 -- ---- headers
 
@@ -101,22 +114,29 @@ pub dollar-line : (n : ℕ) (l : List ℕ) → statements_on n (strip_carriage_r
 dollar-line n [] = refl
 dollar-line n (c ∷ l) =
     let text : List ℕ = 36 ∷ c ∷ l in
-    let short : take (length text - 1) text ≡ 36 ∷ take (length l) (c ∷ l) = ap (λ k. take k text) (less-one (length (c ∷ l))) in
-    elim (get_or text (length text - 1) 0 == 13) as (λ b. statements_on n (cond b (take (length text - 1) text) text) ≡ header_at n) [
+    let short : take (length text - 1) text ≡ 36 ∷ take (length l) (c ∷ l) =
+    ap (λ k. take k text) (less-one (length (c ∷ l))) in
+    elim (get_or text (length text - 1) 0 == 13) as (λ b. statements_on n (cond b (take (length text - 1) text) text)
+    ≡ header_at n) [
       | true ↦ ap (statements_on n) short ∙ dollar n (take (length l) (c ∷ l))
       | false ↦ refl
     ]
 
-player : (n sign : ℕ) (l : List ℕ) → ((sign == 43) || (sign == 45)) ≡ true → statements_on n (78 ∷ sign ∷ l) ≡ header_at n
+player : (n sign : ℕ) (l : List ℕ) → ((sign == 43) || (sign == 45)) ≡ true
+    → statements_on n (78 ∷ sign ∷ l) ≡ header_at n
 player n sign l is = ap (λ b. cond b (header_at n) (placed_all n (slice_split (λ b. b == 44) (78 ∷ sign ∷ l)))) is
 
 -- the same of a line that begins with `N+` or `N-`
-pub player-line : (n sign : ℕ) (name : List ℕ) → ((sign == 43) || (sign == 45)) ≡ true → ((sign == 13) ≡ false) → statements_on n (strip_carriage_return (78 ∷ sign ∷ name)) ≡ header_at n
-player-line n sign [] is other = ap (λ b. statements_on n (cond b (78 ∷ []) (78 ∷ sign ∷ []))) other ∙ player n sign [] is
+pub player-line : (n sign : ℕ) (name : List ℕ) → ((sign == 43) || (sign == 45)) ≡ true → ((sign == 13) ≡ false)
+    → statements_on n (strip_carriage_return (78 ∷ sign ∷ name)) ≡ header_at n
+player-line n sign [] is other = ap (λ b. statements_on n (cond b (78 ∷ []) (78 ∷ sign ∷ []))) other
+    ∙ player n sign [] is
 player-line n sign (c ∷ name) is other =
     let text : List ℕ = 78 ∷ sign ∷ c ∷ name in
-    let short : take (length text - 1) text ≡ 78 ∷ sign ∷ take (length name) (c ∷ name) = ap (λ k. take k text) (less-one (length (sign ∷ c ∷ name))) in
-    elim (get_or text (length text - 1) 0 == 13) as (λ b. statements_on n (cond b (take (length text - 1) text) text) ≡ header_at n) [
+    let short : take (length text - 1) text ≡ 78 ∷ sign ∷ take (length name) (c ∷ name) =
+    ap (λ k. take k text) (less-one (length (sign ∷ c ∷ name))) in
+    elim (get_or text (length text - 1) 0 == 13) as (λ b. statements_on n (cond b (take (length text - 1) text) text)
+    ≡ header_at n) [
       | true ↦ ap (statements_on n) short ∙ player n sign (take (length name) (c ∷ name)) is
       | false ↦ player n sign (c ∷ name) is
     ]
@@ -124,10 +144,20 @@ player-line n sign (c ∷ name) is other =
 -- ---- lines after one another
 
 -- a statement alone, on a line of two parts
-pub alone-then : (n : ℕ) (name value : List ℕ) (c : ℕ) (x rest : List ℕ) → name ++ value ≡ c ∷ x → Every IsWithin (c ∷ x) → is_comment (c ∷ x) ≡ false → is_header (c ∷ x) ≡ false → statements_from n (lines (line_of name value ++ rest)) ≡ record { line = n; statement = statement_of (c ∷ x) } ∷ statements_from (suc n) (lines rest)
+pub alone-then : (n : ℕ) (name value : List ℕ) (c : ℕ) (x rest : List ℕ) → name ++ value ≡ c ∷ x
+    → Every IsWithin (c ∷ x) → is_comment (c ∷ x) ≡ false → is_header (c ∷ x) ≡ false
+    → statements_from n (lines (line_of name value ++ rest)) ≡ record { line = n; statement = statement_of (c ∷ x) }
+    ∷ statements_from (suc n) (lines rest)
 alone-then n name value c x rest is e comment header =
-    line-then n name value rest (record { line = n; statement = statement_of (c ∷ x) } ∷ []) (subst (Every IsOfLine) (sym is) (every-goes IsWithin IsOfLine (λ c w. w.0) (c ∷ x) e)) (ap (λ l. statements_on n (strip_carriage_return l)) is ∙ alone n c x e comment header)
+    line-then n name value rest (record { line = n; statement = statement_of (c ∷ x) } ∷ [])
+    (subst (Every IsOfLine) (sym is) (every-goes IsWithin IsOfLine (λ c w. w.0) (c ∷ x) e))
+    (ap (λ l. statements_on n (strip_carriage_return l)) is ∙ alone n c x e comment header)
 
 -- the first of several lines, before a rest
-pub first-then : (n : ℕ) (name value more rest : List ℕ) (here : List Placed) → Every IsOfLine (name ++ value) → statements_on n (strip_carriage_return (name ++ value)) ≡ here → statements_from n (lines (line_of name value ++ more ++ rest)) ≡ here ++ statements_from (suc n) (lines (more ++ rest))
-first-then n name value more rest here within is = ap (λ l. statements_from n (lines l)) (append_assoc (line_of name value) more rest) ∙ line-then n name value (more ++ rest) here within is
+pub first-then : (n : ℕ) (name value more rest : List ℕ) (here : List Placed) → Every IsOfLine (name ++ value)
+    → statements_on n (strip_carriage_return (name ++ value)) ≡ here
+    → statements_from n (lines (line_of name value ++ more ++ rest)) ≡ here
+    ++ statements_from (suc n) (lines (more ++ rest))
+first-then n name value more rest here within is =
+    ap (λ l. statements_from n (lines l)) (append_assoc (line_of name value) more rest)
+    ∙ line-then n name value (more ++ rest) here within is

@@ -1,5 +1,6 @@
 -- A move that is written is read as that move.
-use Rattle.std.proofs.Common.{◌≡◌, ◌≢◌, ℕ, zero, suc, ◌+◌, ◌-◌, ◌/◌, ◌%◌, ◌<◌, ◌≤◌, List, [], ◌∷◌, length, Option, Some, None, Bool, true, false, cond, nat_lt, ◌&&◌, refl, sym, ap, subst, ◌∙◌, arith}
+use Rattle.std.proofs.Common.{◌≡◌, ◌≢◌, ℕ, zero, suc, ◌+◌, ◌-◌, ◌/◌, ◌%◌, ◌<◌, ◌≤◌, List, [], ◌∷◌, length, Option, Some}
+use Rattle.std.proofs.Common.{None, Bool, true, false, cond, nat_lt, ◌&&◌, refl, sym, ap, subst, ◌∙◌, arith}
 use Rattle.std.proofs.lemmas.Bool.Decides.{nat_tests}
 use Rattle.std.specs.Prelude.{◌==◌}
 use Rattle.std.specs.List.{list_all}
@@ -37,20 +38,146 @@ record Letters (code : Role) : Type 0 where
   back : role_of first second ≡ Some code
 
 letters : (code : Role) → Letters code
-letters role.King = record { first = 79; second = 85; is = refl; within_first = (refl, refl, refl); within_second = (refl, refl, refl); back = refl }
-letters role.Rook = record { first = 72; second = 73; is = refl; within_first = (refl, refl, refl); within_second = (refl, refl, refl); back = refl }
-letters role.Bishop = record { first = 75; second = 65; is = refl; within_first = (refl, refl, refl); within_second = (refl, refl, refl); back = refl }
-letters role.Gold = record { first = 75; second = 73; is = refl; within_first = (refl, refl, refl); within_second = (refl, refl, refl); back = refl }
-letters role.Silver = record { first = 71; second = 73; is = refl; within_first = (refl, refl, refl); within_second = (refl, refl, refl); back = refl }
-letters role.Knight = record { first = 75; second = 69; is = refl; within_first = (refl, refl, refl); within_second = (refl, refl, refl); back = refl }
-letters role.Lance = record { first = 75; second = 89; is = refl; within_first = (refl, refl, refl); within_second = (refl, refl, refl); back = refl }
-letters role.Pawn = record { first = 70; second = 85; is = refl; within_first = (refl, refl, refl); within_second = (refl, refl, refl); back = refl }
-letters role.PromotedRook = record { first = 82; second = 89; is = refl; within_first = (refl, refl, refl); within_second = (refl, refl, refl); back = refl }
-letters role.PromotedBishop = record { first = 85; second = 77; is = refl; within_first = (refl, refl, refl); within_second = (refl, refl, refl); back = refl }
-letters role.PromotedSilver = record { first = 78; second = 71; is = refl; within_first = (refl, refl, refl); within_second = (refl, refl, refl); back = refl }
-letters role.PromotedKnight = record { first = 78; second = 75; is = refl; within_first = (refl, refl, refl); within_second = (refl, refl, refl); back = refl }
-letters role.PromotedLance = record { first = 78; second = 89; is = refl; within_first = (refl, refl, refl); within_second = (refl, refl, refl); back = refl }
-letters role.PromotedPawn = record { first = 84; second = 79; is = refl; within_first = (refl, refl, refl); within_second = (refl, refl, refl); back = refl }
+letters role.King =
+    record {
+      first = 79;
+      second = 85;
+      is = refl;
+      within_first = (refl, refl, refl);
+      within_second =
+          (refl, refl, refl);
+      back = refl;
+    }
+letters role.Rook =
+    record {
+      first = 72;
+      second = 73;
+      is = refl;
+      within_first = (refl, refl, refl);
+      within_second =
+          (refl, refl, refl);
+      back = refl;
+    }
+letters role.Bishop =
+    record {
+      first = 75;
+      second = 65;
+      is = refl;
+      within_first = (refl, refl, refl);
+      within_second =
+          (refl, refl, refl);
+      back = refl;
+    }
+letters role.Gold =
+    record {
+      first = 75;
+      second = 73;
+      is = refl;
+      within_first = (refl, refl, refl);
+      within_second =
+          (refl, refl, refl);
+      back = refl;
+    }
+letters role.Silver =
+    record {
+      first = 71;
+      second = 73;
+      is = refl;
+      within_first = (refl, refl, refl);
+      within_second =
+          (refl, refl, refl);
+      back = refl;
+    }
+letters role.Knight =
+    record {
+      first = 75;
+      second = 69;
+      is = refl;
+      within_first = (refl, refl, refl);
+      within_second =
+          (refl, refl, refl);
+      back = refl;
+    }
+letters role.Lance =
+    record {
+      first = 75;
+      second = 89;
+      is = refl;
+      within_first = (refl, refl, refl);
+      within_second =
+          (refl, refl, refl);
+      back = refl;
+    }
+letters role.Pawn =
+    record {
+      first = 70;
+      second = 85;
+      is = refl;
+      within_first = (refl, refl, refl);
+      within_second =
+          (refl, refl, refl);
+      back = refl;
+    }
+letters role.PromotedRook =
+    record {
+      first = 82;
+      second = 89;
+      is = refl;
+      within_first = (refl, refl, refl);
+      within_second =
+          (refl, refl, refl);
+      back = refl;
+    }
+letters role.PromotedBishop =
+    record {
+      first = 85;
+      second = 77;
+      is = refl;
+      within_first = (refl, refl, refl);
+      within_second =
+          (refl, refl, refl);
+      back = refl;
+    }
+letters role.PromotedSilver =
+    record {
+      first = 78;
+      second = 71;
+      is = refl;
+      within_first = (refl, refl, refl);
+      within_second =
+          (refl, refl, refl);
+      back = refl;
+    }
+letters role.PromotedKnight =
+    record {
+      first = 78;
+      second = 75;
+      is = refl;
+      within_first = (refl, refl, refl);
+      within_second =
+          (refl, refl, refl);
+      back = refl;
+    }
+letters role.PromotedLance =
+    record {
+      first = 78;
+      second = 89;
+      is = refl;
+      within_first = (refl, refl, refl);
+      within_second =
+          (refl, refl, refl);
+      back = refl;
+    }
+letters role.PromotedPawn =
+    record {
+      first = 84;
+      second = 79;
+      is = refl;
+      within_first = (refl, refl, refl);
+      within_second =
+          (refl, refl, refl);
+      back = refl;
+    }
 
 digit-within : (k : ℕ) → IsWithin (48 + k)
 digit-within k =
@@ -79,7 +206,8 @@ source-back n on =
     let file : ℕ = 48 + file_of n in
     let rank : ℕ = 48 + rank_of n in
     let board : (file == 48) ≡ false = plain (file_of n) (omega arith) in
-    ap (λ b. cond (b && (rank == 48)) (Some None) (board_source (square_of file rank))) board ∙ ap board_source (square-back n on)
+    ap (λ b. cond (b && (rank == 48)) (Some None) (board_source (square_of file rank))) board
+    ∙ ap board_source (square-back n on)
   where
     plain : (k : ℕ) → 1 ≤ k → ((48 + k) == 48) ≡ false
     plain k low = grind (arith, nat_tests)
@@ -115,9 +243,11 @@ sign-reads First more = refl
 sign-reads Second more = refl
 
 -- two squares' digits and a code after the sign of the side to move
-read-as : (p : ShogiPosition) (m : SMove) (text : List ℕ) (f r t u : ℕ) (from : Option ℕ) (to : ℕ) (code : Role) (l : Letters code) →
+read-as : (p : ShogiPosition) (m : SMove) (text : List ℕ) (f r t u : ℕ) (from : Option ℕ) (to : ℕ) (code : Role)
+    (l : Letters code) →
     text ≡ side_sign p.turn ∷ f ∷ r ∷ t ∷ u ∷ code_of code → IsWithin f → IsWithin r → IsWithin t → IsWithin u →
-    source_of f r ≡ Some from → square_of t u ≡ Some to → Means p (record { side = p.turn; from = from; to = to; role = code }) m → IsRead p m text
+    source_of f r ≡ Some from → square_of t u ≡ Some to
+    → Means p (record { side = p.turn; from = from; to = to; role = code }) m → IsRead p m text
 read-as p m text f r t u from to code l is fw rw_in tw uw source target means =
     let side : Side = p.turn in
     let more : List ℕ = f ∷ r ∷ t ∷ u ∷ l.first ∷ l.second ∷ [] in
@@ -157,7 +287,8 @@ first-too : (a b : Bool) → (a && b) ≡ true → a ≡ true
 first-too true b h = refl
 first-too false b h = h
 
-own-code : (p : ShogiPosition) (from to : ℕ) (promote : Bool) (g : Goes p from to promote) → promote ≡ true → (arrived g.piece promote).role ≢ g.piece.role
+own-code : (p : ShogiPosition) (from to : ℕ) (promote : Bool) (g : Goes p from to promote) → promote ≡ true
+    → (arrived g.piece promote).role ≢ g.piece.role
 own-code p from to false g h = absurd (let never : false ≡ true = h in cc)
 own-code p from to true g h =
     promoted-other g.piece.role (first-too (can_promote g.piece.role) _ (g.may refl))
@@ -168,15 +299,18 @@ move-read p (Step from to promote) legal =
     let g : Goes p from to promote = legal.pseudo.moves in
     let on = Reach-on p.board g.piece from to g.reach in
     let code : Role = (arrived g.piece promote).role in
-    let front : List ℕ → List ℕ = λ l. side_sign p.turn ∷ (48 + file_of from) ∷ (48 + rank_of from) ∷ (48 + file_of to) ∷ (48 + rank_of to) ∷ l in
-    read-as p (Step from to promote) (move_text p (Step from to promote)) (48 + file_of from) (48 + rank_of from) (48 + file_of to) (48 + rank_of to) (Some from) to code (letters code)
+    let front : List ℕ → List ℕ = λ l. side_sign p.turn ∷ (48 + file_of from) ∷ (48 + rank_of from) ∷ (48 + file_of to)
+    ∷ (48 + rank_of to) ∷ l in
+    read-as p (Step from to promote) (move_text p (Step from to promote)) (48 + file_of from) (48 + rank_of from)
+    (48 + file_of to) (48 + rank_of to) (Some from) to code (letters code)
     (ap (λ o. front (option_map_or (λ piece. code_of (arrived piece promote).role) o [])) g.reach.stands)
     (digit-within (file_of from)) (digit-within (rank_of from)) (digit-within (file_of to)) (digit-within (rank_of to))
     (source-back from on.0) (square-back to on.1)
     (refl, refl, refl, (g.piece, g.reach.stands, record { after = refl; own = own-code p from to promote g }))
 move-read p (Drop kind to) legal =
     let on = legal.pseudo.moves in
-    read-as p (Drop kind to) (move_text p (Drop kind to)) 48 48 (48 + file_of to) (48 + rank_of to) None to (dropped_role kind) (letters (dropped_role kind))
+    read-as p (Drop kind to) (move_text p (Drop kind to)) 48 48 (48 + file_of to) (48 + rank_of to) None to
+    (dropped_role kind) (letters (dropped_role kind))
     refl (digit-within 0) (digit-within 0) (digit-within (file_of to)) (digit-within (rank_of to))
     refl (square-back to on.0) (refl, refl, refl, refl)
 
@@ -190,8 +324,14 @@ pub record AreDigits (ds : List ℕ) : Type 0 where
 digit-more : (n : ℕ) (acc : List ℕ) → AreDigits acc → AreDigits (digit_glyph false (n % 10) ∷ acc)
 digit-more n acc a =
     let low : n % 10 < 10 = omega arith in
-    let glyph : digit_glyph false (n % 10) ≡ 48 + n % 10 = ap (λ b. cond b (48 + n % 10) (87 + n % 10)) (less (n % 10) low) in
-    subst (λ c. AreDigits (c ∷ acc)) (sym glyph) (record { pass = ap (λ b. b && list_all is_digit acc) (digit (n % 10) low) ∙ a.pass; within = (digit-within (n % 10), a.within) })
+    let glyph : digit_glyph false (n % 10) ≡ 48 + n % 10 =
+    ap (λ b. cond b (48 + n % 10) (87 + n % 10)) (less (n % 10) low) in
+    subst (λ c. AreDigits (c ∷ acc)) (sym glyph)
+    (record {
+      pass = ap (λ b. b && list_all is_digit acc) (digit (n % 10) low) ∙ a.pass;
+      within =
+          (digit-within (n % 10), a.within);
+    })
   where
     less : (k : ℕ) → k < 10 → nat_lt k 10 ≡ true
     less k h = grind (arith, nat_tests)
@@ -203,7 +343,10 @@ digits-are : (k n : ℕ) (acc : List ℕ) → AreDigits acc → AreDigits (digit
 digits-are zero n acc a = a
 digits-are (suc k) n acc a =
     let more : AreDigits (digit_glyph false (n % 10) ∷ acc) = digit-more n acc a in
-    elim (n / 10 == 0) as (λ b. AreDigits (cond b (digit_glyph false (n % 10) ∷ acc) (digits_onto k 10 false (n / 10) (digit_glyph false (n % 10) ∷ acc)))) [
+    elim (n / 10 == 0) as (λ b.
+    AreDigits
+    (cond b (digit_glyph false (n % 10) ∷ acc)
+    (digits_onto k 10 false (n / 10) (digit_glyph false (n % 10) ∷ acc)))) [
       | true ↦ more
       | false ↦ digits-are k (n / 10) (digit_glyph false (n % 10) ∷ acc) more
     ]
@@ -215,7 +358,8 @@ digits-some : (k n c : ℕ) (acc : List ℕ) → (length (digits_onto k 10 false
 digits-some zero n c acc = one-more c acc
 digits-some (suc k) n c acc =
     let d : ℕ = digit_glyph false (n % 10) in
-    elim (n / 10 == 0) as (λ b. (length (cond b (d ∷ c ∷ acc) (digits_onto k 10 false (n / 10) (d ∷ c ∷ acc))) == 0) ≡ false) [
+    elim (n / 10 == 0) as (λ b. (length (cond b (d ∷ c ∷ acc) (digits_onto k 10 false (n / 10) (d ∷ c ∷ acc))) == 0)
+    ≡ false) [
       | true ↦ one-more d (c ∷ acc)
       | false ↦ digits-some k (n / 10) d (c ∷ acc)
     ]
@@ -237,5 +381,6 @@ decimal-some n =
 pub seconds-read : (n : ℕ) → statement_of (84 ∷ decimal n) ≡ statement.Seconds
 seconds-read n =
     let ds : List ℕ = decimal n in
-    ap (λ b. cond b statement.Formless (cond (list_all is_digit ds) statement.Seconds statement.Formless)) (decimal-some n)
+    ap (λ b. cond b statement.Formless (cond (list_all is_digit ds) statement.Seconds statement.Formless))
+    (decimal-some n)
     ∙ ap (λ b. cond b statement.Seconds statement.Formless) (decimal-digits n).pass

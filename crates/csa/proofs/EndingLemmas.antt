@@ -1,5 +1,6 @@
 -- The faults of an end.
-use Rattle.std.proofs.Common.{◌≡◌, ◌⊎◌, inl, inr, Bool, true, false, cond, Option, Some, None, List, Result, Ok, Err, sym, subst}
+use Rattle.std.proofs.Common.{◌≡◌, ◌⊎◌, inl, inr, Bool, true, false, cond, Option, Some, None, List, Result, Ok, Err}
+use Rattle.std.proofs.Common.{sym, subst}
 use Rattle.squares.specs.declared.sides.Side.{Side}
 use Rattle.squares.specs.declared.sides.Score.{Score}
 use Rattle.squares.specs.declared.shogi.moves.SMove.{SMove}
@@ -16,22 +17,40 @@ use Rattle.csa.specs.Records.{Plays, score_in, end_in, RecordFails}
 abbrev IsOfEnds : CsaFault → Type 0
 IsOfEnds f = (f ≡ fault.Unfinished) ⊎ (f ≡ fault.ResultDiffers)
 
-differs : (b : Bool) (claim : Score) (f : CsaFault) → ◌≡◌ {A = Result Score CsaFault} (cond b (Ok claim) (Err fault.ResultDiffers)) (Err f) → IsOfEnds f
+differs : (b : Bool) (claim : Score) (f : CsaFault)
+    → ◌≡◌ {A = Result Score CsaFault} (cond b (Ok claim) (Err fault.ResultDiffers)) (Err f) → IsOfEnds f
 differs true claim f e = absurd (cc)
 differs false claim f e = let is : f ≡ fault.ResultDiffers = cc in inr is
 
-of-claim : (w : EndWord) (claim : Option Score) (turn : Side) (end : Option SEnd) (f : CsaFault) → claim_settled w claim turn end ≡ Err f → IsOfEnds f
+of-claim : (w : EndWord) (claim : Option Score) (turn : Side) (end : Option SEnd) (f : CsaFault)
+    → claim_settled w claim turn end ≡ Err f → IsOfEnds f
 of-claim w None turn end f e = let is : f ≡ fault.Unfinished = cc in inl is
 of-claim w (Some claim) turn end f e = differs _ claim f e
 
-of-ends : (word : Option EndWord) (turn : Side) (end : Option SEnd) (f : CsaFault) → ending word turn end ≡ Err f → IsOfEnds f
+of-ends : (word : Option EndWord) (turn : Side) (end : Option SEnd) (f : CsaFault) → ending word turn end ≡ Err f
+    → IsOfEnds f
 of-ends None turn end f e = let is : f ≡ fault.Unfinished = cc in inl is
 of-ends (Some w) turn end f e = of-claim w (claimed w turn) turn end f e
 
 -- a record whose end has a fault
-pub end-fails : (placed : List Placed) (ms : List SMove) (end : Option SEnd) (f : CsaFault) → Plays placed ms end → score_in placed ms end ≡ Err f → RecordFails placed f
+pub end-fails : (placed : List Placed) (ms : List SMove) (end : Option SEnd) (f : CsaFault) → Plays placed ms end
+    → score_in placed ms end ≡ Err f → RecordFails placed f
 end-fails placed ms end f plays e =
     elim (of-ends (end_in placed) (last_position opening ms).turn end f e) [
-      | inl unfinished ↦ subst (RecordFails placed) (sym unfinished) (record { moves = ms; end = end; plays = plays; score = subst (λ g. score_in placed ms end ≡ Err g) unfinished e })
-      | inr differing ↦ subst (RecordFails placed) (sym differing) (record { moves = ms; end = end; plays = plays; score = subst (λ g. score_in placed ms end ≡ Err g) differing e })
+      | inl unfinished ↦ subst (RecordFails placed) (sym unfinished)
+          (record {
+            moves = ms;
+            end = end;
+            plays = plays;
+            score =
+                subst (λ g. score_in placed ms end ≡ Err g) unfinished e;
+          })
+      | inr differing ↦ subst (RecordFails placed) (sym differing)
+          (record {
+            moves = ms;
+            end = end;
+            plays = plays;
+            score =
+                subst (λ g. score_in placed ms end ≡ Err g) differing e;
+          })
     ]

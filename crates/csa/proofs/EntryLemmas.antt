@@ -1,5 +1,6 @@
 -- Moves with their seconds, one after another.
-use Rattle.std.proofs.Common.{◌≡◌, ℕ, suc, ◌+◌, ◌<◌, List, [], ◌∷◌, ◌++◌, length, take, drop, get_or, map, Some, sym, ap, ◌∙◌, add-one, arith}
+use Rattle.std.proofs.Common.{◌≡◌, ℕ, suc, ◌+◌, ◌<◌, List, [], ◌∷◌, ◌++◌, length, take, drop, get_or, map, Some, sym}
+use Rattle.std.proofs.Common.{ap, ◌∙◌, add-one, arith}
 use Rattle.std.proofs.lemmas.List.{append_assoc, take_more, length-map, get_or-map}
 use Rattle.std.proofs.lemmas.Option.{slice_get-get_or}
 use Rattle.std.proofs.Math.Seq.{drop-cons}
@@ -15,26 +16,36 @@ use Rattle.csa.proofs.ReplayLemmas.{last_position-more}
 abbrev moves_of : List (SMove × ℕ) → List SMove
 moves_of es = map (λ e. e.0) es
 
-move-at : (es : List (SMove × ℕ)) (i : ℕ) (e : SMove × ℕ) → i < length es → e ≡ get_or es i e → get_or (moves_of es) i e.0 ≡ e.0
+move-at : (es : List (SMove × ℕ)) (i : ℕ) (e : SMove × ℕ) → i < length es → e ≡ get_or es i e
+    → get_or (moves_of es) i e.0 ≡ e.0
 move-at es i e h is = get_or-map (λ x. x.0) es i e e.0 h ∙ ap (λ x. x.0) (sym is)
 
 -- the next move of a line that is played by the rules is legal
-pub next-legal : (es : List (SMove × ℕ)) (i : ℕ) (e : SMove × ℕ) → i < length es → e ≡ get_or es i e → IsPlayed opening (moves_of es) (length es) → Legal (last_position opening (take i (moves_of es))) e.0
+pub next-legal : (es : List (SMove × ℕ)) (i : ℕ) (e : SMove × ℕ) → i < length es → e ≡ get_or es i e
+    → IsPlayed opening (moves_of es) (length es) → Legal (last_position opening (take i (moves_of es))) e.0
 next-legal es i e h is played =
     let same = length-map es (λ x. x.0) in
-    (played i h).legal e.0 (slice_get-get_or (moves_of es) i e.0 (omega (arith, same)) ∙ ap (λ m. Some m) (move-at es i e h is))
+    (played i h).legal e.0 (slice_get-get_or (moves_of es) i e.0 (omega (arith, same))
+    ∙ ap (λ m. Some m) (move-at es i e h is))
 
 -- the position after one move more
-pub next-position : (es : List (SMove × ℕ)) (i : ℕ) (e : SMove × ℕ) → i < length es → e ≡ get_or es i e → last_position opening (take (i + 1) (moves_of es)) ≡ play (last_position opening (take i (moves_of es))) e.0
+pub next-position : (es : List (SMove × ℕ)) (i : ℕ) (e : SMove × ℕ) → i < length es → e ≡ get_or es i e
+    → last_position opening (take (i + 1) (moves_of es)) ≡ play (last_position opening (take i (moves_of es))) e.0
 next-position es i e h is =
     let same = length-map es (λ x. x.0) in
-    let longer : take (i + 1) (moves_of es) ≡ take i (moves_of es) ++ e.0 ∷ [] = take_more (moves_of es) i e.0 (omega (arith, same)) ∙ ap (λ m. take i (moves_of es) ++ m ∷ []) (move-at es i e h is) in
+    let longer : take (i + 1) (moves_of es) ≡ take i (moves_of es) ++ e.0 ∷ [] =
+    take_more (moves_of es) i e.0 (omega (arith, same))
+    ∙ ap (λ m. take i (moves_of es) ++ m ∷ []) (move-at es i e h is) in
     ap (last_position opening) longer ∙ last_position-more opening (take i (moves_of es)) e.0
 
 -- one entry more
-pub entries-grow : (p : ShogiPosition) (es : List (SMove × ℕ)) (i : ℕ) (e : SMove × ℕ) (old new whole : List ℕ) → i < length es → e ≡ get_or es i e → new ≡ old ++ entry_text p e.0 e.1 → old ++ entries_text p (drop i es) ≡ whole → new ++ entries_text (play p e.0) (drop (i + 1) es) ≡ whole
+pub entries-grow : (p : ShogiPosition) (es : List (SMove × ℕ)) (i : ℕ) (e : SMove × ℕ) (old new whole : List ℕ)
+    → i < length es → e ≡ get_or es i e → new ≡ old ++ entry_text p e.0 e.1 → old ++ entries_text p (drop i es) ≡ whole
+    → new ++ entries_text (play p e.0) (drop (i + 1) es) ≡ whole
 entries-grow p es i e old new whole h is grown kept =
     let next : drop (suc i) es ≡ drop (i + 1) es = ap (λ k. drop k es) (sym (add-one i)) in
-    let here : drop i es ≡ e ∷ drop (i + 1) es = drop-cons es i e h ∙ ap (λ x. x ∷ drop (suc i) es) (sym is) ∙ ap (λ l. e ∷ l) next in
+    let here : drop i es ≡ e ∷ drop (i + 1) es = drop-cons es i e h ∙ ap (λ x. x ∷ drop (suc i) es) (sym is)
+    ∙ ap (λ l. e ∷ l) next in
     let rest : List ℕ = entries_text (play p e.0) (drop (i + 1) es) in
-    ap (λ l. l ++ rest) grown ∙ append_assoc old (entry_text p e.0 e.1) rest ∙ ap (λ l. old ++ l) (sym (ap (entries_text p) here)) ∙ kept
+    ap (λ l. l ++ rest) grown ∙ append_assoc old (entry_text p e.0 e.1) rest
+    ∙ ap (λ l. old ++ l) (sym (ap (entries_text p) here)) ∙ kept

@@ -1,5 +1,6 @@
 -- A text is read in one way.
-use Rattle.std.proofs.Common.{◌≡◌, inl, inr, List, [], ◌∷◌, ◌++◌, length, take, Bool, true, false, Some, None, refl, sym, ap, subst, ◌∙◌, arith}
+use Rattle.std.proofs.Common.{◌≡◌, inl, inr, List, [], ◌∷◌, ◌++◌, length, take, Bool, true, false, Some, None, refl}
+use Rattle.std.proofs.Common.{sym, ap, subst, ◌∙◌, arith}
 use Rattle.std.specs.Prelude.{slice_get}
 use Rattle.std.specs.FinMap as map
 use Rattle.std.proofs.lemmas.List.{length-append}
@@ -43,7 +44,8 @@ kind-back in_hand.Lance = refl
 kind-back in_hand.Pawn = refl
 
 kind-one : (k l : HandKind) → dropped_role k ≡ dropped_role l → k ≡ l
-kind-one k l same = let both : Some k ≡ Some l = sym (kind-back k) ∙ ap (λ r. hand_kind (kind_of r)) same ∙ kind-back l in cc
+kind-one k l same = let both : Some k ≡ Some l = sym (kind-back k) ∙ ap (λ r. hand_kind (kind_of r)) same
+    ∙ kind-back l in cc
 
 -- a written move means one move
 means-one : (p : ShogiPosition) (w : WrittenMove) (m n : SMove) → Means p w m → Means p w n → m ≡ n
@@ -53,15 +55,18 @@ means-one p w (Step f t b) (Step g u d) (s, t_is, f_is, x) (r, u_is, g_is, y) =
     let piece : x.0 ≡ y.0 = let both : Some x.0 ≡ Some y.0 = sym x.1 ∙ ap (λ n. map.get p.board n) from ∙ y.1 in cc in
     let promote : b ≡ d = promotes-one x.0 b d w.role x.2 (subst (λ q. CodedAs q d w.role) (sym piece) y.2) in
     cc
-means-one p w (Step f t b) (Drop k u) (s, t_is, f_is, x) (r, u_is, none, y) = let never : Some f ≡ None = sym f_is ∙ none in absurd (cc)
-means-one p w (Drop k u) (Step f t b) (r, u_is, none, y) (s, t_is, f_is, x) = let never : Some f ≡ None = sym f_is ∙ none in absurd (cc)
+means-one p w (Step f t b) (Drop k u) (s, t_is, f_is, x) (r, u_is, none, y) = let never : Some f ≡ None = sym f_is
+    ∙ none in absurd (cc)
+means-one p w (Drop k u) (Step f t b) (r, u_is, none, y) (s, t_is, f_is, x) = let never : Some f ≡ None = sym f_is
+    ∙ none in absurd (cc)
 means-one p w (Drop k t) (Drop l u) (s, t_is, none, x) (r, u_is, none_too, y) =
     let to : t ≡ u = sym t_is ∙ u_is in
     let kind : k ≡ l = kind-one k l (sym x ∙ y) in
     cc
 
 -- written moves mean one line
-pub mean-one : (p : ShogiPosition) (ws : List WrittenMove) (ms ns : List SMove) → MeanAll p ws ms → MeanAll p ws ns → ms ≡ ns
+pub mean-one : (p : ShogiPosition) (ws : List WrittenMove) (ms ns : List SMove) → MeanAll p ws ms → MeanAll p ws ns
+    → ms ≡ ns
 mean-one p [] [] [] a b = refl
 mean-one p [] [] (n ∷ ns) a b = absurd b
 mean-one p [] (m ∷ ms) ns a b = absurd a
@@ -81,20 +86,34 @@ pub record Parted (p : ShogiPosition) (before : List WrittenMove) (w : WrittenMo
   pub mean : MeanAll p before front
   pub means : Means (last_position p front) w made
 
-pub parted : (p : ShogiPosition) (before after : List WrittenMove) (w : WrittenMove) (ms : List SMove) → MeanAll p (before ++ w ∷ after) ms → Parted p before w ms
+pub parted : (p : ShogiPosition) (before after : List WrittenMove) (w : WrittenMove) (ms : List SMove)
+    → MeanAll p (before ++ w ∷ after) ms → Parted p before w ms
 parted p [] after w [] a = absurd a
 parted p [] after w (m ∷ ms) a = record { front = []; made = m; back = ms; parts = refl; mean = tt; means = a.0 }
 parted p (v ∷ before) after w [] a = absurd a
 parted p (v ∷ before) after w (m ∷ ms) a =
     let rest = parted (play p m) before after w ms a.1 in
-    record { front = m ∷ rest.front; made = rest.made; back = rest.back; parts = ap (λ l. m ∷ l) rest.parts; mean = (a.0, rest.mean); means = rest.means }
+    record {
+      front = m ∷ rest.front;
+      made = rest.made;
+      back = rest.back;
+      parts = ap (λ l. m ∷ l) rest.parts;
+      mean =
+          (a.0, rest.mean);
+      means = rest.means;
+    }
 
 -- a move that goes on is not refused
-goes-on-unrefused : CheckIs → NoLineHasTwoEnds → (front : List SMove) (m : SMove) (w : WrittenMove) (f : CsaFault) → Means (last_position opening front) w m → EndsSo opening front None → Legal (last_position opening front) m → RefusesNext front w f → ⊥
-goes-on-unrefused laws one front m w (fault.AfterEnd ply) means on legal h = let never : None ≡ Some h.1 = one opening front None (Some h.1) on h.2 in cc
+goes-on-unrefused : CheckIs → NoLineHasTwoEnds → (front : List SMove) (m : SMove) (w : WrittenMove) (f : CsaFault)
+    → Means (last_position opening front) w m → EndsSo opening front None → Legal (last_position opening front) m
+    → RefusesNext front w f → ⊥
+goes-on-unrefused laws one front m w (fault.AfterEnd ply) means on legal h = let never : None ≡ Some h.1 =
+    one opening front None (Some h.1) on h.2 in cc
 goes-on-unrefused laws one front m w (fault.Illegal ply cause) means on legal h =
     elim h.2 [
-      | inl broken ↦ legal-unbroken laws (last_position opening front) broken.0 cause (subst (λ n. Legal (last_position opening front) n) (means-one (last_position opening front) w m broken.0 means broken.1) legal) broken.2
+      | inl broken ↦ legal-unbroken laws (last_position opening front) broken.0 cause
+          (subst (λ n. Legal (last_position opening front) n)
+          (means-one (last_position opening front) w m broken.0 means broken.1) legal) broken.2
       | inr nothing ↦ nothing.1 m means
     ]
 goes-on-unrefused laws one front m w fault.Memory means on legal h = h
@@ -105,16 +124,23 @@ goes-on-unrefused laws one front m w fault.Unfinished means on legal h = h
 goes-on-unrefused laws one front m w fault.ResultDiffers means on legal h = h
 
 -- written moves of a game are not refused
-pub moves-unrefused : CheckIs → NoLineHasTwoEnds → (ws : List WrittenMove) (ms : List SMove) (f : CsaFault) → AreMoves ws ms → RefusesMove ws f → ⊥
+pub moves-unrefused : CheckIs → NoLineHasTwoEnds → (ws : List WrittenMove) (ms : List SMove) (f : CsaFault)
+    → AreMoves ws ms → RefusesMove ws f → ⊥
 moves-unrefused laws one ws ms f are r =
-    let all : MeanAll opening (r.before ++ r.refused ∷ r.after) ms = subst (λ l. MeanAll opening l ms) r.parts are.mean in
+    let all : MeanAll opening (r.before ++ r.refused ∷ r.after) ms =
+    subst (λ l. MeanAll opening l ms) r.parts are.mean in
     let at = parted opening r.before r.after r.refused ms all in
     let front : at.front ≡ r.moves = mean-one opening r.before at.front r.moves at.mean r.played.mean in
     let whole : List SMove = at.front ++ at.made ∷ at.back in
     let long = length-append at.front (at.made ∷ at.back) in
-    let played : IsPlayed opening whole (length whole) = subst (λ l. IsPlayed opening l (length l)) at.parts are.played in
+    let played : IsPlayed opening whole (length whole) =
+    subst (λ l. IsPlayed opening l (length l)) at.parts are.played in
     let here : GoesOn opening whole (length at.front) = played (length at.front) (omega (arith, long)) in
     let seam : take (length at.front) whole ≡ at.front = take-append_seam at.front (at.made ∷ at.back) in
-    let there : slice_get whole (length at.front) ≡ Some at.made = slice_get-get_or whole (length at.front) at.made (omega (arith, long)) ∙ ap (λ x. Some x) (get_or-append_seam at.front at.made at.back at.made) in
-    goes-on-unrefused laws one at.front at.made r.refused f at.means (subst (λ l. EndsSo opening l None) seam here.unended)
-    (subst (λ l. Legal (last_position opening l) at.made) seam (here.legal at.made there)) (subst (λ l. RefusesNext l r.refused f) (sym front) r.refuses)
+    let there : slice_get whole (length at.front) ≡ Some at.made =
+    slice_get-get_or whole (length at.front) at.made (omega (arith, long))
+    ∙ ap (λ x. Some x) (get_or-append_seam at.front at.made at.back at.made) in
+    goes-on-unrefused laws one at.front at.made r.refused f at.means
+    (subst (λ l. EndsSo opening l None) seam here.unended)
+    (subst (λ l. Legal (last_position opening l) at.made) seam (here.legal at.made there))
+    (subst (λ l. RefusesNext l r.refused f) (sym front) r.refuses)

@@ -17,7 +17,8 @@ word_text word.WhiteIllegal = codes "%-ILLEGAL_ACTION"
 word_text word.Interrupted = codes "%CHUDAN"
 
 abbrev pub end_words : List EndWord
-end_words = word.Resigned ∷ word.TimeUp ∷ word.IllegalMove ∷ word.Mate ∷ word.Repetition ∷ word.Impasse ∷ word.Draw ∷ word.BlackIllegal ∷ word.WhiteIllegal ∷ word.Interrupted ∷ []
+end_words = word.Resigned ∷ word.TimeUp ∷ word.IllegalMove ∷ word.Mate ∷ word.Repetition ∷ word.Impasse ∷ word.Draw
+    ∷ word.BlackIllegal ∷ word.WhiteIllegal ∷ word.Interrupted ∷ []
 
 -- the word that a statement writes
 abbrev pub end_word : List ℕ → Option EndWord

@@ -20,7 +20,8 @@ StepsAs p from promote code = (piece : SPiece) × (map.get p.board from ≡ Some
 
 -- A written move means a move of the side to move: a step, or the drop of a piece that has this code on the board.
 abbrev pub Means : ShogiPosition → WrittenMove → SMove → Type 0
-Means p w (Step from to promote) = (w.side ≡ p.turn) × (w.to ≡ to) × (w.from ≡ Some from) × StepsAs p from promote w.role
+Means p w (Step from to promote) = (w.side ≡ p.turn) × (w.to ≡ to) × (w.from ≡ Some from)
+    × StepsAs p from promote w.role
 Means p w (Drop kind to) = (w.side ≡ p.turn) × (w.to ≡ to) × (w.from ≡ None) × (w.role ≡ dropped_role kind)
 
 -- written moves mean moves, each in its position

@@ -1,5 +1,6 @@
 -- Statements that say how a game begins: rows of the board, and pieces on squares.
-use Rattle.std.specs.Prelude.{ℕ, ◌==◌, ◌&&◌, ◌||◌, nat_lt, is_some, Bool, true, false, List, [], ◌∷◌, length, take, drop, codes, if◌then◌else◌}
+use Rattle.std.specs.Prelude.{ℕ, ◌==◌, ◌&&◌, ◌||◌, nat_lt, is_some, Bool, true, false, List, [], ◌∷◌, length, take}
+use Rattle.std.specs.Prelude.{drop, codes, if◌then◌else◌}
 use Rattle.std.specs.List.{list_all}
 use Rattle.std.specs.Str.{bytes_eq}
 use Rattle.csa.specs.Codes.{role_of, is_place}
@@ -42,11 +43,13 @@ even_row rank =
 
 -- whether the nine cells of a row are those of the rank in the even opening
 abbrev pub is_even_row : ℕ → List ℕ → Bool
-is_even_row rank text = if nat_lt (length text) 27 then bytes_eq text (take 26 (even_row rank)) else bytes_eq (take 27 text) (even_row rank)
+is_even_row rank text = if nat_lt (length text) 27 then bytes_eq text (take 26 (even_row rank)) else bytes_eq
+    (take 27 text) (even_row rank)
 
 -- a piece on a square, or in a hand where one may be named: two digits and a code
 abbrev pub is_piece : Bool → ℕ → ℕ → ℕ → ℕ → Bool
-is_piece hand file rank a b = (((hand && file == 48) && rank == 48) || (is_place file && is_place rank)) && is_some (role_of a b)
+is_piece hand file rank a b = (((hand && file == 48) && rank == 48) || (is_place file && is_place rank)) && is_some
+    (role_of a b)
 
 -- pieces one after another
 abbrev pub are_pieces : Bool → List ℕ → Bool

@@ -29,7 +29,8 @@ abbrev pub after_row : Place → ℕ → Option Place
 after_row place.Start rank = if rank == 1 then Some (place.Rows 1) else None
 after_row place.Versioned rank = if rank == 1 then Some (place.Rows 1) else None
 after_row (place.Rows passed) rank =
-    if passed == 8 && rank == 9 then Some place.Opened else if nat_lt passed 8 && rank == passed + 1 then Some (place.Rows rank) else None
+    if passed == 8 && rank == 9 then Some place.Opened else if nat_lt passed 8 && rank == passed + 1 then Some
+    (place.Rows rank) else None
 after_row _ rank = None
 
 -- pieces stand before the side

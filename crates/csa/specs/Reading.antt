@@ -1,5 +1,6 @@
 -- The records of a text, and why a text is refused.
-use Rattle.std.specs.Prelude.{◌≡◌, ◌≢◌, ◌⊎◌, ℕ, not, Bool, true, false, Option, Some, None, List, [], ◌∷◌, ◌++◌, if◌then◌else◌}
+use Rattle.std.specs.Prelude.{◌≡◌, ◌≢◌, ◌⊎◌, ℕ, not, Bool, true, false, Option, Some, None, List, [], ◌∷◌, ◌++◌}
+use Rattle.std.specs.Prelude.{if◌then◌else◌}
 use Rattle.std.specs.List.{list_any, slice_split}
 use Rattle.csa.specs.declared.faults.CsaFault.{CsaFault}
 use Rattle.csa.specs.declared.faults.CsaFault.TheVariants as fault
@@ -23,7 +24,8 @@ is_header_statement _ = false
 -- the first statement that is no header
 abbrev pub first_statement : List Placed → Option Statement
 first_statement [] = None
-first_statement (placed ∷ more) = if is_header_statement placed.statement then first_statement more else Some placed.statement
+first_statement (placed ∷ more) = if is_header_statement placed.statement then first_statement more else Some
+    placed.statement
 
 -- whether a record has a statement beside headers
 abbrev pub has_statement : List Placed → Bool
@@ -80,7 +82,8 @@ IsBadOn placed line =
     ((first_statement placed ≡ None) × (line ≡ 1))
     ⊎ ((first_statement placed ≡ Some statement.Version) × (first_stray place.Start placed ≡ Some line))
 
--- The refusals of statements: a text without any, a first one that is no version, the first that is out of order, and then those
+-- The refusals of statements: a text without any, a first one that is no version, the first that is out of order, and
+-- then those
 -- of the records, one after another.
 abbrev pub Refuses : List Placed → CsaFault → Type 0
 Refuses placed fault.Memory = Unit {0}

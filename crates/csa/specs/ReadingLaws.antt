@@ -21,4 +21,5 @@ TextsAreOfOne = (text : List ℕ) (gs hs : List CsaGame) → IsTextOf text gs �
 
 -- a text of games is refused for want of memory alone
 abbrev pub TextsOfGamesAreRead : Type 0
-TextsOfGamesAreRead = (text : List ℕ) (gs : List CsaGame) (f : CsaFault) → IsTextOf text gs → IsRefused text f → f ≡ fault.Memory
+TextsOfGamesAreRead = (text : List ℕ) (gs : List CsaGame) (f : CsaFault) → IsTextOf text gs → IsRefused text f
+    → f ≡ fault.Memory

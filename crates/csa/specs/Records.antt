@@ -67,8 +67,10 @@ pub record EndFails (placed : List Placed) (f : CsaFault) : Type 0 where
 abbrev pub RecordFails : List Placed → CsaFault → Type 0
 RecordFails placed fault.Memory = Unit {0}
 RecordFails placed fault.OtherOpening = begins_even placed ≡ false
-RecordFails placed (fault.Illegal ply cause) = (begins_even placed ≡ true) × RefusesMove (written_moves placed) (fault.Illegal ply cause)
-RecordFails placed (fault.AfterEnd ply) = (begins_even placed ≡ true) × RefusesMove (written_moves placed) (fault.AfterEnd ply)
+RecordFails placed (fault.Illegal ply cause) = (begins_even placed ≡ true)
+    × RefusesMove (written_moves placed) (fault.Illegal ply cause)
+RecordFails placed (fault.AfterEnd ply) = (begins_even placed ≡ true)
+    × RefusesMove (written_moves placed) (fault.AfterEnd ply)
 RecordFails placed fault.Unfinished = EndFails placed fault.Unfinished
 RecordFails placed fault.ResultDiffers = EndFails placed fault.ResultDiffers
 RecordFails placed (fault.BadText line) = ⊥

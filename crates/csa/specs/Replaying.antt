@@ -44,7 +44,8 @@ RefusesIn ms s f = (f ≡ fault.Memory) ⊎ ((w : WrittenMove) × (written_in s 
 abbrev pub RefusesMade : List SMove → SMove → CsaFault → Type 0
 RefusesMade ms m fault.Memory = Unit {0}
 RefusesMade ms m (fault.AfterEnd ply) = (ply ≡ length ms + 1) × (end : SEnd) × EndsSo opening ms (Some end)
-RefusesMade ms m (fault.Illegal ply cause) = (ply ≡ length ms + 1) × EndsSo opening ms None × FirstBroken (last_position opening ms) m cause
+RefusesMade ms m (fault.Illegal ply cause) = (ply ≡ length ms + 1) × EndsSo opening ms None
+    × FirstBroken (last_position opening ms) m cause
 RefusesMade ms m _ = ⊥
 
 abbrev pub fault_of : Fault → CsaFault

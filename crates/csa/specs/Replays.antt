@@ -27,19 +27,22 @@ abbrev pub written_moves : List Placed → List WrittenMove
 written_moves [] = []
 written_moves (placed ∷ more) = written_in placed.statement ++ written_moves more
 
--- The written moves mean these moves of a game from the opening: each is legal in its position, and none comes after the end.
+-- The written moves mean these moves of a game from the opening: each is legal in its position, and none comes after
+-- the end.
 pub record AreMoves (ws : List WrittenMove) (ms : List SMove) : Type 0 where
   pub mean : MeanAll opening ws ms
   pub played : IsPlayed opening ms (length ms)
 
 -- the written move means a move that breaks this rule first, or it means no move of the position
 abbrev pub BreaksRule : ShogiPosition → WrittenMove → Illegal → Type 0
-BreaksRule p w cause = ((m : SMove) × Means p w m × FirstBroken p m cause) ⊎ ((cause ≡ illegal.NoSuchMove) × ((m : SMove) → Means p w m → ⊥))
+BreaksRule p w cause = ((m : SMove) × Means p w m × FirstBroken p m cause)
+    ⊎ ((cause ≡ illegal.NoSuchMove) × ((m : SMove) → Means p w m → ⊥))
 
 -- After written moves that mean these, the next is refused: the game has ended, whatever it means, or it breaks a rule.
 abbrev pub RefusesNext : List SMove → WrittenMove → CsaFault → Type 0
 RefusesNext ms w (fault.AfterEnd ply) = (ply ≡ length ms + 1) × (end : SEnd) × EndsSo opening ms (Some end)
-RefusesNext ms w (fault.Illegal ply cause) = (ply ≡ length ms + 1) × EndsSo opening ms None × BreaksRule (last_position opening ms) w cause
+RefusesNext ms w (fault.Illegal ply cause) = (ply ≡ length ms + 1) × EndsSo opening ms None
+    × BreaksRule (last_position opening ms) w cause
 RefusesNext ms w _ = ⊥
 
 -- one of the written moves is refused, and those before it mean moves of a game

@@ -1,5 +1,6 @@
 -- The statements of a record, by their forms.
-use Rattle.std.specs.Prelude.{ℕ, ◌-◌, ◌==◌, ◌&&◌, ◌||◌, true, false, Option, Some, None, List, [], ◌∷◌, length, if◌then◌else◌}
+use Rattle.std.specs.Prelude.{ℕ, ◌-◌, ◌==◌, ◌&&◌, ◌||◌, true, false, Option, Some, None, List, [], ◌∷◌, length}
+use Rattle.std.specs.Prelude.{if◌then◌else◌}
 use Rattle.std.specs.List.{list_all}
 use Rattle.squares.specs.declared.sides.Side.{Side}
 use Rattle.squares.specs.declared.sides.Side.TheVariants.{First, Second}
@@ -20,7 +21,8 @@ source_of file rank = if file == 48 && rank == 48 then Some None else board_sour
 
 -- the move of a side, if its squares and its code are such
 abbrev pub move_of : Side → Option (Option ℕ) → Option ℕ → Option Role → Statement
-move_of side (Some from) (Some to) (Some role) = statement.Move (record { side = side; from = from; to = to; role = role })
+move_of side (Some from) (Some to) (Some role) =
+    statement.Move (record { side = side; from = from; to = to; role = role })
 move_of side _ _ _ = statement.Formless
 
 -- what follows `/`
@@ -31,7 +33,8 @@ parting _ = statement.Formless
 -- what follows `V`
 abbrev pub version : List ℕ → Statement
 version (a ∷ []) = if a == 50 then statement.Version else statement.Formless
-version (a ∷ b ∷ c ∷ []) = if (a == 50 && b == 46) && (c == 49 || c == 50) then statement.Version else statement.Formless
+version (a ∷ b ∷ c ∷ []) = if (a == 50 && b == 46) &&
+    (c == 49 || c == 50) then statement.Version else statement.Formless
 version _ = statement.Formless
 
 -- what follows `P+` and `P-`
@@ -54,12 +57,14 @@ opening (c ∷ text) =
 -- what follows a side's sign
 abbrev pub signed : Side → List ℕ → Statement
 signed side [] = statement.Turn side
-signed side (file ∷ rank ∷ to_file ∷ to_rank ∷ a ∷ b ∷ []) = move_of side (source_of file rank) (square_of to_file to_rank) (role_of a b)
+signed side (file ∷ rank ∷ to_file ∷ to_rank ∷ a ∷ b ∷ []) =
+    move_of side (source_of file rank) (square_of to_file to_rank) (role_of a b)
 signed side _ = statement.Formless
 
 -- what follows `T`: a digit, and any more
 abbrev pub seconds : List ℕ → Statement
-seconds text = if length text == 0 then statement.Formless else if list_all is_digit text then statement.Seconds else statement.Formless
+seconds text = if length text == 0 then statement.Formless else if list_all is_digit
+    text then statement.Seconds else statement.Formless
 
 -- the statement of a text that stands between commas
 abbrev pub statement_of : List ℕ → Statement

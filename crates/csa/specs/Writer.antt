@@ -28,7 +28,8 @@ pub record HasBegun (start : ℕ) (text : CivilTime → List ℕ) (before now : 
   pub begun : AppendsSome before now (text at)
 
 -- To the bytes from before the head and these moves were added, which a writer has now; and the game stands after them.
-pub record HasWritten (head : CsaHead) (entries : List (SMove × ℕ)) (before now : Option (List ℕ)) (game : GameWriter) : Type 0 where
+pub record HasWritten (head : CsaHead) (entries : List (SMove × ℕ)) (before now : Option (List ℕ))
+    (game : GameWriter) : Type 0 where
   pub at : CivilTime
   pub shown : IsCivil head.start at
   pub written : Appends before now (text_up_to head entries at)
@@ -55,7 +56,8 @@ BeginsEntry entry game held now =
 -- whatever was written, the game stands where it stood
 abbrev pub StandsStill : GameWriter → GameWriter → Type 0
 StandsStill old new =
-    (head : CsaHead) (before held : Option (List ℕ)) (entries : List (SMove × ℕ)) → HasWritten head entries before held old →
+    (head : CsaHead) (before held : Option (List ℕ)) (entries : List (SMove × ℕ))
+    → HasWritten head entries before held old →
     HasWritten head entries before held new
 
 -- the one text of the game was added
@@ -73,23 +75,27 @@ BeginsGame head entries before now =
 -- whatever was written, with the end it is the one text of the game
 abbrev pub Finishes : GameWriter → Option (List ℕ) → Option (List ℕ) → Type 0
 Finishes game held now =
-    (head : CsaHead) (before : Option (List ℕ)) (entries : List (SMove × ℕ)) → HasWritten head entries before held game →
+    (head : CsaHead) (before : Option (List ℕ)) (entries : List (SMove × ℕ)) → HasWritten head entries before held game
+    →
     AddsGame head entries before now
 
 -- whatever was written, now it is a beginning of the one text of the game
 abbrev pub BeginsEnd : GameWriter → Option (List ℕ) → Option (List ℕ) → Type 0
 BeginsEnd game held now =
-    (head : CsaHead) (before : Option (List ℕ)) (entries : List (SMove × ℕ)) → HasWritten head entries before held game →
+    (head : CsaHead) (before : Option (List ℕ)) (entries : List (SMove × ℕ)) → HasWritten head entries before held game
+    →
     BeginsGame head entries before now
 
 -- a beginning of the lines before the moves begins each game with them
 abbrev pub LinesBeginGames : Type 0
 LinesBeginGames =
-    (head : CsaHead) (entries : List (SMove × ℕ)) (before now : Option (List ℕ)) → HasBegun head.start (lines_text head) before now →
+    (head : CsaHead) (entries : List (SMove × ℕ)) (before now : Option (List ℕ))
+    → HasBegun head.start (lines_text head) before now →
     BeginsGame head entries before now
 
 -- a beginning of the text up to some moves begins each game that goes on from them
 abbrev pub MovesBeginGames : Type 0
 MovesBeginGames =
-    (head : CsaHead) (entries more : List (SMove × ℕ)) (before now : Option (List ℕ)) → HasBegun head.start (text_up_to head entries) before now →
+    (head : CsaHead) (entries more : List (SMove × ℕ)) (before now : Option (List ℕ))
+    → HasBegun head.start (text_up_to head entries) before now →
     BeginsGame head (entries ++ more) before now

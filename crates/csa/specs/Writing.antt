@@ -37,13 +37,15 @@ then_two sign n = sign ∷ two_digits n
 -- `YYYY/MM/DD HH:MM:SS`
 abbrev pub date_text : CivilTime → List ℕ
 date_text at =
-    two_digits (unsigned_abs at.year / 100) ++ (two_digits (unsigned_abs at.year) ++ (then_two 47 at.month ++ (then_two 47 at.day ++
+    two_digits (unsigned_abs at.year / 100) ++
+    (two_digits (unsigned_abs at.year) ++ (then_two 47 at.month ++ (then_two 47 at.day ++
     (then_two 32 at.hour ++ (then_two 58 at.minute ++ then_two 58 at.second)))))
 
 -- the lines before the moves: the version, the players, the event, the start, the even opening, and Black, who begins
 abbrev pub head_text : List ℕ → List ℕ → List ℕ → CivilTime → List ℕ
 head_text event black white at =
-    line_of (codes "V2.2") [] ++ (line_of (codes "N+") black ++ (line_of (codes "N-") white ++ (line_of (codes "$EVENT:") event ++
+    line_of (codes "V2.2") []
+    ++ (line_of (codes "N+") black ++ (line_of (codes "N-") white ++ (line_of (codes "$EVENT:") event ++
     (line_of (codes "$START_TIME:") (date_text at) ++ (line_of (codes "PI") [] ++ line_of (codes "+") [])))))
 
 abbrev pub side_sign : Side → ℕ
@@ -60,7 +62,8 @@ source_text (Drop kind to) = codes "00"
 
 -- where a move goes to, and what the piece is then
 abbrev pub target_text : ShogiPosition → SMove → List ℕ
-target_text p (Step from to promote) = square_text to ++ option_map_or (λ piece. code_of (arrived piece promote).role) (map.get p.board from) []
+target_text p (Step from to promote) = square_text to ++ option_map_or (λ piece. code_of (arrived piece promote).role)
+    (map.get p.board from) []
 target_text p (Drop kind to) = square_text to ++ code_of (dropped_role kind)
 
 abbrev pub move_text : ShogiPosition → SMove → List ℕ

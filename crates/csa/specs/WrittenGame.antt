@@ -24,8 +24,11 @@ TellsEnd None _ turn = Unit {0}
 abbrev pub FitsEnd : Option CsaEnd → List SMove → Type 0
 FitsEnd told ms = (end : Option SEnd) × EndsSo opening ms end × TellsEnd end told (last_position opening ms).turn
 
--- the one text of a game: the head with what a clock in UTC shows at the start, the moves with their seconds, and the end
-pub record IsGameText (event black white : List ℕ) (start : ℕ) (end : Option CsaEnd) (entries : List (SMove × ℕ)) (text : List ℕ) : Type 0 where
+-- the one text of a game: the head with what a clock in UTC shows at the start, the moves with their seconds, and the
+-- end
+pub record IsGameText (event black white : List ℕ) (start : ℕ) (end : Option CsaEnd) (entries : List (SMove × ℕ))
+    (text : List ℕ) : Type 0 where
   pub at : CivilTime
   pub shown : IsCivil start at
-  pub written : text ≡ head_text event black white at ++ entries_text opening entries ++ end_text end (last_position opening (map (λ e. e.0) entries)).turn
+  pub written : text ≡ head_text event black white at ++ entries_text opening entries
+      ++ end_text end (last_position opening (map (λ e. e.0) entries)).turn

@@ -11,7 +11,8 @@ use squares::{SMove, SPos};
 use std::alloc::Global;
 use std::io::Write;
 
-/// A game on its way to a writer, in the standard format of the Computer Shogi Association: what stands before the moves
+/// A game on its way to a writer, in the standard format of the Computer Shogi Association: what stands before the
+/// moves
 /// and so many of the moves are written. It holds the text of one move at a time. The writer is lent to each call, so
 /// that its owner has it also where a call fails; what was written then is a beginning of the game's text.
 #[derive(Drop)]
@@ -22,7 +23,8 @@ pub struct GameWriter {
 }
 
 impl GameWriter {
-    ghost use Rattle.csa.specs.Writer.{lines_text, HasBegun, HasWritten, MayFollow, AddsEntry, BeginsEntry, StandsStill};
+    ghost use Rattle.csa.specs.Writer.{lines_text, HasBegun, HasWritten, MayFollow, AddsEntry, BeginsEntry};
+    ghost use Rattle.csa.specs.Writer.{StandsStill};
     ghost use Rattle.csa.specs.Writer.{Finishes, BeginsEnd};
 
     /// Writes what stands before the moves.

@@ -17,7 +17,8 @@ pub enum CsaEnd {
     Recorded(Score),
 }
 
-/// What a record says beside the moves: the event, the players, the moment of the start, and the end, or none where the game
+/// What a record says beside the moves: the event, the players, the moment of the start, and the end, or none where the
+/// game
 /// goes on.
 #[derive(Clone, Copy)]
 pub struct CsaHead<'a> {

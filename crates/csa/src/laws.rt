@@ -15,7 +15,8 @@ pub fn texts_are_read_in_one_way()
     each_line_has_one_end();
 }
 
-/// With names of one line each, what is written of a game that ended is the text of one game, with its moves and the score
+/// With names of one line each, what is written of a game that ended is the text of one game, with its moves and the
+/// score
 /// of its end, and so it is read as that. What is written of a game that goes on is refused as unfinished.
 pub fn written_games_are_read()
     ensures ended { WrittenIsRead }

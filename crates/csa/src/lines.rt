@@ -2,7 +2,8 @@
 ghost use Rattle.std.specs.Prelude.{◌≡◌, ◌+◌, ◌++◌, ◌≤◌, ◌<◌, ◌==◌, IfOk, OnOk, MatchOption, map, length};
 ghost use Rattle.std.specs.List.{slice_split};
 ghost use Rattle.std.specs.Str.Lines.{strip_carriage_return, lines_of_parts};
-ghost use Rattle.csa.specs.Lines.{is_comment, is_header, placed_of, placed_all, line_at, statements_from, statements_on, text_statements};
+ghost use Rattle.csa.specs.Lines.{is_comment, is_header, placed_of, placed_all, line_at, statements_from};
+ghost use Rattle.csa.specs.Lines.{statements_on, text_statements};
 
 use crate::statements::{Statement, statement_of};
 use shogi_moves::Memory;

@@ -1,7 +1,8 @@
 //! The order in which the statements of a record stand.
 ghost use Rattle.std.specs.Prelude.{◌≡◌, ◌≤◌};
 ghost use Rattle.csa.specs.declared.order.Place.TheVariants as place;
-ghost use Rattle.csa.specs.Order.{after_header, after_version, after_opening, after_row, after_pieces, after_turn, after_move, after_seconds, after_end, next, first_stray};
+ghost use Rattle.csa.specs.Order.{after_header, after_version, after_opening, after_row, after_pieces, after_turn};
+ghost use Rattle.csa.specs.Order.{after_move, after_seconds, after_end, next, first_stray};
 
 use crate::lines::Placed;
 use crate::statements::Statement;

@@ -2,7 +2,8 @@
 ghost use Rattle.std.specs.Prelude.{◌≡◌};
 ghost use Rattle.std.specs.List.{list_all};
 ghost use Rattle.csa.specs.Codes.{is_digit};
-ghost use Rattle.csa.specs.Statements.{source_of, move_of, parting, version, opening, pieces, row, seconds, signed, statement_of};
+ghost use Rattle.csa.specs.Statements.{source_of, move_of, parting, version, opening, pieces, row, seconds, signed};
+ghost use Rattle.csa.specs.Statements.{statement_of};
 
 use crate::codes::{is_digit, role_of, square_of};
 use crate::end_words::{EndWord, end_word};

@@ -1,7 +1,8 @@
 //! The parts of a written game.
 ghost use Rattle.std.specs.Prelude.{◌≡◌, ◌<◌, ◌++◌, ◌∷◌, [], OnOk, string_bytes};
 ghost use Rattle.shogi_moves.specs.Rules.{arrived, dropped_role};
-ghost use Rattle.csa.specs.Writing.{line_of, two_digits, then_two, date_text, side_sign, square_text, source_text, target_text, move_text, entry_text, recorded_word, rule_word, word_of, end_text};
+ghost use Rattle.csa.specs.Writing.{line_of, two_digits, then_two, date_text, side_sign, square_text, source_text};
+ghost use Rattle.csa.specs.Writing.{target_text, move_text, entry_text, recorded_word, rule_word, word_of, end_text};
 ghost use Rattle.csa.specs.Writer.{lines_text};
 
 use crate::codes::code_of;
@@ -112,7 +113,8 @@ pub fn push_entry(
     played: &SMove,
     seconds: u64,
 ) -> Result<(), Memory>
-    ensures { OnOk result (string_bytes text.new ≡ string_bytes text.old ++ entry_text position.now played.now seconds) }
+    ensures { OnOk result (string_bytes text.new ≡ string_bytes text.old
+        ++ entry_text position.now played.now seconds) }
 {
     text.push_str(side_text(position.turn()))?;
     push_source(text, played)?;

@@ -1,5 +1,6 @@
 -- A line that grows by one move, and its end.
-use Rattle.std.proofs.Common.{◌≡◌, ℕ, ◌+◌, ◌<◌, List, [], ◌∷◌, ◌++◌, length, take, get_or, Option, Some, None, refl, sym, ap, ◌∙◌, subst, arith}
+use Rattle.std.proofs.Common.{◌≡◌, ℕ, ◌+◌, ◌<◌, List, [], ◌∷◌, ◌++◌, length, take, get_or, Option, Some, None, refl}
+use Rattle.std.proofs.Common.{sym, ap, ◌∙◌, subst, arith}
 use Rattle.std.specs.Prelude.{slice_get}
 use Rattle.std.proofs.lemmas.List.{take_more}
 use Rattle.std.proofs.lemmas.Option.{slice_get_read}
@@ -15,10 +16,12 @@ pub length-positions : (p : Position) (ms : List DMove) → length (positions p 
 length-positions p [] = refl
 length-positions p (m ∷ ms) = let rest = length-positions (play p m) ms in omega arith
 
-pub last_position-append : (p : Position) (ms : List DMove) (m : DMove) → last_position p (ms ++ m ∷ []) ≡ play (last_position p ms) m
+pub last_position-append : (p : Position) (ms : List DMove) (m : DMove)
+    → last_position p (ms ++ m ∷ []) ≡ play (last_position p ms) m
 last_position-append p [] m = refl
 last_position-append p (n ∷ ms) m = last_position-append (play p n) ms m
 
-pub positions-append : (p : Position) (ms : List DMove) (m : DMove) → positions p (ms ++ m ∷ []) ≡ positions p ms ++ play (last_position p ms) m ∷ []
+pub positions-append : (p : Position) (ms : List DMove) (m : DMove)
+    → positions p (ms ++ m ∷ []) ≡ positions p ms ++ play (last_position p ms) m ∷ []
 positions-append p [] m = refl
 positions-append p (n ∷ ms) m = ap (λ ps. p ∷ ps) (positions-append (play p n) ms m)

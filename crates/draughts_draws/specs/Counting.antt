@@ -12,7 +12,8 @@ use Rattle.draughts_draws.specs.declared.faults.Fault.{Fault}
 use Rattle.draughts_draws.specs.Ends.{end_of}
 use Rattle.draughts_draws.specs.Faults.{IsPlayed, HasFault}
 
--- The line is played by the rules, and the counts have its last position, its plies, its tail, and how often each position
+-- The line is played by the rules, and the counts have its last position, its plies, its tail, and how often each
+-- position
 -- stood in it.
 pub record Follows (start : Position) (ms : List DMove) (counts : Counts) : Type 0 where
   pub played : IsPlayed start ms (length ms)
@@ -20,7 +21,8 @@ pub record Follows (start : Position) (ms : List DMove) (counts : Counts) : Type
   pub plies : counts.plies ≡ length ms
   pub times : counts.times ≡ times_stood start ms
   pub tail : counts.tail ≡ tail_of start ms
-  pub stood : (p : Position) → unwrap_or (get same_position counts.seen p) 0 ≡ count_by (λ q. same_position q p) (positions start ms)
+  pub stood : (p : Position) → unwrap_or (get same_position counts.seen p) 0
+      ≡ count_by (λ q. same_position q p) (positions start ms)
 
 -- Where the counts are those of a line, they are then those of the line with this move more.
 abbrev pub GrowsBy : DMove → Counts → Counts → Type 0
@@ -28,7 +30,8 @@ GrowsBy m old new = (start : Position) (ms : List DMove) → Follows start ms ol
 
 -- Where the counts are those of a line, the line with this move more has the fault.
 abbrev pub IsRefused : DMove → Counts → Fault → Type 0
-IsRefused m old fault = (start : Position) (ms : List DMove) → Follows start ms old → HasFault start (ms ++ m ∷ []) fault
+IsRefused m old fault = (start : Position) (ms : List DMove) → Follows start ms old
+    → HasFault start (ms ++ m ∷ []) fault
 
 -- The counts are still those of the same line.
 abbrev pub StaysSo : Counts → Counts → Type 0

@@ -1,5 +1,7 @@
--- The ends of a game of international draughts, by the numbers of the World Draughts Federation (FMJD), all of them automatic.
-use Rattle.std.specs.Prelude.{ℕ, ◌-◌, ◌==◌, ◌&&◌, ◌||◌, nat_le, not, if◌then◌else◌, Bool, false, Option, Some, None, List, length, count_by, drop}
+-- The ends of a game of international draughts, by the numbers of the World Draughts Federation (FMJD), all of them
+-- automatic.
+use Rattle.std.specs.Prelude.{ℕ, ◌-◌, ◌==◌, ◌&&◌, ◌||◌, nat_le, not, if◌then◌else◌, Bool, false, Option, Some, None}
+use Rattle.std.specs.Prelude.{List, length, count_by, drop}
 use Rattle.std.specs.List.{list_all, range_with_len, zip}
 use Rattle.std.specs.FinMap as map
 use Rattle.std.specs.FinSet as set
@@ -14,7 +16,8 @@ use Rattle.squares.specs.DraughtsBoard.{Position}
 use Rattle.squares.specs.DraughtsSamePosition.{same_position}
 use Rattle.draughts_moves.specs.Search.{has_move}
 use Rattle.draughts_draws.specs.declared.ends.DEnd.{DEnd}
-use Rattle.draughts_draws.specs.declared.ends.DEnd.TheVariants.{NoMove, Repetition, KingMoves, ThreeToOne, TwoToOne, PlyLimit}
+use Rattle.draughts_draws.specs.declared.ends.DEnd.TheVariants.{NoMove, Repetition, KingMoves, ThreeToOne, TwoToOne}
+use Rattle.draughts_draws.specs.declared.ends.DEnd.TheVariants.{PlyLimit}
 use Rattle.draughts_draws.specs.Line.{last_position, positions}
 
 -- whether the last position, with its turn, stands for the third time
@@ -29,9 +32,11 @@ is_king (Some piece) = piece.king
 abbrev pub is_king_move : Position → DMove → Bool
 is_king_move p m = (set.len m.taken == 0) && is_king (map.get p.board m.from)
 
--- whether the last 50 moves were made by kings and took nothing; each move stands beside the position in which it was made
+-- whether the last 50 moves were made by kings and took nothing; each move stands beside the position in which it was
+-- made
 unfoldable pub are_king_moves : List Position → List DMove → Bool
-are_king_moves ps ms = nat_le 50 (length ms) && list_all (λ e. is_king_move e.0 e.1) (zip (drop (length ms - 50) ps) (drop (length ms - 50) ms))
+are_king_moves ps ms = nat_le 50 (length ms) && list_all (λ e. is_king_move e.0 e.1)
+    (zip (drop (length ms - 50) ps) (drop (length ms - 50) ms))
 
 abbrev pub is_piece_of : Side → Option DPiece → Bool
 is_piece_of side None = false
@@ -68,13 +73,15 @@ is_three_to_one p = (has_three First p && has_lone_king Second p) || (has_three 
 -- one king of either side, or two pieces with at least one king, against a lone king
 abbrev pub is_two_to_one : Position → Bool
 is_two_to_one p =
-    ((has_lone_king First p || has_two First p) && has_lone_king Second p) || ((has_lone_king Second p || has_two Second p) && has_lone_king First p)
+    ((has_lone_king First p || has_two First p) && has_lone_king Second p) ||
+    ((has_lone_king Second p || has_two Second p) && has_lone_king First p)
 
 -- whether there are so many positions, and the last that many are all in a class
 unfoldable pub ends_with : ℕ → (Position → Bool) → List Position → Bool
 ends_with count class ps = nat_le count (length ps) && list_all class (drop (length ps - count) ps)
 
--- The first of the ends that holds, by the last position, all positions and all moves of a line. Nothing but these counts.
+-- The first of the ends that holds, by the last position, all positions and all moves of a line. Nothing but these
+-- counts.
 unfoldable pub first_end : Position → List Position → List DMove → Option DEnd
 first_end last ps ms =
     if not (has_move last)

@@ -1,5 +1,6 @@
 -- Two numbers of a line, by which its last ply is judged without the plies before it.
-use Rattle.std.specs.Prelude.{◌≡◌, ℕ, ◌+◌, ◌==◌, ◌&&◌, ◌++◌, nat_le, not, if◌then◌else◌, Bool, Option, Some, None, List, [], ◌∷◌, length, count_by}
+use Rattle.std.specs.Prelude.{◌≡◌, ℕ, ◌+◌, ◌==◌, ◌&&◌, ◌++◌, nat_le, not, if◌then◌else◌, Bool, Option, Some, None, List}
+use Rattle.std.specs.Prelude.{[], ◌∷◌, length, count_by}
 use Rattle.std.specs.List.{suffix_len, zip}
 use Rattle.squares.specs.declared.draughts.moves.DMove.{DMove}
 use Rattle.squares.specs.DraughtsBoard.{Position}
@@ -7,7 +8,8 @@ use Rattle.squares.specs.DraughtsSamePosition.{same_position}
 use Rattle.draughts_moves.specs.Legal.{play}
 use Rattle.draughts_moves.specs.Search.{has_move}
 use Rattle.draughts_draws.specs.declared.ends.DEnd.{DEnd}
-use Rattle.draughts_draws.specs.declared.ends.DEnd.TheVariants.{NoMove, Repetition, KingMoves, ThreeToOne, TwoToOne, PlyLimit}
+use Rattle.draughts_draws.specs.declared.ends.DEnd.TheVariants.{NoMove, Repetition, KingMoves, ThreeToOne, TwoToOne}
+use Rattle.draughts_draws.specs.declared.ends.DEnd.TheVariants.{PlyLimit}
 use Rattle.draughts_draws.specs.declared.tails.Class.{Class}
 use Rattle.draughts_draws.specs.declared.tails.Class.TheVariants as class
 use Rattle.draughts_draws.specs.declared.tails.Tail.{Tail}
@@ -26,7 +28,8 @@ abbrev pub run_in : Option Class → List Position → ℕ
 run_in None ps = 0
 run_in (Some c) ps = suffix_len (in_class c) ps
 
--- The plies in a row, up to the last, that kings made without taking (each move stands beside the position in which it was
+-- The plies in a row, up to the last, that kings made without taking (each move stands beside the position in which it
+-- was
 -- made), and the positions in a row, up to the last and with it, in the last one's class.
 unfoldable pub tail_of : Position → List DMove → Tail
 tail_of start ms =
@@ -77,7 +80,8 @@ end_by tail last plies times =
     then Some NoMove
     else if nat_le 3 times
     then Some Repetition
-    else if nat_le 50 tail.king_plies then Some KingMoves else end_or (class_end tail last) (if plies == 600 then Some PlyLimit else None)
+    else if nat_le 50 tail.king_plies then Some KingMoves else end_or (class_end tail last)
+    (if plies == 600 then Some PlyLimit else None)
 
 -- ---- laws
 
@@ -88,7 +92,8 @@ TailsBegin = (start : Position) → tail_of start [] ≡ first_tail start
 abbrev pub TailsGoOn : Type 0
 TailsGoOn =
     (start : Position) (ms : List DMove) (m : DMove) →
-    tail_of start (ms ++ m ∷ []) ≡ next_tail (tail_of start ms) (last_position start ms) m (play (last_position start ms) m)
+    tail_of start (ms ++ m ∷ []) ≡ next_tail (tail_of start ms) (last_position start ms) m
+    (play (last_position start ms) m)
 
 -- how often the last position of a line stood in it
 abbrev pub times_stood : Position → List DMove → ℕ

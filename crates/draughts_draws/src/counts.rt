@@ -46,7 +46,8 @@ impl Counts {
         })
     }
 
-    /// The line with one move more. It fails where the game has ended, or where the move is not legal, with the fault that
+    /// The line with one move more. It fails where the game has ended, or where the move is not legal, with the fault
+    /// that
     /// `judge` has of that ply, or where memory is refused; then the line stays as it was.
     pub fn push(&mut self, played: &DMove) -> Result<(), Fault>
         ensures follows { OnOk result (GrowsBy played.now self.old self.new) }

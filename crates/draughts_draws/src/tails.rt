@@ -18,7 +18,8 @@ pub enum Class {
     TwoToOne,
 }
 
-/// What tells the end of a line's last ply, beside the last position, the number of plies and how often the position stood.
+/// What tells the end of a line's last ply, beside the last position, the number of plies and how often the position
+/// stood.
 #[derive(Clone, Copy, Debug, PartialEq, Eq)]
 pub struct Tail {
     /// The plies in a row, up to the last, that kings made without taking.

@@ -1,5 +1,6 @@
 -- Whether there is a jump, a step at a time.
-use Rattle.std.proofs.Common.{◌≡◌, ℕ, suc, ◌+◌, Bool, true, false, cond, Option, Some, None, List, [], ◌∷◌, ◌++◌, length, refl, sym, ap, ◌∙◌, arith}
+use Rattle.std.proofs.Common.{◌≡◌, ℕ, suc, ◌+◌, Bool, true, false, cond, Option, Some, None, List, [], ◌∷◌, ◌++◌}
+use Rattle.std.proofs.Common.{length, refl, sym, ap, ◌∙◌, arith}
 use Rattle.std.specs.Prelude.{is_none, nat_lt, map, fold, max, ◌&&◌, ◌||◌}
 use Rattle.std.specs.Option.{option_map_or}
 use Rattle.std.specs.FinSet as set
@@ -40,13 +41,15 @@ first (x ∷ xs) = Some x
 
 pub line-first : (k : ℕ) (d : Direction) (n : ℕ) → first (line (suc k) d n) ≡ step d n
 unfolding line
-line-first k d n = elim (step d n) as (λ o. first (option_map_or (λ m. m ∷ line k d m) o []) ≡ o) [ None ↦ refl | Some m ↦ refl ]
+line-first k d n = elim (step d n) as (λ o. first (option_map_or (λ m. m ∷ line k d m) o []) ≡ o)
+    [ None ↦ refl | Some m ↦ refl ]
 
 module _ (b : Cells) (p : DPiece) (t : Squares) (d : Direction) where
   pub man-none : (n : ℕ) → step d n ≡ None → any (man_jumps b p t (ray d n)) ≡ false
   man-none n e = ap any (jump-edge b p t d n e)
 
-  man_first : (over : ℕ) (ns : List ℕ) → any (man_jumps b p t (over ∷ ns)) ≡ (is_prey b p t over && option_map_or (λ l. is_none (b l)) (first ns) false)
+  man_first : (over : ℕ) (ns : List ℕ) → any (man_jumps b p t (over ∷ ns))
+      ≡ (is_prey b p t over && option_map_or (λ l. is_none (b l)) (first ns) false)
   man_first over [] = sym (and_false (is_prey b p t over))
   man_first over (l ∷ ns) = any-one (is_prey b p t over && is_none (b l)) (over, l)
 
@@ -61,7 +64,9 @@ module _ (b : Cells) (p : DPiece) (t : Squares) (d : Direction) where
 
   pub any-front : (m : ℕ) (ns : List ℕ) → any (pairs m ns) ≡ option_map_or (λ l. is_none (b l)) (first ns) false
   any-front m [] = refl
-  any-front m (l ∷ ns) = elim (is_none (b l)) as (λ c. any (let xs : List (ℕ × ℕ) = map (λ x. (m, x)) (cond c (l ∷ clear_front b ns) []) in xs) ≡ c) [ true ↦ any-cons (m, l) (pairs m ns) | false ↦ refl ]
+  any-front m (l ∷ ns) =
+      elim (is_none (b l)) as (λ c. any (let xs : List (ℕ × ℕ) = map (λ x. (m, x)) (cond c (l ∷ clear_front b ns) []) in
+      xs) ≡ c) [ true ↦ any-cons (m, l) (pairs m ns) | false ↦ refl ]
 
 first_true : (a b c d : Bool) → a ≡ true → true ≡ (a || (b || (c || d)))
 first_true a b c d e = sym (ap (λ x. x || (b || (c || d))) e)
@@ -88,7 +93,9 @@ module _ (b : Cells) (p : DPiece) (t : Squares) (s : ℕ) where
   any-jumps =
       any-append (line_jumps b p t (ray UpLeft s)) _
       ∙ ap (λ c. along UpLeft || c)
-      (any-append (line_jumps b p t (ray UpRight s)) _ ∙ ap (λ c. along UpRight || c) (any-append (line_jumps b p t (ray DownLeft s)) (line_jumps b p t (ray DownRight s))))
+      (any-append (line_jumps b p t (ray UpRight s)) _
+      ∙ ap (λ c. along UpRight || c)
+      (any-append (line_jumps b p t (ray DownLeft s)) (line_jumps b p t (ray DownRight s))))
 
   pub jumps-first : along UpLeft ≡ true → true ≡ any (jumps b p t s)
   jumps-first e = first_true (along UpLeft) (along UpRight) (along DownLeft) (along DownRight) e ∙ sym any-jumps
@@ -99,7 +106,8 @@ module _ (b : Cells) (p : DPiece) (t : Squares) (s : ℕ) where
   pub jumps-third : along DownLeft ≡ true → true ≡ any (jumps b p t s)
   jumps-third e = third_true (along UpLeft) (along UpRight) (along DownLeft) (along DownRight) e ∙ sym any-jumps
 
-  pub jumps-last : along UpLeft ≡ false → along UpRight ≡ false → along DownLeft ≡ false → along DownRight ≡ any (jumps b p t s)
+  pub jumps-last : along UpLeft ≡ false → along UpRight ≡ false → along DownLeft ≡ false
+      → along DownRight ≡ any (jumps b p t s)
   jumps-last a c d = only_last (along UpLeft) (along UpRight) (along DownLeft) (along DownRight) a c d ∙ sym any-jumps
 
 pub any-none : (xs : List (ℕ × ℕ)) → any xs ≡ false → xs ≡ []
@@ -107,6 +115,9 @@ any-none [] e = refl
 any-none (x ∷ xs) e = let f = any-cons x xs in cc
 
 -- where there is no jump, none is taken
-pub greatest-none : (b : Cells) (p : DPiece) (t : Squares) (s : ℕ) (c : Bool) → c ≡ any (jumps b p t s) → c ≡ false → 0 ≡ greatest b p t s
+pub greatest-none : (b : Cells) (p : DPiece) (t : Squares) (s : ℕ) (c : Bool) → c ≡ any (jumps b p t s) → c ≡ false
+    → 0 ≡ greatest b p t s
 greatest-none b p t s c is e =
-    sym (greatest-jumps b p t s ∙ ap (fold (λ m j. max m (greatest b p (set.insert t j.0) j.1 + 1)) 0) (any-none (jumps b p t s) (sym is ∙ e)))
+    sym
+    (greatest-jumps b p t s ∙ ap (fold (λ m j. max m (greatest b p (set.insert t j.0) j.1 + 1)) 0)
+    (any-none (jumps b p t s) (sym is ∙ e)))

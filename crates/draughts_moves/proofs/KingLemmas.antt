@@ -1,5 +1,6 @@
 -- A king's jumps are over the first piece on its way.
-use Rattle.std.proofs.Common.{◌≡◌, ℕ, zero, suc, ◌≤◌, true, false, cond, not, ◌&&◌, ◌||◌, nat_eq, inl, inr, Option, Some, None, List, [], ◌∷◌, ◌++◌, refl, sym, ap, ◌∙◌, arith, append_assoc}
+use Rattle.std.proofs.Common.{◌≡◌, ℕ, zero, suc, ◌≤◌, true, false, cond, not, ◌&&◌, ◌||◌, nat_eq, inl, inr, Option}
+use Rattle.std.proofs.Common.{Some, None, List, [], ◌∷◌, ◌++◌, refl, sym, ap, ◌∙◌, arith, append_assoc}
 use Rattle.std.specs.Prelude.{map, is_none, is_some}
 use Rattle.std.specs.List.{find}
 use Rattle.std.specs.Option.{option_map_or}
@@ -30,14 +31,22 @@ either-some None = refl
 either-some (Some q) = either_side q.side
 
 -- the squares of the pieces of both sides, but one
-pub others-are : (board : Board) (first second all rest : Squares) (x : ℕ) → ((n : ℕ) → set.contains first n ≡ is_of First (finite_map.get board n)) → ((n : ℕ) → set.contains second n ≡ is_of Second (finite_map.get board n)) → all ≡ set.union first second → rest ≡ set.remove all x →
+pub others-are : (board : Board) (first second all rest : Squares) (x : ℕ)
+    → ((n : ℕ) → set.contains first n ≡ is_of First (finite_map.get board n))
+    → ((n : ℕ) → set.contains second n ≡ is_of Second (finite_map.get board n)) → all ≡ set.union first second
+    → rest ≡ set.remove all x →
     (n : ℕ) → set.contains rest n ≡ is_some (without board x n)
 others-are board first second all rest x of_first of_second both taken n =
-    ap (λ s. set.contains s n) (taken ∙ ap (λ s. set.remove s x) both) ∙ set.contains-remove nat_cmp_total (set.union first second) x n
-    ∙ (λ i. not (unsigned_tied n x i) && (set.contains-union nat_cmp_total first second n ∙ (λ j. of_first n j || of_second n j) ∙ either-some (finite_map.get board n)) i)
-    ∙ elim (nat_eq n x) as (λ c. (not c && is_some (finite_map.get board n)) ≡ is_some (cond c None (finite_map.get board n))) [ true ↦ refl | false ↦ refl ]
+    ap (λ s. set.contains s n) (taken ∙ ap (λ s. set.remove s x) both)
+    ∙ set.contains-remove nat_cmp_total (set.union first second) x n
+    ∙
+    (λ i. not (unsigned_tied n x i) && (set.contains-union nat_cmp_total first second n
+    ∙ (λ j. of_first n j || of_second n j) ∙ either-some (finite_map.get board n)) i)
+    ∙ elim (nat_eq n x) as (λ c. (not c && is_some (finite_map.get board n))
+    ≡ is_some (cond c None (finite_map.get board n))) [ true ↦ refl | false ↦ refl ]
 
-module _ (b : Cells) (p : DPiece) (t : Squares) (d : Direction) (of : Squares) (are : (n : ℕ) → set.contains of n ≡ is_some (b n)) where
+module _ (b : Cells) (p : DPiece) (t : Squares) (d : Direction) (of : Squares)
+    (are : (n : ℕ) → set.contains of n ≡ is_some (b n)) where
   -- the jumps over a piece to the empty squares at the front of a list
   abbrev over : ℕ → List ℕ → List (ℕ × ℕ)
   over m ns = map (λ l. (m, l)) (clear_front b ns)
@@ -46,29 +55,36 @@ module _ (b : Cells) (p : DPiece) (t : Squares) (d : Direction) (of : Squares) (
   by_first o = option_map_or (λ v. cond (is_prey b p t v) (over v (ray d v)) []) o []
 
   stands : (m : ℕ) → set.contains of m ≡ true → is_none (b m) ≡ false
-  stands m e = elim (b m) as (λ o. is_some o ≡ true → is_none o ≡ false) [ None ↦ λ h. cc | Some q ↦ λ h. refl ] (sym (are m) ∙ e)
+  stands m e = elim (b m) as (λ o. is_some o ≡ true → is_none o ≡ false) [ None ↦ λ h. cc | Some q ↦ λ h. refl ]
+      (sym (are m) ∙ e)
 
   clear : (m : ℕ) → set.contains of m ≡ false → is_none (b m) ≡ true
-  clear m e = elim (b m) as (λ o. is_some o ≡ false → is_none o ≡ true) [ None ↦ λ h. refl | Some q ↦ λ h. cc ] (sym (are m) ∙ e)
+  clear m e = elim (b m) as (λ o. is_some o ≡ false → is_none o ≡ true) [ None ↦ λ h. refl | Some q ↦ λ h. cc ]
+      (sym (are m) ∙ e)
 
   whole_ray : (k m : ℕ) → k ≤ 9 → ends_within k d m ≡ true → line k d m ≡ ray d m
   unfolding ray
   whole_ray k m few ends = line-ends k 9 d m few ends
 
-  along : (k n : ℕ) → k ≤ 9 → ends_within k d n ≡ true → king_jumps b p t (line k d n) ≡ by_first (find (set.contains of) (line k d n))
+  along : (k n : ℕ) → k ≤ 9 → ends_within k d n ≡ true
+      → king_jumps b p t (line k d n) ≡ by_first (find (set.contains of) (line k d n))
   unfolding line
   along zero n few ends = refl
   along (suc k) n few ends =
-      elim (step d n) as (λ o. step d n ≡ o → king_jumps b p t (option_map_or (λ m. m ∷ line k d m) o []) ≡ by_first (find (set.contains of) (option_map_or (λ m. m ∷ line k d m) o []))) [
+      elim (step d n) as (λ o. step d n ≡ o → king_jumps b p t (option_map_or (λ m. m ∷ line k d m) o [])
+      ≡ by_first (find (set.contains of) (option_map_or (λ m. m ∷ line k d m) o []))) [
         | None ↦ λ _. refl
         | Some m ↦ λ next.
             let near = ends-next k d n m next ends in
-            elim (set.contains of m) as (λ c. set.contains of m ≡ c → king_jumps b p t (m ∷ line k d m) ≡ by_first (cond c (Some m) (find (set.contains of) (line k d m)))) [
+            elim (set.contains of m) as (λ c. set.contains of m ≡ c
+            → king_jumps b p t (m ∷ line k d m) ≡ by_first (cond c (Some m) (find (set.contains of) (line k d m)))) [
               | true ↦ λ there.
-                  ap (λ c. cond c (king_jumps b p t (line k d m)) (cond (is_prey b p t m) (over m (line k d m)) [])) (stands m there)
+                  ap (λ c. cond c (king_jumps b p t (line k d m)) (cond (is_prey b p t m) (over m (line k d m)) []))
+                  (stands m there)
                   ∙ ap (λ ns. cond (is_prey b p t m) (over m ns) []) (whole_ray k m (omega arith) near)
               | false ↦ λ passed.
-                  ap (λ c. cond c (king_jumps b p t (line k d m)) (cond (is_prey b p t m) (over m (line k d m)) [])) (clear m passed)
+                  ap (λ c. cond c (king_jumps b p t (line k d m)) (cond (is_prey b p t m) (over m (line k d m)) []))
+                  (clear m passed)
                   ∙ along k m (omega arith) near
             ] refl
       ] refl
@@ -94,8 +110,10 @@ module _ (b : Cells) (p : DPiece) (t : Squares) (d : Direction) (of : Squares) (
     unfolding ray
     king-takes =
         ap any (from_ray n ∙ ap by_first e)
-        ∙ elim (is_prey b p t v) as (λ c. any (cond c (over v (line 9 d v)) []) ≡ (c && option_map_or (λ l. is_none (b l)) (step d v) false)) [
-          | true ↦ any-front b p t d v (line 9 d v) ∙ ap (λ o. option_map_or (λ l. is_none (b l)) o false) (line-first 8 d v)
+        ∙ elim (is_prey b p t v) as (λ c. any (cond c (over v (line 9 d v)) [])
+        ≡ (c && option_map_or (λ l. is_none (b l)) (step d v) false)) [
+          | true ↦ any-front b p t d v (line 9 d v)
+              ∙ ap (λ o. option_map_or (λ l. is_none (b l)) o false) (line-first 8 d v)
           | false ↦ refl
         ]
 
@@ -107,6 +125,8 @@ module _ (b : Cells) (over : ℕ) (xs : List (ℕ × ℕ)) where
   pub landings-end : (front : List ℕ) → front ≡ [] → xs ≡ xs ++ pairs front
   landings-end front e = sym (ap (λ ns. xs ++ pairs ns) e ∙ append-nil xs)
 
-  pub landings-more : (front rest : List ℕ) (m : ℕ) (ys : List (ℕ × ℕ)) → front ≡ m ∷ rest → ys ≡ xs ++ (over, m) ∷ [] → ys ++ pairs rest ≡ xs ++ pairs front
+  pub landings-more : (front rest : List ℕ) (m : ℕ) (ys : List (ℕ × ℕ)) → front ≡ m ∷ rest → ys ≡ xs ++ (over, m) ∷ []
+      → ys ++ pairs rest ≡ xs ++ pairs front
   landings-more front rest m ys on pushed =
-      ap (λ zs. zs ++ pairs rest) pushed ∙ append_assoc xs ((over, m) ∷ []) (pairs rest) ∙ sym (ap (λ ns. xs ++ pairs ns) on)
+      ap (λ zs. zs ++ pairs rest) pushed ∙ append_assoc xs ((over, m) ∷ []) (pairs rest)
+      ∙ sym (ap (λ ns. xs ++ pairs ns) on)

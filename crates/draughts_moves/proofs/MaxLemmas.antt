@@ -23,7 +23,8 @@ module _ {A : Type 0} (f : A → ℕ) where
   max_is : (a b : ℕ) → (max a b ≡ a) ⊎ (max a b ≡ b)
   max_is a b = elim (le_or a b) [ inl h ↦ inr (omega arith) | inr h ↦ inl (omega arith) ]
 
-  pub most-reached : (a : ℕ) (xs : List A) → (fold (λ m x. max m (f x)) a xs ≡ a) ⊎ ((x : A) × In x xs × (f x ≡ fold (λ m x. max m (f x)) a xs))
+  pub most-reached : (a : ℕ) (xs : List A) → (fold (λ m x. max m (f x)) a xs ≡ a)
+      ⊎ ((x : A) × In x xs × (f x ≡ fold (λ m x. max m (f x)) a xs))
   most-reached a [] = inl refl
   most-reached a (x ∷ xs) =
       elim (most-reached (max a (f x)) xs) [
@@ -31,7 +32,9 @@ module _ {A : Type 0} (f : A → ℕ) where
         | inr w ↦ inr (w.0, inr w.1, w.2)
       ]
 
-pub most-same : {A : Type 0} (f g : A → ℕ) (a : ℕ) (xs : List A) → ((x : A) → In x xs → f x ≡ g x) → fold (λ m x. max m (f x)) a xs ≡ fold (λ m x. max m (g x)) a xs
+pub most-same : {A : Type 0} (f g : A → ℕ) (a : ℕ) (xs : List A) → ((x : A) → In x xs → f x ≡ g x)
+    → fold (λ m x. max m (f x)) a xs ≡ fold (λ m x. max m (g x)) a xs
 most-same f g a [] h = refl
 most-same f g a (x ∷ xs) h =
-    ap (λ b. fold (λ m x. max m (f x)) (max a b) xs) (h x (inl refl)) ∙ most-same f g (max a (g x)) xs (λ y k. h y (inr k))
+    ap (λ b. fold (λ m x. max m (f x)) (max a b) xs) (h x (inl refl))
+    ∙ most-same f g (max a (g x)) xs (λ y k. h y (inr k))

@@ -1,5 +1,6 @@
 -- Whether there is a legal move.
-use Rattle.std.proofs.Common.{◌≡◌, ℕ, ◌<◌, Bool, true, false, ◌||◌, ◌⊎◌, inl, inr, Some, None, List, [], ◌∷◌, length, nat_eq, refl, sym, ap, ◌∙◌, arith}
+use Rattle.std.proofs.Common.{◌≡◌, ℕ, ◌<◌, Bool, true, false, ◌||◌, ◌⊎◌, inl, inr, Some, None, List, [], ◌∷◌, length}
+use Rattle.std.proofs.Common.{nat_eq, refl, sym, ap, ◌∙◌, arith}
 use Rattle.std.specs.Prelude.{nat_lt}
 use Rattle.std.specs.Option.{option_map_or}
 use Rattle.std.specs.List.{range_with_len, list_any}
@@ -50,21 +51,31 @@ In-length x [] h = absurd h
 In-length x (y ∷ xs) h = omega arith
 
 -- a set of the squares of a list
-module _ (targets : Squares) (ns : List ℕ) (are : (n : ℕ) → set.contains targets n ≡ list_any (λ m. nat_eq m n) ns) where
+module _ (targets : Squares) (ns : List ℕ)
+    (are : (n : ℕ) → set.contains targets n ≡ list_any (λ m. nat_eq m n) ns) where
   pub steps-none : targets ≡ set.empty → nat_lt 0 (length ns) ≡ false
   steps-none e =
-      elim ns as (λ ms. ((n : ℕ) → set.contains targets n ≡ list_any (λ m. nat_eq m n) ms) → nat_lt 0 (length ms) ≡ false) [
+      elim ns as (λ ms. ((n : ℕ) → set.contains targets n ≡ list_any (λ m. nat_eq m n) ms)
+      → nat_lt 0 (length ms) ≡ false) [
         | [] ↦ λ _. refl
         | n ∷ ms ↦ λ is.
-            let has : set.contains targets n ≡ true = is n ∙ ap (λ c. c || list_any (λ m. nat_eq m n) ms) (nat_eq_same n n refl) in
-            let has_not : set.contains targets n ≡ false = ap (λ s. set.contains s n) e ∙ set.contains-empty nat_cmp n in
+            let has : set.contains targets n ≡ true = is n
+            ∙ ap (λ c. c || list_any (λ m. nat_eq m n) ms) (nat_eq_same n n refl) in
+            let has_not : set.contains targets n ≡ false = ap (λ s. set.contains s n) e
+            ∙ set.contains-empty nat_cmp n in
             cc
       ] are
 
   pub steps-some : (targets ≡ set.empty → ⊥) → nat_lt 0 (length ns) ≡ true
   steps-some some =
-      elim ns as (λ ms. ((n : ℕ) → set.contains targets n ≡ list_any (λ m. nat_eq m n) ms) → nat_lt 0 (length ms) ≡ true) [
-        | [] ↦ λ is. absurd (some (set.same_set nat_cmp_total nat_cmp-IsAntisymmetric targets set.empty (λ q. is q ∙ sym (set.contains-empty nat_cmp q))))
+      elim ns as (λ ms. ((n : ℕ) → set.contains targets n ≡ list_any (λ m. nat_eq m n) ms)
+      → nat_lt 0 (length ms) ≡ true) [
+        | [] ↦
+            λ is.
+            absurd
+            (some
+            (set.same_set nat_cmp_total nat_cmp-IsAntisymmetric targets set.empty
+            (λ q. is q ∙ sym (set.contains-empty nat_cmp q))))
         | n ∷ ms ↦ λ _. test_above (length (n ∷ ms)) (omega arith)
       ] are
 
@@ -76,7 +87,11 @@ module _ (p : Position) where
   can_move-sound : (x : ℕ) → can_move p x ≡ true → CanGo x
   unfolding can_move
   can_move-sound x e =
-      elim (own_at p x) as (λ o. own_at p x ≡ o → option_map_or (λ q. nat_lt 0 (length (steps (map.get p.board) q x)) || nat_lt 0 (length (jumps (without p.board x) q set.empty x))) o false ≡ true → CanGo x) [
+      elim (own_at p x) as (λ o. own_at p x ≡ o
+      →
+      option_map_or
+      (λ q. nat_lt 0 (length (steps (map.get p.board) q x)) || nat_lt 0
+      (length (jumps (without p.board x) q set.empty x))) o false ≡ true → CanGo x) [
         | None ↦ λ _ e. cc
         | Some q ↦ λ own e.
             let goes = steps (map.get p.board) q x in
@@ -86,28 +101,43 @@ module _ (p : Position) where
               | inr a ↦
                   let w = first jumping (above (length jumping) a) in
                   let is = own_at-is p x q own in
-                  let j : FirstJump p x w.0.0 w.0.1 = record { piece = q; stands = is.0; own = is.1; jump = jumps-sound (without p.board x) q set.empty x w.0.0 w.0.1 w.1 } in
+                  let j : FirstJump p x w.0.0 w.0.1 = record {
+                    piece = q;
+                    stands = is.0;
+                    own = is.1;
+                    jump = jumps-sound (without p.board x) q set.empty x w.0.0 w.0.1 w.1;
+                  } in
                   inr (w.0.0, w.0.1, j)
             ]
       ] refl e
 
-  pub can_move-own : (x : ℕ) (q : DPiece) → own_at p x ≡ Some q → can_move p x ≡ (nat_lt 0 (length (steps (map.get p.board) q x)) || nat_lt 0 (length (jumps (without p.board x) q set.empty x)))
+  pub can_move-own : (x : ℕ) (q : DPiece) → own_at p x ≡ Some q
+      →
+      can_move p x
+      ≡ (nat_lt 0 (length (steps (map.get p.board) q x)) || nat_lt 0 (length (jumps (without p.board x) q set.empty x)))
   unfolding can_move
   can_move-own x q own =
-      ap (λ o. option_map_or (λ q. nat_lt 0 (length (steps (map.get p.board) q x)) || nat_lt 0 (length (jumps (without p.board x) q set.empty x))) o false) own
+      ap
+      (λ o.
+      option_map_or
+      (λ q. nat_lt 0 (length (steps (map.get p.board) q x)) || nat_lt 0
+      (length (jumps (without p.board x) q set.empty x))) o false) own
 
   quiet-can_move : (x y : ℕ) → QuietMove p x y → can_move p x ≡ true
   quiet-can_move x y m =
       let q = m.piece in
       let h = test_above _ (In-length y (steps (map.get p.board) q x) (quiet-in_steps p x y m)) in
-      can_move-own x q (quiet-own p x y m) ∙ ap (λ c. c || nat_lt 0 (length (jumps (without p.board x) q set.empty x))) h
+      can_move-own x q (quiet-own p x y m) ∙ ap (λ c. c || nat_lt 0 (length (jumps (without p.board x) q set.empty x)))
+      h
 
   jump-can_move : (x v l : ℕ) → FirstJump p x v l → can_move p x ≡ true
   jump-can_move x v l j =
       let q = j.piece in
-      let among : In {A = ℕ × ℕ} (v, l) (jumps (without p.board x) q set.empty x) = jumps-complete (without p.board x) q set.empty x v l j.jump in
+      let among : In {A = ℕ × ℕ} (v, l) (jumps (without p.board x) q set.empty x) =
+      jumps-complete (without p.board x) q set.empty x v l j.jump in
       can_move-own x q (own_at-own p x q j.stands j.own)
-      ∙ or_right (nat_lt 0 (length (steps (map.get p.board) q x))) _ (test_above _ (In-length {A = ℕ × ℕ} (v, l) (jumps (without p.board x) q set.empty x) among))
+      ∙ or_right (nat_lt 0 (length (steps (map.get p.board) q x))) _
+      (test_above _ (In-length {A = ℕ × ℕ} (v, l) (jumps (without p.board x) q set.empty x) among))
 
   found_at : (x : ℕ) → OnBoard x → can_move p x ≡ true → has_move p ≡ true
   unfolding has_move
@@ -116,7 +146,12 @@ module _ (p : Position) where
   some_capture : 0 < most p → HasMove p
   some_capture h =
       let w = (IsMost-most p).reached h in
-      let c : LegalCapture p w.0 w.1 w.3 = record { landings = w.2; capture = w.4; takes = omega (arith, w.5); most = λ x y ls t k. omega (arith, w.5, (IsMost-most p).bounds x y ls t k) } in
+      let c : LegalCapture p w.0 w.1 w.3 = record {
+        landings = w.2;
+        capture = w.4;
+        takes = omega (arith, w.5);
+        most = λ x y ls t k. omega (arith, w.5, (IsMost-most p).bounds x y ls t k);
+      } in
       let m : DMove = record { from = w.0; to = w.1; taken = w.3 } in
       (m, inl c)
 
@@ -144,12 +179,14 @@ module _ (p : Position) where
       elim w.1 [
         | inl c ↦
             let h = Capture-HasCapture p (most p) (IsMost-most p) m.from m.to c.landings m.taken c.capture c.takes in
-            found_at h.0 (Jump-from_on (without p.board h.0) h.3.piece set.empty h.0 h.1 h.2 h.3.jump) (jump-can_move h.0 h.1 h.2 h.3)
+            found_at h.0 (Jump-from_on (without p.board h.0) h.3.piece set.empty h.0 h.1 h.2 h.3.jump)
+            (jump-can_move h.0 h.1 h.2 h.3)
         | inr q ↦ found_at m.from (quiet-from_on p m.from m.to q.1.0) (quiet-can_move m.from m.to q.1.0)
       ]
 
   pub IsCapture-HasCapture : (m : DMove) → IsCapture p m → HasCapture p
-  IsCapture-HasCapture m c = Capture-HasCapture p (most p) (IsMost-most p) m.from m.to c.landings m.taken c.capture c.takes
+  IsCapture-HasCapture m c = Capture-HasCapture p (most p) (IsMost-most p) m.from m.to c.landings m.taken c.capture
+      c.takes
 
   pub HasCapture-IsCapture : HasCapture p → (m : DMove) × IsCapture p m
   HasCapture-IsCapture h =

@@ -1,5 +1,6 @@
 -- Each jump leaves less prey.
-use Rattle.std.proofs.Common.{◌≡◌, ℕ, zero, suc, ◌+◌, ◌≤◌, ◌<◌, ◌⊎◌, inl, inr, Bool, true, false, cond, not, ◌&&◌, ◌||◌, nat_eq, List, [], ◌∷◌, ◌++◌, count_by, refl, sym, ap, ◌∙◌, subst, arith}
+use Rattle.std.proofs.Common.{◌≡◌, ℕ, zero, suc, ◌+◌, ◌≤◌, ◌<◌, ◌⊎◌, inl, inr, Bool, true, false, cond, not, ◌&&◌, ◌||◌}
+use Rattle.std.proofs.Common.{nat_eq, List, [], ◌∷◌, ◌++◌, count_by, refl, sym, ap, ◌∙◌, subst, arith}
 use Rattle.std.specs.List.{range_with_len}
 use Rattle.std.specs.FinSet as set
 use Rattle.std.proofs.lemmas.List.Sums.{sum_by_from, count_by-le-length}
@@ -14,7 +15,8 @@ use Rattle.draughts_moves.specs.Search.{is_prey, prey_left}
 use Rattle.squares.specs.In.{In}
 
 count_by-cons : {A : Type 0} (p : A → Bool) (x : A) (xs : List A) → count_by p (x ∷ xs) ≡ cond (p x) 1 0 + count_by p xs
-count_by-cons p x xs = sum_by_from (λ y. cond (p y) 1 0) (0 + cond (p x) 1 0) xs ∙ ap (λ k. k + count_by p xs) (omega arith)
+count_by-cons p x xs = sum_by_from (λ y. cond (p y) 1 0) (0 + cond (p x) 1 0) xs
+    ∙ ap (λ k. k + count_by p xs) (omega arith)
 
 module _ (p q : ℕ → Bool) (less : (n : ℕ) → q n ≡ true → p n ≡ true) where
   one_le : (n : ℕ) → cond (q n) 1 0 ≤ cond (p n) 1 0
@@ -30,9 +32,13 @@ module _ (p q : ℕ → Bool) (less : (n : ℕ) → q n ≡ true → p n ≡ tru
   count-less : (v : ℕ) (xs : List ℕ) → In v xs → p v ≡ true → q v ≡ false → count_by q xs < count_by p xs
   count-less v [] h pv qv = absurd h
   count-less v (x ∷ xs) (inl e) pv qv =
-      let here : cond (q x) 1 0 < cond (p x) 1 0 = subst (λ n. cond (q n) 1 0 < cond (p n) 1 0) (sym e) (subst (λ c. c < cond (p v) 1 0) (ap (λ c. cond c 1 0) (sym qv)) (subst (λ c. 0 < cond c 1 0) (sym pv) (omega arith))) in
+      let here : cond (q x) 1 0 < cond (p x) 1 0 =
+      subst (λ n. cond (q n) 1 0 < cond (p n) 1 0) (sym e)
+      (subst (λ c. c < cond (p v) 1 0) (ap (λ c. cond c 1 0) (sym qv))
+      (subst (λ c. 0 < cond c 1 0) (sym pv) (omega arith))) in
       omega (arith, count_by-cons q x xs, count_by-cons p x xs, here, count-le xs)
-  count-less v (x ∷ xs) (inr h) pv qv = omega (arith, count_by-cons q x xs, count_by-cons p x xs, one_le x, count-less v xs h pv qv)
+  count-less v (x ∷ xs) (inr h) pv qv = omega
+      (arith, count_by-cons q x xs, count_by-cons p x xs, one_le x, count-less v xs h pv qv)
 
 same_or_more : (a v : ℕ) → a ≤ v → (a ≡ v) ⊎ (a + 1 ≤ v)
 same_or_more a v h = elim (cases_eq a v) [ inl e ↦ inl e | inr k ↦ inr (omega arith) ]
@@ -48,7 +54,8 @@ and_false false = refl
 
 pub In-range : (a n v : ℕ) → a ≤ v → v < a + n → In v (range_with_len a n)
 In-range a zero v low high = absurd (omega arith)
-In-range a (suc n) v low high = elim (same_or_more a v low) [ inl e ↦ inl e | inr h ↦ inr (In-range (a + 1) n v h (omega arith)) ]
+In-range a (suc n) v low high = elim (same_or_more a v low)
+    [ inl e ↦ inl e | inr h ↦ inr (In-range (a + 1) n v h (omega arith)) ]
 
 pub at_along : (before rest : List ℕ) (v : ℕ) → AllOnBoard (before ++ v ∷ rest) → OnBoard v
 at_along [] rest v h = h.0
@@ -62,11 +69,13 @@ module _ (b : Cells) (p : DPiece) (t : Squares) (s v l : ℕ) (j : Jump b p t s 
   Jump-over_on = at_along j.1.before _ v along_on
 
   still_prey : (n : ℕ) → is_prey b p (set.insert t v) n ≡ true → is_prey b p t n ≡ true
-  still_prey n e = still (is_enemy p (b n)) (nat_eq n v) (set.contains t n) (ap (λ c. is_enemy p (b n) && not c) (sym (contains-insert_nat t v n)) ∙ e)
+  still_prey n e = still (is_enemy p (b n)) (nat_eq n v) (set.contains t n)
+      (ap (λ c. is_enemy p (b n) && not c) (sym (contains-insert_nat t v n)) ∙ e)
 
   taken_now : is_prey b p (set.insert t v) v ≡ false
   taken_now =
-      ap (λ c. is_enemy p (b v) && not c) (contains-insert_nat t v v ∙ ap (λ c. c || set.contains t v) (nat_eq_same v v refl)) ∙ and_false (is_enemy p (b v))
+      ap (λ c. is_enemy p (b v) && not c) (contains-insert_nat t v v
+      ∙ ap (λ c. c || set.contains t v) (nat_eq_same v v refl)) ∙ and_false (is_enemy p (b v))
 
   pub prey_left-falls : prey_left b p (set.insert t v) < prey_left b p t
   unfolding prey_left

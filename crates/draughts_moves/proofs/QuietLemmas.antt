@@ -1,5 +1,6 @@
 -- The quiet moves in order.
-use Rattle.std.proofs.Common.{◌≡◌, ℕ, zero, suc, ◌+◌, ◌≤◌, ◌<◌, Bool, true, false, cond, nat_eq, inl, inr, Some, None, List, [], ◌∷◌, ◌++◌, refl, sym, ap, ◌∙◌, subst, arith, append_assoc}
+use Rattle.std.proofs.Common.{◌≡◌, ℕ, zero, suc, ◌+◌, ◌≤◌, ◌<◌, Bool, true, false, cond, nat_eq, inl, inr, Some, None}
+use Rattle.std.proofs.Common.{List, [], ◌∷◌, ◌++◌, refl, sym, ap, ◌∙◌, subst, arith, append_assoc}
 use Rattle.std.specs.Prelude.{map, filter}
 use Rattle.std.specs.List.{flat_map, range_with_len, list_any}
 use Rattle.std.specs.List.Sorted.{IsStrictlySortedBy}
@@ -40,8 +41,13 @@ from_range a (suc n) v (inr h) = omega (arith, from_range (a + 1) n v h)
 from_filter : (test : ℕ → Bool) (v : ℕ) (ns : List ℕ) → In v (filter test ns) → In v ns × (test v ≡ true)
 from_filter test v [] h = absurd h
 from_filter test v (n ∷ ns) h =
-    elim (test n) as (λ c. test n ≡ c → In v (cond c (n ∷ filter test ns) (filter test ns)) → In v (n ∷ ns) × (test v ≡ true)) [
-      | true ↦ λ is k. elim k [ inl e ↦ (inl e, ap test (sym e) ∙ is) | inr r ↦ let w = from_filter test v ns r in (inr w.0, w.1) ]
+    elim (test n) as (λ c. test n ≡ c → In v (cond c (n ∷ filter test ns) (filter test ns)) → In v (n ∷ ns)
+    × (test v ≡ true)) [
+      | true ↦ λ is k. elim k [
+        | inl e ↦ (inl e, ap test (sym e) ∙ is)
+        | inr r ↦ let w = from_filter test v ns r in
+            (inr w.0, w.1)
+      ]
       | false ↦ λ _ k. let w = from_filter test v ns k in (inr w.0, w.1)
     ] refl h
 
@@ -58,12 +64,15 @@ same_filter f g [] same = refl
 same_filter f g (n ∷ ns) same = (λ i. cond (same n i) (n ∷ same_filter f g ns same i) (same_filter f g ns same i))
 
 later : (x y z : ℕ) → y < z → move_cmp (step_to x y) (step_to x z) ≡ Less
-later x y z h = λ i. ordering_then (tied x i) (ordering_then (less y z h i) (slice_cmp nat_cmp (ascending (step_to x y).taken) (ascending (step_to x z).taken)))
+later x y z h = λ i. ordering_then (tied x i)
+    (ordering_then (less y z h i) (slice_cmp nat_cmp (ascending (step_to x y).taken) (ascending (step_to x z).taken)))
 
 farther : (x v y z : ℕ) → x < v → move_cmp (step_to x y) (step_to v z) ≡ Less
-farther x v y z h = λ i. ordering_then (less x v h i) (slice_cmp nat_cmp (y ∷ ascending (step_to x y).taken) (z ∷ ascending (step_to v z).taken))
+farther x v y z h = λ i. ordering_then (less x v h i)
+    (slice_cmp nat_cmp (y ∷ ascending (step_to x y).taken) (z ∷ ascending (step_to v z).taken))
 
-steps-sorted : (test : ℕ → Bool) (x n a : ℕ) → IsStrictlySortedBy move_cmp (map (step_to x) (filter test (range_with_len a n)))
+steps-sorted : (test : ℕ → Bool) (x n a : ℕ)
+    → IsStrictlySortedBy move_cmp (map (step_to x) (filter test (range_with_len a n)))
 unfolding IsStrictlySortedBy
 steps-sorted test x zero a = tt
 steps-sorted test x (suc n) a =
@@ -85,13 +94,16 @@ module _ (p : Position) where
   unfolding IsStrictlySortedBy quiet_in_order
   rows-sorted zero a = tt
   rows-sorted (suc n) a =
-      append-sorted move_cmp move_cmp-total (quiet_in_order p a) (flat_map (quiet_in_order p) (range_with_len (a + 1) n)) (steps-sorted (is_step p a) a 50 1) (rows-sorted n (a + 1))
+      append-sorted move_cmp move_cmp-total (quiet_in_order p a)
+      (flat_map (quiet_in_order p) (range_with_len (a + 1) n)) (steps-sorted (is_step p a) a 50 1)
+      (rows-sorted n (a + 1))
       (λ l m h k.
       let v = In-from_map (step_to a) l (filter (is_step p a) (range_with_len 1 50)) h in
       let w = In-from_flat_map (quiet_in_order p) m (range_with_len (a + 1) n) k in
       let u = In-from_map (step_to w.0) m (filter (is_step p w.0) (range_with_len 1 50)) w.2 in
       let past = from_range (a + 1) n w.0 w.1 in
-      subst (λ d. move_cmp d m ≡ Less) v.2 (subst (λ d. move_cmp (step_to a v.0) d ≡ Less) u.2 (farther a w.0 v.0 u.0 (omega arith))))
+      subst (λ d. move_cmp d m ≡ Less) v.2
+      (subst (λ d. move_cmp (step_to a v.0) d ≡ Less) u.2 (farther a w.0 v.0 u.0 (omega arith))))
 
   -- each quiet move once, in order
   pub quiet-sorted : IsStrictlySortedBy move_cmp (quiet_list p)
@@ -103,7 +115,10 @@ module _ (p : Position) where
   quiet-sound m h =
       let w = In-from_flat_map (quiet_in_order p) m (range_with_len 1 50) h in
       let u = In-from_map (step_to w.0) m (filter (is_step p w.0) (range_with_len 1 50)) w.2 in
-      subst (IsQuiet p) u.2 (is_step-sound p w.0 u.0 (from_filter (is_step p w.0) u.0 (range_with_len 1 50) u.1).1, refl)
+      subst (IsQuiet p) u.2 (
+        is_step-sound p w.0 u.0 (from_filter (is_step p w.0) u.0 (range_with_len 1 50) u.1).1,
+        refl,
+      )
 
   quiet-to_on : (x y : ℕ) → QuietMove p x y → OnBoard y
   quiet-to_on x y m = at_along m.before m.after y (subst AllOnBoard m.along (ray-on_board m.toward x))
@@ -114,16 +129,24 @@ module _ (p : Position) where
       let from = quiet-from_on p m.from m.to quiet.0 in
       let to = quiet-to_on m.from m.to quiet.0 in
       let is : step_to m.from m.to ≡ m = (λ i. record { from = m.from; to = m.to; taken = sym quiet.1 i }) in
-      let there = in_filter (is_step p m.from) m.to (range_with_len 1 50) (In-range 1 50 m.to to.0 (omega (arith, to.1))) (is_step-complete p m.from m.to quiet.0) in
-      In-flat_map (quiet_in_order p) m m.from (range_with_len 1 50) (In-range 1 50 m.from from.0 (omega (arith, from.1)))
-      (subst (λ d. In d (map (step_to m.from) (filter (is_step p m.from) (range_with_len 1 50)))) is (In-map (step_to m.from) m.to (filter (is_step p m.from) (range_with_len 1 50)) there))
+      let there = in_filter (is_step p m.from) m.to (range_with_len 1 50)
+      (In-range 1 50 m.to to.0 (omega (arith, to.1))) (is_step-complete p m.from m.to quiet.0) in
+      In-flat_map (quiet_in_order p) m m.from (range_with_len 1 50)
+      (In-range 1 50 m.from from.0 (omega (arith, from.1)))
+      (subst (λ d. In d (map (step_to m.from) (filter (is_step p m.from) (range_with_len 1 50)))) is
+      (In-map (step_to m.from) m.to (filter (is_step p m.from) (range_with_len 1 50)) there))
 
   -- the squares that a piece goes to, as a set
-  pub quiet-own : (x : ℕ) (q : DPiece) (targets : Squares) → own_at p x ≡ Some q → ((n : ℕ) → set.contains targets n ≡ list_any (λ m. nat_eq m n) (steps (finite_map.get p.board) q x)) → map (step_to x) (ascending targets) ≡ quiet_in_order p x
+  pub quiet-own : (x : ℕ) (q : DPiece) (targets : Squares) → own_at p x ≡ Some q
+      → ((n : ℕ) → set.contains targets n ≡ list_any (λ m. nat_eq m n) (steps (finite_map.get p.board) q x))
+      → map (step_to x) (ascending targets) ≡ quiet_in_order p x
   unfolding quiet_in_order ascending is_step
   quiet-own x q targets own are =
       ap (map (step_to x))
-      (same_filter (set.contains targets) (is_step p x) (range_with_len 1 50) (λ n. are n ∙ sym (ap (λ o. option_map_or (λ r. list_any (λ z. nat_eq z n) (steps (finite_map.get p.board) r x)) o false) own)))
+      (same_filter (set.contains targets) (is_step p x) (range_with_len 1 50)
+      (λ n. are n
+      ∙ sym
+      (ap (λ o. option_map_or (λ r. list_any (λ z. nat_eq z n) (steps (finite_map.get p.board) r x)) o false) own)))
 
   no_step : (ns : List ℕ) (test : ℕ → Bool) → ((n : ℕ) → test n ≡ false) → filter test ns ≡ []
   no_step [] test none = refl
@@ -132,9 +155,16 @@ module _ (p : Position) where
   pub quiet-none : (x : ℕ) → own_at p x ≡ None → quiet_in_order p x ≡ []
   unfolding quiet_in_order is_step
   quiet-none x none =
-      ap (map (step_to x)) (no_step (range_with_len 1 50) (is_step p x) (λ n. ap (λ o. option_map_or (λ r. list_any (λ z. nat_eq z n) (steps (finite_map.get p.board) r x)) o false) none))
+      ap (map (step_to x))
+      (no_step (range_with_len 1 50) (is_step p x)
+      (λ n. ap (λ o. option_map_or (λ r. list_any (λ z. nat_eq z n) (steps (finite_map.get p.board) r x)) o false)
+      none))
 
   -- the moves of the squares of the side to move are all
-  pub quiet-of_own : (own : Squares) → ((n : ℕ) → set.contains own n ≡ is_of p.turn (finite_map.get p.board n)) → flat_map (quiet_in_order p) (ascending own) ≡ quiet_list p
+  pub quiet-of_own : (own : Squares) → ((n : ℕ) → set.contains own n ≡ is_of p.turn (finite_map.get p.board n))
+      → flat_map (quiet_in_order p) (ascending own) ≡ quiet_list p
   unfolding quiet_list ascending
-  quiet-of_own own are = sym (flat_map-filter (quiet_in_order p) (set.contains own) (range_with_len 1 50) (λ q e. quiet-none q (no_own p own are q e)))
+  quiet-of_own own are =
+      sym
+      (flat_map-filter (quiet_in_order p) (set.contains own) (range_with_len 1 50)
+      (λ q e. quiet-none q (no_own p own are q e)))

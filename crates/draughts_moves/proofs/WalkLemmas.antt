@@ -1,5 +1,6 @@
 -- Walks along lines, a step at a time.
-use Rattle.std.proofs.Common.{◌≡◌, ℕ, zero, suc, ◌+◌, ◌≤◌, Bool, true, false, cond, nat_eq, inl, inr, Option, Some, None, List, [], ◌∷◌, ◌++◌, take, refl, sym, ap, ◌∙◌, arith}
+use Rattle.std.proofs.Common.{◌≡◌, ℕ, zero, suc, ◌+◌, ◌≤◌, Bool, true, false, cond, nat_eq, inl, inr, Option, Some}
+use Rattle.std.proofs.Common.{None, List, [], ◌∷◌, ◌++◌, take, refl, sym, ap, ◌∙◌, arith}
 use Rattle.std.specs.Prelude.{is_none, is_some, ◌&&◌, ◌||◌, ◌==◌}
 use Rattle.std.specs.FinSet as set
 use Rattle.std.proofs.lemmas.List.{append-nil}
@@ -28,12 +29,14 @@ unfolding line
 take-line zero k d n h = refl
 take-line (suc r) zero d n h = absurd (omega arith)
 take-line (suc r) (suc k) d n h =
-    elim (step d n) as (λ o. take (suc r) (option_map_or (λ m. m ∷ line k d m) o []) ≡ option_map_or (λ m. m ∷ line r d m) o []) [
+    elim (step d n) as (λ o. take (suc r) (option_map_or (λ m. m ∷ line k d m) o [])
+    ≡ option_map_or (λ m. m ∷ line r d m) o []) [
       | None ↦ refl
       | Some m ↦ ap (λ ms. m ∷ ms) (take-line r k d m (omega arith))
     ]
 
-pub walked : (b : Cells) (q : DPiece) (d : Direction) (n : ℕ) → reach q d ≤ 9 → clear_front b (line (reach q d) d n) ≡ steps_along b q d n
+pub walked : (b : Cells) (q : DPiece) (d : Direction) (n : ℕ) → reach q d ≤ 9
+    → clear_front b (line (reach q d) d n) ≡ steps_along b q d n
 unfolding steps_along ray
 walked b q d n h = ap (clear_front b) (sym (take-line (reach q d) 9 d n h))
 
@@ -73,16 +76,28 @@ or_turned false true r = refl
 or_turned false false r = refl
 
 turned : (a n : ℕ) → nat_eq a n ≡ nat_eq n a
-turned a n = elim (cases_eq a n) [ inl e ↦ nat_eq_same a n e ∙ sym (nat_eq_same n a (sym e)) | inr d ↦ nat_eq_other a n d ∙ sym (nat_eq_other n a (λ e. d (sym e))) ]
+turned a n =
+    elim (cases_eq a n) [
+      | inl e ↦ nat_eq_same a n e ∙ sym (nat_eq_same n a (sym e))
+      | inr d ↦ nat_eq_other a n d
+          ∙ sym (nat_eq_other n a (λ e. d (sym e)))
+    ]
 
 -- a walk that puts the squares that it comes to into a set
-pub walk-put_end : (squares : Squares) (front whole : List ℕ) (n : ℕ) → front ≡ [] → (set.contains squares n || is_in n front) ≡ is_in n whole → set.contains squares n ≡ is_in n whole
-walk-put_end squares front whole n none so_far = or_none (set.contains squares n) ∙ ap (λ ms. set.contains squares n || is_in n ms) (sym none) ∙ so_far
+pub walk-put_end : (squares : Squares) (front whole : List ℕ) (n : ℕ) → front ≡ []
+    → (set.contains squares n || is_in n front) ≡ is_in n whole → set.contains squares n ≡ is_in n whole
+walk-put_end squares front whole n none so_far = or_none (set.contains squares n)
+    ∙ ap (λ ms. set.contains squares n || is_in n ms) (sym none) ∙ so_far
 
-pub walk-put_more : (squares more : Squares) (m : ℕ) (front rest whole : List ℕ) (n : ℕ) → more ≡ set.insert squares m → front ≡ m ∷ rest → (set.contains squares n || is_in n front) ≡ is_in n whole → (set.contains more n || is_in n rest) ≡ is_in n whole
+pub walk-put_more : (squares more : Squares) (m : ℕ) (front rest whole : List ℕ) (n : ℕ) → more ≡ set.insert squares m
+    → front ≡ m ∷ rest → (set.contains squares n || is_in n front) ≡ is_in n whole
+    → (set.contains more n || is_in n rest) ≡ is_in n whole
 walk-put_more squares more m front rest whole n put on so_far =
-    ap (λ s. set.contains s n || is_in n rest) put ∙ ap (λ c. c || is_in n rest) (contains-insert_nat squares m n ∙ ap (λ c. c || set.contains squares n) (turned n m))
-    ∙ or_turned (nat_eq m n) (set.contains squares n) (is_in n rest) ∙ sym (ap (λ ms. set.contains squares n || is_in n ms) on) ∙ so_far
+    ap (λ s. set.contains s n || is_in n rest) put
+    ∙ ap (λ c. c || is_in n rest) (contains-insert_nat squares m n
+    ∙ ap (λ c. c || set.contains squares n) (turned n m))
+    ∙ or_turned (nat_eq m n) (set.contains squares n) (is_in n rest)
+    ∙ sym (ap (λ ms. set.contains squares n || is_in n ms) on) ∙ so_far
 
 -- A man's jump.
 module _ (b : Cells) (p : DPiece) (t : Squares) (d : Direction) (n : ℕ) where

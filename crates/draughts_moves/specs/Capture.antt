@@ -1,5 +1,7 @@
--- Captures of international draughts, as the World Draughts Federation (FMJD) plays it: jumps, routes, and the captures that are legal.
-use Rattle.std.specs.Prelude.{◌≡◌, ◌≤◌, ◌<◌, ℕ, Bool, true, false, not, ◌==◌, if◌then◌else◌, Option, Some, None, List, [], ◌∷◌, ◌++◌, length}
+-- Captures of international draughts, as the World Draughts Federation (FMJD) plays it: jumps, routes, and the captures
+-- that are legal.
+use Rattle.std.specs.Prelude.{◌≡◌, ◌≤◌, ◌<◌, ℕ, Bool, true, false, not, ◌==◌, if◌then◌else◌, Option, Some, None, List}
+use Rattle.std.specs.Prelude.{[], ◌∷◌, ◌++◌, length}
 use Rattle.std.specs.FinSet as set
 use Rattle.std.specs.FinMap as map
 use Rattle.squares.specs.declared.draughts.direction.Direction.{Direction}
@@ -27,7 +29,8 @@ AllClear b [] = Unit {0}
 AllClear b (n ∷ ns) = (b n ≡ None) × AllClear b ns
 
 -- Along a line of squares the piece jumps over an enemy that it has not taken, to an empty square behind it.
--- The squares before the enemy and between it and the landing are empty. A man's enemy and landing are the first two squares.
+-- The squares before the enemy and between it and the landing are empty. A man's enemy and landing are the first two
+-- squares.
 pub record JumpAlong (b : Cells) (p : DPiece) (taken : Squares) (line : List ℕ) (over to : ℕ) : Type 0 where
   pub before : List ℕ
   pub between : List ℕ
@@ -44,11 +47,13 @@ pub record JumpAlong (b : Cells) (p : DPiece) (taken : Squares) (line : List ℕ
 abbrev pub Jump : Cells → DPiece → Squares → ℕ → ℕ → ℕ → Type 0
 Jump b p taken from over to = (d : Direction) × JumpAlong b p taken (ray d from) over to
 
--- From a square, with what is taken, jumps that land on the squares of the list lead to the square `to`, with `all` taken.
+-- From a square, with what is taken, jumps that land on the squares of the list lead to the square `to`, with `all`
+-- taken.
 -- All jumps are over one board: what is taken still stands, and the square that the piece left at first is empty.
 abbrev pub Route : Cells → DPiece → Squares → ℕ → List ℕ → Squares → ℕ → Type 0
 Route b p taken from [] all to = (taken ≡ all) × (from ≡ to)
-Route b p taken from (l ∷ landings) all to = (over : ℕ) × Jump b p taken from over l × Route b p (set.insert taken over) l landings all to
+Route b p taken from (l ∷ landings) all to = (over : ℕ) × Jump b p taken from over l
+    × Route b p (set.insert taken over) l landings all to
 
 -- a route of a piece of the side to move
 pub record Capture (p : Position) (from : ℕ) (landings : List ℕ) (all : Squares) (to : ℕ) : Type 0 where

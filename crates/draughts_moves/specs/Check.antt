@@ -15,7 +15,8 @@ use Rattle.draughts_moves.specs.Search.{own_at, routes_of, most, is_step}
 abbrev pub Answer : Type 0
 Answer = Result (Unit {0}) Illegal
 
--- Legal moves pass. A quiet move where something can be taken, and a capture that takes fewer than the most, each have a
+-- Legal moves pass. A quiet move where something can be taken, and a capture that takes fewer than the most, each have
+-- a
 -- refusal of their own; whatever else is refused is no move.
 pub record IsCheck (p : Position) (m : DMove) (answer : Answer) : Type 0 where
   pub legal : IsOk answer ↔ Legal p m
@@ -25,13 +26,16 @@ pub record IsCheck (p : Position) (m : DMove) (answer : Answer) : Type 0 where
 -- whether some route of the piece takes what the move takes and ends where it ends
 unfoldable pub is_capture : Position → DMove → Bool
 is_capture p m =
-    option_map_or (λ q. list_any (λ e. same_squares e.0 m.taken && e.1 == m.to) (routes_of (without p.board m.from) q (set.len m.taken) set.empty m.from)) (own_at p m.from) false
+    option_map_or
+    (λ q. list_any (λ e. same_squares e.0 m.taken && e.1 == m.to)
+    (routes_of (without p.board m.from) q (set.len m.taken) set.empty m.from)) (own_at p m.from) false
 
 abbrev pub check_quiet : Position → DMove → Answer
 check_quiet p m = if is_step p m.from m.to then if nat_lt 0 (most p) then Err MustCapture else Ok tt else Err NoSuchMove
 
 abbrev pub check_capture : Position → DMove → Answer
-check_capture p m = if is_capture p m then if nat_lt (set.len m.taken) (most p) then Err NotLongest else Ok tt else Err NoSuchMove
+check_capture p m = if is_capture p m then if nat_lt (set.len m.taken) (most p) then Err NotLongest else Ok tt else Err
+    NoSuchMove
 
 -- the answer of a check, computed
 unfoldable pub check_of : Position → DMove → Answer

@@ -18,7 +18,8 @@ if_takes n m = if nat_lt 0 n && n == set.len m.taken then m ∷ [] else []
 
 -- the captures by which a piece that is on its way takes n pieces in all, and one at least
 abbrev pub ends_of : Cells → Mover → ℕ → List DMove
-ends_of b m n = if nat_lt 0 n then map (move_to m.origin) (routes_of b m.piece (n - set.len m.taken) m.taken m.at) else []
+ends_of b m n = if nat_lt 0 n then map (move_to m.origin)
+    (routes_of b m.piece (n - set.len m.taken) m.taken m.at) else []
 
 -- the captures by which the piece on x takes n pieces, and one at least
 abbrev pub captured : Position → ℕ → ℕ → List DMove

@@ -28,7 +28,8 @@ abbrev pub TurnPasses : Type 0
 TurnPasses = (p : Position) (m : DMove) → Legal p m → (play p m).turn ≡ other p.turn
 
 -- A route that has come to a square, with what it has taken by then, goes on by one more jump from there.
-pub record GrownRoute (b : Cells) (p : DPiece) (start : Squares) (from : ℕ) (landings : List ℕ) (last : ℕ) (all : Squares) (to : ℕ) : Type 0 where
+pub record GrownRoute (b : Cells) (p : DPiece) (start : Squares) (from : ℕ) (landings : List ℕ) (last : ℕ)
+    (all : Squares) (to : ℕ) : Type 0 where
   pub at : ℕ
   pub taken : Squares
   pub over : ℕ
@@ -40,4 +41,5 @@ pub record GrownRoute (b : Cells) (p : DPiece) (start : Squares) (from : ℕ) (l
 -- The routes of one more landing are the routes that grow by one more jump at their end.
 abbrev pub RoutesGrow : Type 0
 RoutesGrow =
-    (b : Cells) (p : DPiece) (start : Squares) (from : ℕ) (landings : List ℕ) (last : ℕ) (all : Squares) (to : ℕ) → Route b p start from (landings ++ last ∷ []) all to ↔ GrownRoute b p start from landings last all to
+    (b : Cells) (p : DPiece) (start : Squares) (from : ℕ) (landings : List ℕ) (last : ℕ) (all : Squares) (to : ℕ)
+    → Route b p start from (landings ++ last ∷ []) all to ↔ GrownRoute b p start from landings last all to

@@ -1,5 +1,7 @@
--- The legal moves of international draughts, as the World Draughts Federation (FMJD) plays it, and the position that a move leaves.
-use Rattle.std.specs.Prelude.{◌≡◌, ◌⊎◌, ◌<◌, ℕ, Bool, true, false, not, ◌||◌, ◌==◌, Option, Some, None, List, [], ◌∷◌, ◌++◌}
+-- The legal moves of international draughts, as the World Draughts Federation (FMJD) plays it, and the position that a
+-- move leaves.
+use Rattle.std.specs.Prelude.{◌≡◌, ◌⊎◌, ◌<◌, ℕ, Bool, true, false, not, ◌||◌, ◌==◌, Option, Some, None, List, [], ◌∷◌}
+use Rattle.std.specs.Prelude.{◌++◌}
 use Rattle.std.specs.FinSet as set
 use Rattle.std.specs.FinMap as map
 use Rattle.squares.specs.declared.draughts.direction.Direction.{Direction}
@@ -22,7 +24,8 @@ is_forward Second DownLeft = true
 is_forward Second DownRight = true
 is_forward Second d = false
 
--- A piece of the side to move goes along a diagonal over empty squares to an empty square. A man goes one square forward.
+-- A piece of the side to move goes along a diagonal over empty squares to an empty square. A man goes one square
+-- forward.
 pub record QuietMove (p : Position) (from to : ℕ) : Type 0 where
   pub piece : DPiece
   pub stands : map.get p.board from ≡ Some piece
@@ -71,11 +74,13 @@ crowned q to = record q { king = q.king || row_of to == far_row q.side }
 abbrev pub moved : Position → DMove → Option DPiece → Position
 moved p m None = p
 moved p m (Some q) = record {
-  board = map.insert (map.retain_keys (map.remove p.board m.from) (λ n. not (set.contains m.taken n))) m.to (crowned q m.to);
+  board = map.insert (map.retain_keys (map.remove p.board m.from) (λ n. not (set.contains m.taken n))) m.to
+      (crowned q m.to);
   turn = other p.turn;
 }
 
--- The position after a move: the piece leaves its square, what it takes leaves the board, it stands on the square that it
+-- The position after a move: the piece leaves its square, what it takes leaves the board, it stands on the square that
+-- it
 -- came to, and the turn passes.
 abbrev pub play : Position → DMove → Position
 play p m = moved p m (map.get p.board m.from)

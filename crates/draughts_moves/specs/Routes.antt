@@ -23,4 +23,5 @@ lists_in vectors = map (λ v. v.items) vectors
 -- the landings of each route of n jumps that takes `all` and ends on `to`
 unfoldable pub landings_of : Cells → DPiece → Squares → ℕ → ℕ → Squares → ℕ → List (List ℕ)
 landings_of b q all to zero taken s = if s == to && same_squares taken all then [] ∷ [] else []
-landings_of b q all to (suc n) taken s = flat_map (λ j. map (λ ls. j.1 ∷ ls) (landings_of b q all to n (set.insert taken j.0) j.1)) (jumps b q taken s)
+landings_of b q all to (suc n) taken s =
+    flat_map (λ j. map (λ ls. j.1 ∷ ls) (landings_of b q all to n (set.insert taken j.0) j.1)) (jumps b q taken s)

@@ -1,5 +1,7 @@
 -- The moves of a position, computed.
-use Rattle.std.specs.Prelude.{◌≡◌, ℕ, ◌+◌, Bool, false, not, cond, length, ◌&&◌, Option, Some, None, is_none, List, [], ◌∷◌, ◌++◌, max, count_by, fold, map, take, nat_lt, ◌||◌, ◌==◌, option_and_then, if◌then◌else◌}
+use Rattle.std.specs.Prelude.{◌≡◌, ℕ, ◌+◌, Bool, false, not, cond, length, ◌&&◌, Option, Some, None, is_none, List, []}
+use Rattle.std.specs.Prelude.{◌∷◌, ◌++◌, max, count_by, fold, map, take, nat_lt, ◌||◌, ◌==◌, option_and_then}
+use Rattle.std.specs.Prelude.{if◌then◌else◌}
 use Rattle.std.specs.Option.{option_map_or}
 use Rattle.std.specs.FinMap as finite_map
 use Rattle.squares.specs.DraughtsBoard.{Position, is_of}
@@ -30,7 +32,8 @@ takes b p taken d n = is_prey b p taken n && option_map_or (λ l. is_none (b l))
 -- the jumps of a king along a line: the square jumped over, and the landing
 abbrev pub king_jumps : Cells → DPiece → Squares → List ℕ → List (ℕ × ℕ)
 king_jumps b p taken [] = []
-king_jumps b p taken (n ∷ ns) = cond (is_none (b n)) (king_jumps b p taken ns) (cond (is_prey b p taken n) (map (λ l. (n, l)) (clear_front b ns)) [])
+king_jumps b p taken (n ∷ ns) = cond (is_none (b n)) (king_jumps b p taken ns)
+    (cond (is_prey b p taken n) (map (λ l. (n, l)) (clear_front b ns)) [])
 
 abbrev pub man_jumps : Cells → DPiece → Squares → List ℕ → List (ℕ × ℕ)
 man_jumps b p taken [] = []
@@ -42,7 +45,10 @@ line_jumps b p taken ns = cond p.king (king_jumps b p taken ns) (man_jumps b p t
 
 unfoldable pub jumps : Cells → DPiece → Squares → ℕ → List (ℕ × ℕ)
 jumps b p taken s =
-    line_jumps b p taken (ray UpLeft s) ++ (line_jumps b p taken (ray UpRight s) ++ (line_jumps b p taken (ray DownLeft s) ++ line_jumps b p taken (ray DownRight s)))
+    line_jumps b p taken (ray UpLeft s)
+    ++
+    (line_jumps b p taken (ray UpRight s) ++
+    (line_jumps b p taken (ray DownLeft s) ++ line_jumps b p taken (ray DownRight s)))
 
 -- how many squares a piece goes at most: a king along the whole line, a man one, and only forward
 abbrev pub reach : DPiece → Direction → ℕ
@@ -54,7 +60,8 @@ steps_along b q d x = clear_front b (take (reach q d) (ray d x))
 
 -- where a piece goes without taking
 unfoldable pub steps : Cells → DPiece → ℕ → List ℕ
-steps b q x = steps_along b q UpLeft x ++ (steps_along b q UpRight x ++ (steps_along b q DownLeft x ++ steps_along b q DownRight x))
+steps b q x = steps_along b q UpLeft x ++
+    (steps_along b q UpRight x ++ (steps_along b q DownLeft x ++ steps_along b q DownRight x))
 
 -- what is taken and where the piece ends, for each route of n jumps
 unfoldable pub routes_of : Cells → DPiece → ℕ → Squares → ℕ → List (Squares × ℕ)
@@ -92,7 +99,9 @@ next_before s behind d n = option_map_or (λ m. set.contains s m && next_in behi
 
 -- whether that is so in one of the four directions
 abbrev pub is_beside : Squares → Squares → ℕ → Bool
-is_beside s behind n = ((next_before s behind UpLeft n || next_before s behind UpRight n) || next_before s behind DownLeft n) || next_before s behind DownRight n
+is_beside s behind n =
+    ((next_before s behind UpLeft n || next_before s behind UpRight n) || next_before s behind DownLeft n) ||
+    next_before s behind DownRight n
 
 -- the most jumps in a row of the piece on x
 unfoldable pub greatest_at : Position → ℕ → ℕ
@@ -109,7 +118,9 @@ is_step p x y = option_map_or (λ q. list_any (λ z. z == y) (steps (finite_map.
 -- whether the piece on x, of the side to move, can go or jump anywhere
 unfoldable pub can_move : Position → ℕ → Bool
 can_move p x =
-    option_map_or (λ q. nat_lt 0 (length (steps (finite_map.get p.board) q x)) || nat_lt 0 (length (jumps (without p.board x) q set.empty x))) (own_at p x) false
+    option_map_or
+    (λ q. nat_lt 0 (length (steps (finite_map.get p.board) q x)) || nat_lt 0
+    (length (jumps (without p.board x) q set.empty x))) (own_at p x) false
 
 -- whether the side to move has a move
 unfoldable pub has_move : Position → Bool

@@ -1,5 +1,6 @@
 //! The routes of a capture.
-ghost use Rattle.std.specs.Prelude.{◌≡◌, ◌↔◌, ◌≤◌, ◌++◌, [], ◌∷◌, ◌&&◌, ◌==◌, if◌then◌else◌, ℕ, List, length, map, OnOk, IfOk, MatchOption, Contains, take, drop};
+ghost use Rattle.std.specs.Prelude.{◌≡◌, ◌↔◌, ◌≤◌, ◌++◌, [], ◌∷◌, ◌&&◌, ◌==◌, if◌then◌else◌, ℕ, List, length, map};
+ghost use Rattle.std.specs.Prelude.{OnOk, IfOk, MatchOption, Contains, take, drop};
 ghost use Rattle.std.specs.List.Sorted.{IsStrictlySortedBy};
 ghost use Rattle.squares.specs.DraughtsSets.{same_squares};
 ghost use Rattle.squares.specs.OrderedLists.{put, put_all};

@@ -1,13 +1,17 @@
 -- The bodies of replies, and what the body of a request asks for.
-use Rattle.std.specs.Prelude.{ℕ, Bool, List, [], ◌∷◌, ◌++◌, length, Option, Some, None, option_map, option_and_then, codes, if◌then◌else◌}
+use Rattle.std.specs.Prelude.{ℕ, Bool, List, [], ◌∷◌, ◌++◌, length, Option, Some, None, option_map, option_and_then}
+use Rattle.std.specs.Prelude.{codes, if◌then◌else◌}
 use Rattle.std.specs.Str.{is_utf8}
-use Rattle.serde_json.specs.Data.{Data, null, number, unsigned, string, array, object, Items, no_items, item, Members, no_members, member, put}
+use Rattle.serde_json.specs.Data.{Data, null, number, unsigned, string, array, object, Items, no_items, item, Members}
+use Rattle.serde_json.specs.Data.{no_members, member, put}
 use Rattle.serde_json.specs.Read.{read}
 use Rattle.serde_json.specs.Find.{get, as_str, as_bool}
 use Rattle.squares.specs.Sides.{score_text}
 use Rattle.club_rules.specs.EndName.{end_text}
 use Rattle.club_core.specs.OutsideEnd.{outside_text}
-use Rattle.club_core.specs.Outcome.{MoveReply, Reply, member_added, event_added, game_seated, moved, draw_offered, game_ended, games_swept, challenge_opened, challenge_withdrawn, challenge_refused, challenge_accepted}
+use Rattle.club_core.specs.Outcome.{MoveReply, Reply, member_added, event_added, game_seated, moved, draw_offered}
+use Rattle.club_core.specs.Outcome.{game_ended, games_swept, challenge_opened, challenge_withdrawn, challenge_refused}
+use Rattle.club_core.specs.Outcome.{challenge_accepted}
 use Rattle.club_core.specs.State.{Command, open_challenge, answer_challenge}
 use Rattle.http_desk.specs.Shown.{GameShown, end_name}
 
@@ -43,7 +47,10 @@ game_front id end event first left moves =
 -- with those behind them, as an object
 abbrev pub game_object : Members → (offer ply position result second : Data) → Data
 game_object front offer ply position result second =
-    object (put (codes "second") second (put (codes "result") result (put (codes "position") position (put (codes "ply") ply (put (codes "offer") offer front)))))
+    object
+    (put (codes "second") second
+    (put (codes "result") result
+    (put (codes "position") position (put (codes "ply") ply (put (codes "offer") offer front)))))
 
 unfoldable pub game_data : ℕ → GameShown → Data
 game_data id game = object
@@ -90,7 +97,8 @@ swept_data count = object (member (codes "swept") (number_data count) no_members
 
 -- how a challenge stands, and the game that it has started
 abbrev pub stands_data : ℕ → List ℕ → Data
-stands_data n state = object (member (codes "challenge") (number_data n) (member (codes "state") (string state) no_members))
+stands_data n state =
+    object (member (codes "challenge") (number_data n) (member (codes "state") (string state) no_members))
 
 abbrev pub started_data : ℕ → ℕ → Data
 started_data n id = object

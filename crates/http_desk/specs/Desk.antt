@@ -1,5 +1,6 @@
 -- What the desk answers: by the club's state and by what the bytes amount to.
-use Rattle.std.specs.Prelude.{◌≡◌, ◌⊎◌, ℕ, Bool, ◌&&◌, List, [], Option, Some, None, Result, Ok, Err, option_map, codes, if◌then◌else◌}
+use Rattle.std.specs.Prelude.{◌≡◌, ◌⊎◌, ℕ, Bool, ◌&&◌, List, [], Option, Some, None, Result, Ok, Err, option_map, codes}
+use Rattle.std.specs.Prelude.{if◌then◌else◌}
 use Rattle.std.specs.Str.{bytes_eq, is_utf8}
 use Rattle.serde_json.specs.Written.{compact_text}
 use Rattle.club_core.specs.declared.refusals.Refusal.TheVariants.{UnknownKey, UnknownEvent, UnknownGame}
@@ -13,7 +14,8 @@ use Rattle.http_desk.specs.declared.refusals.Refusal.{Refusal}
 use Rattle.http_desk.specs.declared.refusals.Refusal.TheVariants.{Head, NoRoute, WrongMethod, BadBody, Club as OfClub}
 use Rattle.http_desk.specs.declared.faults.ClubFault.{ClubFault}
 use Rattle.http_desk.specs.Faults.{club_fault_number, club_fault_name}
-use Rattle.http_desk.specs.Routes.{Turn, make_move, offer_draw, accept_draw, resign, claim_time, Asked, game_view, legal_moves, cross_table, on_game, challenge, withdraw, answer, asked_of, method_of}
+use Rattle.http_desk.specs.Routes.{Turn, make_move, offer_draw, accept_draw, resign, claim_time, Asked, game_view}
+use Rattle.http_desk.specs.Routes.{legal_moves, cross_table, on_game, challenge, withdraw, answer, asked_of, method_of}
 use Rattle.http_desk.specs.Reply.{refusal_reply, json_text_reply, plain_reply, fault_reply}
 use Rattle.http_desk.specs.Shown.{GameShown}
 use Rattle.http_desk.specs.Bodies.{game_data, moves_data, reply_data, lined, move_text, challenge_of, answer_of}
@@ -55,8 +57,10 @@ table_answer (Some lines) = plain (lined lines)
 abbrev pub IsDue : {S : Type 0} → Club S → S → Due → Answer → Type 0
 IsDue club s (this expected) given = given ≡ expected
 IsDue club s (game_page id) given = (found : Option GameShown) × club.IsGame s id found × (given ≡ game_answer id found)
-IsDue club s (legal_page id) given = (rows : Option (List (List ℕ))) × club.AreLegal s id rows × (given ≡ legal_answer rows)
-IsDue club s (table_page event) given = (lines : Option (List (List ℕ))) × club.AreLines s event lines × (given ≡ table_answer lines)
+IsDue club s (legal_page id) given = (rows : Option (List (List ℕ))) × club.AreLegal s id rows
+    × (given ≡ legal_answer rows)
+IsDue club s (table_page event) given = (lines : Option (List (List ℕ))) × club.AreLines s event lines
+    × (given ≡ table_answer lines)
 
 -- ---- commands
 
@@ -107,7 +111,8 @@ serve_page club s moment key body (answer member n) = serve_command club s momen
 abbrev pub serve_known : {S : Type 0} → Club S → S → ℕ → Option (List ℕ) → List ℕ → Asked → S × Due
 serve_known club s moment None body asked = (s, this (refusal (OfClub UnknownKey)))
 serve_known club s moment (Some key) body asked =
-    if is_utf8 key && club.has_key s key then serve_page club s moment key body asked else (s, this (refusal (OfClub UnknownKey)))
+    if is_utf8 key && club.has_key s key then serve_page club s moment key body
+    asked else (s, this (refusal (OfClub UnknownKey)))
 
 abbrev pub serve_asked : {S : Type 0} → Club S → S → ℕ → Request → Option Asked → S × Due
 serve_asked club s moment request None = (s, this (refusal NoRoute))
@@ -121,7 +126,8 @@ unfoldable pub serve : {S : Type 0} → Club S → S → ℕ → Request → S �
 serve club s moment request = serve_asked club s moment request (asked_of request.target)
 
 -- what a call leaves to which this is due
-abbrev pub ServesDue : {S A F : Type 0} → Club S → (S → Type 0) → (S → S → Type 0) → (A → Answer) → S → S × Due → Result A F → Type 0
+abbrev pub ServesDue : {S A F : Type 0} → Club S → (S → Type 0) → (S → S → Type 0) → (A → Answer) → S → S × Due
+    → Result A F → Type 0
 ServesDue club stands leaves view s due result = Serves stands leaves s due.0 (λ a. IsDue club s due.1 (view a)) result
 
 -- ---- replies
@@ -129,7 +135,8 @@ ServesDue club stands leaves view s due result = Serves stands leaves s due.0 (�
 -- the reply tells a fault of the club, and one of two states is left
 abbrev pub TellsFault : {S : Type 0} → (S → S → Type 0) → S → S → Bool → List ℕ → Type 0
 TellsFault leaves s next without_body reply =
-    (fault : ClubFault) × (reply ≡ fault_reply (club_fault_number fault) (club_fault_name fault) without_body) × leaves s next
+    (fault : ClubFault) × (reply ≡ fault_reply (club_fault_number fault) (club_fault_name fault) without_body)
+    × leaves s next
 
 -- the reply shows the answer that is due, and the state behind it stands
 abbrev pub ShowsDue : {S : Type 0} → Club S → (S → Type 0) → S → S × Due → Bool → List ℕ → Type 0
@@ -139,7 +146,8 @@ ShowsDue club stands s due without_body reply =
 -- the reply to what bytes amount to, and where the club stands behind it
 abbrev pub IsReply : {S : Type 0} → Club S → (S → Type 0) → (S → S → Type 0) → S → ℕ → Bool → Seen → List ℕ → Type 0
 IsReply club stands leaves s moment without_body unfinished reply = (reply ≡ []) × stands s
-IsReply club stands leaves s moment without_body (refused r) reply = (reply ≡ refusal_reply (Head r) without_body) × stands s
+IsReply club stands leaves s moment without_body (refused r) reply = (reply ≡ refusal_reply (Head r) without_body)
+    × stands s
 IsReply club stands leaves s moment without_body (whole request) reply =
     ShowsDue club stands s (serve club s moment request) without_body reply
     ⊎ TellsFault leaves s (serve club s moment request).0 without_body reply
@@ -151,8 +159,10 @@ state_behind club s moment (refused r) = s
 state_behind club s moment (whole request) = (serve club s moment request).0
 
 -- a call that replies, or has a fault of its own: then one of the two states is left
-abbrev pub RepliesTo : {S A F : Type 0} → Club S → (S → Type 0) → (S → S → Type 0) → (A → List ℕ) → S → ℕ → Bool → Seen → Result A F → Type 0
-RepliesTo club stands leaves view s moment without_body seen (Ok reply) = IsReply club stands leaves s moment without_body seen (view reply)
+abbrev pub RepliesTo : {S A F : Type 0} → Club S → (S → Type 0) → (S → S → Type 0) → (A → List ℕ) → S → ℕ → Bool → Seen
+    → Result A F → Type 0
+RepliesTo club stands leaves view s moment without_body seen (Ok reply) =
+    IsReply club stands leaves s moment without_body seen (view reply)
 RepliesTo club stands leaves view s moment without_body seen (Err fault) = leaves s (state_behind club s moment seen)
 
 -- ---- a club that is shut
@@ -165,7 +175,8 @@ shut_known fault (Some key) = if is_utf8 key then Err fault else Ok (refusal (Of
 abbrev pub shut_asked : ClubFault → Request → Option Asked → Result Answer ClubFault
 shut_asked fault request None = Ok (refusal NoRoute)
 shut_asked fault request (Some asked) =
-    if is_method request.method (method_of asked) then shut_known fault request.key else Ok (refusal (WrongMethod (method_of asked)))
+    if is_method request.method (method_of asked) then shut_known fault request.key else Ok
+    (refusal (WrongMethod (method_of asked)))
 
 unfoldable pub shut_serve : ClubFault → Request → Result Answer ClubFault
 shut_serve fault request = shut_asked fault request (asked_of request.target)
@@ -187,6 +198,7 @@ IsShutReply fault bytes reply = (seen : Seen) × Sees bytes seen × (reply ≡ s
 -- ---- bytes
 
 -- a call that replies to bytes, or has a fault of its own
-abbrev pub Answers : {S A F : Type 0} → Club S → (S → Type 0) → (S → S → Type 0) → (A → List ℕ) → S → ℕ → List ℕ → Result A F → Type 0
+abbrev pub Answers : {S A F : Type 0} → Club S → (S → Type 0) → (S → S → Type 0) → (A → List ℕ) → S → ℕ → List ℕ
+    → Result A F → Type 0
 Answers club stands leaves view s moment bytes result =
     (seen : Seen) × Sees bytes seen × RepliesTo club stands leaves view s moment (asks_head bytes) seen result

@@ -1,5 +1,6 @@
 -- The bytes of a reply.
-use Rattle.std.specs.Prelude.{ℕ, Bool, List, [], ◌∷◌, ◌++◌, Option, None, codes, decimal, length, take, drop, nat_lt, unwrap_or, if◌then◌else◌}
+use Rattle.std.specs.Prelude.{ℕ, Bool, List, [], ◌∷◌, ◌++◌, Option, None, codes, decimal, length, take, drop, nat_lt}
+use Rattle.std.specs.Prelude.{unwrap_or, if◌then◌else◌}
 use Rattle.http_head.specs.Head.{number_of}
 use Rattle.http.specs.StatusCode.{reason_phrase}
 use Rattle.serde_json.specs.Data.{Data, number, unsigned, string, object, member, no_members}
@@ -26,12 +27,14 @@ length_line n = codes "Content-Length: " ++ decimal n ++ codes "\r\n"
 -- the head of a reply: further lines stand last
 unfoldable pub reply_head : ℕ → List ℕ → List ℕ → ℕ → List ℕ → List ℕ
 reply_head status phrase kind body_length further =
-    status_line status phrase ++ type_line kind ++ length_line body_length ++ codes "Connection: close\r\n" ++ further ++ codes "\r\n"
+    status_line status phrase ++ type_line kind ++ length_line body_length ++ codes "Connection: close\r\n" ++ further
+    ++ codes "\r\n"
 
 -- a reply: the length is that of the body, also where that is left out
 abbrev pub reply_text : ℕ → List ℕ → List ℕ → List ℕ → Bool → List ℕ
 reply_text status kind further body without_body =
-    reply_head status (unwrap_or (reason_phrase status) []) kind (length body) further ++ (if without_body then [] else body)
+    reply_head status (unwrap_or (reason_phrase status) []) kind (length body) further
+    ++ (if without_body then [] else body)
 
 abbrev pub json_kind : List ℕ
 json_kind = codes "application/json"
@@ -71,10 +74,12 @@ further_lines (Club refusal) = key_lines refusal
 
 -- a number and a name as JSON
 abbrev pub error_data : ℕ → List ℕ → Data
-error_data n name = object (member (codes "error") (number (unsigned n)) (member (codes "name") (string name) no_members))
+error_data n name =
+    object (member (codes "error") (number (unsigned n)) (member (codes "name") (string name) no_members))
 
 abbrev pub refusal_reply : Refusal → Bool → List ℕ
-refusal_reply refusal without_body = reply_text (refusal_status refusal) json_kind (further_lines refusal) (compact_text (error_data (refusal_number refusal) (refusal_name refusal))) without_body
+refusal_reply refusal without_body = reply_text (refusal_status refusal) json_kind (further_lines refusal)
+    (compact_text (error_data (refusal_number refusal) (refusal_name refusal))) without_body
 
 -- a reply at 200 whose body is JSON, and one whose body is plain text
 abbrev pub json_text_reply : List ℕ → Bool → List ℕ

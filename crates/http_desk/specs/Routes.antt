@@ -1,5 +1,6 @@
 -- What a target asks for.
-use Rattle.std.specs.Prelude.{ℕ, Bool, ◌&&◌, ◌==◌, List, [], ◌∷◌, Option, Some, None, Result, Ok, Err, option_map, codes, length, take, drop, nat_lt, if◌then◌else◌}
+use Rattle.std.specs.Prelude.{ℕ, Bool, ◌&&◌, ◌==◌, List, [], ◌∷◌, Option, Some, None, Result, Ok, Err, option_map}
+use Rattle.std.specs.Prelude.{codes, length, take, drop, nat_lt, if◌then◌else◌}
 use Rattle.std.specs.Str.{bytes_eq, is_utf8}
 use Rattle.matchit.specs.Rows.{RowsOf}
 use Rattle.matchit.specs.Router.{RouteOf, route_from}
@@ -8,7 +9,8 @@ use Rattle.matchit.specs.Route.{Scan, parse_route}
 use Rattle.matchit.specs.Seek.{first}
 use Rattle.matchit.specs.declared.error.InsertError.{InsertError}
 use Rattle.http_desk.specs.declared.routes.Page.{Page}
-use Rattle.http_desk.specs.declared.routes.Page.TheVariants.{GameView, LegalMoves, CrossTable, MakeMove, OfferDraw, AcceptDraw, Resign, ClaimTime, Challenge, Withdraw, Answer}
+use Rattle.http_desk.specs.declared.routes.Page.TheVariants.{GameView, LegalMoves, CrossTable, MakeMove, OfferDraw}
+use Rattle.http_desk.specs.declared.routes.Page.TheVariants.{AcceptDraw, Resign, ClaimTime, Challenge, Withdraw, Answer}
 use Rattle.http_desk.specs.declared.refusals.Method.{Method}
 use Rattle.http_desk.specs.declared.refusals.Method.TheVariants.{Get, Post}
 use Rattle.http_head.specs.Head.{number_of}
@@ -34,7 +36,9 @@ abbrev pub path_behind : ℕ → List ℕ → Option (List ℕ)
 path_behind n bytes = if nat_lt 0 n && nat_lt n (length bytes) then Some (drop n bytes) else None
 
 abbrev pub path_among : List ℕ → Option (List ℕ)
-path_among bytes = if begins bytes (codes "/") then Some bytes else (if begins bytes (codes "http://") then path_behind (length (before slash (drop 7 bytes))) (drop 7 bytes) else None)
+path_among bytes = if begins bytes (codes "/") then Some
+    bytes else (if begins bytes (codes "http://") then path_behind (length (before slash (drop 7 bytes)))
+    (drop 7 bytes) else None)
 
 -- the path of a target: from `?` on nothing is looked at
 abbrev pub path_of : List ℕ → Option (List ℕ)
@@ -117,7 +121,8 @@ asked_of_page (Some LegalMoves) path = option_map legal_moves (number_of (second
 asked_of_page (Some CrossTable) path = option_map cross_table (text_of (second_part path))
 asked_of_page (Some MakeMove) path = ply_asked make_move (number_of (second_part path)) (number_of (fourth_part path))
 asked_of_page (Some OfferDraw) path = ply_asked offer_draw (number_of (second_part path)) (number_of (fourth_part path))
-asked_of_page (Some AcceptDraw) path = ply_asked accept_draw (number_of (second_part path)) (number_of (fourth_part path))
+asked_of_page (Some AcceptDraw) path = ply_asked accept_draw (number_of (second_part path))
+    (number_of (fourth_part path))
 asked_of_page (Some Resign) path = turn_asked resign (number_of (second_part path))
 asked_of_page (Some ClaimTime) path = turn_asked claim_time (number_of (second_part path))
 asked_of_page (Some Challenge) path = option_map challenge (number_of (second_part path))

@@ -17,7 +17,8 @@ pub record Club (S : Type 0) : Type 1 where
   -- the state after a request, and its answer
   pub step : S → Request → S × Outcome (Unit {0})
 
--- what a call leaves of a club in the state `s`: on Ok a right answer, and the club in the state `next`; on a fault one of the two states
+-- what a call leaves of a club in the state `s`: on Ok a right answer, and the club in the state `next`; on a fault one
+-- of the two states
 abbrev pub Serves : {S A F : Type 0} → (S → Type 0) → (S → S → Type 0) → S → S → (A → Type 0) → Result A F → Type 0
 Serves stands leaves s next is_right (Ok a) = is_right a × stands next
 Serves stands leaves s next is_right (Err fault) = leaves s next

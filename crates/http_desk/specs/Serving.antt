@@ -9,26 +9,35 @@ use Rattle.http_desk.specs.Desk.{IsReply, state_behind, IsShutReply}
 
 -- the reader gave a beginning of its bytes: all of them, or one that no further bytes change
 abbrev pub HasRead : List ℕ → Option (List ℕ) → Type 0
-HasRead input left = (taken : List ℕ) × (rest : List ℕ) × (input ≡ taken ++ rest) × (left ≡ Some rest) × ((rest ≡ []) ⊎ IsDecided taken)
+HasRead input left = (taken : List ℕ) × (rest : List ℕ) × (input ≡ taken ++ rest) × (left ≡ Some rest)
+    × ((rest ≡ []) ⊎ IsDecided taken)
 
 -- the reply is that to all that the reader has to give
 abbrev pub IsReplyTo : {S : Type 0} → Club S → (S → Type 0) → (S → S → Type 0) → S → ℕ → List ℕ → List ℕ → Type 0
-IsReplyTo club stands leaves s moment input reply = (seen : Seen) × Sees input seen × IsReply club stands leaves s moment (asks_head input) seen reply
+IsReplyTo club stands leaves s moment input reply = (seen : Seen) × Sees input seen
+    × IsReply club stands leaves s moment (asks_head input) seen reply
 
 -- memory was refused before the request came to the club, or behind it
 abbrev pub MayHaveActed : {S : Type 0} → Club S → (S → Type 0) → (S → S → Type 0) → S → ℕ → List ℕ → Type 0
-MayHaveActed club stands leaves s moment input = stands s ⊎ ((seen : Seen) × Sees input seen × leaves s (state_behind club s moment seen))
+MayHaveActed club stands leaves s moment input = stands s
+    ⊎ ((seen : Seen) × Sees input seen × leaves s (state_behind club s moment seen))
 
 -- what a connection leaves with the club and the writer, which held `before`
-abbrev pub Serving : {S U : Type 0} → Club S → (S → Type 0) → (S → S → Type 0) → S → ℕ → List ℕ → List ℕ → Option (List ℕ) → Option (List ℕ) → Result U DeskFault → Type 0
-Serving club stands leaves s moment input before left written (Ok u) = HasRead input left × ((reply : List ℕ) × IsReplyTo club stands leaves s moment input reply × (written ≡ Some (before ++ reply)))
+abbrev pub Serving : {S U : Type 0} → Club S → (S → Type 0) → (S → S → Type 0) → S → ℕ → List ℕ → List ℕ
+    → Option (List ℕ) → Option (List ℕ) → Result U DeskFault → Type 0
+Serving club stands leaves s moment input before left written (Ok u) = HasRead input left
+    × ((reply : List ℕ) × IsReplyTo club stands leaves s moment input reply × (written ≡ Some (before ++ reply)))
 Serving club stands leaves s moment input before left written (Err Read) = stands s × (written ≡ Some before)
-Serving club stands leaves s moment input before left written (Err Memory) = MayHaveActed club stands leaves s moment input × (written ≡ Some before)
-Serving club stands leaves s moment input before left written (Err Write) = (reply : List ℕ) × (n : ℕ) × IsReplyTo club stands leaves s moment input reply × (written ≡ Some (before ++ take n reply))
+Serving club stands leaves s moment input before left written (Err Memory) =
+    MayHaveActed club stands leaves s moment input × (written ≡ Some before)
+Serving club stands leaves s moment input before left written (Err Write) = (reply : List ℕ) × (n : ℕ)
+    × IsReplyTo club stands leaves s moment input reply × (written ≡ Some (before ++ take n reply))
 
 -- what a connection leaves with the writer where the club is shut by a fault
 abbrev pub ShutServing : {U : Type 0} → ClubFault → List ℕ → List ℕ → Option (List ℕ) → Result U DeskFault → Type 0
-ShutServing fault input before written (Ok u) = (reply : List ℕ) × IsShutReply fault input reply × (written ≡ Some (before ++ reply))
+ShutServing fault input before written (Ok u) = (reply : List ℕ) × IsShutReply fault input reply
+    × (written ≡ Some (before ++ reply))
 ShutServing fault input before written (Err Read) = written ≡ Some before
 ShutServing fault input before written (Err Memory) = written ≡ Some before
-ShutServing fault input before written (Err Write) = (reply : List ℕ) × (n : ℕ) × IsShutReply fault input reply × (written ≡ Some (before ++ take n reply))
+ShutServing fault input before written (Err Write) = (reply : List ℕ) × (n : ℕ) × IsShutReply fault input reply
+    × (written ≡ Some (before ++ take n reply))

@@ -7,7 +7,8 @@ use Rattle.club_core.specs.declared.rows.GameEnd.{GameEnd}
 use Rattle.club_core.specs.declared.rows.GameEnd.TheVariants.{Rule, Outside}
 use Rattle.club_core.specs.OutsideEnd.{outside_text}
 
--- a game as any member may see it: its event and its players by their names, its moves and its position as they are written
+-- a game as any member may see it: its event and its players by their names, its moves and its position as they are
+-- written
 pub record GameShown : Type 0 where
   pub event : List ℕ
   pub first : List ℕ

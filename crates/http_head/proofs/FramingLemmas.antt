@@ -1,14 +1,18 @@
 -- How the search for a head's end goes over a list of bytes.
-use Rattle.std.proofs.Common.{◌≡◌, ℕ, suc, ◌+◌, ◌-◌, ◌<◌, ◌≤◌, Bool, true, false, List, [], ◌∷◌, ◌++◌, length, take, Some, None, Option, ap, refl, arith}
+use Rattle.std.proofs.Common.{◌≡◌, ℕ, suc, ◌+◌, ◌-◌, ◌<◌, ◌≤◌, Bool, true, false, List, [], ◌∷◌, ◌++◌, length, take}
+use Rattle.std.proofs.Common.{Some, None, Option, ap, refl, arith}
 use Rattle.http_head.specs.declared.framing.Scan.{Scan}
 use Rattle.http_head.specs.Framing.{end_from, ends_head, after}
 
 -- what was found stays, whatever follows
-pub end_append : (s : Scan) (bytes more : List ℕ) (end : ℕ × ℕ) → end_from s bytes ≡ Some end → end_from s (bytes ++ more) ≡ Some end
+pub end_append : (s : Scan) (bytes more : List ℕ) (end : ℕ × ℕ) → end_from s bytes ≡ Some end
+    → end_from s (bytes ++ more) ≡ Some end
 end_append s [] more end h = cc
 end_append s (b ∷ bytes) more end h = by (ends_head s b) refl (λ q. end_append (after s b) bytes more end q)
   where
-    by : (t : Bool) → ends_head s b ≡ t → (end_from (after s b) bytes ≡ Some end → end_from (after s b) (bytes ++ more) ≡ Some end) → end_from s ((b ∷ bytes) ++ more) ≡ Some end
+    by : (t : Bool) → ends_head s b ≡ t
+        → (end_from (after s b) bytes ≡ Some end → end_from (after s b) (bytes ++ more) ≡ Some end)
+        → end_from s ((b ∷ bytes) ++ more) ≡ Some end
     by true e later = rw e (rw e at h)
     by false e later = rw e (later (rw e at h))
 
@@ -29,7 +33,8 @@ ends s (b ∷ bytes) end h = by (ends_head s b) refl (λ q. ends (after s b) byt
     one : s.at + 1 - s.at ≡ 1
     one = omega arith
 
-    by : (t : Bool) → ends_head s b ≡ t → (end_from (after s b) bytes ≡ Some end → Ends (after s b) bytes end) → Ends s (b ∷ bytes) end
+    by : (t : Bool) → ends_head s b ≡ t → (end_from (after s b) bytes ≡ Some end → Ends (after s b) bytes end)
+        → Ends s (b ∷ bytes) end
     by true e later =
         let found : ◌≡◌ {A = Option (ℕ × ℕ)} (Some (s.at + 1, s.lines)) (Some end) = rw e at h in
         let place : s.at + 1 ≡ end.0 = ap found_at found in

@@ -1,9 +1,12 @@
 -- A head of httparse's grammar has one line for its start and one for each field, none of them empty.
-use Rattle.std.proofs.Common.{◌≡◌, ◌≢◌, ℕ, nat_lt, ◌+◌, ◌<◌, ◌≤◌, Bool, true, false, List, [], ◌∷◌, ◌++◌, length, Some, None, Option, ◌==◌, IsTrue, sym, ◌∙◌, ap, refl, append_assoc, arith, rules}
+use Rattle.std.proofs.Common.{◌≡◌, ◌≢◌, ℕ, nat_lt, ◌+◌, ◌<◌, ◌≤◌, Bool, true, false, List, [], ◌∷◌, ◌++◌, length, Some}
+use Rattle.std.proofs.Common.{None, Option, ◌==◌, IsTrue, sym, ◌∙◌, ap, refl, append_assoc, arith, rules}
 use Rattle.std.specs.List.{AllByRecursion, flat_map}
 use Rattle.std.proofs.lemmas.List.Elements.{recursion_from_All, All-weaker}
 use Rattle.std.proofs.lemmas.Bool.{false_from_ne_true}
-use Rattle.httparse.specs.Grammar.{LineEnd, crlf, lf, print_end, print_blank, print_version, Field, print_field, IsField, IsToken, AllPass, is_token_byte, is_value_byte, is_uri_byte, RequestHead, ReadsRequest}
+use Rattle.httparse.specs.Grammar.{LineEnd, crlf, lf, print_end, print_blank, print_version, Field, print_field}
+use Rattle.httparse.specs.Grammar.{IsField, IsToken, AllPass, is_token_byte, is_value_byte, is_uri_byte, RequestHead}
+use Rattle.httparse.specs.Grammar.{ReadsRequest}
 use Rattle.httparse.proofs.GrammarLemmas.{print_request-append}
 use Rattle.http_head.specs.declared.framing.Line.{Line}
 use Rattle.http_head.specs.declared.framing.Line.TheVariants.{Fresh, Filled}
@@ -21,11 +24,14 @@ Comes n k l bytes lines rest = (at : ℕ) × (end_from (at_line n k l) bytes ≡
 abbrev Plain : List ℕ → Type 0
 Plain bytes = AllByRecursion (λ b. b ≢ 10) bytes
 
-plain_byte : (n k : ℕ) (l : Line) (x : ℕ) (rest : List ℕ) → x ≢ 10 → end_from (at_line n k l) (x ∷ rest) ≡ end_from (at_line (n + 1) k (longer l x)) rest
-plain_byte n k l x rest ne = let e : (x == 10) ≡ false = false_from_ne_true (x == 10) (λ h. ne (search (rules, h))) in rw e refl
+plain_byte : (n k : ℕ) (l : Line) (x : ℕ) (rest : List ℕ) → x ≢ 10
+    → end_from (at_line n k l) (x ∷ rest) ≡ end_from (at_line (n + 1) k (longer l x)) rest
+plain_byte n k l x rest ne = let e : (x == 10) ≡ false = false_from_ne_true (x == 10) (λ h. ne (search (rules, h))) in
+    rw e refl
 
 -- the rest of a line that is not empty
-filled : (n k : ℕ) (bytes : List ℕ) (e : LineEnd) (rest : List ℕ) → Plain bytes → Comes n k Filled (bytes ++ (print_end e ++ rest)) (k + 1) rest
+filled : (n k : ℕ) (bytes : List ℕ) (e : LineEnd) (rest : List ℕ) → Plain bytes
+    → Comes n k Filled (bytes ++ (print_end e ++ rest)) (k + 1) rest
 filled n k [] crlf rest h = (n + 1 + 1, refl)
 filled n k [] lf rest h = (n + 1, refl)
 filled n k (x ∷ bytes) e rest h =
@@ -33,7 +39,8 @@ filled n k (x ∷ bytes) e rest h =
     (later.0, plain_byte n k Filled x (bytes ++ (print_end e ++ rest)) h.0 ∙ later.1)
 
 -- a line that is not empty
-line : (n k x : ℕ) (bytes : List ℕ) (e : LineEnd) (rest : List ℕ) → x ≢ 10 → x ≢ 13 → Plain bytes → Comes n k Fresh (x ∷ (bytes ++ (print_end e ++ rest))) (k + 1) rest
+line : (n k x : ℕ) (bytes : List ℕ) (e : LineEnd) (rest : List ℕ) → x ≢ 10 → x ≢ 13 → Plain bytes
+    → Comes n k Fresh (x ∷ (bytes ++ (print_end e ++ rest))) (k + 1) rest
 line n k x bytes e rest ne nr h =
     let later = filled (n + 1) k bytes e rest h in
     let d : (x == 13) ≡ false = false_from_ne_true (x == 13) (λ q. nr (search (rules, q))) in
@@ -41,15 +48,19 @@ line n k x bytes e rest ne nr h =
     (later.0, plain_byte n k Fresh x (bytes ++ (print_end e ++ rest)) ne ∙ rw first later.1)
 
 -- one after the other
-then_comes : (n k : ℕ) (l : Line) (bytes : List ℕ) (middle : ℕ) (rest : List ℕ) (lines : ℕ) (last : List ℕ) → Comes n k l bytes middle rest → ((at : ℕ) → Comes at middle Fresh rest lines last) → Comes n k l bytes lines last
+then_comes : (n k : ℕ) (l : Line) (bytes : List ℕ) (middle : ℕ) (rest : List ℕ) (lines : ℕ) (last : List ℕ)
+    → Comes n k l bytes middle rest → ((at : ℕ) → Comes at middle Fresh rest lines last) → Comes n k l bytes lines last
 then_comes n k l bytes middle rest lines last first second = ((second first.0).0, first.1 ∙ (second first.0).1)
 
 -- the same from other bytes and to another count
-comes_as : (n k : ℕ) (l : Line) (bytes others : List ℕ) (lines count : ℕ) (rest : List ℕ) → bytes ≡ others → lines ≡ count → Comes n k l bytes lines rest → Comes n k l others count rest
-comes_as n k l bytes others lines count rest e f h = (h.0, ap (end_from (at_line n k l)) (sym e) ∙ h.1 ∙ ap (λ (m : ℕ). end_from (at_line h.0 m Fresh) rest) f)
+comes_as : (n k : ℕ) (l : Line) (bytes others : List ℕ) (lines count : ℕ) (rest : List ℕ) → bytes ≡ others
+    → lines ≡ count → Comes n k l bytes lines rest → Comes n k l others count rest
+comes_as n k l bytes others lines count rest e f h =
+    (h.0, ap (end_from (at_line n k l)) (sym e) ∙ h.1 ∙ ap (λ (m : ℕ). end_from (at_line h.0 m Fresh) rest) f)
 
 plain_of : (test : ℕ → Bool) → test 10 ≡ false → (bytes : List ℕ) → AllPass test bytes → Plain bytes
-plain_of test never bytes h = recursion_from_All (λ b. b ≢ 10) bytes (All-weaker (λ b. IsTrue (test b)) (λ b. b ≢ 10) differs bytes h)
+plain_of test never bytes h = recursion_from_All (λ b. b ≢ 10) bytes
+    (All-weaker (λ b. IsTrue (test b)) (λ b. b ≢ 10) differs bytes h)
   where
     differs : (b : ℕ) → IsTrue (test b) → b ≡ 10 → ⊥
     differs b passes e = let p : test b ≡ true = passes in let q : test b ≡ test 10 = ap test e in cc
@@ -65,7 +76,8 @@ token_is_plain bytes h = plain_of is_token_byte refl bytes h
 -- a token begins with no CR
 no_return : (x : ℕ) (bytes : List ℕ) → AllPass is_token_byte (x ∷ bytes) → x ≢ 13
 unfolding is_token_byte
-no_return x bytes h e = let p : is_token_byte x ≡ true = h 0 x (omega arith) in let q : is_token_byte x ≡ is_token_byte 13 = ap is_token_byte e in let r : is_token_byte 13 ≡ false = refl in cc
+no_return x bytes h e = let p : is_token_byte x ≡ true = h 0 x (omega arith) in
+    let q : is_token_byte x ≡ is_token_byte 13 = ap is_token_byte e in let r : is_token_byte 13 ≡ false = refl in cc
 
 value_is_plain : (bytes : List ℕ) → AllPass is_value_byte bytes → Plain bytes
 value_is_plain bytes h = plain_of is_value_byte refl bytes h
@@ -74,11 +86,13 @@ target_is_plain : (bytes : List ℕ) → AllPass is_uri_byte bytes → Plain byt
 target_is_plain bytes h = plain_of is_uri_byte refl bytes h
 
 -- a line that begins with a token
-token_line : (n k : ℕ) (token more : List ℕ) (e : LineEnd) (rest : List ℕ) → IsToken token → Plain more → Comes n k Fresh (token ++ (more ++ (print_end e ++ rest))) (k + 1) rest
+token_line : (n k : ℕ) (token more : List ℕ) (e : LineEnd) (rest : List ℕ) → IsToken token → Plain more
+    → Comes n k Fresh (token ++ (more ++ (print_end e ++ rest))) (k + 1) rest
 token_line n k [] more e rest h p = absurd (omega (arith, h.0))
 token_line n k (x ∷ token) more e rest h p =
     let q = token_is_plain (x ∷ token) h.1 in
-    comes_as n k Fresh (x ∷ ((token ++ more) ++ (print_end e ++ rest))) _ _ _ rest (ap (λ (b : List ℕ). x ∷ b) (append_assoc token more (print_end e ++ rest))) refl
+    comes_as n k Fresh (x ∷ ((token ++ more) ++ (print_end e ++ rest))) _ _ _ rest
+    (ap (λ (b : List ℕ). x ∷ b) (append_assoc token more (print_end e ++ rest))) refl
     (line n k x (token ++ more) e rest q.0 (no_return x token h.1) (plain_append token more q.1 p))
 
 blanks : (n : ℕ) (ends : List LineEnd) (rest : List ℕ) → Comes n 0 Fresh (print_blank ends ++ rest) 0 rest
@@ -86,22 +100,28 @@ blanks n [] rest = (n, refl)
 blanks n (crlf ∷ ends) rest = blanks (n + 1 + 1) ends rest
 blanks n (lf ∷ ends) rest = blanks (n + 1) ends rest
 
-fields_lines : (n k : ℕ) (fields : List Field) (rest : List ℕ) → AllByRecursion IsField fields → Comes n k Fresh (flat_map print_field fields ++ rest) (k + length fields) rest
+fields_lines : (n k : ℕ) (fields : List Field) (rest : List ℕ) → AllByRecursion IsField fields
+    → Comes n k Fresh (flat_map print_field fields ++ rest) (k + length fields) rest
 fields_lines n k [] rest h = comes_as n k Fresh rest _ k _ rest refl (omega arith) (n, refl)
 fields_lines n k (f ∷ fields) rest h =
     let after_first : List ℕ = flat_map print_field fields ++ rest in
     let bytes : List ℕ = f.name ++ ((58 ∷ f.raw) ++ (print_end f.end ++ after_first)) in
-    comes_as n k Fresh bytes (flat_map print_field (f ∷ fields) ++ rest) (k + 1 + length fields) (k + length (f ∷ fields)) rest (simp append_assoc) (omega arith)
+    comes_as n k Fresh bytes (flat_map print_field (f ∷ fields) ++ rest) (k + 1 + length fields)
+    (k + length (f ∷ fields)) rest (simp append_assoc) (omega arith)
     (then_comes n k Fresh bytes (k + 1) after_first (k + 1 + length fields) rest
     (token_line n k f.name (58 ∷ f.raw) f.end after_first h.0.name (omega arith, value_is_plain f.raw h.0.raw))
     (λ at. fields_lines at (k + 1) fields rest h.1))
 
-the_end : (n k : ℕ) (last : LineEnd) → 0 < k → (at : ℕ) × (end_from (at_line n k Fresh) (print_end last ++ []) ≡ Some (at, k))
+the_end : (n k : ℕ) (last : LineEnd) → 0 < k → (at : ℕ)
+    × (end_from (at_line n k Fresh) (print_end last ++ []) ≡ Some (at, k))
 the_end n k crlf h = let e : nat_lt 0 k ≡ true = search (rules, h) in (n + 1 + 1, rw e refl)
 the_end n k lf h = let e : nat_lt 0 k ≡ true = search (rules, h) in (n + 1, rw e refl)
 
 version_is_plain : (minor : ℕ) → minor ≤ 1 → Plain (print_version minor)
-version_is_plain minor h = (omega arith, (omega arith, (omega arith, (omega arith, (omega arith, (omega arith, (omega arith, (omega arith, tt))))))))
+version_is_plain minor h = (
+  omega arith,
+  (omega arith, (omega arith, (omega arith, (omega arith, (omega arith, (omega arith, (omega arith, tt))))))),
+)
 
 abbrev second : Option (ℕ × ℕ) → ℕ
 second None = 0
@@ -111,10 +131,15 @@ counted : (a b c n : ℕ) → ◌≡◌ {A = Option (ℕ × ℕ)} (Some (a, b)) 
 counted a b c n h = let e = ap second h in omega (arith, e)
 
 -- how many lines of a head are not empty
-pub lines_of_head : (bytes : List ℕ) (h : RequestHead) (length_is lines : ℕ) → ReadsRequest bytes h [] → end_from scan_start bytes ≡ Some (length_is, lines) → lines ≡ length h.fields + 1
+pub lines_of_head : (bytes : List ℕ) (h : RequestHead) (length_is lines : ℕ) → ReadsRequest bytes h []
+    → end_from scan_start bytes ≡ Some (length_is, lines) → lines ≡ length h.fields + 1
 lines_of_head bytes h length_is lines reads found =
     let more : List ℕ = (32 ∷ h.target) ++ (32 ∷ print_version h.minor) in
-    let p : Plain more = (omega arith, plain_append h.target (32 ∷ print_version h.minor) (target_is_plain h.target reads.0.target.1) (omega arith, version_is_plain h.minor reads.0.minor)) in
+    let p : Plain more = (
+      omega arith,
+      plain_append h.target (32 ∷ print_version h.minor) (target_is_plain h.target reads.0.target.1)
+          (omega arith, version_is_plain h.minor reads.0.minor),
+    ) in
     let last : List ℕ = print_end h.last ++ [] in
     let fields : List ℕ = flat_map print_field h.fields ++ last in
     let first : List ℕ = h.method ++ (more ++ (print_end h.line_end ++ fields)) in
@@ -123,7 +148,8 @@ lines_of_head bytes h length_is lines reads found =
     let comes : Comes 0 0 Fresh bytes count last =
     comes_as 0 0 Fresh (print_blank h.blank ++ first) bytes count count last (sym whole) refl
     (then_comes 0 0 Fresh (print_blank h.blank ++ first) 0 first count last (blanks 0 h.blank first) (λ at.
-    then_comes at 0 Fresh first (0 + 1) fields count last (token_line at 0 h.method more h.line_end fields reads.0.method p) (λ later.
+    then_comes at 0 Fresh first (0 + 1) fields count last
+    (token_line at 0 h.method more h.line_end fields reads.0.method p) (λ later.
     fields_lines later (0 + 1) h.fields last (recursion_from_All IsField h.fields reads.0.fields)))) in
     let ends = the_end comes.0 count h.last (omega arith) in
     counted length_is lines ends.0 (length h.fields) (sym found ∙ comes.1 ∙ ends.1)

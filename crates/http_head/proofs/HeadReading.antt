@@ -1,5 +1,6 @@
 -- A head as it is read, whole or refused.
-use Rattle.std.proofs.Common.{◌≡◌, ℕ, ◌≤◌, false, List, [], length, drop, take, map, nat_lt, Some, None, Option, Result, Err, ap, refl, arith, rules, length-drop, append-nil}
+use Rattle.std.proofs.Common.{◌≡◌, ℕ, ◌≤◌, false, List, [], length, drop, take, map, nat_lt, Some, None, Option, Result}
+use Rattle.std.proofs.Common.{Err, ap, refl, arith, rules, length-drop, append-nil}
 use Rattle.std.proofs.lemmas.List.{drop_all}
 use Rattle.httparse.specs.Grammar.{RequestHead, ReadsRequest}
 use Rattle.httparse.specs.Spans.{IsRequestAt, RequestOverflows, span_bytes, header_bytes}
@@ -21,27 +22,34 @@ is_few lines h = search (rules, h)
 pub refused : (lines : ℕ) (bytes : List ℕ) → lines ≤ 65 → IsHead bytes None → Gives lines bytes (Err BadHead)
 refused lines bytes h none = let e = is_few lines h in (None, rw e none, rw e refl)
 
-pub taken : (lines : ℕ) (bytes : List ℕ) (head : RequestHead) (given : Result Outline HeadRefusal) → lines ≤ 65 → ReadsRequest bytes head [] → given ≡ outline_from head.method head.target head.minor (fields_of head) → Gives lines bytes given
+pub taken : (lines : ℕ) (bytes : List ℕ) (head : RequestHead) (given : Result Outline HeadRefusal) → lines ≤ 65
+    → ReadsRequest bytes head [] → given ≡ outline_from head.method head.target head.minor (fields_of head)
+    → Gives lines bytes given
 taken lines bytes head given h reads e = let f = is_few lines h in (Some head, rw f reads, rw f e)
 
 -- of a head that ends before the bytes do, no other takes them all
-pub ends_early : (bytes : List ℕ) (headers : List HeaderSpan) (r : RequestSpans) (h : RequestHead) → IsRequestAt bytes headers r h → r.len ≤ length bytes → (r.len ≡ length bytes → ⊥) → IsHead bytes None
+pub ends_early : (bytes : List ℕ) (headers : List HeaderSpan) (r : RequestSpans) (h : RequestHead)
+    → IsRequestAt bytes headers r h → r.len ≤ length bytes → (r.len ≡ length bytes → ⊥) → IsHead bytes None
 ends_early bytes headers r h at fits short other reads =
     let same = request_unique bytes h other (drop r.len bytes) [] at.reads reads in
     let rest : drop r.len bytes ≡ [] = same.1 in
     short (omega (arith, length-drop r.len bytes, ap length rest))
 
 -- no head has more fields than its lines allow
-pub overflows : (bytes : List ℕ) (lines : ℕ) → lines ≤ 65 → end_from scan_start bytes ≡ Some (length bytes, lines) → RequestOverflows 64 bytes → IsHead bytes None
+pub overflows : (bytes : List ℕ) (lines : ℕ) → lines ≤ 65 → end_from scan_start bytes ≡ Some (length bytes, lines)
+    → RequestOverflows 64 bytes → IsHead bytes None
 overflows bytes lines few found over h reads =
     let n = lines_of_head bytes h (length bytes) lines reads found in
     let m = over [] h [] (rw (append-nil bytes) reads) in
     omega arith
 
 -- the whole head, as its spans show it
-pub whole : (bytes : List ℕ) (headers : List HeaderSpan) (r : RequestSpans) (h : RequestHead) → IsRequestAt bytes headers r h → r.len ≡ length bytes → ReadsRequest bytes h []
+pub whole : (bytes : List ℕ) (headers : List HeaderSpan) (r : RequestSpans) (h : RequestHead)
+    → IsRequestAt bytes headers r h → r.len ≡ length bytes → ReadsRequest bytes h []
 whole bytes headers r h at e = rw (← drop_all r.len bytes (omega arith)) at.reads
 
-pub shown : (bytes : List ℕ) (headers : List HeaderSpan) (r : RequestSpans) (h : RequestHead) → IsRequestAt bytes headers r h
-    → outline_from (span_bytes bytes r.method) (span_bytes bytes r.path) r.version (map (header_bytes bytes) (take r.headers headers)) ≡ outline_from h.method h.target h.minor (fields_of h)
+pub shown : (bytes : List ℕ) (headers : List HeaderSpan) (r : RequestSpans) (h : RequestHead)
+    → IsRequestAt bytes headers r h
+    → outline_from (span_bytes bytes r.method) (span_bytes bytes r.path) r.version
+    (map (header_bytes bytes) (take r.headers headers)) ≡ outline_from h.method h.target h.minor (fields_of h)
 shown bytes headers r h at = rw (at.method, at.path, at.version, at.fields) refl

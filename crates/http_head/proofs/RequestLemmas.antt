@@ -1,5 +1,7 @@
 -- What bytes amount to: the parts of a reading put together, one answer alone, and none that more bytes change.
-use Rattle.std.proofs.Common.{◌≡◌, ℕ, ◌+◌, ◌-◌, ◌<◌, ◌≤◌, Bool, true, false, List, [], ◌++◌, length, take, drop, min, nat_lt, Some, None, Option, Result, Ok, Err, sym, ◌∙◌, ap, refl, arith, append-nil, take_all, length-append, length-drop}
+use Rattle.std.proofs.Common.{◌≡◌, ℕ, ◌+◌, ◌-◌, ◌<◌, ◌≤◌, Bool, true, false, List, [], ◌++◌, length, take, drop, min}
+use Rattle.std.proofs.Common.{nat_lt, Some, None, Option, Result, Ok, Err, sym, ◌∙◌, ap, refl, arith, append-nil}
+use Rattle.std.proofs.Common.{take_all, length-append, length-drop}
 use Rattle.std.proofs.lemmas.List.{take_min, length-take, take-take, take-append-le, drop-append-le, length-take-le}
 use Rattle.std.proofs.Math.Seq.{take-append-add}
 use Rattle.httparse.specs.Grammar.{RequestHead}
@@ -8,42 +10,52 @@ use Rattle.http_head.specs.declared.refusals.HeadRefusal.{HeadRefusal}
 use Rattle.http_head.specs.declared.framing.Scan.{Scan}
 use Rattle.http_head.specs.Framing.{end_from, scan_start, head_end, head_limit}
 use Rattle.http_head.specs.Head.{Outline, outline_of, IsReadAs, IsReadIf, IsHead, line_limit}
-use Rattle.http_head.specs.Request.{Seen, unfinished, refused, whole, body_seen, seen_after, IsHeadRead, Sees, begin_with_head, asks_head, asks_head_by}
+use Rattle.http_head.specs.Request.{Seen, unfinished, refused, whole, body_seen, seen_after, IsHeadRead, Sees}
+use Rattle.http_head.specs.Request.{begin_with_head, asks_head, asks_head_by}
 use Rattle.http_head.proofs.FramingLemmas.{end_append, ends}
 
 -- the head's end, as a search over the first bytes finds it
-end_is_at : (n : ℕ) (bytes : List ℕ) (limit : ℕ) (found : Option (ℕ × ℕ)) → limit ≡ min (length bytes) n → end_from scan_start (take limit bytes ++ []) ≡ found → end_from scan_start (take n bytes) ≡ found
+end_is_at : (n : ℕ) (bytes : List ℕ) (limit : ℕ) (found : Option (ℕ × ℕ)) → limit ≡ min (length bytes) n
+    → end_from scan_start (take limit bytes ++ []) ≡ found → end_from scan_start (take n bytes) ≡ found
 end_is_at n bytes limit found e h =
     let other : limit ≡ min n (length bytes) = omega arith in
     let same : take limit bytes ≡ take n bytes = rw other (take_min n bytes) in
     rw (← same) (rw (append-nil (take limit bytes)) at h)
 
-pub end_is : (bytes : List ℕ) (limit : ℕ) (found : Option (ℕ × ℕ)) → limit ≡ min (length bytes) 16384 → end_from scan_start (take limit bytes ++ []) ≡ found → head_end bytes ≡ found
+pub end_is : (bytes : List ℕ) (limit : ℕ) (found : Option (ℕ × ℕ)) → limit ≡ min (length bytes) 16384
+    → end_from scan_start (take limit bytes ++ []) ≡ found → head_end bytes ≡ found
 unfolding head_end
 end_is bytes limit found e h = end_is_at head_limit bytes limit found e h
 
-alone_at : (n : ℕ) (bytes : List ℕ) (end : ℕ × ℕ) → end_from scan_start (take n bytes) ≡ Some end → (end.0 ≤ length bytes) × (end_from scan_start (take end.0 bytes) ≡ Some end)
+alone_at : (n : ℕ) (bytes : List ℕ) (end : ℕ × ℕ) → end_from scan_start (take n bytes) ≡ Some end
+    → (end.0 ≤ length bytes) × (end_from scan_start (take end.0 bytes) ≡ Some end)
 alone_at n bytes end h =
     let e = ends scan_start (take n bytes) end h in
     let short : end.0 ≤ n = omega (arith, e.within, length-take n bytes) in
-    let same : take (end.0 - 0) (take n bytes) ≡ take end.0 bytes = let z : end.0 - 0 ≡ end.0 = omega arith in rw z (take-take end.0 n bytes short) in
+    let same : take (end.0 - 0) (take n bytes) ≡ take end.0 bytes = let z : end.0 - 0 ≡ end.0 = omega arith in
+    rw z (take-take end.0 n bytes short) in
     (omega (arith, e.within, length-take n bytes), rw (← same) e.alone)
 
 -- the bytes of a head alone
-pub head_alone : (bytes : List ℕ) (end : ℕ × ℕ) → head_end bytes ≡ Some end → (end.0 ≤ length bytes) × (end_from scan_start (take end.0 bytes) ≡ Some end)
+pub head_alone : (bytes : List ℕ) (end : ℕ × ℕ) → head_end bytes ≡ Some end → (end.0 ≤ length bytes)
+    × (end_from scan_start (take end.0 bytes) ≡ Some end)
 unfolding head_end
 head_alone bytes end h = alone_at head_limit bytes end h
 
-pub no_end : (bytes : List ℕ) → head_end bytes ≡ None → (seen : Seen) → seen ≡ seen_after bytes None None → Sees bytes seen
+pub no_end : (bytes : List ℕ) → head_end bytes ≡ None → (seen : Seen) → seen ≡ seen_after bytes None None
+    → Sees bytes seen
 no_end bytes none seen e = record { read = None; is_read = rw none refl; is_seen = rw none e }
 
-pub with_end : (bytes : List ℕ) (end : ℕ × ℕ) (read : Option RequestHead) (seen : Seen) → head_end bytes ≡ Some end → IsReadAs end.1 (take end.0 bytes) read → seen ≡ body_seen (drop end.0 bytes) (outline_of end.1 read) → Sees bytes seen
+pub with_end : (bytes : List ℕ) (end : ℕ × ℕ) (read : Option RequestHead) (seen : Seen) → head_end bytes ≡ Some end
+    → IsReadAs end.1 (take end.0 bytes) read → seen ≡ body_seen (drop end.0 bytes) (outline_of end.1 read)
+    → Sees bytes seen
 with_end bytes end read seen found reads e = record { read = read; is_read = rw found reads; is_seen = rw found e }
 
 -- ---- more bytes
 
 -- a search that found an end finds it whatever follows
-more_at : (n : ℕ) (bytes more : List ℕ) (end : ℕ × ℕ) → end_from scan_start (take n bytes) ≡ Some end → end_from scan_start (take n (bytes ++ more)) ≡ Some end
+more_at : (n : ℕ) (bytes more : List ℕ) (end : ℕ × ℕ) → end_from scan_start (take n bytes) ≡ Some end
+    → end_from scan_start (take n (bytes ++ more)) ≡ Some end
 more_at n bytes more end h = by (nat_lt (length bytes) n) refl
   where
     by : (b : Bool) → nat_lt (length bytes) n ≡ b → end_from scan_start (take n (bytes ++ more)) ≡ Some end
@@ -53,14 +65,16 @@ more_at n bytes more end h = by (nat_lt (length bytes) n) refl
     by true e =
         let whole_bytes : take n bytes ≡ bytes = take_all n bytes (grind arith) in
         let places : n ≡ length bytes + (n - length bytes) = grind arith in
-        let parts : take n (bytes ++ more) ≡ bytes ++ take (n - length bytes) more = ap (λ (k : ℕ). take k (bytes ++ more)) places ∙ take-append-add bytes more (n - length bytes) in
+        let parts : take n (bytes ++ more) ≡ bytes ++ take (n - length bytes) more =
+        ap (λ (k : ℕ). take k (bytes ++ more)) places ∙ take-append-add bytes more (n - length bytes) in
         rw parts (end_append scan_start bytes (take (n - length bytes) more) end (rw whole_bytes at h))
 
 pub end_more : (bytes more : List ℕ) (end : ℕ × ℕ) → head_end bytes ≡ Some end → head_end (bytes ++ more) ≡ Some end
 unfolding head_end
 end_more bytes more end h = more_at head_limit bytes more end h
 
-same_at : (n : ℕ) (bytes more : List ℕ) → n < length bytes → end_from scan_start (take n (bytes ++ more)) ≡ end_from scan_start (take n bytes)
+same_at : (n : ℕ) (bytes more : List ℕ) → n < length bytes
+    → end_from scan_start (take n (bytes ++ more)) ≡ end_from scan_start (take n bytes)
 same_at n bytes more long = rw (take-append-le n bytes more (omega arith)) refl
 
 -- beyond the limit nothing more is looked at
@@ -74,7 +88,8 @@ is_unfinished (refused refusal) = false
 is_unfinished (whole request) = false
 
 -- a body that is whole stays so
-body_more : (behind more : List ℕ) (given : Result Outline HeadRefusal) → (body_seen behind given ≡ unfinished → ⊥) → body_seen (behind ++ more) given ≡ body_seen behind given
+body_more : (behind more : List ℕ) (given : Result Outline HeadRefusal) → (body_seen behind given ≡ unfinished → ⊥)
+    → body_seen (behind ++ more) given ≡ body_seen behind given
 body_more behind more (Err refusal) h = refl
 body_more behind more (Ok o) h = by (nat_lt (length behind) o.length) refl
   where
@@ -85,21 +100,24 @@ body_more behind more (Ok o) h = by (nat_lt (length behind) o.length) refl
         let later : nat_lt (length (behind ++ more)) o.length ≡ false = grind (arith, length-append {A = ℕ}) in
         rw (e, later, take-append-le o.length behind more fits) refl
 
-over_limit : (bytes : List ℕ) (seen : Seen) → seen ≡ seen_after bytes None None → (seen ≡ unfinished → ⊥) → 16384 < length bytes
+over_limit : (bytes : List ℕ) (seen : Seen) → seen ≡ seen_after bytes None None → (seen ≡ unfinished → ⊥)
+    → 16384 < length bytes
 over_limit bytes seen e decided = by (nat_lt 16384 (length bytes)) refl
   where
     by : (b : Bool) → nat_lt 16384 (length bytes) ≡ b → 16384 < length bytes
     by true t = grind arith
     by false t = absurd (decided (e ∙ rw t refl))
 
-late_same : (bytes more : List ℕ) → 16384 < length bytes → seen_after bytes None None ≡ seen_after (bytes ++ more) None None
+late_same : (bytes more : List ℕ) → 16384 < length bytes
+    → seen_after bytes None None ≡ seen_after (bytes ++ more) None None
 late_same bytes more long =
     let first : nat_lt 16384 (length bytes) ≡ true = grind arith in
     let later : nat_lt 16384 (length (bytes ++ more)) ≡ true = grind (arith, length-append {A = ℕ}) in
     rw (first, later) refl
 
 -- what does not wait for more is not changed by it
-pub sees_more : (bytes more : List ℕ) (seen : Seen) → Sees bytes seen → (seen ≡ unfinished → ⊥) → Sees (bytes ++ more) seen
+pub sees_more : (bytes more : List ℕ) (seen : Seen) → Sees bytes seen → (seen ≡ unfinished → ⊥)
+    → Sees (bytes ++ more) seen
 sees_more bytes more seen sees decided = by (head_end bytes) refl
   where
     by : (o : Option (ℕ × ℕ)) → head_end bytes ≡ o → Sees (bytes ++ more) seen
@@ -115,11 +133,14 @@ sees_more bytes more seen sees decided = by (head_end bytes) refl
         let is_read : IsReadAs end.1 (take end.0 bytes) sees.read = rw e at sees.is_read in
         let behind : drop end.0 (bytes ++ more) ≡ drop end.0 bytes ++ more = drop-append-le end.0 bytes more alone.0 in
         with_end (bytes ++ more) end sees.read seen later (rw front is_read)
-        (rw behind (is_seen ∙ sym (body_more (drop end.0 bytes) more (outline_of end.1 sees.read) (λ q. decided (is_seen ∙ q)))))
+        (rw behind
+        (is_seen
+        ∙ sym (body_more (drop end.0 bytes) more (outline_of end.1 sees.read) (λ q. decided (is_seen ∙ q)))))
 
 -- ---- one answer
 
-one_reading : (lines : ℕ) (bytes : List ℕ) (a b : Option RequestHead) → IsReadAs lines bytes a → IsReadAs lines bytes b → a ≡ b
+one_reading : (lines : ℕ) (bytes : List ℕ) (a b : Option RequestHead) → IsReadAs lines bytes a → IsReadAs lines bytes b
+    → a ≡ b
 one_reading lines bytes a b p q = by (nat_lt line_limit lines) p q
   where
     heads : (x y : Option RequestHead) → IsHead bytes x → IsHead bytes y → x ≡ y
@@ -134,7 +155,8 @@ one_reading lines bytes a b p q = by (nat_lt line_limit lines) p q
 
 -- bytes amount to one thing alone
 pub sees_once : (bytes : List ℕ) (seen other : Seen) → Sees bytes seen → Sees bytes other → seen ≡ other
-sees_once bytes seen other p q = p.is_seen ∙ ap (seen_after bytes (head_end bytes)) (same (head_end bytes) p.is_read q.is_read) ∙ sym q.is_seen
+sees_once bytes seen other p q = p.is_seen
+    ∙ ap (seen_after bytes (head_end bytes)) (same (head_end bytes) p.is_read q.is_read) ∙ sym q.is_seen
   where
     same : (o : Option (ℕ × ℕ)) → IsHeadRead bytes o p.read → IsHeadRead bytes o q.read → p.read ≡ q.read
     same None r s = r ∙ sym s
@@ -143,11 +165,14 @@ sees_once bytes seen other p q = p.is_seen ∙ ap (seen_after bytes (head_end by
 -- ---- the reading itself
 
 -- a search that came to no end
-pub none_found : (bytes : List ℕ) (limit : ℕ) (s : Scan) → limit ≡ min (length bytes) 16384 → ((more : List ℕ) → end_from scan_start (take limit bytes ++ more) ≡ end_from s more) → head_end bytes ≡ None
+pub none_found : (bytes : List ℕ) (limit : ℕ) (s : Scan) → limit ≡ min (length bytes) 16384
+    → ((more : List ℕ) → end_from scan_start (take limit bytes ++ more) ≡ end_from s more) → head_end bytes ≡ None
 none_found bytes limit s e h = end_is bytes limit None e (h [])
 
 -- the head's bytes are all of a head
-pub is_head_alone : (bytes : List ℕ) (limit n lines : ℕ) → limit ≡ min (length bytes) 16384 → ((more : List ℕ) → end_from scan_start (take limit bytes ++ more) ≡ Some (n, lines)) → end_from scan_start (take n bytes) ≡ Some (length (take n bytes), lines)
+pub is_head_alone : (bytes : List ℕ) (limit n lines : ℕ) → limit ≡ min (length bytes) 16384
+    → ((more : List ℕ) → end_from scan_start (take limit bytes ++ more) ≡ Some (n, lines))
+    → end_from scan_start (take n bytes) ≡ Some (length (take n bytes), lines)
 is_head_alone bytes limit n lines e h =
     let pair : ℕ × ℕ = (n, lines) in
     let alone = head_alone bytes pair (end_is bytes limit (Some pair) e (h [])) in
@@ -155,35 +180,49 @@ is_head_alone bytes limit n lines e h =
     rw same alone.1
 
 -- what a head and the bytes behind it amount to, by what the head gave
-pub sees_by : (bytes : List ℕ) (limit n lines : ℕ) (given : Result Outline HeadRefusal) (behind : List ℕ) (seen : Seen) → limit ≡ min (length bytes) 16384 → ((more : List ℕ) → end_from scan_start (take limit bytes ++ more) ≡ Some (n, lines))
-    → ((read : Option RequestHead) × IsReadAs lines (take n bytes) read × (given ≡ outline_of lines read)) → behind ≡ take (length bytes - n) (drop n bytes) → seen ≡ body_seen behind given → Sees bytes seen
+pub sees_by : (bytes : List ℕ) (limit n lines : ℕ) (given : Result Outline HeadRefusal) (behind : List ℕ) (seen : Seen)
+    → limit ≡ min (length bytes) 16384
+    → ((more : List ℕ) → end_from scan_start (take limit bytes ++ more) ≡ Some (n, lines))
+    → ((read : Option RequestHead) × IsReadAs lines (take n bytes) read × (given ≡ outline_of lines read))
+    → behind ≡ take (length bytes - n) (drop n bytes) → seen ≡ body_seen behind given → Sees bytes seen
 sees_by bytes limit n lines given behind seen e h reads shown is_seen =
     let pair : ℕ × ℕ = (n, lines) in
-    let rest : behind ≡ drop n bytes = shown ∙ take_all (length bytes - n) (drop n bytes) (omega (arith, length-drop n bytes)) in
-    with_end bytes pair reads.0 seen (end_is bytes limit (Some pair) e (h [])) reads.1 (is_seen ∙ ap (λ (b : List ℕ). body_seen b given) rest ∙ ap (body_seen (drop n bytes)) reads.2)
+    let rest : behind ≡ drop n bytes = shown
+    ∙ take_all (length bytes - n) (drop n bytes) (omega (arith, length-drop n bytes)) in
+    with_end bytes pair reads.0 seen (end_is bytes limit (Some pair) e (h [])) reads.1
+    (is_seen ∙ ap (λ (b : List ℕ). body_seen b given) rest ∙ ap (body_seen (drop n bytes)) reads.2)
 
 -- ---- replies without a body
 
 same_front : (n : ℕ) (bytes : List ℕ) (limit : ℕ) → limit ≡ min (length bytes) n → take limit bytes ≡ take n bytes
 same_front n bytes limit e = let other : limit ≡ min n (length bytes) = omega arith in rw other (take_min n bytes)
 
-pub asks_none : (bytes : List ℕ) (limit : ℕ) (s : Scan) (asks : Bool) → limit ≡ min (length bytes) 16384 → ((more : List ℕ) → end_from scan_start (take limit bytes ++ more) ≡ end_from s more) → asks ≡ begin_with_head (take limit bytes) → asks ≡ asks_head bytes
+pub asks_none : (bytes : List ℕ) (limit : ℕ) (s : Scan) (asks : Bool) → limit ≡ min (length bytes) 16384
+    → ((more : List ℕ) → end_from scan_start (take limit bytes ++ more) ≡ end_from s more)
+    → asks ≡ begin_with_head (take limit bytes) → asks ≡ asks_head bytes
 unfolding asks_head
-asks_none bytes limit s asks e h is = is ∙ ap begin_with_head (same_front head_limit bytes limit e) ∙ sym (ap (asks_head_by bytes) (none_found bytes limit s e h))
+asks_none bytes limit s asks e h is = is ∙ ap begin_with_head (same_front head_limit bytes limit e)
+    ∙ sym (ap (asks_head_by bytes) (none_found bytes limit s e h))
 
-pub asks_some : (bytes : List ℕ) (limit n lines : ℕ) (asks : Bool) → limit ≡ min (length bytes) 16384 → ((more : List ℕ) → end_from scan_start (take limit bytes ++ more) ≡ Some (n, lines)) → asks ≡ begin_with_head (take n bytes) → asks ≡ asks_head bytes
+pub asks_some : (bytes : List ℕ) (limit n lines : ℕ) (asks : Bool) → limit ≡ min (length bytes) 16384
+    → ((more : List ℕ) → end_from scan_start (take limit bytes ++ more) ≡ Some (n, lines))
+    → asks ≡ begin_with_head (take n bytes) → asks ≡ asks_head bytes
 unfolding asks_head
-asks_some bytes limit n lines asks e h is = let pair : ℕ × ℕ = (n, lines) in is ∙ sym (ap (asks_head_by bytes) (end_is bytes limit (Some pair) e (h [])))
+asks_some bytes limit n lines asks e h is = let pair : ℕ × ℕ = (n, lines) in
+    is ∙ sym (ap (asks_head_by bytes) (end_is bytes limit (Some pair) e (h [])))
 
-asks_long : (n : ℕ) (bytes more : List ℕ) → n < length bytes → begin_with_head (take n (bytes ++ more)) ≡ begin_with_head (take n bytes)
+asks_long : (n : ℕ) (bytes more : List ℕ) → n < length bytes
+    → begin_with_head (take n (bytes ++ more)) ≡ begin_with_head (take n bytes)
 asks_long n bytes more long = ap begin_with_head (take-append-le n bytes more (omega arith))
 
 -- more bytes do not change it, where something stands decided
-pub asks_more : (bytes more : List ℕ) (seen : Seen) → Sees bytes seen → (seen ≡ unfinished → ⊥) → asks_head (bytes ++ more) ≡ asks_head bytes
+pub asks_more : (bytes more : List ℕ) (seen : Seen) → Sees bytes seen → (seen ≡ unfinished → ⊥)
+    → asks_head (bytes ++ more) ≡ asks_head bytes
 unfolding asks_head
 asks_more bytes more seen sees decided = by (head_end bytes) refl
   where
-    by : (o : Option (ℕ × ℕ)) → head_end bytes ≡ o → asks_head_by (bytes ++ more) (head_end (bytes ++ more)) ≡ asks_head_by bytes (head_end bytes)
+    by : (o : Option (ℕ × ℕ)) → head_end bytes ≡ o
+        → asks_head_by (bytes ++ more) (head_end (bytes ++ more)) ≡ asks_head_by bytes (head_end bytes)
     by None e =
         let is_seen : seen ≡ seen_after bytes None None = rw e at sees.is_seen in
         let long = over_limit bytes seen is_seen decided in

@@ -1,5 +1,6 @@
 -- Known bytes of readers and writers, over several calls.
-use Rattle.std.proofs.Common.{◌≡◌, ℕ, ◌+◌, ◌-◌, List, [], ◌++◌, length, take, drop, Option, Some, None, sym, ◌∙◌, ap, refl, append_assoc, append-nil, arith, length-drop, take_all}
+use Rattle.std.proofs.Common.{◌≡◌, ℕ, ◌+◌, ◌-◌, List, [], ◌++◌, length, take, drop, Option, Some, None, sym, ◌∙◌, ap}
+use Rattle.std.proofs.Common.{refl, append_assoc, append-nil, arith, length-drop, take_all}
 use Rattle.std.proofs.Math.Seq.{take-add}
 use Rattle.std.specs.Io.KnownBytes.{Consumes, Keeps, Appends}
 
@@ -28,8 +29,10 @@ appends_kept (Some xs) (Some ys) None x p q = absurd q
 appends_kept (Some xs) (Some ys) (Some zs) x p q = q ∙ p
 
 -- a write of some bytes from a place on
-pub appends_piece : (a b c : Option (List ℕ)) (bytes piece : List ℕ) (at n : ℕ) → Appends a b (take at bytes) → piece ≡ drop at bytes → Appends b c (take n piece) → Appends a c (take (at + n) bytes)
-appends_piece a b c bytes piece at n p e q = rw (take-add at n bytes, ← e) (appends_more a b c (take at bytes) (take n piece) p q)
+pub appends_piece : (a b c : Option (List ℕ)) (bytes piece : List ℕ) (at n : ℕ) → Appends a b (take at bytes)
+    → piece ≡ drop at bytes → Appends b c (take n piece) → Appends a c (take (at + n) bytes)
+appends_piece a b c bytes piece at n p e q =
+    rw (take-add at n bytes, ← e) (appends_more a b c (take at bytes) (take n piece) p q)
 
 pub consumes_nothing : (a : Option (List ℕ)) → Consumes a a []
 consumes_nothing None = tt
@@ -40,10 +43,14 @@ appends_nothing None = tt
 appends_nothing (Some xs) = sym (append-nil xs)
 
 -- the same of a slice
-pub appends_slice : (a b c : Option (List ℕ)) (bytes : List ℕ) (at n next : ℕ) → next ≡ at + n → Appends a b (take at bytes) → Appends b c (take n (take (length bytes - at) (drop at bytes))) → Appends a c (take next bytes)
+pub appends_slice : (a b c : Option (List ℕ)) (bytes : List ℕ) (at n next : ℕ) → next ≡ at + n
+    → Appends a b (take at bytes) → Appends b c (take n (take (length bytes - at) (drop at bytes)))
+    → Appends a c (take next bytes)
 appends_slice a b c bytes at n next e p q =
-    let whole : take (length bytes - at) (drop at bytes) ≡ drop at bytes = take_all (length bytes - at) (drop at bytes) (omega (arith, length-drop at bytes)) in
+    let whole : take (length bytes - at) (drop at bytes) ≡ drop at bytes =
+    take_all (length bytes - at) (drop at bytes) (omega (arith, length-drop at bytes)) in
     rw e (appends_piece a b c bytes (drop at bytes) at n p refl (rw whole at q))
 
-pub appends_still : (a b c : Option (List ℕ)) (bytes : List ℕ) (at next : ℕ) → next ≡ at → Appends a b (take at bytes) → Keeps b c → Appends a c (take next bytes)
+pub appends_still : (a b c : Option (List ℕ)) (bytes : List ℕ) (at next : ℕ) → next ≡ at → Appends a b (take at bytes)
+    → Keeps b c → Appends a c (take next bytes)
 appends_still a b c bytes at next e p q = rw e (appends_kept a b c (take at bytes) p q)

@@ -1,5 +1,6 @@
 -- Where the head of a request ends.
-use Rattle.std.specs.Prelude.{ℕ, ◌+◌, Bool, true, false, ◌&&◌, List, [], ◌∷◌, Option, Some, None, take, ◌==◌, nat_lt, if◌then◌else◌}
+use Rattle.std.specs.Prelude.{ℕ, ◌+◌, Bool, true, false, ◌&&◌, List, [], ◌∷◌, Option, Some, None, take, ◌==◌, nat_lt}
+use Rattle.std.specs.Prelude.{if◌then◌else◌}
 use Rattle.http_head.specs.declared.framing.Line.{Line}
 use Rattle.http_head.specs.declared.framing.Line.TheVariants.{Fresh, Returned, Filled}
 use Rattle.http_head.specs.declared.framing.Scan.{Scan}

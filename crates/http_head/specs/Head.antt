@@ -1,5 +1,6 @@
 -- What the head of a request says, and which of the refusals it decides.
-use Rattle.std.specs.Prelude.{◌≡◌, ℕ, Bool, true, false, ◌&&◌, List, [], ◌∷◌, Option, Some, None, Result, Ok, Err, codes, length, map, ◌==◌, nat_lt, if◌then◌else◌}
+use Rattle.std.specs.Prelude.{◌≡◌, ℕ, Bool, true, false, ◌&&◌, List, [], ◌∷◌, Option, Some, None, Result, Ok, Err}
+use Rattle.std.specs.Prelude.{codes, length, map, ◌==◌, nat_lt, if◌then◌else◌}
 use Rattle.std.specs.List.{list_all}
 use Rattle.std.specs.Char.{is_ascii_digit, to_ascii_lowercase}
 use Rattle.std.specs.Str.{bytes_eq}
@@ -7,7 +8,8 @@ use Rattle.std.specs.Str.Parse.{digits_value}
 use Rattle.httparse.specs.Grammar.{RequestHead, ReadsRequest}
 use Rattle.httparse.specs.Spans.{name_and_value}
 use Rattle.http_head.specs.declared.refusals.HeadRefusal.{HeadRefusal}
-use Rattle.http_head.specs.declared.refusals.HeadRefusal.TheVariants.{HeadTooLong, BadHead, BadHost, NotImplemented, NoLength, TooLong}
+use Rattle.http_head.specs.declared.refusals.HeadRefusal.TheVariants.{HeadTooLong, BadHead, BadHost, NotImplemented}
+use Rattle.http_head.specs.declared.refusals.HeadRefusal.TheVariants.{NoLength, TooLong}
 
 -- ---- fields
 
@@ -103,7 +105,8 @@ body_length method (Some n) = if nat_lt body_limit n then Err TooLong else Ok n
 -- the head's parts, with the length of the body
 abbrev pub outline_with : List ℕ → List ℕ → Fields → Result ℕ HeadRefusal → Result Outline HeadRefusal
 outline_with method target fields (Err refusal) = Err refusal
-outline_with method target fields (Ok n) = Ok (record { method = method; target = target; key = only (stands (codes "Member-Key") fields); length = n })
+outline_with method target fields (Ok n) =
+    Ok (record { method = method; target = target; key = only (stands (codes "Member-Key") fields); length = n })
 
 -- the refusals behind that of Content-Length, in their order
 abbrev pub outline_behind : List ℕ → List ℕ → ℕ → Fields → Result (Option ℕ) HeadRefusal → Result Outline HeadRefusal
@@ -115,12 +118,14 @@ outline_behind method target minor fields (Ok named) =
     else Err NotImplemented) else Err BadHost
 
 abbrev pub outline_from : List ℕ → List ℕ → ℕ → Fields → Result Outline HeadRefusal
-outline_from method target minor fields = outline_behind method target minor fields (named_length (stands (codes "Content-Length") fields))
+outline_from method target minor fields =
+    outline_behind method target minor fields (named_length (stands (codes "Content-Length") fields))
 
 -- what a head gives, or the first refusal that it decides
 abbrev pub outline_of : ℕ → Option RequestHead → Result Outline HeadRefusal
 outline_of lines None = if nat_lt line_limit lines then Err HeadTooLong else Err BadHead
-outline_of lines (Some h) = if nat_lt line_limit lines then Err HeadTooLong else outline_from h.method h.target h.minor (fields_of h)
+outline_of lines (Some h) = if nat_lt line_limit lines then Err HeadTooLong else outline_from h.method h.target h.minor
+    (fields_of h)
 
 -- the bytes are this head as `httparse` reads it, all of them, or they are none
 abbrev pub IsHead : List ℕ → Option RequestHead → Type 0

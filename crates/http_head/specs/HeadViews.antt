@@ -12,7 +12,8 @@ stands_view (Once value) = once value.now
 stands_view Twice = twice
 
 abbrev pub outline_view : code.Outline → Outline
-outline_view o = record { method = o.method.now; target = o.target.now; key = option_map (λ k. k.now) o.key; length = o.length }
+outline_view o =
+    record { method = o.method.now; target = o.target.now; key = option_map (λ k. k.now) o.key; length = o.length }
 
 abbrev pub outline_result : Result code.Outline HeadRefusal → Result Outline HeadRefusal
 outline_result (Ok o) = Ok (outline_view o)

@@ -1,7 +1,8 @@
 -- The numbers, names and statuses of what is refused by a head.
 use Rattle.std.specs.Prelude.{ℕ, List, codes}
 use Rattle.http_head.specs.declared.refusals.HeadRefusal.{HeadRefusal}
-use Rattle.http_head.specs.declared.refusals.HeadRefusal.TheVariants.{HeadTooLong, BadHead, BadHost, NotImplemented, NoLength, TooLong}
+use Rattle.http_head.specs.declared.refusals.HeadRefusal.TheVariants.{HeadTooLong, BadHead, BadHost, NotImplemented}
+use Rattle.http_head.specs.declared.refusals.HeadRefusal.TheVariants.{NoLength, TooLong}
 
 abbrev pub head_number : HeadRefusal → ℕ
 head_number HeadTooLong = 86

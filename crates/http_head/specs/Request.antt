@@ -1,5 +1,6 @@
 -- What the bytes of a connection amount to, so far as they have come.
-use Rattle.std.specs.Prelude.{◌≡◌, ℕ, Bool, ◌||◌, ◌==◌, codes, List, [], ◌∷◌, Option, Some, None, Result, Ok, Err, length, take, drop, nat_lt, if◌then◌else◌}
+use Rattle.std.specs.Prelude.{◌≡◌, ℕ, Bool, ◌||◌, ◌==◌, codes, List, [], ◌∷◌, Option, Some, None, Result, Ok, Err}
+use Rattle.std.specs.Prelude.{length, take, drop, nat_lt, if◌then◌else◌}
 use Rattle.std.specs.Str.{bytes_eq}
 use Rattle.httparse.specs.Grammar.{RequestHead}
 use Rattle.http_head.specs.declared.refusals.HeadRefusal.{HeadRefusal}
@@ -23,7 +24,8 @@ pub data Seen : Type 0 where
 -- the body is what stands behind the head, as long as the head says
 abbrev pub body_seen : List ℕ → Result Outline HeadRefusal → Seen
 body_seen behind (Err refusal) = refused refusal
-body_seen behind (Ok o) = if nat_lt (length behind) o.length then unfinished else whole (record { method = o.method; target = o.target; key = o.key; body = take o.length behind })
+body_seen behind (Ok o) = if nat_lt (length behind) o.length then unfinished else whole
+    (record { method = o.method; target = o.target; key = o.key; body = take o.length behind })
 
 abbrev pub seen_after : List ℕ → Option (ℕ × ℕ) → Option RequestHead → Seen
 seen_after bytes None read = if nat_lt head_limit (length bytes) then refused HeadTooLong else unfinished

@@ -6,7 +6,8 @@ use Rattle.http_head.specs.declared.request.Seen.TheVariants.{Unfinished, Refuse
 use Rattle.http_head.specs.Request as spec
 
 abbrev pub request_view : code.Request → spec.Request
-request_view r = record { method = r.method.now; target = r.target.now; key = option_map (λ k. k.now) r.key; body = r.body.now }
+request_view r =
+    record { method = r.method.now; target = r.target.now; key = option_map (λ k. k.now) r.key; body = r.body.now }
 
 abbrev pub seen_view : Seen → spec.Seen
 seen_view Unfinished = spec.unfinished

@@ -1,12 +1,14 @@
 //! What the head of a request says.
-ghost use Rattle.std.specs.Prelude.{◌≡◌, ◌≤◌, ◌+◌, ◌<◌, ℕ, List, [], length, map, Some, None, true, All, Option, option_map};
+ghost use Rattle.std.specs.Prelude.{◌≡◌, ◌≤◌, ◌+◌, ◌<◌, ℕ, List, [], length, map, Some, None, true, All, Option};
+ghost use Rattle.std.specs.Prelude.{option_map};
 ghost use Rattle.std.specs.List.{list_all};
 ghost use Rattle.std.specs.Char.{is_ascii_digit};
 ghost use Rattle.std.specs.Str.Parse.{digits_value};
 ghost use Rattle.httparse.specs.Grammar.{RequestHead};
 ghost use Rattle.httparse.specs.Spans.{IsWithin, IsHeaderWithin, span_bytes, header_bytes};
 ghost use Rattle.http_head.specs.Framing.{scan_start, end_from};
-ghost use Rattle.http_head.specs.Head.{is_name, stands, is_number, number_of, named_length, has_good_host, is_absent, only, body_length, outline_from, outline_of, IsReadAs};
+ghost use Rattle.http_head.specs.Head.{is_name, stands, is_number, number_of, named_length, has_good_host, is_absent};
+ghost use Rattle.http_head.specs.Head.{only, body_length, outline_from, outline_of, IsReadAs};
 ghost use Rattle.http_head.specs.HeadViews.{stands_view, outline_result};
 
 use crate::refusals::HeadRefusal;
@@ -175,7 +177,8 @@ fn outline_from<'b>(
     requires method { IsWithin (length head.now) found.now.method }
     requires target { IsWithin (length head.now) found.now.path }
     requires fields { All (IsHeaderWithin (length head.now)) spans.now }
-    ensures { outline_result result ≡ outline_from (span_bytes head.now found.now.method) (span_bytes head.now found.now.path)
+    ensures { outline_result result ≡ outline_from (span_bytes head.now found.now.method)
+        (span_bytes head.now found.now.path)
         found.now.version (map (header_bytes head.now) spans.now) }
 {
     let named = named_length(field(head, spans, b"Content-Length"))?;

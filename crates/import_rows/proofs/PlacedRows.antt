@@ -1,5 +1,6 @@
 -- Rows that have their places, from 1, in a column; the rows of a game's moves are such.
-use Rattle.std.proofs.Common.{◌≡◌, ℕ, zero, suc, ◌+◌, List, [], ◌∷◌, ◌++◌, length, pos, Option, Some, None, refl, ap, sym, subst, ◌∙◌, arith, inl, inr, length-append}
+use Rattle.std.proofs.Common.{◌≡◌, ℕ, zero, suc, ◌+◌, List, [], ◌∷◌, ◌++◌, length, pos, Option, Some, None, refl, ap}
+use Rattle.std.proofs.Common.{sym, subst, ◌∙◌, arith, inl, inr, length-append}
 use Rattle.std.specs.Prelude.{slice_get}
 use Rattle.sqlite.specs.Order.{Row, column}
 use Rattle.sqlite_rules.specs.Lists.{Has}
@@ -13,7 +14,8 @@ use Rattle.store_tables.specs.Changes.{HaveSame}
 pos_same : (m n : ℕ) → pos m ≡ pos n → m ≡ n
 pos_same m n is = cc
 
-pub same_list : (xs ys : List Row) → ((n : ℕ) (z : Row) → slice_get xs n ≡ Some z → slice_get ys n ≡ Some z) → ((n : ℕ) (z : Row) → slice_get ys n ≡ Some z → slice_get xs n ≡ Some z) → xs ≡ ys
+pub same_list : (xs ys : List Row) → ((n : ℕ) (z : Row) → slice_get xs n ≡ Some z → slice_get ys n ≡ Some z)
+    → ((n : ℕ) (z : Row) → slice_get ys n ≡ Some z → slice_get xs n ≡ Some z) → xs ≡ ys
 same_list [] [] there back = refl
 same_list [] (y ∷ ys) there back = let none : ◌≡◌ {A = Option Row} None (Some y) = back 0 y refl in cc
 same_list (x ∷ xs) [] there back = let none : ◌≡◌ {A = Option Row} None (Some x) = there 0 x refl in cc
@@ -32,7 +34,8 @@ had_at (x ∷ xs) z (inr h) = let (n, at) = had_at xs z h in (suc n, at)
 abbrev pub AreAtPlaces : ℕ → List Row → Type 0
 AreAtPlaces at xs = (n : ℕ) (z : Row) → slice_get xs n ≡ Some z → column z at ≡ number (1 + n)
 
-placed_same : (at : ℕ) (xs ys : List Row) → AreAtPlaces at xs → AreAtPlaces at ys → ((z : Row) → Has xs z → Has ys z) → (n : ℕ) (z : Row) → slice_get xs n ≡ Some z → slice_get ys n ≡ Some z
+placed_same : (at : ℕ) (xs ys : List Row) → AreAtPlaces at xs → AreAtPlaces at ys → ((z : Row) → Has xs z → Has ys z)
+    → (n : ℕ) (z : Row) → slice_get xs n ≡ Some z → slice_get ys n ≡ Some z
 placed_same at xs ys places others same n z stands =
     let (k, there) = had_at ys z (same z (has_got xs n z stands)) in
     let e : pos (1 + k) ≡ pos (1 + n) = number_same (1 + k) (1 + n) (sym (others k z there) ∙ places n z stands) in
@@ -48,7 +51,8 @@ one_line at xs ys places others same =
     same_list xs ys (placed_same at xs ys places others same.there) (placed_same at ys xs others places same.back)
 
 module _ {P M E T : Type 0} (rules : GameRules P M E T) (terms : Terms) (id : ℕ) where
-  pub entry_rows_at : (game : Game M) (es : List (Entry M)) (n : ℕ) (z : Row) → slice_get (entry_rows rules terms id game es) n ≡ Some z → column z 1 ≡ number (length game.entries + (1 + n))
+  pub entry_rows_at : (game : Game M) (es : List (Entry M)) (n : ℕ) (z : Row)
+      → slice_get (entry_rows rules terms id game es) n ≡ Some z → column z 1 ≡ number (length game.entries + (1 + n))
   entry_rows_at game [] n z at = cc
   entry_rows_at game (e ∷ es) zero z at =
       let is : entry_row rules terms id game e ≡ z = cc in

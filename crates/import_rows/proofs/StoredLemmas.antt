@@ -1,5 +1,6 @@
 -- What was played in a game, by its rows.
-use Rattle.std.proofs.Common.{◌≡◌, ℕ, ◌≤◌, List, length, map, take, pos, ℤ, Option, Some, None, refl, sym, ap, subst, ◌∙◌}
+use Rattle.std.proofs.Common.{◌≡◌, ℕ, ◌≤◌, List, length, map, take, pos, ℤ, Option, Some, None, refl, sym, ap, subst}
+use Rattle.std.proofs.Common.{◌∙◌}
 use Rattle.std.specs.Prelude.{string_bytes}
 use Rattle.std.specs.declared.alloc.Global.{Global}
 use Rattle.std.specs.declared.string.String.{String}
@@ -30,8 +31,10 @@ same-text a b is = cc
 same-int : (a b : ℤ) → ◌≡◌ {A = Value} (Int a) (Int b) → a ≡ b
 same-int a b is = cc
 
-module _ {P M E T : Type 0} (rules : GameRules P M E T) (terms : Terms) (id : ℕ) (row : GameRecord) (game : Game M) (is : game_cells row ≡ game_row rules terms id game) where
-  result-column : or_null (λ s. Text (string_bytes s)) row.result ≡ or_null (λ score. Text (score_text score)) (result_of rules game)
+module _ {P M E T : Type 0} (rules : GameRules P M E T) (terms : Terms) (id : ℕ) (row : GameRecord) (game : Game M)
+    (is : game_cells row ≡ game_row rules terms id game) where
+  result-column : or_null (λ s. Text (string_bytes s)) row.result
+      ≡ or_null (λ score. Text (score_text score)) (result_of rules game)
   result-column = ap (λ w. column w 13) is
 
   pub start-column : row.start ≡ pos game.start
@@ -47,8 +50,10 @@ module _ {P M E T : Type 0} (rules : GameRules P M E T) (terms : Terms) (id : �
       go None same = refl
       go (Some score) same = cc
 
-  pub some-result : (text : String Global) (found : Option Score) → row.result ≡ Some text → ((score : Score) → string_bytes text ≡ score_text score → found ≡ Some score) → found ≡ result_of rules game
-  some-result text found some read = go (result_of rules game) (sym (ap (or_null (λ s. Text (string_bytes s))) some) ∙ result-column)
+  pub some-result : (text : String Global) (found : Option Score) → row.result ≡ Some text
+      → ((score : Score) → string_bytes text ≡ score_text score → found ≡ Some score) → found ≡ result_of rules game
+  some-result text found some read = go (result_of rules game)
+      (sym (ap (or_null (λ s. Text (string_bytes s))) some) ∙ result-column)
     where
       go : (o : Option Score) → Text (string_bytes text) ≡ or_null (λ score. Text (score_text score)) o → found ≡ o
       go None same = cc
@@ -56,21 +61,30 @@ module _ {P M E T : Type 0} (rules : GameRules P M E T) (terms : Terms) (id : �
 
 module _ {P M E T : Type 0} (rules : GameRules P M E T) (terms : Terms) (id from : ℕ) (rows : List MoveRow) where
   -- the game of a record has these rows from its start on
-  pub is-played : (row : GameRecord) (game : Game M) → IsRecordOf rules terms id row game → game.start ≡ from → map move_cells rows ≡ move_rows rules terms id game → IsPlayedAs rules terms id from rows game
-  is-played row game of start moves = record { legal = of.legal; start = start; moments = of.fits.entries; moves = moves }
+  pub is-played : (row : GameRecord) (game : Game M) → IsRecordOf rules terms id row game → game.start ≡ from
+      → map move_cells rows ≡ move_rows rules terms id game → IsPlayedAs rules terms id from rows game
+  is-played row game of start moves =
+      record { legal = of.legal; start = start; moments = of.fits.entries; moves = moves }
 
 module _ {R P M E T : Type 0} (rules : GameRules P M E T) (terms : Terms) (id from : ℕ) (rows : List MoveRow) where
   -- rows that are the game's, in the order in which they were replayed
-  pub rows-are : (replayed : Replayed R P M E T) (game : Game M) → WasReplayed rules terms id from rows (length rows) replayed → HaveSame (map move_cells rows) (move_rows rules terms id game) → map move_cells rows ≡ move_rows rules terms id game
+  pub rows-are : (replayed : Replayed R P M E T) (game : Game M)
+      → WasReplayed rules terms id from rows (length rows) replayed
+      → HaveSame (map move_cells rows) (move_rows rules terms id game)
+      → map move_cells rows ≡ move_rows rules terms id game
   rows-are replayed game was same =
-      let shown : map move_cells rows ≡ move_rows rules terms id (game_from from was.entries) = ap (map move_cells) (sym (take-length rows)) ∙ was.played.moves in
+      let shown : map move_cells rows ≡ move_rows rules terms id (game_from from was.entries) =
+      ap (map move_cells) (sym (take-length rows)) ∙ was.played.moves in
       one_line 1 (map move_cells rows) (move_rows rules terms id game)
       (subst (AreAtPlaces 1) (sym shown) (moves-placed rules terms id (game_from from was.entries)))
       (moves-placed rules terms id game) same
 
   -- what was replayed from all rows are the game's moves
-  pub line-is : (replayed : Replayed R P M E T) (game : Game M) → WasReplayed rules terms id from rows (length rows) replayed → IsPlayedAs rules terms id from rows game → replayed.line.items ≡ moves_of game
+  pub line-is : (replayed : Replayed R P M E T) (game : Game M)
+      → WasReplayed rules terms id from rows (length rows) replayed → IsPlayedAs rules terms id from rows game
+      → replayed.line.items ≡ moves_of game
   line-is replayed game was is =
       let count : length rows ≡ length game.entries = played-count rules terms id from rows game is in
-      let all : game.entries ≡ was.entries = sym (take-length game.entries) ∙ ap (λ n. take n game.entries) (sym count) ∙ was.only game is in
+      let all : game.entries ≡ was.entries = sym (take-length game.entries) ∙ ap (λ n. take n game.entries) (sym count)
+      ∙ was.only game is in
       was.replays.line ∙ ap (λ l. map (λ e. e.made) l) (sym all)

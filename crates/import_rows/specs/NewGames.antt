@@ -9,7 +9,8 @@ use Rattle.store_tables.specs.Cells.{game_cells, move_cells, seen_cells}
 use Rattle.import_rows.specs.declared.added.NewRows.{NewRows}
 
 -- the rows are those of this game, which has this id, in the tables of games, of moves and of positions
-pub record AreNewRows {P M E T : Type 0} (rules : GameRules P M E T) (terms : Terms) (id : ℕ) (game : Game M) (new : NewRows) : Type 0 where
+pub record AreNewRows {P M E T : Type 0} (rules : GameRules P M E T) (terms : Terms) (id : ℕ) (game : Game M)
+    (new : NewRows) : Type 0 where
   pub game_is : game_cells new.game ≡ game_row rules terms id game
   pub moves_are : map move_cells new.moves.items ≡ move_rows rules terms id game
   pub seen_are : map seen_cells new.seen.items ≡ seen_rows rules id game

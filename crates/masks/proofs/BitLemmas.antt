@@ -1,5 +1,7 @@
 -- Single bits of words. Nothing here names a width but where the code's own words do.
-use Rattle.std.proofs.Common.{◌≡◌, ℕ, zero, suc, ◌+◌, ◌-◌, ◌*◌, ◌/◌, ◌%◌, ◌^◌, ◌<◌, ◌≤◌, Bool, true, false, cond, nat_eq, ◌||◌, ◌&&◌, not, min, max, ◌⊎◌, ◌≢◌, inl, inr, add_comm, refl, sym, ap, ◌∙◌, arith}
+use Rattle.std.proofs.Common.{◌≡◌, ℕ, zero, suc, ◌+◌, ◌-◌, ◌*◌, ◌/◌, ◌%◌, ◌^◌, ◌<◌, ◌≤◌, Bool, true, false, cond}
+use Rattle.std.proofs.Common.{nat_eq, ◌||◌, ◌&&◌, not, min, max, ◌⊎◌, ◌≢◌, inl, inr, add_comm, refl, sym, ap, ◌∙◌}
+use Rattle.std.proofs.Common.{arith}
 use Rattle.std.specs.Int.{bit_at, Width, bit_not, trailing_zeros}
 use mir.Val.{bits}
 use Rattle.std.specs.Int.Bits.{bit_and}
@@ -8,7 +10,10 @@ use Rattle.std.specs.Int.RustNames.{bit_or}
 use Rattle.std.proofs.lemmas.Bool.{cases_eq, cases_order}
 use Rattle.std.proofs.lemmas.Grind.{common_steps}
 use Rattle.std.proofs.lemmas.Nat.{pow_pos, shr_split, mod_below, ones_cat}
-use Rattle.std.proofs.lemmas.Nat.Bits.{shr_and_one, bit_at-lt, bit_at_and, bit_at_or, bit_at_not, bit_at-suc, bit_at_lowest, bit_at_set_same, bit_at_set_other, bit_at_clear_same, bit_at_clear_other, bit_at-trailing_zeros, bit_at_cat_low, bit_at_cat_high, same_from_bits, bit_at-zero, bit_at_above}
+use Rattle.std.proofs.lemmas.Nat.Bits.{shr_and_one, bit_at-lt, bit_at_and, bit_at_or, bit_at_not, bit_at-suc}
+use Rattle.std.proofs.lemmas.Nat.Bits.{bit_at_lowest, bit_at_set_same, bit_at_set_other, bit_at_clear_same}
+use Rattle.std.proofs.lemmas.Nat.Bits.{bit_at_clear_other, bit_at-trailing_zeros, bit_at_cat_low, bit_at_cat_high}
+use Rattle.std.proofs.lemmas.Nat.Bits.{same_from_bits, bit_at-zero, bit_at_above}
 use Rattle.masks.specs.Words.{has_bit, nat_eq_below, nat_eq_same}
 
 nat_eq_other : (n q : ℕ) → n ≢ q → nat_eq n q ≡ false
@@ -53,32 +58,41 @@ has_bit-zero k = ap (λ b. nat_eq b 1) (bit_at-zero k)
 
 pub has_bit-and : (a b k : ℕ) → has_bit (bit_and a b) k ≡ (has_bit a k && has_bit b k)
 unfolding has_bit
-has_bit-and a b k = ap (λ x. nat_eq x 1) (bit_at_and a b k) ∙ and_bit (bit_at a k) (bit_at b k) (bit_at-lt a k) (bit_at-lt b k)
+has_bit-and a b k = ap (λ x. nat_eq x 1) (bit_at_and a b k)
+    ∙ and_bit (bit_at a k) (bit_at b k) (bit_at-lt a k) (bit_at-lt b k)
 
 pub has_bit-or : (a b k : ℕ) → has_bit (bit_or a b) k ≡ (has_bit a k || has_bit b k)
 unfolding has_bit
-has_bit-or a b k = ap (λ x. nat_eq x 1) (bit_at_or a b k) ∙ or_bit (bit_at a k) (bit_at b k) (bit_at-lt a k) (bit_at-lt b k)
+has_bit-or a b k = ap (λ x. nat_eq x 1) (bit_at_or a b k)
+    ∙ or_bit (bit_at a k) (bit_at b k) (bit_at-lt a k) (bit_at-lt b k)
 
 pub has_bit-not : (w : Width) (a k : ℕ) → a < 2 ^ bits w → k < bits w → has_bit (bit_not w a) k ≡ not (has_bit a k)
 unfolding has_bit
 has_bit-not w a k h below = ap (λ x. nat_eq x 1) (bit_at_not w a k h below) ∙ not_bit (bit_at a k) (bit_at-lt a k)
 
 -- `w | 1 << j` and `w & !(1 << j)`
-pub has_bit-set : (w : Width) (a j k : ℕ) → j < bits w → has_bit (bit_or a (1 * 2 ^ j % 2 ^ bits w)) k ≡ (nat_eq k j || has_bit a k)
+pub has_bit-set : (w : Width) (a j k : ℕ) → j < bits w
+    → has_bit (bit_or a (1 * 2 ^ j % 2 ^ bits w)) k ≡ (nat_eq k j || has_bit a k)
 unfolding has_bit
 has_bit-set w a j k within =
     elim (cases_eq k j) [
-      | inl same ↦ ap (λ x. nat_eq x 1) (ap (bit_at (bit_or a (1 * 2 ^ j % 2 ^ bits w))) same ∙ bit_at_set_same w a j within) ∙ sym (ap (λ b. b || nat_eq (bit_at a k) 1) (nat_eq_same k j same))
-      | inr other ↦ ap (λ x. nat_eq x 1) (bit_at_set_other w a j within k other) ∙ sym (ap (λ b. b || nat_eq (bit_at a k) 1) (nat_eq_other k j other))
+      | inl same ↦
+          ap (λ x. nat_eq x 1) (ap (bit_at (bit_or a (1 * 2 ^ j % 2 ^ bits w))) same ∙ bit_at_set_same w a j within)
+          ∙ sym (ap (λ b. b || nat_eq (bit_at a k) 1) (nat_eq_same k j same))
+      | inr other ↦ ap (λ x. nat_eq x 1) (bit_at_set_other w a j within k other)
+          ∙ sym (ap (λ b. b || nat_eq (bit_at a k) 1) (nat_eq_other k j other))
     ]
 
-pub has_bit-clear : (w : Width) (a j k : ℕ) → j < bits w → k < bits w → has_bit (bit_and a (bit_not w (1 * 2 ^ j % 2 ^ bits w))) k ≡ (not (nat_eq k j) && has_bit a k)
+pub has_bit-clear : (w : Width) (a j k : ℕ) → j < bits w → k < bits w
+    → has_bit (bit_and a (bit_not w (1 * 2 ^ j % 2 ^ bits w))) k ≡ (not (nat_eq k j) && has_bit a k)
 unfolding has_bit
 has_bit-clear w a j k within below =
     elim (cases_eq k j) [
       | inl same ↦
-          ap (λ x. nat_eq x 1) (ap (bit_at (bit_and a (bit_not w (1 * 2 ^ j % 2 ^ bits w)))) same ∙ bit_at_clear_same w a j within) ∙ sym (ap (λ b. not b && nat_eq (bit_at a k) 1) (nat_eq_same k j same))
-      | inr other ↦ ap (λ x. nat_eq x 1) (bit_at_clear_other w a j within k below other) ∙ sym (ap (λ b. not b && nat_eq (bit_at a k) 1) (nat_eq_other k j other))
+          ap (λ x. nat_eq x 1) (ap (bit_at (bit_and a (bit_not w (1 * 2 ^ j % 2 ^ bits w)))) same
+          ∙ bit_at_clear_same w a j within) ∙ sym (ap (λ b. not b && nat_eq (bit_at a k) 1) (nat_eq_same k j same))
+      | inr other ↦ ap (λ x. nat_eq x 1) (bit_at_clear_other w a j within k below other)
+          ∙ sym (ap (λ b. not b && nat_eq (bit_at a k) 1) (nat_eq_other k j other))
     ]
 
 -- the lowest bit of a word that is not 0
@@ -101,10 +115,13 @@ module _ (w t q : ℕ) (is : w ≡ (2 * q + 1) * 2 ^ t + 0) where
   high_less : (k : ℕ) → t ≤ k → bit_at (w - 1) k ≡ bit_at (2 * q) (k - t)
   high_less k h = ap (λ v. bit_at v k) less_one ∙ bit_at_cat_high (2 * q) t (2 ^ t - 1) k (omega (arith, pow_pos t)) h
 
-  clears_at : (k : ℕ) → ((k ≡ t) ⊎ ((k < t) ⊎ (t < k))) → has_bit (bit_and w (w - 1)) k ≡ (not (nat_eq k t) && has_bit w k)
+  clears_at : (k : ℕ) → ((k ≡ t) ⊎ ((k < t) ⊎ (t < k)))
+      → has_bit (bit_and w (w - 1)) k ≡ (not (nat_eq k t) && has_bit w k)
   unfolding has_bit
   clears_at k (inl same) =
-      let none : bit_at (w - 1) k ≡ 0 = let at_zero : k - t ≡ 0 = omega arith in let even : (2 * q) % 2 ≡ 0 = omega arith in high_less k (omega arith) ∙ ap (bit_at (2 * q)) at_zero ∙ bit_at_lowest (2 * q) ∙ even in
+      let none : bit_at (w - 1) k ≡ 0 = let at_zero : k - t ≡ 0 = omega arith in
+      let even : (2 * q) % 2 ≡ 0 = omega arith in
+      high_less k (omega arith) ∙ ap (bit_at (2 * q)) at_zero ∙ bit_at_lowest (2 * q) ∙ even in
       has_bit-and w (w - 1) k ∙ ap (λ b. nat_eq (bit_at w k) 1 && nat_eq b 1) none ∙ and_false (nat_eq (bit_at w k) 1)
       ∙ sym (ap (λ b. not b && nat_eq (bit_at w k) 1) (nat_eq_same k t same))
   clears_at k (inr (inl below)) =
@@ -115,7 +132,8 @@ module _ (w t q : ℕ) (is : w ≡ (2 * q + 1) * 2 ^ t + 0) where
       let next : k - t ≡ suc j = omega arith in
       let halves : (2 * q) / 2 ≡ (2 * q + 1) / 2 = omega arith in
       let kept : bit_at (w - 1) k ≡ bit_at w k =
-      high_less k (omega arith) ∙ ap (bit_at (2 * q)) next ∙ bit_at-suc (2 * q) j ∙ ap (λ v. bit_at v j) halves ∙ sym (high k (omega arith) ∙ ap (bit_at (2 * q + 1)) next ∙ bit_at-suc (2 * q + 1) j) in
+      high_less k (omega arith) ∙ ap (bit_at (2 * q)) next ∙ bit_at-suc (2 * q) j ∙ ap (λ v. bit_at v j) halves
+      ∙ sym (high k (omega arith) ∙ ap (bit_at (2 * q + 1)) next ∙ bit_at-suc (2 * q + 1) j) in
       has_bit-and w (w - 1) k ∙ ap (λ b. nat_eq (bit_at w k) 1 && nat_eq b 1) kept ∙ and_itself (nat_eq (bit_at w k) 1)
       ∙ sym (ap (λ b. not b && nat_eq (bit_at w k) 1) (nat_eq_below k t above))
 
@@ -127,8 +145,10 @@ module _ (w t : ℕ) (one : bit_at w t ≡ 1) (none : (k : ℕ) → k < t → bi
   rest-bit : (k : ℕ) → ((k ≡ t) ⊎ ((k < t) ⊎ (t < k))) → bit_at rest k ≡ bit_at 0 k
   rest-bit k (inl same) = bit_at_above rest t k (mod_below w (2 ^ t) (pow_pos t)) (omega arith) ∙ sym (bit_at-zero k)
   rest-bit k (inr (inl below)) =
-      sym (bit_at_cat_low (w / 2 ^ t) t rest k below) ∙ ap (λ v. bit_at v k) (shr_split w t) ∙ none k below ∙ sym (bit_at-zero k)
-  rest-bit k (inr (inr above)) = bit_at_above rest t k (mod_below w (2 ^ t) (pow_pos t)) (omega arith) ∙ sym (bit_at-zero k)
+      sym (bit_at_cat_low (w / 2 ^ t) t rest k below) ∙ ap (λ v. bit_at v k) (shr_split w t) ∙ none k below
+      ∙ sym (bit_at-zero k)
+  rest-bit k (inr (inr above)) = bit_at_above rest t k (mod_below w (2 ^ t) (pow_pos t)) (omega arith)
+      ∙ sym (bit_at-zero k)
 
   no_rest : rest ≡ 0
   no_rest = same_from_bits rest 0 (λ k. rest-bit k (cases_order k t))
@@ -184,4 +204,5 @@ pub ones_halved : (w : ℕ) → cond (nat_eq (w % 2) 1) 1 0 + ones (w / 2) ≡ o
 ones_halved w =
     let below : w % 2 < 2 = omega arith in
     let parts : (w / 2) * 2 ^ 1 + w % 2 ≡ w = omega arith in
-    ap (λ k. k + ones (w / 2)) (ones_of (w % 2) below) ∙ add_comm (ones (w % 2)) (ones (w / 2)) ∙ sym (ones_cat 1 (w / 2) (w % 2) below) ∙ ap ones parts
+    ap (λ k. k + ones (w / 2)) (ones_of (w % 2) below) ∙ add_comm (ones (w % 2)) (ones (w / 2))
+    ∙ sym (ones_cat 1 (w / 2) (w % 2) below) ∙ ap ones parts

@@ -1,5 +1,6 @@
 -- Sets of numbers kept in the bits of a word: bit k stands for the number `first + k`.
-use Rattle.std.proofs.Common.{◌≡◌, ℕ, zero, suc, ◌+◌, ◌-◌, ◌*◌, ◌%◌, ◌^◌, ◌<◌, ◌≤◌, Bool, true, false, cond, nat_eq, ◌||◌, ◌⊎◌, inl, inr, Option, Some, None, List, [], ◌∷◌, refl, sym, ap, ◌∙◌, arith}
+use Rattle.std.proofs.Common.{◌≡◌, ℕ, zero, suc, ◌+◌, ◌-◌, ◌*◌, ◌%◌, ◌^◌, ◌<◌, ◌≤◌, Bool, true, false, cond, nat_eq}
+use Rattle.std.proofs.Common.{◌||◌, ◌⊎◌, inl, inr, Option, Some, None, List, [], ◌∷◌, refl, sym, ap, ◌∙◌, arith}
 use Rattle.std.specs.Int.{bit_at}
 use Rattle.std.specs.Ordering.{nat_cmp}
 use Rattle.std.specs.FinSet as set
@@ -20,7 +21,8 @@ has_bit w k = nat_eq (bit_at w k) 1
 -- of so many numbers from `first` on, those that pass the test, in ascending order
 unfoldable pub passing : (ℕ → Bool) → ℕ → ℕ → List ℕ
 passing test first zero = []
-passing test first (suc count) = cond (test first) (first ∷ passing test (suc first) count) (passing test (suc first) count)
+passing test first (suc count) = cond (test first) (first ∷ passing test (suc first) count)
+    (passing test (suc first) count)
 
 -- the numbers of a set in ascending order, where all are among so many from `first` on
 unfoldable pub ascending : ℕ → ℕ → Numbers → List ℕ
@@ -38,7 +40,8 @@ word_of first (suc count) s = cond (set.contains s (first + count)) 1 0 * 2 ^ co
 -- what taking the least number out of a set answers and leaves
 abbrev pub Pops : ℕ → ℕ → Numbers → Option ℕ → Numbers → Type 0
 Pops first count before None after = (before ≡ set.empty) × (ascending first count before ≡ []) × (after ≡ before)
-Pops first count before (Some n) after = (ascending first count before ≡ n ∷ ascending first count after) × (after ≡ set.remove before n) × (first ≤ n) × (n < first + count) × (set.contains before n ≡ true)
+Pops first count before (Some n) after = (ascending first count before ≡ n ∷ ascending first count after)
+    × (after ≡ set.remove before n) × (first ≤ n) × (n < first + count) × (set.contains before n ≡ true)
 
 -- the least number of a set, if it has any
 abbrev pub IsLeast : Numbers → Option ℕ → Type 0
@@ -65,36 +68,47 @@ module _ (test : ℕ → Bool) where
   unfolding passing
   passing-below first zero q h = refl
   passing-below first (suc count) q h =
-      elim (test first) as (λ b. list_any (λ y. nat_eq y q) (cond b (first ∷ passing test (suc first) count) (passing test (suc first) count)) ≡ false) [
-        | true ↦ ap (λ b. b || list_any (λ y. nat_eq y q) (passing test (suc first) count)) (nat_eq_below first q h) ∙ passing-below (suc first) count q (omega arith)
+      elim (test first) as (λ b. list_any (λ y. nat_eq y q)
+      (cond b (first ∷ passing test (suc first) count) (passing test (suc first) count)) ≡ false) [
+        | true ↦ ap (λ b. b || list_any (λ y. nat_eq y q) (passing test (suc first) count)) (nat_eq_below first q h)
+            ∙ passing-below (suc first) count q (omega arith)
         | false ↦ passing-below (suc first) count q (omega arith)
       ]
 
-  pub passing-at : (first count q : ℕ) → first ≤ q → q < first + count → list_any (λ y. nat_eq y q) (passing test first count) ≡ test q
+  pub passing-at : (first count q : ℕ) → first ≤ q → q < first + count
+      → list_any (λ y. nat_eq y q) (passing test first count) ≡ test q
   unfolding passing
   passing-at first zero q h below = absurd (omega arith)
   passing-at first (suc count) q h below =
       let rest = list_any (λ y. nat_eq y q) (passing test (suc first) count) in
       elim (cases_eq first q) [
         | inl same ↦
-            elim (test first) as (λ b. test first ≡ b → list_any (λ y. nat_eq y q) (cond b (first ∷ passing test (suc first) count) (passing test (suc first) count)) ≡ test q) [
+            elim (test first) as (λ b. test first ≡ b
+            →
+            list_any (λ y. nat_eq y q)
+            (cond b (first ∷ passing test (suc first) count) (passing test (suc first) count)) ≡ test q) [
               | true ↦ λ is. ap (λ b. b || rest) (nat_eq_same first q same) ∙ sym is ∙ ap test same
               | false ↦ λ is. passing-below (suc first) count q (omega arith) ∙ sym is ∙ ap test same
             ] refl
         | inr other ↦
-            elim (test first) as (λ b. list_any (λ y. nat_eq y q) (cond b (first ∷ passing test (suc first) count) (passing test (suc first) count)) ≡ test q) [
-              | true ↦ ap (λ b. b || rest) (nat_eq_above first q (omega arith)) ∙ passing-at (suc first) count q (omega arith) (omega arith)
+            elim (test first) as (λ b. list_any (λ y. nat_eq y q)
+            (cond b (first ∷ passing test (suc first) count) (passing test (suc first) count)) ≡ test q) [
+              | true ↦ ap (λ b. b || rest) (nat_eq_above first q (omega arith))
+                  ∙ passing-at (suc first) count q (omega arith) (omega arith)
               | false ↦ passing-at (suc first) count q (omega arith) (omega arith)
             ]
       ]
 
-  pub passing-past : (first count q : ℕ) → first + count ≤ q → list_any (λ y. nat_eq y q) (passing test first count) ≡ false
+  pub passing-past : (first count q : ℕ) → first + count ≤ q
+      → list_any (λ y. nat_eq y q) (passing test first count) ≡ false
   unfolding passing
   passing-past first zero q h = refl
   passing-past first (suc count) q h =
       let rest = list_any (λ y. nat_eq y q) (passing test (suc first) count) in
-      elim (test first) as (λ b. list_any (λ y. nat_eq y q) (cond b (first ∷ passing test (suc first) count) (passing test (suc first) count)) ≡ false) [
-        | true ↦ ap (λ b. b || rest) (nat_eq_above first q (omega arith)) ∙ passing-past (suc first) count q (omega arith)
+      elim (test first) as (λ b. list_any (λ y. nat_eq y q)
+      (cond b (first ∷ passing test (suc first) count) (passing test (suc first) count)) ≡ false) [
+        | true ↦ ap (λ b. b || rest) (nat_eq_above first q (omega arith))
+            ∙ passing-past (suc first) count q (omega arith)
         | false ↦ passing-past (suc first) count q (omega arith)
       ]
 
@@ -102,17 +116,21 @@ module _ (test : ℕ → Bool) where
 module _ (first count w : ℕ) (h : w < 2 ^ count) where
   pub contains_below : (q : ℕ) → q < first → set.contains (set_of_word first count w) q ≡ false
   unfolding set_of_word
-  contains_below q below = set.contains-from_list_nat (passing (λ n. has_bit w (n - first)) first count) q ∙ passing-below (λ n. has_bit w (n - first)) first count q below
+  contains_below q below = set.contains-from_list_nat (passing (λ n. has_bit w (n - first)) first count) q
+      ∙ passing-below (λ n. has_bit w (n - first)) first count q below
 
   pub has_bit_above : (k : ℕ) → count ≤ k → has_bit w k ≡ false
   unfolding has_bit
   has_bit_above k above = ap (λ b. nat_eq b 1) (bit_at_above w count k h above)
 
-  contains_from : (q : ℕ) → first ≤ q → ((q < first + count) ⊎ (first + count ≤ q)) → set.contains (set_of_word first count w) q ≡ has_bit w (q - first)
+  contains_from : (q : ℕ) → first ≤ q → ((q < first + count) ⊎ (first + count ≤ q))
+      → set.contains (set_of_word first count w) q ≡ has_bit w (q - first)
   unfolding set_of_word
-  contains_from q from (inl inside) = set.contains-from_list_nat (passing (λ n. has_bit w (n - first)) first count) q ∙ passing-at (λ n. has_bit w (n - first)) first count q from inside
+  contains_from q from (inl inside) = set.contains-from_list_nat (passing (λ n. has_bit w (n - first)) first count) q
+      ∙ passing-at (λ n. has_bit w (n - first)) first count q from inside
   contains_from q from (inr past) =
-      set.contains-from_list_nat (passing (λ n. has_bit w (n - first)) first count) q ∙ passing-past (λ n. has_bit w (n - first)) first count q past
+      set.contains-from_list_nat (passing (λ n. has_bit w (n - first)) first count) q
+      ∙ passing-past (λ n. has_bit w (n - first)) first count q past
       ∙ sym (has_bit_above (q - first) (omega arith))
 
   lt_or_le : (a b : ℕ) → (a < b) ⊎ (b ≤ a)
@@ -121,11 +139,13 @@ module _ (first count w : ℕ) (h : w < 2 ^ count) where
   lt_or_le (suc a) (suc b) = elim (lt_or_le a b) [ inl c ↦ inl (omega arith) | inr c ↦ inr (omega arith) ]
 
   pub contains_at : (k : ℕ) → set.contains (set_of_word first count w) (first + k) ≡ has_bit w k
-  contains_at k = contains_from (first + k) (omega arith) (lt_or_le (first + k) (first + count)) ∙ ap (has_bit w) (omega arith)
+  contains_at k = contains_from (first + k) (omega arith) (lt_or_le (first + k) (first + count))
+      ∙ ap (has_bit w) (omega arith)
 
   pub contains_past : (q : ℕ) → first + count ≤ q → set.contains (set_of_word first count w) q ≡ false
   unfolding set_of_word
-  contains_past q past = set.contains-from_list_nat (passing (λ n. has_bit w (n - first)) first count) q ∙ passing-past (λ n. has_bit w (n - first)) first count q past
+  contains_past q past = set.contains-from_list_nat (passing (λ n. has_bit w (n - first)) first count) q
+      ∙ passing-past (λ n. has_bit w (n - first)) first count q past
 
 -- the word of the set of a word
 bit_of : (b : ℕ) → b < 2 → cond (nat_eq b 1) 1 0 ≡ b

@@ -1,5 +1,6 @@
 -- What is written for a legal move stands for that move.
-use Rattle.std.proofs.Common.{◌≡◌, ◌≢◌, ℕ, ◌+◌, ◌-◌, ◌<◌, ◌≤◌, inl, inr, true, false, List, [], ◌∷◌, ◌++◌, length, take, Ok, refl, sym, ap, ◌∙◌, subst, arith}
+use Rattle.std.proofs.Common.{◌≡◌, ◌≢◌, ℕ, ◌+◌, ◌-◌, ◌<◌, ◌≤◌, inl, inr, true, false, List, [], ◌∷◌, ◌++◌, length, take}
+use Rattle.std.proofs.Common.{Ok, refl, sym, ap, ◌∙◌, subst, arith}
 use Rattle.std.specs.FinSet as set
 use Rattle.squares.specs.declared.draughts.moves.DMove.{DMove}
 use Rattle.squares.specs.DraughtsBoard.{Position}
@@ -48,19 +49,26 @@ one_longer [] y = omega arith
 one_longer (x ∷ xs) y = omega (arith, one_longer xs y)
 
 -- a capture comes to its last square over others
-split-route : (p : Position) (m : DMove) (ls : List ℕ) → Capture p m.from ls m.taken m.to → 0 < length ls → (before : List ℕ) × (ls ≡ before ++ m.to ∷ [])
+split-route : (p : Position) (m : DMove) (ls : List ℕ) → Capture p m.from ls m.taken m.to → 0 < length ls
+    → (before : List ℕ) × (ls ≡ before ++ m.to ∷ [])
 split-route p m ls c h =
     let s = short_front ls h in
     let before = take (length ls - 1) ls in
-    let c' = subst (λ xs. Capture p m.from xs m.taken m.to) s.1 c in
-    (before, s.1 ∙ ap (λ l. before ++ l ∷ []) (Route-last (without p.board m.from) c'.piece before set.empty m.from s.0 m.taken m.to c'.route))
+    let c' = subst (λ xs. Capture p m.from xs m.taken m.to) s.1 c in (
+      before,
+      s.1 ∙ ap (λ l. before ++ l ∷ [])
+          (Route-last (without p.board m.from) c'.piece before set.empty m.from s.0 m.taken m.to c'.route),
+    )
 
 module _ (p : Position) (m : DMove) (before : List ℕ) (c : Capture p m.from (before ++ m.to ∷ []) m.taken m.to) where
   from-on : OnBoard m.from
-  from-on = Route-from_on (without p.board m.from) c.piece (before ++ m.to ∷ []) set.empty m.from m.taken m.to (omega (arith, one_longer before m.to)) c.route
+  from-on = Route-from_on (without p.board m.from) c.piece (before ++ m.to ∷ []) set.empty m.from m.taken m.to
+      (omega (arith, one_longer before m.to)) c.route
 
   landings-on : AllOnBoard before × OnBoard m.to
-  landings-on = front-on before m.to (Route-on (without p.board m.from) c.piece (before ++ m.to ∷ []) set.empty m.from m.taken m.to c.route)
+  landings-on =
+      front-on before m.to
+      (Route-on (without p.board m.from) c.piece (before ++ m.to ∷ []) set.empty m.from m.taken m.to c.route)
 
   pub takes-something : 0 < set.len m.taken
   takes-something = omega (arith, one_longer before m.to, Capture-len p m.from m.to (before ++ m.to ∷ []) m.taken c)
@@ -88,12 +96,23 @@ module _ (p : Position) (m : DMove) (before : List ℕ) (c : Capture p m.from (b
         let n_takes : 0 < set.len n.taken = omega (arith, size, one_longer fits.before m.to) in
         let mine = takes-legal p m legal takes-something in
         let other = takes-legal p n n_legal n_takes in
-        omega (arith, mine.most n.from n.to (fits.before ++ m.to ∷ []) n.taken fits.route, other.most m.from m.to (before ++ m.to ∷ []) m.taken c)
+        omega (
+          arith,
+          mine.most n.from n.to (fits.before ++ m.to ∷ []) n.taken fits.route,
+          other.most m.from m.to (before ++ m.to ∷ []) m.taken c,
+        )
 
     same_before : before ≡ fits.before
     same_before =
         same_length before fits.before fits.passes
-        (omega (arith, sizes, one_longer before m.to, one_longer fits.before m.to, Capture-len p m.from m.to (before ++ m.to ∷ []) m.taken c, Capture-len p n.from n.to (fits.before ++ m.to ∷ []) n.taken fits.route))
+        (omega (
+          arith,
+          sizes,
+          one_longer before m.to,
+          one_longer fits.before m.to,
+          Capture-len p m.from m.to (before ++ m.to ∷ []) m.taken c,
+          Capture-len p n.from n.to (fits.before ++ m.to ∷ []) n.taken fits.route,
+        ))
 
     same_taken : m.taken ≡ n.taken
     same_taken =
@@ -101,18 +120,32 @@ module _ (p : Position) (m : DMove) (before : List ℕ) (c : Capture p m.from (b
         let here = own_at-own p m.from c.piece c.stands c.own in
         let there = own_at-own p m.from other.piece other.stands other.own in
         let piece : other.piece ≡ c.piece = cc in
-        let moved = subst (λ d. Route (without p.board m.from) d set.empty m.from (before ++ m.to ∷ []) n.taken n.to) piece other.route in
-        Route-taken (without p.board m.from) c.piece (before ++ m.to ∷ []) set.empty m.from m.taken n.taken m.to n.to c.route moved
+        let moved = subst (λ d. Route (without p.board m.from) d set.empty m.from (before ++ m.to ∷ []) n.taken n.to)
+        piece other.route in
+        Route-taken (without p.board m.from) c.piece (before ++ m.to ∷ []) set.empty m.from m.taken n.taken m.to n.to
+        c.route moved
 
     pub same-move : n ≡ m
     same-move = λ i. record { from = fits.leaves i; to = fits.comes i; taken = sym same_taken i }
 
 -- a legal move with the from and to of one that has no rival is that move
-no_rival : (p : Position) (m : DMove) → (HasRival p m → ⊥) → (n : DMove) → Legal p n → n.from ≡ m.from → n.to ≡ m.to → n ≡ m
+no_rival : (p : Position) (m : DMove) → (HasRival p m → ⊥) → (n : DMove) → Legal p n → n.from ≡ m.from → n.to ≡ m.to
+    → n ≡ m
 no_rival p m none n legal from to =
     elim (same_move n m) as (λ b. same_move n m ≡ b → n ≡ m) [
       | true ↦ λ e. same_move-same n m e
-      | false ↦ λ e. absurd (none (n, record { legal = legal; from = from; to = to; differs = λ same. let itself = same_move-itself n m same in cc }))
+      | false ↦ λ e.
+          absurd
+          (none (
+            n,
+            record {
+              legal = legal;
+              from = from;
+              to = to;
+              differs = λ same. let itself = same_move-itself n m same in
+                  cc;
+            },
+          ))
     ] refl
 
 not_nil : (xs ys : List ℕ) (y : ℕ) → xs ++ y ∷ ys ≡ [] → ⊥
@@ -125,8 +158,14 @@ among (x ∷ xs) ys y on = among xs ys y on.1
 
 -- a quiet move is from a square to a square
 pub quiet-on : (p : Position) (from to : ℕ) → QuietMove p from to → OnBoard from × OnBoard to
-quiet-on p from to q =
-    (elim (ray-off q.toward from) [ inl on ↦ on | inr none ↦ absurd (not_nil q.before q.after to (sym q.along ∙ none)) ], among q.before q.after to (subst AllOnBoard q.along (ray-on_board q.toward from)))
+quiet-on p from to q = (
+  elim (ray-off q.toward from) [
+    | inl on ↦ on
+    | inr none ↦
+        absurd (not_nil q.before q.after to (sym q.along ∙ none))
+  ],
+  among q.before q.after to (subst AllOnBoard q.along (ray-on_board q.toward from)),
+)
 
 -- a legal move that takes nothing is quiet
 legal-quiet : (p : Position) (m : DMove) → Legal p m → m.taken ≡ set.empty → QuietMove p m.from m.to
@@ -145,10 +184,19 @@ reads-back p m text legal (written.quiet none is) =
     (quiet m.from m.to, ap read_form is ∙ read_form-quiet_text m.from m.to on.0 on.1, quiet-back p m legal none)
 reads-back p m text legal (short takes none is) =
     let here = takes-legal p m legal (is_positive m.taken takes) in
-    let s = split-route p m here.landings here.capture (not-empty m here.landings takes (Capture-len p m.from m.to here.landings m.taken here.capture)) in
-    let c = subst (λ xs. Capture p m.from xs m.taken m.to) s.1 here.capture in
-    (capture m.from [] m.to, ap read_form is ∙ reads-short p m s.0 c, (legal, fits-short p m s.0 c, λ n n_legal fits. no_rival p m none n n_legal fits.leaves fits.comes))
+    let s = split-route p m here.landings here.capture
+    (not-empty m here.landings takes (Capture-len p m.from m.to here.landings m.taken here.capture)) in
+    let c = subst (λ xs. Capture p m.from xs m.taken m.to) s.1 here.capture in (
+      capture m.from [] m.to,
+      ap read_form is ∙ reads-short p m s.0 c,
+      (legal, fits-short p m s.0 c, λ n n_legal fits. no_rival p m none n n_legal fits.leaves fits.comes),
+    )
 reads-back p m text legal (long takes rival landings first is) =
-    let s = split-route p m landings first.route (not-empty m landings takes (Capture-len p m.from m.to landings m.taken first.route)) in
-    let c = subst (λ xs. Capture p m.from xs m.taken m.to) s.1 first.route in
-    (capture m.from s.0 m.to, ap read_form (is ∙ ap (capture_text m.from) s.1) ∙ reads-all p m s.0 c, (legal, fits-whole p m s.0 c, λ n n_legal fits. same-move p m s.0 c legal n n_legal fits))
+    let s = split-route p m landings first.route
+    (not-empty m landings takes (Capture-len p m.from m.to landings m.taken first.route)) in
+    let c = subst (λ xs. Capture p m.from xs m.taken m.to) s.1 first.route in (
+      capture m.from s.0 m.to,
+      ap read_form (is ∙ ap (capture_text m.from) s.1)
+          ∙ reads-all p m s.0 c,
+      (legal, fits-whole p m s.0 c, λ n n_legal fits. same-move p m s.0 c legal n n_legal fits),
+    )

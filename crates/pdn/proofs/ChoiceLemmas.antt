@@ -1,5 +1,6 @@
 -- A choice among moves, as more of them are looked at.
-use Rattle.std.proofs.Common.{◌≡◌, ℕ, ◌+◌, ◌<◌, Bool, true, false, ◌&&◌, nat_eq, List, [], ◌∷◌, ◌++◌, length, take, drop, get_or, Option, Some, None, inl, inr, refl, sym, ap, ◌∙◌, subst}
+use Rattle.std.proofs.Common.{◌≡◌, ℕ, ◌+◌, ◌<◌, Bool, true, false, ◌&&◌, nat_eq, List, [], ◌∷◌, ◌++◌, length, take}
+use Rattle.std.proofs.Common.{drop, get_or, Option, Some, None, inl, inr, refl, sym, ap, ◌∙◌, subst}
 use Rattle.std.proofs.lemmas.Bool.{eqb-true, eq-eqb}
 use Rattle.std.proofs.lemmas.List.{take_more, take-append-drop}
 use Rattle.squares.specs.declared.draughts.moves.DMove.{DMove}
@@ -26,13 +27,15 @@ pub same_move-itself : (a b : DMove) → a ≡ b → same_move a b ≡ true
 same_move-itself a b e =
     let from = eq-eqb a.from b.from (ap (λ (m : DMove). m.from) e) in
     let to = eq-eqb a.to b.to (ap (λ (m : DMove). m.to) e) in
-    let taken : same_squares a.taken b.taken ≡ true = ap (λ (m : DMove). same_squares a.taken m.taken) (sym e) ∙ same_squares-itself a.taken in
+    let taken : same_squares a.taken b.taken ≡ true = ap (λ (m : DMove). same_squares a.taken m.taken) (sym e)
+    ∙ same_squares-itself a.taken in
     λ i. from i && (to i && taken i)
 
 In-take : (n : DMove) (moves : List DMove) (i : ℕ) → In n (take i moves) → In n moves
 In-take n moves i h = subst (λ ms. In n ms) (take-append-drop i moves) (In-left n (take i moves) (drop i moves) h)
 
-module _ (F : DMove → Type 0) (moves : List DMove) (i : ℕ) (n : DMove) (within : i < length moves) (is : n ≡ get_or moves i n) where
+module _ (F : DMove → Type 0) (moves : List DMove) (i : ℕ) (n : DMove) (within : i < length moves)
+    (is : n ≡ get_or moves i n) where
   more : take (i + 1) moves ≡ take i moves ++ n ∷ []
   more = take_more moves i n within ∙ ap (λ m. take i moves ++ m ∷ []) (sym is)
 
@@ -43,7 +46,8 @@ module _ (F : DMove → Type 0) (moves : List DMove) (i : ℕ) (n : DMove) (with
   here = subst (λ ms. In n ms) (sym more) (In-right n (take i moves) (n ∷ []) (inl refl))
 
   -- a move that does not fit
-  pub choice-skip : (choice : Option DMove) → IsChoice F (take i moves) choice → (F n → ⊥) → IsChoice F (take (i + 1) moves) choice
+  pub choice-skip : (choice : Option DMove) → IsChoice F (take i moves) choice → (F n → ⊥)
+      → IsChoice F (take (i + 1) moves) choice
   choice-skip None none refuted = λ m h fits. elim (In-take_more moves i m n within h) [
     | inl before ↦ none m before fits
     | inr this ↦ refuted (subst F (sym (is ∙ this)) fits)
@@ -58,7 +62,8 @@ module _ (F : DMove → Type 0) (moves : List DMove) (i : ℕ) (n : DMove) (with
   )
 
   -- one that fits
-  pub choice-join : (choice : Option DMove) (m : DMove) → IsChoice F (take i moves) choice → F n → Joins choice n m → IsChoice F (take (i + 1) moves) (Some m)
+  pub choice-join : (choice : Option DMove) (m : DMove) → IsChoice F (take i moves) choice → F n → Joins choice n m
+      → IsChoice F (take (i + 1) moves) (Some m)
   choice-join None m none fits same = (
     subst (λ x. In x (take (i + 1) moves)) (sym same) here,
     subst F (sym same) fits,
@@ -77,7 +82,9 @@ module _ (F : DMove → Type 0) (moves : List DMove) (i : ℕ) (n : DMove) (with
   )
 
   -- one that fits beside another
-  pub choice-parts : (choice : Option DMove) (fault : MoveFault) → IsChoice F (take i moves) choice → F n → Parts choice n fault → IsChoiceFault F moves fault
+  pub choice-parts : (choice : Option DMove) (fault : MoveFault) → IsChoice F (take i moves) choice → F n
+      → Parts choice n fault → IsChoiceFault F moves fault
   choice-parts None fault none fits never = absurd never
   choice-parts (Some other) fault chosen fits parts =
-      subst (IsChoiceFault F moves) (sym parts.0) (other, n, In-take other moves i chosen.0, chosen.1, In-take n moves (i + 1) here, fits, parts.1)
+      subst (IsChoiceFault F moves) (sym parts.0)
+      (other, n, In-take other moves i chosen.0, chosen.1, In-take n moves (i + 1) here, fits, parts.1)

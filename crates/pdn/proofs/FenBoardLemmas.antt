@@ -1,5 +1,6 @@
 -- The items of a written position give its board.
-use Rattle.std.proofs.Common.{◌≡◌, ◌≢◌, ℕ, zero, suc, ◌+◌, ◌<◌, ◌≤◌, ◌⊎◌, inl, inr, Bool, true, false, cond, ◌&&◌, ◌||◌, nat_le, List, [], ◌∷◌, ◌++◌, Option, Some, None, refl, sym, ap, ◌∙◌, subst, arith}
+use Rattle.std.proofs.Common.{◌≡◌, ◌≢◌, ℕ, zero, suc, ◌+◌, ◌<◌, ◌≤◌, ◌⊎◌, inl, inr, Bool, true, false, cond, ◌&&◌, ◌||◌}
+use Rattle.std.proofs.Common.{nat_le, List, [], ◌∷◌, ◌++◌, Option, Some, None, refl, sym, ap, ◌∙◌, subst, arith}
 use Rattle.std.specs.Prelude.{fold, IsSome, is_some}
 use Rattle.std.specs.List.{cons_option, range_with_len, list_any}
 use Rattle.std.specs.Ordering.{nat_cmp, eq_by_cmp}
@@ -21,7 +22,8 @@ use Rattle.draughts_moves.proofs.Prey.{In-range}
 use Rattle.pdn.specs.declared.items.Item.{Item}
 use Rattle.pdn.specs.FenText.{all_squares, fen_text}
 use Rattle.pdn.specs.ReadFen.{shares, repeated_after, repeated, put_on, put_item, IsFen}
-use Rattle.pdn.proofs.FenBackLemmas.{Entry, own, own_on, IsItemOf, AreItemsOf, AllOn, ReadBack, reads-back, fen_text-entries}
+use Rattle.pdn.proofs.FenBackLemmas.{Entry, own, own_on, IsItemOf, AreItemsOf, AllOn, ReadBack, reads-back}
+use Rattle.pdn.proofs.FenBackLemmas.{fen_text-entries}
 
 abbrev pub piece_on : Side → Bool → DPiece
 piece_on side king = record { side = side; king = king }
@@ -31,30 +33,41 @@ in_cons None es e h = h
 in_cons (Some f) es e h = inr h
 
 -- entries are the pieces of the side
-own-in : (side : Side) (board : Board) (ns : List ℕ) (e : Entry) → In e (own_on side board ns) → In e.0 ns × (map.get board e.0 ≡ Some (piece_on side e.1))
+own-in : (side : Side) (board : Board) (ns : List ℕ) (e : Entry) → In e (own_on side board ns) → In e.0 ns
+    × (map.get board e.0 ≡ Some (piece_on side e.1))
 own-in side board [] e h = absurd h
 own-in side board (n ∷ ns) e h =
-    elim (map.get board n) as (λ o. map.get board n ≡ o → In e (cons_option (own side n o) (own_on side board ns)) → In e.0 (n ∷ ns) × (map.get board e.0 ≡ Some (piece_on side e.1))) [
+    elim (map.get board n) as (λ o. map.get board n ≡ o → In e (cons_option (own side n o) (own_on side board ns))
+    → In e.0 (n ∷ ns) × (map.get board e.0 ≡ Some (piece_on side e.1))) [
       | None ↦ λ _ k. let w = own-in side board ns e k in (inr w.0, w.1)
       | Some q ↦ λ stands k. mine (λ j. own-in side board ns e j) q stands (same_side q.side side) refl k
     ] refl h
   where
-    mine : (In e (own_on side board ns) → In e.0 ns × (map.get board e.0 ≡ Some (piece_on side e.1))) → (q : DPiece) → map.get board n ≡ Some q → (b : Bool) → same_side q.side side ≡ b → In e (cons_option (cond b (Some (n, q.king)) None) (own_on side board ns)) → In e.0 (n ∷ ns) × (map.get board e.0 ≡ Some (piece_on side e.1))
+    mine : (In e (own_on side board ns) → In e.0 ns × (map.get board e.0 ≡ Some (piece_on side e.1))) → (q : DPiece)
+        → map.get board n ≡ Some q → (b : Bool) → same_side q.side side ≡ b
+        → In e (cons_option (cond b (Some (n, q.king)) None) (own_on side board ns)) → In e.0 (n ∷ ns)
+        × (map.get board e.0 ≡ Some (piece_on side e.1))
     mine later q stands true same (inl is) =
         let square : n ≡ e.0 = ap (λ (f : Entry). f.0) is in
         let king : q.king ≡ e.1 = ap (λ (f : Entry). f.1) is in
-        let side_is = same_side-same q.side side same in
-        (inl square, subst (λ m. map.get board m ≡ Some (piece_on side e.1)) square (stands ∙ (λ i. Some (record { side = side_is i; king = king i }))))
+        let side_is = same_side-same q.side side same in (
+          inl square,
+          subst (λ m. map.get board m ≡ Some (piece_on side e.1)) square
+              (stands ∙ (λ i. Some (record { side = side_is i; king = king i }))),
+        )
     mine later q stands true same (inr k) = let w = later k in (inr w.0, w.1)
     mine later q stands false same k = let w = later k in (inr w.0, w.1)
 
-in-own : (side : Side) (board : Board) (ns : List ℕ) (n : ℕ) (king : Bool) → In n ns → map.get board n ≡ Some (piece_on side king) → In {A = Entry} (n, king) (own_on side board ns)
+in-own : (side : Side) (board : Board) (ns : List ℕ) (n : ℕ) (king : Bool) → In n ns
+    → map.get board n ≡ Some (piece_on side king) → In {A = Entry} (n, king) (own_on side board ns)
 in-own side board [] n king h stands = absurd h
 in-own side board (m ∷ ns) n king (inl is) stands =
     let here : own side m (map.get board m) ≡ Some (n, king) =
-    ap (own side m) (ap (map.get board) is ∙ stands) ∙ ap (λ b. cond b (Some (m, king)) None) (same_side-itself side) ∙ ap (λ k. Some (k, king)) is in
+    ap (own side m) (ap (map.get board) is ∙ stands) ∙ ap (λ b. cond b (Some (m, king)) None) (same_side-itself side)
+    ∙ ap (λ k. Some (k, king)) is in
     subst (λ o. In {A = Entry} (n, king) (cons_option o (own_on side board ns))) (sym here) (inl refl)
-in-own side board (m ∷ ns) n king (inr h) stands = in_cons (own side m (map.get board m)) (own_on side board ns) (n, king) (in-own side board ns n king h stands)
+in-own side board (m ∷ ns) n king (inr h) stands =
+    in_cons (own side m (map.get board m)) (own_on side board ns) (n, king) (in-own side board ns n king h stands)
 
 range-in : (n a v : ℕ) → In v (range_with_len a n) → (a ≤ v) × (v < a + n)
 range-in zero a v h = absurd h
@@ -88,25 +101,31 @@ own-square side n (Some q) e h =
       | false ↦ λ k. cc
     ] h
 
-cons-apart : (o : Option Entry) (a : ℕ) (es : List Entry) → ((e : Entry) → o ≡ Some e → e.0 ≡ a) → ((f : Entry) → In f es → a < f.0) → Apart es → Apart (cons_option o es)
+cons-apart : (o : Option Entry) (a : ℕ) (es : List Entry) → ((e : Entry) → o ≡ Some e → e.0 ≡ a)
+    → ((f : Entry) → In f es → a < f.0) → Apart es → Apart (cons_option o es)
 cons-apart None a es first above apart = apart
-cons-apart (Some e) a es first above apart = (λ f h same. let at = first e refl in let up = above f h in absurd (omega arith), apart)
+cons-apart (Some e) a es first above apart =
+    (λ f h same. let at = first e refl in let up = above f h in absurd (omega arith), apart)
 
 own-apart : (side : Side) (board : Board) (n a : ℕ) → Apart (own_on side board (range_with_len a n))
 own-apart side board zero a = tt
 own-apart side board (suc n) a =
-    cons-apart (own side a (map.get board a)) a (own_on side board (range_with_len (a + 1) n)) (own-square side a (map.get board a))
-    (λ f h. let w = range-in n (a + 1) f.0 (own-in side board (range_with_len (a + 1) n) f h).0 in omega (arith, w.0)) (own-apart side board n (a + 1))
+    cons-apart (own side a (map.get board a)) a (own_on side board (range_with_len (a + 1) n))
+    (own-square side a (map.get board a))
+    (λ f h. let w = range-in n (a + 1) f.0 (own-in side board (range_with_len (a + 1) n) f h).0 in omega (arith, w.0))
+    (own-apart side board n (a + 1))
 
 -- items and entries
-items-of : (side : Side) (es : List Entry) (items : List Item) (i : Item) → AreItemsOf side es items → In i items → (e : Entry) × In e es × IsItemOf side e i
+items-of : (side : Side) (es : List Entry) (items : List Item) (i : Item) → AreItemsOf side es items → In i items
+    → (e : Entry) × In e es × IsItemOf side e i
 items-of side [] [] i are h = absurd h
 items-of side [] (j ∷ items) i are h = absurd are
 items-of side (e ∷ es) [] i are h = absurd h
 items-of side (e ∷ es) (j ∷ items) i are (inl same) = (e, inl refl, subst (IsItemOf side e) same are.0)
 items-of side (e ∷ es) (j ∷ items) i are (inr h) = let w = items-of side es items i are.1 h in (w.0, inr w.1, w.2)
 
-of-items : (side : Side) (es : List Entry) (items : List Item) (e : Entry) → AreItemsOf side es items → In e es → (i : Item) × In i items × IsItemOf side e i
+of-items : (side : Side) (es : List Entry) (items : List Item) (e : Entry) → AreItemsOf side es items → In e es
+    → (i : Item) × In i items × IsItemOf side e i
 of-items side [] items e are h = absurd h
 of-items side (f ∷ es) [] e are h = absurd are
 of-items side (f ∷ es) (j ∷ items) e are (inl same) = (j, inl refl, subst (λ x. IsItemOf side x j) same are.0)
@@ -116,17 +135,24 @@ abbrev pub ItemsApart : List Item → Type 0
 ItemsApart [] = Unit {0}
 ItemsApart (i ∷ items) = ((j : Item) → In j items → i.from ≢ j.from) × ItemsApart items
 
-items-apart : (side : Side) (es : List Entry) (items : List Item) → AreItemsOf side es items → Apart es → ItemsApart items
+items-apart : (side : Side) (es : List Entry) (items : List Item) → AreItemsOf side es items → Apart es
+    → ItemsApart items
 items-apart side [] [] are apart = tt
 items-apart side [] (i ∷ items) are apart = absurd are
 items-apart side (e ∷ es) [] are apart = tt
-items-apart side (e ∷ es) (i ∷ items) are apart =
-    (λ j h same. let w = items-of side es items j are.1 h in apart.0 w.0 w.1 (sym are.0.0 ∙ same ∙ w.2.0), items-apart side es items are.1 apart.1)
+items-apart side (e ∷ es) (i ∷ items) are apart = (
+  λ j h same. let w = items-of side es items j are.1 h in
+      apart.0 w.0 w.1 (sym are.0.0 ∙ same ∙ w.2.0),
+  items-apart side es items are.1 apart.1,
+)
 
-append-apart : (xs ys : List Item) → ItemsApart xs → ItemsApart ys → ((i j : Item) → In i xs → In j ys → i.from ≢ j.from) → ItemsApart (xs ++ ys)
+append-apart : (xs ys : List Item) → ItemsApart xs → ItemsApart ys
+    → ((i j : Item) → In i xs → In j ys → i.from ≢ j.from) → ItemsApart (xs ++ ys)
 append-apart [] ys a b cross = b
-append-apart (x ∷ xs) ys a b cross =
-    (λ j h. elim (In-cases j xs ys h) [ inl k ↦ a.0 j k | inr k ↦ cross x j (inl refl) k ], append-apart xs ys a.1 b (λ i j h k. cross i j (inr h) k))
+append-apart (x ∷ xs) ys a b cross = (
+  λ j h. elim (In-cases j xs ys h) [ inl k ↦ a.0 j k | inr k ↦ cross x j (inl refl) k ],
+  append-apart xs ys a.1 b (λ i j h k. cross i j (inr h) k),
+)
 
 -- an item of one square of the board, with the piece that stands there
 pub record Fits (board : Board) (i : Item) : Type 0 where
@@ -141,24 +167,34 @@ none-any f (x ∷ xs) h = λ i. h x (inl refl) i || none-any f xs (λ y k. h y (
 apart_le : (a b : ℕ) → a ≢ b → (nat_le a b && nat_le b a) ≡ false
 apart_le a b differ =
     elim (nat_le a b) as (λ c. nat_le a b ≡ c → (c && nat_le b a) ≡ false) [
-      | true ↦ λ e. let below : a ≤ b = grind (arith, nat_tests, e) in let less : a < b = omega arith in grind (arith, nat_tests)
+      | true ↦ λ e. let below : a ≤ b = grind (arith, nat_tests, e) in let less : a < b = omega arith in
+          grind (arith, nat_tests)
       | false ↦ λ e. refl
     ] refl
 
 not-shared : (board : Board) (i j : Item) → Fits board i → Fits board j → i.from ≢ j.from → shares i j ≡ false
-not-shared board i j f g differ = (λ k. nat_le i.from (g.single k) && nat_le j.from (f.single k)) ∙ apart_le i.from j.from differ
+not-shared board i j f g differ = (λ k. nat_le i.from (g.single k) && nat_le j.from (f.single k))
+    ∙ apart_le i.from j.from differ
 
-none-repeated : (board : Board) (items before : List Item) → ((i : Item) → In i items → Fits board i) → ((j : Item) → In j before → Fits board j) → ItemsApart items → ((i j : Item) → In i items → In j before → i.from ≢ j.from) → repeated_after before items ≡ None
+none-repeated : (board : Board) (items before : List Item) → ((i : Item) → In i items → Fits board i)
+    → ((j : Item) → In j before → Fits board j) → ItemsApart items
+    → ((i j : Item) → In i items → In j before → i.from ≢ j.from) → repeated_after before items ≡ None
 none-repeated board [] before fits earlier apart cross = refl
 none-repeated board (i ∷ items) before fits earlier apart cross =
     ap (λ b. cond b (Some i.at) (repeated_after (before ++ i ∷ []) items))
-    (none-any (shares i) before (λ j h. not-shared board i j (fits i (inl refl)) (earlier j h) (cross i j (inl refl) h)))
+    (none-any (shares i) before
+    (λ j h. not-shared board i j (fits i (inl refl)) (earlier j h) (cross i j (inl refl) h)))
     ∙ none-repeated board items (before ++ i ∷ []) (λ k h. fits k (inr h))
-    (λ j h. elim (In-cases j before (i ∷ []) h) [ inl k ↦ earlier j k | inr k ↦ elim k [ inl same ↦ subst (Fits board) same (fits i (inl refl)) | inr never ↦ absurd never ] ])
+    (λ j h. elim (In-cases j before (i ∷ []) h) [
+      | inl k ↦ earlier j k
+      | inr k ↦
+          elim k [ inl same ↦ subst (Fits board) same (fits i (inl refl)) | inr never ↦ absurd never ]
+    ])
     apart.1
     (λ k j h g. elim (In-cases j before (i ∷ []) g) [
       | inl b ↦ cross k j (inr h) b
-      | inr b ↦ elim b [ inl same ↦ λ e. apart.0 k h (ap (λ (x : Item). x.from) same ∙ sym e) | inr never ↦ absurd never ]
+      | inr b ↦
+          elim b [ inl same ↦ λ e. apart.0 k h (ap (λ (x : Item). x.from) same ∙ sym e) | inr never ↦ absurd never ]
     ])
 
 tied_same : (q n : ℕ) → q ≡ n → eq_by_cmp nat_cmp q n ≡ true
@@ -171,44 +207,59 @@ get-same : (b : Board) (n : ℕ) (p : DPiece) → map.get (map.insert b n p) n �
 get-same b n p = map.get-insert nat_cmp_total b n p n ∙ ap (λ c. cond c (Some p) (map.get b n)) (tied_same n n refl)
 
 get-other : (b : Board) (n q : ℕ) (p : DPiece) → q ≢ n → map.get (map.insert b n p) q ≡ map.get b q
-get-other b n q p differ = map.get-insert nat_cmp_total b n p q ∙ ap (λ c. cond c (Some p) (map.get b q)) (tied_other q n differ)
+get-other b n q p differ = map.get-insert nat_cmp_total b n p q
+    ∙ ap (λ c. cond c (Some p) (map.get b q)) (tied_other q n differ)
 
 within-same : (i : Item) (m : ℕ) → i.to ≡ i.from → (nat_le i.from m && nat_le m i.to) ≡ true → m ≡ i.from
-within-same i m single e = elim (cases_eq m i.from) [ inl same ↦ same | inr differ ↦ let apart = apart_le i.from m (λ s. differ (sym s)) in let inside = ap (λ t. nat_le i.from m && nat_le m t) (sym single) ∙ e in cc ]
+within-same i m single e = elim (cases_eq m i.from) [
+  | inl same ↦ same
+  | inr differ ↦ let apart = apart_le i.from m (λ s. differ (sym s)) in
+      let inside = ap (λ t. nat_le i.from m && nat_le m t) (sym single) ∙ e in cc
+]
 
 -- a square that the item does not give
 put_on-other : (i : Item) (b : Board) (m q : ℕ) → i.to ≡ i.from → q ≢ i.from → map.get (put_on i b m) q ≡ map.get b q
 put_on-other i b m q single differ =
-    elim (nat_le i.from m && nat_le m i.to) as (λ c. (nat_le i.from m && nat_le m i.to) ≡ c → map.get (cond c (map.insert b m i.piece) b) q ≡ map.get b q) [
+    elim (nat_le i.from m && nat_le m i.to) as (λ c. (nat_le i.from m && nat_le m i.to) ≡ c
+    → map.get (cond c (map.insert b m i.piece) b) q ≡ map.get b q) [
       | true ↦ λ e. get-other b m q i.piece (λ same. differ (same ∙ within-same i m single e))
       | false ↦ λ e. refl
     ] refl
 
-fold-other : (i : Item) (ns : List ℕ) (b : Board) (q : ℕ) → i.to ≡ i.from → q ≢ i.from → map.get (fold (put_on i) b ns) q ≡ map.get b q
+fold-other : (i : Item) (ns : List ℕ) (b : Board) (q : ℕ) → i.to ≡ i.from → q ≢ i.from
+    → map.get (fold (put_on i) b ns) q ≡ map.get b q
 fold-other i [] b q single differ = refl
-fold-other i (n ∷ ns) b q single differ = fold-other i ns (put_on i b n) q single differ ∙ put_on-other i b n q single differ
+fold-other i (n ∷ ns) b q single differ = fold-other i ns (put_on i b n) q single differ
+    ∙ put_on-other i b n q single differ
 
 -- the square that it gives
-put_on-keeps : (i : Item) (b : Board) (m : ℕ) → i.to ≡ i.from → map.get b i.from ≡ Some i.piece → map.get (put_on i b m) i.from ≡ Some i.piece
+put_on-keeps : (i : Item) (b : Board) (m : ℕ) → i.to ≡ i.from → map.get b i.from ≡ Some i.piece
+    → map.get (put_on i b m) i.from ≡ Some i.piece
 put_on-keeps i b m single e =
-    elim (nat_le i.from m && nat_le m i.to) as (λ c. (nat_le i.from m && nat_le m i.to) ≡ c → map.get (cond c (map.insert b m i.piece) b) i.from ≡ Some i.piece) [
-      | true ↦ λ within. subst (λ n. map.get (map.insert b m i.piece) n ≡ Some i.piece) (within-same i m single within) (get-same b m i.piece)
+    elim (nat_le i.from m && nat_le m i.to) as (λ c. (nat_le i.from m && nat_le m i.to) ≡ c
+    → map.get (cond c (map.insert b m i.piece) b) i.from ≡ Some i.piece) [
+      | true ↦ λ within. subst (λ n. map.get (map.insert b m i.piece) n ≡ Some i.piece) (within-same i m single within)
+          (get-same b m i.piece)
       | false ↦ λ _. e
     ] refl
 
 put_on-here : (i : Item) (b : Board) → i.to ≡ i.from → map.get (put_on i b i.from) i.from ≡ Some i.piece
 put_on-here i b single =
-    let within : (nat_le i.from i.from && nat_le i.from i.to) ≡ true = ap (λ t. nat_le i.from i.from && nat_le i.from t) single ∙ le_both i.from in
+    let within : (nat_le i.from i.from && nat_le i.from i.to) ≡ true =
+    ap (λ t. nat_le i.from i.from && nat_le i.from t) single ∙ le_both i.from in
     ap (λ c. map.get (cond c (map.insert b i.from i.piece) b) i.from) within ∙ get-same b i.from i.piece
   where
     le_both : (n : ℕ) → (nat_le n n && nat_le n n) ≡ true
     le_both n = let le : nat_le n n ≡ true = grind (arith, nat_tests) in λ k. le k && le k
 
-fold-here : (i : Item) (ns : List ℕ) (b : Board) → i.to ≡ i.from → (map.get b i.from ≡ Some i.piece) ⊎ In i.from ns → map.get (fold (put_on i) b ns) i.from ≡ Some i.piece
+fold-here : (i : Item) (ns : List ℕ) (b : Board) → i.to ≡ i.from → (map.get b i.from ≡ Some i.piece) ⊎ In i.from ns
+    → map.get (fold (put_on i) b ns) i.from ≡ Some i.piece
 fold-here i [] b single (inl e) = e
 fold-here i [] b single (inr h) = absurd h
 fold-here i (n ∷ ns) b single (inl e) = fold-here i ns (put_on i b n) single (inl (put_on-keeps i b n single e))
-fold-here i (n ∷ ns) b single (inr (inl e)) = fold-here i ns (put_on i b n) single (inl (subst (λ m. map.get (put_on i b m) i.from ≡ Some i.piece) (sym e) (put_on-here i b single)))
+fold-here i (n ∷ ns) b single (inr (inl e)) =
+    fold-here i ns (put_on i b n) single
+    (inl (subst (λ m. map.get (put_on i b m) i.from ≡ Some i.piece) (sym e) (put_on-here i b single)))
 fold-here i (n ∷ ns) b single (inr (inr h)) = fold-here i ns (put_on i b n) single (inr h)
 
 put_item-other : (i : Item) (b : Board) (q : ℕ) → i.to ≡ i.from → q ≢ i.from → map.get (put_item b i) q ≡ map.get b q
@@ -217,17 +268,23 @@ put_item-other i b q single differ = fold-other i (range_with_len 1 50) b q sing
 
 put_item-here : (board : Board) (i : Item) (b : Board) → Fits board i → map.get (put_item b i) i.from ≡ Some i.piece
 unfolding put_item
-put_item-here board i b f = fold-here i (range_with_len 1 50) b f.single (inr (In-range 1 50 i.from f.on.0 (omega (arith, f.on.1))))
+put_item-here board i b f = fold-here i (range_with_len 1 50) b f.single
+    (inr (In-range 1 50 i.from f.on.0 (omega (arith, f.on.1))))
 
 -- all items put what stands there
-put-all : (board : Board) (items : List Item) (b : Board) (q : ℕ) → ((i : Item) → In i items → Fits board i) → (map.get b q ≡ map.get board q) ⊎ ((i : Item) × In i items × (i.from ≡ q)) → map.get (fold put_item b items) q ≡ map.get board q
+put-all : (board : Board) (items : List Item) (b : Board) (q : ℕ) → ((i : Item) → In i items → Fits board i)
+    → (map.get b q ≡ map.get board q) ⊎ ((i : Item) × In i items × (i.from ≡ q))
+    → map.get (fold put_item b items) q ≡ map.get board q
 put-all board [] b q fits (inl e) = e
 put-all board [] b q fits (inr w) = absurd w.1
 put-all board (i ∷ items) b q fits h =
     let mine = fits i (inl refl) in
     put-all board items (put_item b i) q (λ j k. fits j (inr k))
     (elim (cases_eq q i.from) [
-      | inl same ↦ inl (subst (λ m. map.get (put_item b i) m ≡ map.get board m) (sym same) (put_item-here board i b mine ∙ sym mine.stands))
+      | inl same ↦
+          inl
+          (subst (λ m. map.get (put_item b i) m ≡ map.get board m) (sym same)
+          (put_item-here board i b mine ∙ sym mine.stands))
       | inr differ ↦ elim h [
         | inl e ↦ inl (put_item-other i b q mine.single differ ∙ e)
         | inr w ↦ elim w.1 [
@@ -246,10 +303,13 @@ module _ (p : Position) (on_board : (n : ℕ) → IsSome (map.get p.board n) →
 
   back : ReadBack p.turn (own_on First p.board all_squares) (own_on Second p.board all_squares) (fen_text p)
   back =
-      subst (λ text. ReadBack p.turn (own_on First p.board all_squares) (own_on Second p.board all_squares) text) (sym (fen_text-entries p))
-      (reads-back p.turn (own_on First p.board all_squares) (own_on Second p.board all_squares) (own-on First p.board) (own-on Second p.board))
+      subst (λ text. ReadBack p.turn (own_on First p.board all_squares) (own_on Second p.board all_squares) text)
+      (sym (fen_text-entries p))
+      (reads-back p.turn (own_on First p.board all_squares) (own_on Second p.board all_squares) (own-on First p.board)
+      (own-on Second p.board))
 
-  item-fits : (side : Side) (items : List Item) → AreItemsOf side (own_on side p.board all_squares) items → (i : Item) → In i items → Fits p.board i
+  item-fits : (side : Side) (items : List Item) → AreItemsOf side (own_on side p.board all_squares) items → (i : Item)
+      → In i items → Fits p.board i
   item-fits side items are i h =
       let w = items-of side (own_on side p.board all_squares) items i are h in
       let entry = own-in side p.board all_squares w.0 w.1 in
@@ -259,12 +319,16 @@ module _ (p : Position) (on_board : (n : ℕ) → IsSome (map.get p.board n) →
         stands = ap (map.get p.board) w.2.0 ∙ entry.1 ∙ ap Some (sym w.2.2);
       }
 
-  item-side : (side : Side) (items : List Item) → AreItemsOf side (own_on side p.board all_squares) items → (i : Item) → In i items → i.piece.side ≡ side
-  item-side side items are i h = let w = items-of side (own_on side p.board all_squares) items i are h in ap (λ (q : DPiece). q.side) w.2.2
+  item-side : (side : Side) (items : List Item) → AreItemsOf side (own_on side p.board all_squares) items → (i : Item)
+      → In i items → i.piece.side ≡ side
+  item-side side items are i h = let w = items-of side (own_on side p.board all_squares) items i are h in
+      ap (λ (q : DPiece). q.side) w.2.2
 
-  module _ (r : ReadBack p.turn (own_on First p.board all_squares) (own_on Second p.board all_squares) (fen_text p)) where
+  module _
+      (r : ReadBack p.turn (own_on First p.board all_squares) (own_on Second p.board all_squares) (fen_text p)) where
     all-fit : (i : Item) → In i (r.first ++ r.second) → Fits p.board i
-    all-fit i h = elim (In-cases i r.first r.second h) [ inl k ↦ item-fits First r.first r.are_first i k | inr k ↦ item-fits Second r.second r.are_second i k ]
+    all-fit i h = elim (In-cases i r.first r.second h)
+        [ inl k ↦ item-fits First r.first r.are_first i k | inr k ↦ item-fits Second r.second r.are_second i k ]
 
     cross : (i j : Item) → In i r.first → In j r.second → i.from ≢ j.from
     cross i j h k = λ same.
@@ -272,7 +336,8 @@ module _ (p : Position) (on_board : (n : ℕ) → IsSome (map.get p.board n) →
         let g = item-fits Second r.second r.are_second j k in
         let pieces : Some i.piece ≡ Some j.piece = sym f.stands ∙ ap (map.get p.board) same ∙ g.stands in
         let one : i.piece ≡ j.piece = cc in
-        let sides : First ≡ Second = sym (item-side First r.first r.are_first i h) ∙ ap (λ (q : DPiece). q.side) one ∙ item-side Second r.second r.are_second j k in
+        let sides : First ≡ Second = sym (item-side First r.first r.are_first i h) ∙ ap (λ (q : DPiece). q.side) one
+        ∙ item-side Second r.second r.are_second j k in
         cc
 
     own-all-apart : (side : Side) → Apart (own_on side p.board all_squares)
@@ -281,37 +346,50 @@ module _ (p : Position) (on_board : (n : ℕ) → IsSome (map.get p.board n) →
 
     all-apart : ItemsApart (r.first ++ r.second)
     all-apart =
-        append-apart r.first r.second (items-apart First (own_on First p.board all_squares) r.first r.are_first (own-all-apart First))
+        append-apart r.first r.second
+        (items-apart First (own_on First p.board all_squares) r.first r.are_first (own-all-apart First))
         (items-apart Second (own_on Second p.board all_squares) r.second r.are_second (own-all-apart Second)) cross
 
     no-repeat : repeated (r.first ++ r.second) ≡ None
-    no-repeat = none-repeated p.board (r.first ++ r.second) [] all-fit (λ j never. absurd never) all-apart (λ i j h never. absurd never)
+    no-repeat = none-repeated p.board (r.first ++ r.second) [] all-fit (λ j never. absurd never) all-apart
+        (λ i j h never. absurd never)
 
-    given : (side : Side) (items : List Item) → AreItemsOf side (own_on side p.board all_squares) items → (q : ℕ) (king : Bool) → map.get p.board q ≡ Some (piece_on side king) → (i : Item) × In i items × (i.from ≡ q)
+    given : (side : Side) (items : List Item) → AreItemsOf side (own_on side p.board all_squares) items
+        → (q : ℕ) (king : Bool) → map.get p.board q ≡ Some (piece_on side king) → (i : Item) × In i items × (i.from ≡ q)
     given side items are q king stands =
         let on = on_board q (ap is_some stands) in
         let entry = in-own side p.board all_squares q king (on-squares q on) stands in
         let w = of-items side (own_on side p.board all_squares) items (q, king) are entry in
         (w.0, w.1, w.2.0)
 
-    found : (q : ℕ) (piece : DPiece) → map.get p.board q ≡ Some piece → (side : Side) → piece.side ≡ side → (i : Item) × In i (r.first ++ r.second) × (i.from ≡ q)
+    found : (q : ℕ) (piece : DPiece) → map.get p.board q ≡ Some piece → (side : Side) → piece.side ≡ side → (i : Item)
+        × In i (r.first ++ r.second) × (i.from ≡ q)
     found q piece stands First is =
-        let w = given First r.first r.are_first q piece.king (stands ∙ (λ i. Some (record { side = is i; king = piece.king }))) in
+        let w = given First r.first r.are_first q piece.king
+        (stands ∙ (λ i. Some (record { side = is i; king = piece.king }))) in
         (w.0, In-left w.0 r.first r.second w.1, w.2)
     found q piece stands Second is =
-        let w = given Second r.second r.are_second q piece.king (stands ∙ (λ i. Some (record { side = is i; king = piece.king }))) in
+        let w = given Second r.second r.are_second q piece.king
+        (stands ∙ (λ i. Some (record { side = is i; king = piece.king }))) in
         (w.0, In-right w.0 r.first r.second w.1, w.2)
 
-    square-back : (q : ℕ) (o : Option DPiece) → map.get p.board q ≡ o → map.get (fold put_item map.empty (r.first ++ r.second)) q ≡ map.get p.board q
-    square-back q None e = put-all p.board (r.first ++ r.second) map.empty q all-fit (inl (map.get-empty nat_cmp q ∙ sym e))
-    square-back q (Some piece) e = put-all p.board (r.first ++ r.second) map.empty q all-fit (inr (found q piece e piece.side refl))
+    square-back : (q : ℕ) (o : Option DPiece) → map.get p.board q ≡ o
+        → map.get (fold put_item map.empty (r.first ++ r.second)) q ≡ map.get p.board q
+    square-back q None e = put-all p.board (r.first ++ r.second) map.empty q all-fit
+        (inl (map.get-empty nat_cmp q ∙ sym e))
+    square-back q (Some piece) e = put-all p.board (r.first ++ r.second) map.empty q all-fit
+        (inr (found q piece e piece.side refl))
 
     board-back : fold put_item map.empty (r.first ++ r.second) ≡ p.board
     board-back = map.same_map nat_cmp_total nat_cmp-IsAntisymmetric _ _ (λ q. square-back q (map.get p.board q) refl)
 
     is-fen : IsFen (fen_text p) p
-    is-fen =
-        (record { turn = p.turn; items = r.first ++ r.second }, r.read, no-repeat, λ i. record { board = sym board-back i; turn = p.turn })
+    is-fen = (
+      record { turn = p.turn; items = r.first ++ r.second },
+      r.read,
+      no-repeat,
+      λ i. record { board = sym board-back i; turn = p.turn },
+    )
 
   pub fen-back : IsFen (fen_text p) p
   fen-back = is-fen back

@@ -1,5 +1,6 @@
 -- The squares on which a piece lands determine what it takes.
-use Rattle.std.proofs.Common.{◌≡◌, ◌≢◌, ℕ, suc, ◌+◌, ◌<◌, true, List, [], ◌∷◌, ◌++◌, length, get_or, Option, Some, None, refl, sym, ap, ◌∙◌, subst, arith}
+use Rattle.std.proofs.Common.{◌≡◌, ◌≢◌, ℕ, suc, ◌+◌, ◌<◌, true, List, [], ◌∷◌, ◌++◌, length, get_or, Option, Some, None}
+use Rattle.std.proofs.Common.{refl, sym, ap, ◌∙◌, subst, arith}
 use Rattle.std.specs.FinSet as set
 use Rattle.squares.specs.declared.draughts.direction.Direction.{Direction}
 use Rattle.squares.specs.declared.draughts.direction.Direction.TheVariants.{UpLeft, UpRight, DownLeft, DownRight}
@@ -20,7 +21,8 @@ place : (xs ys : List ℕ) (y : ℕ) → (k : ℕ) × (k < length (xs ++ y ∷ y
 place [] ys y = (0, omega arith, refl)
 place (x ∷ xs) ys y = let w = place xs ys y in (suc w.0, omega (arith, w.1), w.2)
 
-joined : (xs : List ℕ) (v : ℕ) (ys : List ℕ) (l : ℕ) (zs : List ℕ) → (before : List ℕ) × (xs ++ v ∷ (ys ++ l ∷ zs) ≡ before ++ l ∷ zs)
+joined : (xs : List ℕ) (v : ℕ) (ys : List ℕ) (l : ℕ) (zs : List ℕ) → (before : List ℕ)
+    × (xs ++ v ∷ (ys ++ l ∷ zs) ≡ before ++ l ∷ zs)
 joined [] v ys l zs = (v ∷ ys, refl)
 joined (x ∷ xs) v ys l zs = let w = joined xs v ys l zs in (x ∷ w.0, ap (λ r. x ∷ r) w.1)
 
@@ -34,8 +36,11 @@ module _ (b : Cells) (q : DPiece) (t : Squares) (s v l : ℕ) (j : Jump b q t s 
   pub Jump-moved : (k : ℕ) × IsMoved j.0 (k + 1) s l
   Jump-moved =
       let w = place landing.0 j.1.after l in
-      let is = landing.1 in
-      (w.0, (ray-moved j.0 s w.0 l (Jump-from_on b q t s v l j) (subst (λ xs. (w.0 < length xs) × (get_or xs w.0 0 ≡ l)) (sym is) (w.1, w.2))).1)
+      let is = landing.1 in (
+        w.0,
+        (ray-moved j.0 s w.0 l (Jump-from_on b q t s v l j)
+            (subst (λ xs. (w.0 < length xs) × (get_or xs w.0 0 ≡ l)) (sym is) (w.1, w.2))).1,
+      )
 
 -- two directions lead to different squares
 direction : (d e : Direction) (k i n m : ℕ) → IsMoved d (k + 1) n m → IsMoved e (i + 1) n m → d ≡ e
@@ -61,10 +66,13 @@ enemy-stands q None e = λ f. cc
 enemy-stands q (Some p) e = λ f. cc
 
 -- the first piece on a line
-first_piece : (b : Cells) (xs : List ℕ) (v : ℕ) (rest ys : List ℕ) (w : ℕ) (more : List ℕ) → xs ++ v ∷ rest ≡ ys ++ w ∷ more → AllClear b xs → AllClear b ys → b v ≢ None → b w ≢ None → v ≡ w
+first_piece : (b : Cells) (xs : List ℕ) (v : ℕ) (rest ys : List ℕ) (w : ℕ) (more : List ℕ)
+    → xs ++ v ∷ rest ≡ ys ++ w ∷ more → AllClear b xs → AllClear b ys → b v ≢ None → b w ≢ None → v ≡ w
 first_piece b [] v rest [] w more e clear clear' stands stands' = cc
-first_piece b [] v rest (y ∷ ys) w more e clear clear' stands stands' = let is : v ≡ y = cc in absurd (stands (ap b is ∙ clear'.0))
-first_piece b (x ∷ xs) v rest [] w more e clear clear' stands stands' = let is : x ≡ w = cc in absurd (stands' (ap b (sym is) ∙ clear.0))
+first_piece b [] v rest (y ∷ ys) w more e clear clear' stands stands' = let is : v ≡ y = cc in
+    absurd (stands (ap b is ∙ clear'.0))
+first_piece b (x ∷ xs) v rest [] w more e clear clear' stands stands' = let is : x ≡ w = cc in
+    absurd (stands' (ap b (sym is) ∙ clear.0))
 first_piece b (x ∷ xs) v rest (y ∷ ys) w more e clear clear' stands stands' =
     let tails : xs ++ v ∷ rest ≡ ys ++ w ∷ more = cc in
     first_piece b xs v rest ys w more tails clear.1 clear'.1 stands stands'
@@ -76,21 +84,26 @@ Jump-over b q t s v w l j k =
     let there = Jump-moved b q t s w l k in
     let d = direction j.0 k.0 here.0 there.0 s l here.1 there.1 in
     let line = sym j.1.along ∙ ap (λ e. ray e s) d ∙ k.1.along in
-    first_piece b j.1.before v _ k.1.before w _ line j.1.clear_before k.1.clear_before (enemy-stands q (b v) j.1.enemy) (enemy-stands q (b w) k.1.enemy)
+    first_piece b j.1.before v _ k.1.before w _ line j.1.clear_before k.1.clear_before (enemy-stands q (b v) j.1.enemy)
+    (enemy-stands q (b w) k.1.enemy)
 
 -- routes with the same landings take the same
-pub Route-taken : (b : Cells) (q : DPiece) (ls : List ℕ) (t : Squares) (s : ℕ) (all other : Squares) (to end : ℕ) → Route b q t s ls all to → Route b q t s ls other end → all ≡ other
+pub Route-taken : (b : Cells) (q : DPiece) (ls : List ℕ) (t : Squares) (s : ℕ) (all other : Squares) (to end : ℕ)
+    → Route b q t s ls all to → Route b q t s ls other end → all ≡ other
 Route-taken b q [] t s all other to end r u = sym r.0 ∙ u.0
 Route-taken b q (l ∷ ls) t s all other to end r u =
     let over = Jump-over b q t s r.0 u.0 l r.1 u.1 in
-    Route-taken b q ls (set.insert t r.0) l all other to end r.2 (subst (λ v. Route b q (set.insert t v) l ls other end) (sym over) u.2)
+    Route-taken b q ls (set.insert t r.0) l all other to end r.2
+    (subst (λ v. Route b q (set.insert t v) l ls other end) (sym over) u.2)
 
 -- where a route begins and lands is on the board
-pub Route-on : (b : Cells) (q : DPiece) (ls : List ℕ) (t : Squares) (s : ℕ) (all : Squares) (to : ℕ) → Route b q t s ls all to → AllOnBoard ls
+pub Route-on : (b : Cells) (q : DPiece) (ls : List ℕ) (t : Squares) (s : ℕ) (all : Squares) (to : ℕ)
+    → Route b q t s ls all to → AllOnBoard ls
 Route-on b q [] t s all to r = tt
 Route-on b q (l ∷ ls) t s all to r = (Jump-to_on b q t s r.0 l r.1, Route-on b q ls (set.insert t r.0) l all to r.2)
 
-pub Route-from_on : (b : Cells) (q : DPiece) (ls : List ℕ) (t : Squares) (s : ℕ) (all : Squares) (to : ℕ) → 0 < length ls → Route b q t s ls all to → OnBoard s
+pub Route-from_on : (b : Cells) (q : DPiece) (ls : List ℕ) (t : Squares) (s : ℕ) (all : Squares) (to : ℕ)
+    → 0 < length ls → Route b q t s ls all to → OnBoard s
 Route-from_on b q [] t s all to h r = absurd (omega arith)
 Route-from_on b q (l ∷ ls) t s all to h r = Jump-from_on b q t s r.0 l r.1
 

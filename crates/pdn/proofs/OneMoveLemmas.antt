@@ -32,13 +32,17 @@ not_err (Ok u) cause ok e = cc
 not_err (Err c) cause ok e = cc
 
 not_refused : (p : Position) (f : Form) (m : DMove) (cause : Illegal) → StandsFor p f m → IsRefused p f cause → ⊥
-not_refused p (quiet from to) m cause h e = not_err (check_of p (step_to from to)) cause ((check_of-is p (step_to from to)).legal.1 (subst (Legal p) h.0 h.1)) e
+not_refused p (quiet from to) m cause h e =
+    not_err (check_of p (step_to from to)) cause ((check_of-is p (step_to from to)).legal.1 (subst (Legal p) h.0 h.1)) e
 not_refused p (capture from middle to) m NoSuchMove h e = e.0 m h.0 h.1
 not_refused p (capture from middle to) m MustCapture h e = e
 not_refused p (capture from middle to) m NotLongest h e = e.0 m h.0 h.1
 
-pub reads-well : (p : Position) (text : List ℕ) (m : DMove) (e : MoveFault) → IsRead p text m → HasReadFault p text e → e ≡ fault.Memory
+pub reads-well : (p : Position) (text : List ℕ) (m : DMove) (e : MoveFault) → IsRead p text m → HasReadFault p text e
+    → e ≡ fault.Memory
 reads-well p text m fault.Memory h k = refl
 reads-well p text m (fault.BadText offset) h k = let e = h.1 in cc
-reads-well p text m fault.Ambiguous h k = absurd (not_ambiguous p h.0 m h.2 (subst (IsAmbiguous p) (one_form text h.0 k.0 h.1 k.1) k.2))
-reads-well p text m (fault.Illegal cause) h k = absurd (not_refused p h.0 m cause h.2 (subst (λ f. IsRefused p f cause) (one_form text h.0 k.0 h.1 k.1) k.2))
+reads-well p text m fault.Ambiguous h k =
+    absurd (not_ambiguous p h.0 m h.2 (subst (IsAmbiguous p) (one_form text h.0 k.0 h.1 k.1) k.2))
+reads-well p text m (fault.Illegal cause) h k =
+    absurd (not_refused p h.0 m cause h.2 (subst (λ f. IsRefused p f cause) (one_form text h.0 k.0 h.1 k.1) k.2))

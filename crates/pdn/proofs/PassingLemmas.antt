@@ -1,5 +1,6 @@
 -- Which routes and moves the text of a capture fits.
-use Rattle.std.proofs.Common.{◌≡◌, ℕ, suc, ◌-◌, ◌<◌, ◌≢◌, inl, inr, Bool, true, false, cond, ◌&&◌, nat_eq, nat_lt, List, [], ◌∷◌, ◌++◌, length, take, Some, None, refl, sym, ap, ◌∙◌, subst, arith}
+use Rattle.std.proofs.Common.{◌≡◌, ℕ, suc, ◌-◌, ◌<◌, ◌≢◌, inl, inr, Bool, true, false, cond, ◌&&◌, nat_eq, nat_lt, List}
+use Rattle.std.proofs.Common.{[], ◌∷◌, ◌++◌, length, take, Some, None, refl, sym, ap, ◌∙◌, subst, arith}
 use Rattle.std.specs.Prelude.{Vec, ◌↔◌}
 use Rattle.std.specs.List.{Contains, list_any}
 use Rattle.std.specs.declared.alloc.Global.{Global}
@@ -39,8 +40,10 @@ pub past-front : (xs : List ℕ) (y : ℕ) (ys : List ℕ) → IsSubsequence xs 
 past-front [] y ys h = tt
 past-front (x ∷ xs) y ys h =
     elim (cases_eq x y) [
-      | inl e ↦ subst (λ zs. IsSubsequence zs ys) (sym (past-same x xs y e)) (elim h [ inl k ↦ k.1 | inr k ↦ tail_of x xs ys k ])
-      | inr d ↦ subst (λ zs. IsSubsequence zs ys) (sym (past-other x xs y d)) (elim h [ inl k ↦ absurd (d k.0) | inr k ↦ k ])
+      | inl e ↦ subst (λ zs. IsSubsequence zs ys) (sym (past-same x xs y e))
+          (elim h [ inl k ↦ k.1 | inr k ↦ tail_of x xs ys k ])
+      | inr d ↦ subst (λ zs. IsSubsequence zs ys) (sym (past-other x xs y d))
+          (elim h [ inl k ↦ absurd (d k.0) | inr k ↦ k ])
     ]
 
 pub front-past : (xs : List ℕ) (y : ℕ) (ys : List ℕ) → IsSubsequence (past xs y) ys → IsSubsequence xs (y ∷ ys)
@@ -68,24 +71,33 @@ module _ (b : Cells) (q : DPiece) (t : Squares) (s : ℕ) (middle : List ℕ) (t
   -- one jump, and then more or none
   pub GoesTo-by : (j : ℕ × ℕ) → In j (jumps b q t s) → StepsTo b q t j middle to → GoesTo b q t s middle to
   GoesTo-by j jump (inl ends) =
-      let over = jumps-sound b q t s j.0 j.1 jump in
-      ([], set.insert t j.0, (j.0, subst (λ l. Jump b q t s j.0 l) ends.1 over, (refl, refl)), subst (λ xs. IsSubsequence xs []) (sym ends.0) tt)
-  GoesTo-by j jump (inr goes) = (j.1 ∷ goes.0, goes.1, (j.0, jumps-sound b q t s j.0 j.1 jump, goes.2), front-past middle j.1 goes.0 goes.3)
+      let over = jumps-sound b q t s j.0 j.1 jump in (
+        [],
+        set.insert t j.0,
+        (j.0, subst (λ l. Jump b q t s j.0 l) ends.1 over, (refl, refl)),
+        subst (λ xs. IsSubsequence xs []) (sym ends.0) tt,
+      )
+  GoesTo-by j jump (inr goes) =
+      (j.1 ∷ goes.0, goes.1, (j.0, jumps-sound b q t s j.0 j.1 jump, goes.2), front-past middle j.1 goes.0 goes.3)
 
-  from_route : (before : List ℕ) (all : Squares) → Route b q t s (before ++ to ∷ []) all to → IsSubsequence middle before → (j : ℕ × ℕ) × In j (jumps b q t s) × StepsTo b q t j middle to
+  from_route : (before : List ℕ) (all : Squares) → Route b q t s (before ++ to ∷ []) all to
+      → IsSubsequence middle before → (j : ℕ × ℕ) × In j (jumps b q t s) × StepsTo b q t j middle to
   from_route [] all r h = ((r.0, to), jumps-complete b q t s r.0 to r.1, inl (in_nothing middle h, refl))
-  from_route (l ∷ before) all r h = ((r.0, l), jumps-complete b q t s r.0 l r.1, inr (before, all, r.2, past-front middle l before h))
+  from_route (l ∷ before) all r h =
+      ((r.0, l), jumps-complete b q t s r.0 l r.1, inr (before, all, r.2, past-front middle l before h))
 
   pub GoesTo-first : GoesTo b q t s middle to → (j : ℕ × ℕ) × In j (jumps b q t s) × StepsTo b q t j middle to
   GoesTo-first g = from_route g.0 g.1 g.2 g.3
 
 -- the last landing is where the route ends
-pub Route-last : (b : Cells) (q : DPiece) (before : List ℕ) (t : Squares) (s last : ℕ) (all : Squares) (to : ℕ) → Route b q t s (before ++ last ∷ []) all to → last ≡ to
+pub Route-last : (b : Cells) (q : DPiece) (before : List ℕ) (t : Squares) (s last : ℕ) (all : Squares) (to : ℕ)
+    → Route b q t s (before ++ last ∷ []) all to → last ≡ to
 Route-last b q [] t s last all to r = r.2.1
 Route-last b q (l ∷ before) t s last all to r = Route-last b q before (set.insert t r.0) l last all to r.2
 
 module _ (p : Position) (from : ℕ) (middle : List ℕ) (to : ℕ) where
-  pub SomeFits-goes : (q : DPiece) → own_at p from ≡ Some q → GoesTo (without p.board from) q set.empty from middle to → SomeFits p from middle to
+  pub SomeFits-goes : (q : DPiece) → own_at p from ≡ Some q → GoesTo (without p.board from) q set.empty from middle to
+      → SomeFits p from middle to
   SomeFits-goes q own g =
       let is = own_at-is p from q own in (
         record { from = from; to = to; taken = g.1 },
@@ -98,15 +110,23 @@ module _ (p : Position) (from : ℕ) (middle : List ℕ) (to : ℕ) where
         },
       )
 
-  pub goes-SomeFits : (q : DPiece) → own_at p from ≡ Some q → SomeFits p from middle to → GoesTo (without p.board from) q set.empty from middle to
+  pub goes-SomeFits : (q : DPiece) → own_at p from ≡ Some q → SomeFits p from middle to
+      → GoesTo (without p.board from) q set.empty from middle to
   goes-SomeFits q own f =
       let m = f.0 in
       let fits = f.1 in
-      let c : Capture p from (fits.before ++ to ∷ []) m.taken m.to = subst (λ x. Capture p x (fits.before ++ to ∷ []) m.taken m.to) fits.leaves fits.route in
+      let c : Capture p from (fits.before ++ to ∷ []) m.taken m.to =
+      subst (λ x. Capture p x (fits.before ++ to ∷ []) m.taken m.to) fits.leaves fits.route in
       let mine = own_at-own p from c.piece c.stands c.own in
       let same : c.piece ≡ q = cc in
-      let route = subst (λ d. Route (without p.board from) d set.empty from (fits.before ++ to ∷ []) m.taken m.to) same c.route in
-      (fits.before, m.taken, subst (λ x. Route (without p.board from) q set.empty from (fits.before ++ to ∷ []) m.taken x) fits.comes route, fits.passes)
+      let route = subst (λ d. Route (without p.board from) d set.empty from (fits.before ++ to ∷ []) m.taken m.to) same
+      c.route in (
+        fits.before,
+        m.taken,
+        subst (λ x. Route (without p.board from) q set.empty from (fits.before ++ to ∷ []) m.taken x) fits.comes
+            route,
+        fits.passes,
+      )
 
   pub SomeFits-none : own_at p from ≡ None → SomeFits p from middle to → ⊥
   SomeFits-none none f =
@@ -123,7 +143,8 @@ short_front (x ∷ y ∷ xs) h =
     let size : length (x ∷ y ∷ xs) - 1 ≡ suc (length (y ∷ xs) - 1) = omega arith in
     (rest.0, ap (λ r. x ∷ r) rest.1 ∙ ap (λ n. take n (x ∷ y ∷ xs) ++ rest.0 ∷ []) (sym size))
 
-pub front_of : (xs : List ℕ) (y : ℕ) → (0 < length (xs ++ y ∷ [])) × (take (length (xs ++ y ∷ []) - 1) (xs ++ y ∷ []) ≡ xs)
+pub front_of : (xs : List ℕ) (y : ℕ) → (0 < length (xs ++ y ∷ []))
+    × (take (length (xs ++ y ∷ []) - 1) (xs ++ y ∷ []) ≡ xs)
 front_of [] y = (omega arith, refl)
 front_of (x ∷ xs) y =
     let rest = front_of xs y in
@@ -143,7 +164,8 @@ is_positive n h = grind (arith, common_steps)
 in_lists : (vs : List (Vec ℕ Global)) (v : Vec ℕ Global) → In v vs → In v.items (lists_in vs)
 in_lists vs v h = In-map (λ (u : Vec ℕ Global). u.items) v vs h
 
-module _ (p : Position) (m : DMove) (middle : List ℕ) (vs : List (Vec ℕ Global)) (members : (ls : List ℕ) → Contains (lists_in vs) ls ↔ Capture p m.from ls m.taken m.to) where
+module _ (p : Position) (m : DMove) (middle : List ℕ) (vs : List (Vec ℕ Global))
+    (members : (ls : List ℕ) → Contains (lists_in vs) ls ↔ Capture p m.from ls m.taken m.to) where
   -- some listed route passes the squares exactly where the text fits the move
   some-route : list_any (λ v. passes middle v.items) vs ≡ true → Fits p m.from middle m.to m
   some-route e =
@@ -163,14 +185,18 @@ module _ (p : Position) (m : DMove) (middle : List ℕ) (vs : List (Vec ℕ Glob
         passes = is_subsequence-sound middle before tests.1;
       }
 
-  pub some_passes-Fits : (from to : ℕ) → m.from ≡ from → m.to ≡ to → list_any (λ v. passes middle v.items) vs ≡ true → Fits p from middle to m
-  some_passes-Fits from to leaves comes e = subst (λ x. Fits p x middle to m) leaves (subst (λ x. Fits p m.from middle x m) comes (some-route e))
+  pub some_passes-Fits : (from to : ℕ) → m.from ≡ from → m.to ≡ to → list_any (λ v. passes middle v.items) vs ≡ true
+      → Fits p from middle to m
+  some_passes-Fits from to leaves comes e =
+      subst (λ x. Fits p x middle to m) leaves (subst (λ x. Fits p m.from middle x m) comes (some-route e))
 
   pub Fits-some_passes : (from to : ℕ) → Fits p from middle to m → list_any (λ v. passes middle v.items) vs ≡ true
   Fits-some_passes from to f =
       let ls = f.before ++ to ∷ [] in
-      let w = In-from_map (λ (u : Vec ℕ Global). u.items) ls vs (Contains-In ls (lists_in vs) ((members ls).1 f.route)) in
+      let w = In-from_map (λ (u : Vec ℕ Global). u.items) ls vs (Contains-In ls (lists_in vs) ((members ls).1 f.route))
+      in
       let front = front_of f.before to in
       let here : passes middle ls ≡ true =
-      (λ i. is_positive (length ls) front.0 i && (ap (is_subsequence middle) front.1 ∙ is_subsequence-complete f.before middle f.passes) i) in
+      (λ i. is_positive (length ls) front.0 i &&
+      (ap (is_subsequence middle) front.1 ∙ is_subsequence-complete f.before middle f.passes) i) in
       list_any-finds (λ (v : Vec ℕ Global). passes middle v.items) vs w.0 w.1 (ap (passes middle) w.2 ∙ here)

@@ -1,5 +1,6 @@
 -- What the choice among the legal moves says of a text.
-use Rattle.std.proofs.Common.{◌≡◌, ℕ, ◌<◌, List, [], ◌∷◌, ◌++◌, length, Some, None, Result, Ok, Err, inl, inr, sym, subst, arith}
+use Rattle.std.proofs.Common.{◌≡◌, ℕ, ◌<◌, List, [], ◌∷◌, ◌++◌, length, Some, None, Result, Ok, Err, inl, inr, sym}
+use Rattle.std.proofs.Common.{subst, arith}
 use Rattle.std.specs.Prelude.{◌↔◌, IfOk, IfErr}
 use Rattle.std.specs.List.{Contains}
 use Rattle.std.specs.FinSet as set
@@ -70,7 +71,8 @@ module _ (p : Position) (from : ℕ) (middle : List ℕ) (to : ℕ) where
     pub none-chosen : IsChoice (Fits p from middle to) moves None → NoneFits p from middle to
     none-chosen none = λ n h fits. none n (listed n h) fits
 
-    pub choice-fault : (e : MoveFault) → IsChoiceFault (Fits p from middle to) moves e → IsFormFault p (capture from middle to) e
+    pub choice-fault : (e : MoveFault) → IsChoiceFault (Fits p from middle to) moves e
+        → IsFormFault p (capture from middle to) e
     choice-fault fault.Memory h = tt
     choice-fault (fault.BadText offset) h = absurd h
     choice-fault fault.Ambiguous h = (h.0, h.1, legal h.0 h.2, h.3, legal h.1 h.4, h.5, h.6)
@@ -87,6 +89,7 @@ module _ (p : Position) (text : List ℕ) (form : Form) (is : read_form text ≡
   with_form fault.Ambiguous h = (form, is, h)
   with_form (fault.Illegal cause) h = (form, is, h)
 
-  pub read-fault : (r : Result DMove MoveFault) → IfErr r (λ e. IsFormFault p form e) → IfErr r (λ e. HasReadFault p text e)
+  pub read-fault : (r : Result DMove MoveFault) → IfErr r (λ e. IsFormFault p form e)
+      → IfErr r (λ e. HasReadFault p text e)
   read-fault (Ok m) h = h
   read-fault (Err e) h = with_form e h

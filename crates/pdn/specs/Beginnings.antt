@@ -19,4 +19,5 @@ SaysLongestBeginning = (text : List ℕ) (bytes : ℕ) → read_form text ≡ Er
 
 -- So it says of each text that has no form, and of no other.
 abbrev pub OffsetsAreLongestBeginnings : Type 0
-OffsetsAreLongestBeginnings = (text : List ℕ) (bytes : ℕ) → (read_form text ≡ Err bytes) ↔ (((form : Form) → HasForm text form → ⊥) × IsLongestBeginning text bytes)
+OffsetsAreLongestBeginnings = (text : List ℕ) (bytes : ℕ)
+    → (read_form text ≡ Err bytes) ↔ (((form : Form) → HasForm text form → ⊥) × IsLongestBeginning text bytes)

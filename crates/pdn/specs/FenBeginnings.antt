@@ -15,4 +15,5 @@ pub record IsLongestFenBeginning (text : List ℕ) (bytes : ℕ) : Type 0 where
 
 -- That is what the reader of forms says of each text that has none, and of no other.
 abbrev pub FenOffsetsAreLongestBeginnings : Type 0
-FenOffsetsAreLongestBeginnings = (text : List ℕ) (bytes : ℕ) → ReadsForm text (Err bytes) ↔ (((form : FenForm) → HasFenForm text form → ⊥) × IsLongestFenBeginning text bytes)
+FenOffsetsAreLongestBeginnings = (text : List ℕ) (bytes : ℕ)
+    → ReadsForm text (Err bytes) ↔ (((form : FenForm) → HasFenForm text form → ⊥) × IsLongestFenBeginning text bytes)

@@ -1,6 +1,8 @@
--- The form of a position's text (FEN): the side to move, and two lists in either order, one of White's pieces and one of
+-- The form of a position's text (FEN): the side to move, and two lists in either order, one of White's pieces and one
+-- of
 -- Black's, parted by colons, with a dot at the end or none.
-use Rattle.std.specs.Prelude.{◌≡◌, ℕ, ◌-◌, ◌==◌, List, [], ◌∷◌, length, Option, Some, None, Result, Ok, Err, if◌then◌else◌}
+use Rattle.std.specs.Prelude.{◌≡◌, ℕ, ◌-◌, ◌==◌, List, [], ◌∷◌, length, Option, Some, None, Result, Ok, Err}
+use Rattle.std.specs.Prelude.{if◌then◌else◌}
 use Rattle.squares.specs.declared.sides.Side.{Side}
 use Rattle.squares.specs.declared.sides.Side.TheVariants.{First, Second}
 use Rattle.squares.specs.Sides.{other, same_side}
@@ -14,7 +16,8 @@ pub record SideFront : Type 0 where
 
 abbrev pub read_side : List ℕ → Option SideFront
 read_side [] = None
-read_side (c ∷ rest) = if c == 87 then Some (record { side = First; rest = rest }) else if c == 66 then Some (record { side = Second; rest = rest }) else None
+read_side (c ∷ rest) = if c == 87 then Some (record { side = First; rest = rest }) else if c == 66 then Some
+    (record { side = Second; rest = rest }) else None
 
 -- the side to move, and that of the first list
 pub record Header : Type 0 where
@@ -80,16 +83,25 @@ FenReading = Result FenForm ℕ
 
 -- the second list, and the end
 pub data ReadsRest (total : ℕ) (turn second : Side) (before : List Item) (text : List ℕ) : FenReading → Type 0 where
-  bad_second : (offset : ℕ) → ReadsList total second before text (Err offset) → ReadsRest total turn second before text (Err offset)
-  bad_end : (list : Items) (offset : ℕ) → ReadsList total second before text (Ok list) → past_end total list.rest ≡ Some offset → ReadsRest total turn second before text (Err offset)
-  ended : (list : Items) → ReadsList total second before text (Ok list) → past_end total list.rest ≡ None → ReadsRest total turn second before text (Ok (record { turn = turn; items = list.items }))
+  bad_second : (offset : ℕ) → ReadsList total second before text (Err offset)
+      → ReadsRest total turn second before text (Err offset)
+  bad_end : (list : Items) (offset : ℕ) → ReadsList total second before text (Ok list)
+      → past_end total list.rest ≡ Some offset → ReadsRest total turn second before text (Err offset)
+  ended : (list : Items) → ReadsList total second before text (Ok list) → past_end total list.rest ≡ None
+      → ReadsRest total turn second before text (Ok (record { turn = turn; items = list.items }))
 
 -- the lists
 pub data ReadsLists (total : ℕ) (header : Header) : FenReading → Type 0 where
-  bad_first : (offset : ℕ) → ReadsList total header.first [] header.rest (Err offset) → ReadsLists total header (Err offset)
-  bad_between : (list : Items) (offset : ℕ) → ReadsList total header.first [] header.rest (Ok list) → ◌≡◌ {A = RestReading} (read_between total header.first list.rest) (Err offset) → ReadsLists total header (Err offset)
-  both : (list : Items) (rest : List ℕ) (reading : FenReading) → ReadsList total header.first [] header.rest (Ok list) → ◌≡◌ {A = RestReading} (read_between total header.first list.rest) (Ok rest) → ReadsRest total header.turn (other header.first) list.items rest reading → ReadsLists total header reading
+  bad_first : (offset : ℕ) → ReadsList total header.first [] header.rest (Err offset)
+      → ReadsLists total header (Err offset)
+  bad_between : (list : Items) (offset : ℕ) → ReadsList total header.first [] header.rest (Ok list)
+      → ◌≡◌ {A = RestReading} (read_between total header.first list.rest) (Err offset)
+      → ReadsLists total header (Err offset)
+  both : (list : Items) (rest : List ℕ) (reading : FenReading) → ReadsList total header.first [] header.rest (Ok list)
+      → ◌≡◌ {A = RestReading} (read_between total header.first list.rest) (Ok rest)
+      → ReadsRest total header.turn (other header.first) list.items rest reading → ReadsLists total header reading
 
 pub data ReadsForm (text : List ℕ) : FenReading → Type 0 where
   bad_header : (offset : ℕ) → ◌≡◌ {A = HeaderReading} (read_header text) (Err offset) → ReadsForm text (Err offset)
-  lists : (header : Header) (reading : FenReading) → ◌≡◌ {A = HeaderReading} (read_header text) (Ok header) → ReadsLists (length text) header reading → ReadsForm text reading
+  lists : (header : Header) (reading : FenReading) → ◌≡◌ {A = HeaderReading} (read_header text) (Ok header)
+      → ReadsLists (length text) header reading → ReadsForm text reading

@@ -14,23 +14,29 @@ IsManText side i text = IsSquareText i.from text × (i.to ≡ i.from) × (i.piec
 
 -- a king: `K` and its square
 abbrev pub IsKingText : Side → Item → List ℕ → Type 0
-IsKingText side i text = (square : List ℕ) × IsSquareText i.from square × (i.to ≡ i.from) × (i.piece ≡ king side) × (text ≡ 75 ∷ square)
+IsKingText side i text = (square : List ℕ) × IsSquareText i.from square × (i.to ≡ i.from) × (i.piece ≡ king side)
+    × (text ≡ 75 ∷ square)
 
 -- men on the squares from one to another that is not below it: the two squares parted by a hyphen
 abbrev pub AreMenText : Side → Item → List ℕ → Type 0
-AreMenText side i text = (first : List ℕ) × (last : List ℕ) × IsSquareText i.from first × IsSquareText i.to last × (i.from ≤ i.to) × (i.piece ≡ man side) × (text ≡ first ++ 45 ∷ last)
+AreMenText side i text = (first : List ℕ) × (last : List ℕ) × IsSquareText i.from first × IsSquareText i.to last
+    × (i.from ≤ i.to) × (i.piece ≡ man side) × (text ≡ first ++ 45 ∷ last)
 
 abbrev pub IsItemText : Side → Item → List ℕ → Type 0
 IsItemText side i text = IsManText side i text ⊎ (IsKingText side i text ⊎ AreMenText side i text)
 
--- The items of a side's list, parted by commas, where so many bytes stand before them. Each item is named by how many stand
+-- The items of a side's list, parted by commas, where so many bytes stand before them. Each item is named by how many
+-- stand
 -- before it.
 abbrev pub AreItemsText : Side → ℕ → List Item → List ℕ → Type 0
 AreItemsText side before [] text = text ≡ []
 AreItemsText side before (i ∷ []) text = (i.at ≡ before) × IsItemText side i text
-AreItemsText side before (i ∷ j ∷ items) text = (first : List ℕ) × (rest : List ℕ) × (i.at ≡ before) × IsItemText side i first × AreItemsText side (before + length first + 1) (j ∷ items) rest × (text ≡ first ++ 44 ∷ rest)
+AreItemsText side before (i ∷ j ∷ items) text = (first : List ℕ) × (rest : List ℕ) × (i.at ≡ before)
+    × IsItemText side i first × AreItemsText side (before + length first + 1) (j ∷ items) rest
+    × (text ≡ first ++ 44 ∷ rest)
 
--- The side to move, a side's list, and the other side's list, each after its letter, parted by colons, and a dot or none.
+-- The side to move, a side's list, and the other side's list, each after its letter, parted by colons, and a dot or
+-- none.
 pub record HasFenForm (text : List ℕ) (form : FenForm) : Type 0 where
   pub listed : Side
   pub first : List Item
@@ -42,7 +48,8 @@ pub record HasFenForm (text : List ℕ) (form : FenForm) : Type 0 where
   pub first_is : AreItemsText listed 3 first first_text
   pub second_is : AreItemsText (other listed) (3 + length first_text + 2) second second_text
   pub dot_is : (dot ≡ []) ⊎ (dot ≡ 46 ∷ [])
-  pub text_is : text ≡ side_letter form.turn ++ (58 ∷ (side_letter listed ++ (first_text ++ (58 ∷ (side_letter (other listed) ++ (second_text ++ dot))))))
+  pub text_is : text ≡ side_letter form.turn
+      ++ (58 ∷ (side_letter listed ++ (first_text ++ (58 ∷ (side_letter (other listed) ++ (second_text ++ dot))))))
 
 -- What the reader of forms reads are these texts, each as its form.
 abbrev pub FenFormsAreTexts : Type 0

@@ -1,5 +1,7 @@
--- The items of a position's text (FEN): a square for a man, `K` and a square for a king, or `a-b` for men on the squares from a to b.
-use Rattle.std.specs.Prelude.{◌≡◌, ℕ, ◌+◌, ◌-◌, ◌*◌, ◌==◌, ◌&&◌, ◌||◌, nat_le, List, [], ◌∷◌, ◌++◌, length, Bool, true, false, Option, Some, None, Result, Ok, Err, if◌then◌else◌}
+-- The items of a position's text (FEN): a square for a man, `K` and a square for a king, or `a-b` for men on the
+-- squares from a to b.
+use Rattle.std.specs.Prelude.{◌≡◌, ℕ, ◌+◌, ◌-◌, ◌*◌, ◌==◌, ◌&&◌, ◌||◌, nat_le, List, [], ◌∷◌, ◌++◌, length, Bool, true}
+use Rattle.std.specs.Prelude.{false, Option, Some, None, Result, Ok, Err, if◌then◌else◌}
 use Rattle.squares.specs.declared.sides.Side.{Side}
 use Rattle.squares.specs.declared.draughts.piece.DPiece.{DPiece}
 use Rattle.pdn.specs.declared.items.Item.{Item}
@@ -10,7 +12,8 @@ abbrev pub past_byte : ℕ → List ℕ → Option (List ℕ)
 past_byte byte [] = None
 past_byte byte (c ∷ rest) = if c == byte then Some rest else None
 
--- The last square of a range is not below the first. So a digit is read as the first of two where the number that it begins
+-- The last square of a range is not below the first. So a digit is read as the first of two where the number that it
+-- begins
 -- can still be as great.
 abbrev pub read_end_second : ℕ → ℕ → List ℕ → FrontReading
 read_end_second low first [] = if nat_le low first then Ok (record { square = first; rest = [] }) else Err 1
@@ -25,7 +28,8 @@ can_begin low digit = nat_le low digit || (nat_le digit 5 && nat_le low (10 * di
 
 abbrev pub read_end_number : ℕ → List ℕ → FrontReading
 read_end_number low [] = Err 0
-read_end_number low (c ∷ rest) = if (nat_le 49 c && nat_le c 57) && can_begin low (c - 48) then read_end_second low (c - 48) rest else Err 0
+read_end_number low (c ∷ rest) = if (nat_le 49 c && nat_le c 57) && can_begin low (c - 48) then read_end_second low
+    (c - 48) rest else Err 0
 
 -- the last square of a range from `low`
 abbrev pub read_end : ℕ → List ℕ → FrontReading
@@ -37,7 +41,8 @@ pub record ItemFront : Type 0 where
   pub item : Item
   pub rest : List ℕ
 
--- An item, or the length of the longest beginning of the whole text that begins a position's text. The whole text has so
+-- An item, or the length of the longest beginning of the whole text that begins a position's text. The whole text has
+-- so
 -- many bytes, and an item is named by how many stand before it.
 abbrev pub ItemReading : Type 0
 ItemReading = Result ItemFront ℕ
@@ -51,17 +56,23 @@ king side = record { side = side; king = true }
 -- a king, where so many bytes stand before the item and before its square
 abbrev pub king_of : ℕ → ℕ → Side → FrontReading → ItemReading
 king_of at before side (Err bytes) = Err (before + bytes)
-king_of at before side (Ok front) = Ok (record { item = record { at = at; from = front.square; to = front.square; piece = king side }; rest = front.rest })
+king_of at before side (Ok front) =
+    Ok
+    (record { item = record { at = at; from = front.square; to = front.square; piece = king side }; rest = front.rest })
 
 -- men up to a square, where so many bytes stand before the item and before that square
 abbrev pub range_of : ℕ → ℕ → Side → ℕ → FrontReading → ItemReading
 range_of at before side from (Err bytes) = Err (before + bytes)
-range_of at before side from (Ok front) = Ok (record { item = record { at = at; from = from; to = front.square; piece = man side }; rest = front.rest })
+range_of at before side from (Ok front) =
+    Ok (record { item = record { at = at; from = from; to = front.square; piece = man side }; rest = front.rest })
 
 -- a man, or men up to a square after a hyphen
 abbrev pub after_man : ℕ → ℕ → Side → Front → Option (List ℕ) → ItemReading
-after_man total at side front None = Ok (record { item = record { at = at; from = front.square; to = front.square; piece = man side }; rest = front.rest })
-after_man total at side front (Some rest) = range_of at (total - length rest) side front.square (read_end front.square rest)
+after_man total at side front None =
+    Ok
+    (record { item = record { at = at; from = front.square; to = front.square; piece = man side }; rest = front.rest })
+after_man total at side front (Some rest) =
+    range_of at (total - length rest) side front.square (read_end front.square rest)
 
 abbrev pub men_of : ℕ → ℕ → Side → FrontReading → ItemReading
 men_of total at side (Err bytes) = Err (at + bytes)
@@ -84,9 +95,16 @@ ItemsReading = Result Items ℕ
 
 -- Items parted by commas, after those that were read before.
 pub data ReadsItems (total : ℕ) (side : Side) : List Item → List ℕ → ItemsReading → Type 0 where
-  bad_item : (before : List Item) (text : List ℕ) (offset : ℕ) → ◌≡◌ {A = ItemReading} (read_item total side text) (Err offset) → ReadsItems total side before text (Err offset)
-  last_item : (before : List Item) (text : List ℕ) (item : Item) (rest : List ℕ) → ◌≡◌ {A = ItemReading} (read_item total side text) (Ok (record { item = item; rest = rest })) → past_byte 44 rest ≡ None → ReadsItems total side before text (Ok (record { items = before ++ item ∷ []; rest = rest }))
-  more_items : (before : List Item) (text : List ℕ) (item : Item) (rest more : List ℕ) (reading : ItemsReading) → ◌≡◌ {A = ItemReading} (read_item total side text) (Ok (record { item = item; rest = rest })) → past_byte 44 rest ≡ Some more → ReadsItems total side (before ++ item ∷ []) more reading → ReadsItems total side before text reading
+  bad_item : (before : List Item) (text : List ℕ) (offset : ℕ)
+      → ◌≡◌ {A = ItemReading} (read_item total side text) (Err offset) → ReadsItems total side before text (Err offset)
+  last_item : (before : List Item) (text : List ℕ) (item : Item) (rest : List ℕ)
+      → ◌≡◌ {A = ItemReading} (read_item total side text) (Ok (record { item = item; rest = rest }))
+      → past_byte 44 rest ≡ None → ReadsItems total side before text
+      (Ok (record { items = before ++ item ∷ []; rest = rest }))
+  more_items : (before : List Item) (text : List ℕ) (item : Item) (rest more : List ℕ) (reading : ItemsReading)
+      → ◌≡◌ {A = ItemReading} (read_item total side text) (Ok (record { item = item; rest = rest }))
+      → past_byte 44 rest ≡ Some more → ReadsItems total side (before ++ item ∷ []) more reading
+      → ReadsItems total side before text reading
 
 -- nothing, a colon or a dot ends a list that has no item
 abbrev pub ends_list : List ℕ → Bool
@@ -95,5 +113,7 @@ ends_list (c ∷ rest) = (c == 58) || (c == 46)
 
 -- a list, which may have no item
 pub data ReadsList (total : ℕ) (side : Side) : List Item → List ℕ → ItemsReading → Type 0 where
-  no_item : (before : List Item) (text : List ℕ) → ends_list text ≡ true → ReadsList total side before text (Ok (record { items = before; rest = text }))
-  some_items : (before : List Item) (text : List ℕ) (reading : ItemsReading) → ends_list text ≡ false → ReadsItems total side before text reading → ReadsList total side before text reading
+  no_item : (before : List Item) (text : List ℕ) → ends_list text ≡ true
+      → ReadsList total side before text (Ok (record { items = before; rest = text }))
+  some_items : (before : List Item) (text : List ℕ) (reading : ItemsReading) → ends_list text ≡ false
+      → ReadsItems total side before text reading → ReadsList total side before text reading

@@ -1,4 +1,5 @@
--- A position of draughts as text (FEN): the side to move, then White's and Black's pieces by ascending squares, `K` before a king.
+-- A position of draughts as text (FEN): the side to move, then White's and Black's pieces by ascending squares, `K`
+-- before a king.
 use Rattle.std.specs.Prelude.{ℕ, List, ◌∷◌, ◌++◌, Bool, true, false, Option, Some, None, codes, if◌then◌else◌}
 use Rattle.std.specs.List.{filter_map, join_with_byte, range_with_len}
 use Rattle.std.specs.FinMap as map
@@ -29,7 +30,8 @@ next_text false item = 44 ∷ item
 
 -- the pieces of a side on those squares, parted by commas
 unfoldable pub pieces_on : Side → Board → List ℕ → List ℕ
-pieces_on side board squares = join_with_byte 44 (filter_map (λ square. piece_of side square (map.get board square)) squares)
+pieces_on side board squares = join_with_byte 44
+    (filter_map (λ square. piece_of side square (map.get board square)) squares)
 
 -- the squares of the board, ascending
 unfoldable pub all_squares : List ℕ

@@ -1,9 +1,12 @@
--- The forms of a move's text: `a-b`, or a capture `a x b` without blanks and with any further squares between, where `:` is an `x`.
-use Rattle.std.specs.Prelude.{ℕ, ◌+◌, ◌-◌, ◌==◌, ◌||◌, List, [], ◌∷◌, ◌++◌, length, Bool, Option, Some, None, Result, Ok, Err, if◌then◌else◌}
+-- The forms of a move's text: `a-b`, or a capture `a x b` without blanks and with any further squares between, where
+-- `:` is an `x`.
+use Rattle.std.specs.Prelude.{ℕ, ◌+◌, ◌-◌, ◌==◌, ◌||◌, List, [], ◌∷◌, ◌++◌, length, Bool, Option, Some, None, Result}
+use Rattle.std.specs.Prelude.{Ok, Err, if◌then◌else◌}
 use Rattle.std.proofs.Common.{zero, suc}
 use Rattle.pdn.specs.SquareText.{FrontReading, read_square}
 
--- What a text names: the two squares of a quiet move, or of a capture the first square, squares on the way, and the last.
+-- What a text names: the two squares of a quiet move, or of a capture the first square, squares on the way, and the
+-- last.
 pub data Form : Type 0 where
   quiet : ℕ → ℕ → Form
   capture : ℕ → List ℕ → ℕ → Form
@@ -42,7 +45,8 @@ after_squares squares before (Ok l) = Ok (record { middle = squares ++ l.middle;
 abbrev pub at_cross : (List ℕ → LandingsReading) → ℕ → ℕ → List ℕ → LandingsReading
 at_cross more total square [] = Ok (record { middle = []; to = square })
 at_cross more total square (c ∷ rest) =
-    if is_cross c then after_squares (square ∷ []) (total - length rest) (more rest) else Err (total - (length rest + 1))
+    if is_cross c then after_squares (square ∷ []) (total - length rest) (more rest) else Err
+    (total - (length rest + 1))
 
 abbrev pub after_landing : (List ℕ → LandingsReading) → ℕ → FrontReading → LandingsReading
 after_landing more total (Err bytes) = Err bytes
@@ -65,7 +69,8 @@ capture_of from before (Ok l) = Ok (capture from l.middle l.to)
 -- the second square of a quiet move, where so many bytes came before it, of a text of that length
 abbrev pub quiet_of : ℕ → ℕ → ℕ → FrontReading → FormReading
 quiet_of from before total (Err bytes) = Err (before + bytes)
-quiet_of from before total (Ok front) = if length front.rest == 0 then Ok (quiet from front.square) else Err (total - length front.rest)
+quiet_of from before total (Ok front) = if length front.rest == 0 then Ok (quiet from front.square) else Err
+    (total - length front.rest)
 
 -- what follows the first square: a hyphen and one more square, or a cross and landing squares
 abbrev pub at_mark : ℕ → ℕ → List ℕ → FormReading
@@ -73,7 +78,8 @@ at_mark from total [] = Err total
 at_mark from total (c ∷ rest) =
     if c == 45
     then quiet_of from (total - length rest) total (read_square rest)
-    else if is_cross c then capture_of from (total - length rest) (read_landings rest) else Err (total - (length rest + 1))
+    else if is_cross c then capture_of from (total - length rest) (read_landings rest) else Err
+    (total - (length rest + 1))
 
 abbrev pub read_from : ℕ → FrontReading → FormReading
 read_from total (Err bytes) = Err bytes

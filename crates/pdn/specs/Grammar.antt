@@ -19,12 +19,15 @@ IsLanding n text = (cross : ℕ) × (square : List ℕ) × IsCross cross × IsSq
 -- landing squares one after another
 abbrev pub AreLandings : List ℕ → List ℕ → Type 0
 AreLandings [] text = text ≡ []
-AreLandings (n ∷ squares) text = (landing : List ℕ) × (rest : List ℕ) × IsLanding n landing × AreLandings squares rest × (text ≡ landing ++ rest)
+AreLandings (n ∷ squares) text = (landing : List ℕ) × (rest : List ℕ) × IsLanding n landing × AreLandings squares rest
+    × (text ≡ landing ++ rest)
 
 -- A quiet move is two squares parted by a hyphen, a capture a square and one landing square or more.
 abbrev pub HasForm : List ℕ → Form → Type 0
-HasForm text (quiet from to) = (first : List ℕ) × (second : List ℕ) × IsSquareText from first × IsSquareText to second × (text ≡ first ++ 45 ∷ second)
-HasForm text (capture from middle to) = (first : List ℕ) × (landings : List ℕ) × IsSquareText from first × AreLandings (middle ++ to ∷ []) landings × (text ≡ first ++ landings)
+HasForm text (quiet from to) = (first : List ℕ) × (second : List ℕ) × IsSquareText from first × IsSquareText to second
+    × (text ≡ first ++ 45 ∷ second)
+HasForm text (capture from middle to) = (first : List ℕ) × (landings : List ℕ) × IsSquareText from first
+    × AreLandings (middle ++ to ∷ []) landings × (text ≡ first ++ landings)
 
 -- What the reader of forms reads are these texts, each as its form.
 abbrev pub FormsAreTexts : Type 0

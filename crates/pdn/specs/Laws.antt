@@ -21,19 +21,23 @@ ReadsBack = (p : Position) (m : DMove) (text : List ℕ) → Legal p m → IsMov
 
 -- A text that is read as a move is read as no other, and has no fault but that memory is refused.
 abbrev pub ReadsOneMove : Type 0
-ReadsOneMove = (p : Position) (text : List ℕ) (m : DMove) → IsRead p text m → ((n : DMove) → IsRead p text n → n ≡ m) × ((e : MoveFault) → HasReadFault p text e → e ≡ fault.Memory)
+ReadsOneMove = (p : Position) (text : List ℕ) (m : DMove) → IsRead p text m → ((n : DMove) → IsRead p text n → n ≡ m)
+    × ((e : MoveFault) → HasReadFault p text e → e ≡ fault.Memory)
 
 -- The function that writes gives the one text of a legal move.
 abbrev pub WritesOneText : Type 0
-WritesOneText = (p : Position) (m : DMove) → Legal p m → IsMoveText p m (move_text p m) × ((text : List ℕ) → IsMoveText p m text → text ≡ move_text p m)
+WritesOneText = (p : Position) (m : DMove) → Legal p m → IsMoveText p m (move_text p m)
+    × ((text : List ℕ) → IsMoveText p m text → text ≡ move_text p m)
 
 -- The function that reads gives the move of a text, or its one fault beside that of memory.
 abbrev pub ReadsByRules : Type 0
-ReadsByRules = (p : Position) (text : List ℕ) → ((m : DMove) → (move_reading p text ≡ Ok m) ↔ IsRead p text m) × ((e : MoveFault) → (move_reading p text ≡ Err e) ↔ (HasReadFault p text e × (e ≢ fault.Memory)))
+ReadsByRules = (p : Position) (text : List ℕ) → ((m : DMove) → (move_reading p text ≡ Ok m) ↔ IsRead p text m)
+    × ((e : MoveFault) → (move_reading p text ≡ Err e) ↔ (HasReadFault p text e × (e ≢ fault.Memory)))
 
 -- A text that is read as a position is read as no other, and has no fault but that memory is refused.
 abbrev pub ReadsOnePosition : Type 0
-ReadsOnePosition = (p : Position) (text : List ℕ) → IsFen text p → ((q : Position) → IsFen text q → q ≡ p) × ((e : FenFault) → HasFenFault text e → e ≡ fen_fault.Memory)
+ReadsOnePosition = (p : Position) (text : List ℕ) → IsFen text p → ((q : Position) → IsFen text q → q ≡ p)
+    × ((e : FenFault) → HasFenFault text e → e ≡ fen_fault.Memory)
 
 -- all pieces stand on squares of the board
 abbrev pub IsOnBoard : Position → Type 0

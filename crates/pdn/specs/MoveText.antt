@@ -1,4 +1,5 @@
--- The text of a move (PDN): a quiet move by a hyphen between its squares, a capture by `x` before each landing square that is named.
+-- The text of a move (PDN): a quiet move by a hyphen between its squares, a capture by `x` before each landing square
+-- that is named.
 use Rattle.std.specs.Prelude.{◌≡◌, ◌≢◌, ◌==◌, ◌&&◌, not, Bool, ℕ, List, [], ◌∷◌, ◌++◌}
 use Rattle.std.specs.FinSet as set
 use Rattle.std.specs.declared.cmp.Ordering.TheVariants.{Greater}
@@ -43,9 +44,11 @@ pub record IsFirstRoute (p : Position) (m : DMove) (landings : List ℕ) : Type 
   pub route : Capture p m.from landings m.taken m.to
   pub first : (others : List ℕ) → Capture p m.from others m.taken m.to → route_cmp landings others ≢ Greater
 
--- The written text of a legal move. A capture is short where no other legal move has its from and to; otherwise it has all
+-- The written text of a legal move. A capture is short where no other legal move has its from and to; otherwise it has
+-- all
 -- landing squares of its first route.
 pub data IsMoveText (p : Position) (m : DMove) (text : List ℕ) : Type 0 where
   quiet : m.taken ≡ set.empty → text ≡ quiet_text m.from m.to → IsMoveText p m text
   short : m.taken ≢ set.empty → (HasRival p m → ⊥) → text ≡ capture_text m.from (m.to ∷ []) → IsMoveText p m text
-  long : m.taken ≢ set.empty → HasRival p m → (landings : List ℕ) → IsFirstRoute p m landings → text ≡ capture_text m.from landings → IsMoveText p m text
+  long : m.taken ≢ set.empty → HasRival p m → (landings : List ℕ) → IsFirstRoute p m landings
+      → text ≡ capture_text m.from landings → IsMoveText p m text

@@ -1,5 +1,6 @@
 -- The written text of a move, and the reading of one, as functions of the position.
-use Rattle.std.specs.Prelude.{ℕ, ◌==◌, ◌&&◌, ◌||◌, not, Bool, List, [], ◌∷◌, Option, Some, None, Result, Ok, Err, if◌then◌else◌}
+use Rattle.std.specs.Prelude.{ℕ, ◌==◌, ◌&&◌, ◌||◌, not, Bool, List, [], ◌∷◌, Option, Some, None, Result, Ok, Err}
+use Rattle.std.specs.Prelude.{if◌then◌else◌}
 use Rattle.std.specs.List.{list_any, list_all, range_with_len}
 use Rattle.std.specs.Option.{option_map_or}
 use Rattle.std.specs.FinSet as set
@@ -26,7 +27,9 @@ legal_moves p = moves p (most p)
 
 -- the routes of a capture
 unfoldable pub routes_in : Position → DMove → List (List ℕ)
-routes_in p m = option_map_or (λ q. landings_of (without p.board m.from) q m.taken m.to (set.len m.taken) set.empty m.from) (own_at p m.from) []
+routes_in p m =
+    option_map_or (λ q. landings_of (without p.board m.from) q m.taken m.to (set.len m.taken) set.empty m.from)
+    (own_at p m.from) []
 
 abbrev pub first_of : List (List ℕ) → List ℕ → List ℕ
 first_of [] none = none
@@ -34,7 +37,8 @@ first_of (route ∷ routes) none = route
 
 -- the landing squares that the text of a capture names
 abbrev pub named : Position → DMove → List ℕ
-named p m = if list_any (is_like m) (legal_moves p) then first_of (put_all route_cmp (routes_in p m) []) (m.to ∷ []) else m.to ∷ []
+named p m = if list_any (is_like m) (legal_moves p) then first_of (put_all route_cmp (routes_in p m) [])
+    (m.to ∷ []) else m.to ∷ []
 
 unfoldable pub move_text : Position → DMove → List ℕ
 move_text p m = if set.len m.taken == 0 then quiet_text m.from m.to else capture_text m.from (named p m)
@@ -50,11 +54,13 @@ Choosing = Result (Option DMove) MoveFault
 abbrev pub choose : (DMove → Bool) → List DMove → Choosing
 choose fits [] = Ok None
 choose fits (m ∷ moves) =
-    if fits m then if list_all (λ n. not (fits n) || same_move m n) moves then Ok (Some m) else Err fault.Ambiguous else choose fits moves
+    if fits m then if list_all (λ n. not (fits n) || same_move m n) moves then Ok (Some m) else Err
+    fault.Ambiguous else choose fits moves
 
 -- whether any capture fits
 unfoldable pub some_fit : Position → ℕ → List ℕ → ℕ → Bool
-some_fit p from middle to = list_any (λ n. list_any (does_fit p from middle to) (captures_at p n from)) (range_with_len 0 51)
+some_fit p from middle to = list_any (λ n. list_any (does_fit p from middle to) (captures_at p n from))
+    (range_with_len 0 51)
 
 abbrev pub illegal : Illegal → MoveFault
 illegal cause = fault.Illegal cause
@@ -73,7 +79,8 @@ checked m (Err cause) = Err (illegal cause)
 
 abbrev pub form_reading : Position → Form → Reading
 form_reading p (quiet from to) = checked (step_to from to) (check_of p (step_to from to))
-form_reading p (capture from middle to) = chosen (some_fit p from middle to) (choose (does_fit p from middle to) (legal_moves p))
+form_reading p (capture from middle to) =
+    chosen (some_fit p from middle to) (choose (does_fit p from middle to) (legal_moves p))
 
 abbrev pub with_form : Position → FormReading → Reading
 with_form p (Err offset) = Err (fault.BadText offset)

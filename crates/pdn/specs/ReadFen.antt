@@ -1,5 +1,6 @@
 -- The position that a text (FEN) stands for.
-use Rattle.std.specs.Prelude.{◌≡◌, ◌⊎◌, ℕ, ◌&&◌, nat_le, List, [], ◌∷◌, ◌++◌, fold, Bool, Option, Some, None, Ok, Err, if◌then◌else◌}
+use Rattle.std.specs.Prelude.{◌≡◌, ◌⊎◌, ℕ, ◌&&◌, nat_le, List, [], ◌∷◌, ◌++◌, fold, Bool, Option, Some, None, Ok, Err}
+use Rattle.std.specs.Prelude.{if◌then◌else◌}
 use Rattle.std.specs.List.{list_any, range_with_len}
 use Rattle.std.specs.FinMap as map
 use Rattle.squares.specs.DraughtsBoard.{Board, Position}
@@ -15,7 +16,8 @@ shares i j = nat_le i.from j.to && nat_le j.from i.to
 -- the place of the first item that gives a square which an earlier one gives
 abbrev pub repeated_after : List Item → List Item → Option ℕ
 repeated_after before [] = None
-repeated_after before (i ∷ items) = if list_any (shares i) before then Some i.at else repeated_after (before ++ i ∷ []) items
+repeated_after before (i ∷ items) = if list_any (shares i) before then Some i.at else repeated_after (before ++ i ∷ [])
+    items
 
 abbrev pub repeated : List Item → Option ℕ
 repeated items = repeated_after [] items
@@ -38,7 +40,8 @@ IsFen text p = (form : FenForm) × ReadsForm text (Ok form) × (repeated form.it
 -- What is wrong with a text: it has not the form, or it has, and an item gives a square again.
 abbrev pub HasFenFault : List ℕ → FenFault → Type 0
 HasFenFault text fault.Memory = Unit {0}
-HasFenFault text (fault.BadText offset) = ReadsForm text (Err offset) ⊎ ((form : FenForm) × ReadsForm text (Ok form) × (repeated form.items ≡ Some offset))
+HasFenFault text (fault.BadText offset) = ReadsForm text (Err offset)
+    ⊎ ((form : FenForm) × ReadsForm text (Ok form) × (repeated form.items ≡ Some offset))
 
 -- a fault of the form alone, by what offsets it may have
 abbrev pub IsBadAt : (ℕ → Type 0) → FenFault → Type 0

@@ -13,7 +13,8 @@ use Rattle.pdn.specs.declared.faults.MoveFault.TheVariants as fault
 use Rattle.pdn.specs.Forms.{Form, quiet, capture, read_form}
 use Rattle.pdn.specs.Subsequence.{IsSubsequence}
 
--- The text of a capture fits a move of the same from and to, where the squares between are, in their order, among those on
+-- The text of a capture fits a move of the same from and to, where the squares between are, in their order, among those
+-- on
 -- which the piece lands on one of its routes before it comes to the last.
 pub record Fits (p : Position) (from : ℕ) (middle : List ℕ) (to : ℕ) (m : DMove) : Type 0 where
   pub leaves : m.from ≡ from
@@ -37,12 +38,14 @@ ShortFits p from middle to = (m : DMove) × IsShortCapture p m × Fits p from mi
 -- A quiet text means its move, with nothing taken. A capture's text means the one legal move that it fits.
 abbrev pub StandsFor : Position → Form → DMove → Type 0
 StandsFor p (quiet from to) m = (m ≡ step_to from to) × Legal p m
-StandsFor p (capture from middle to) m = Legal p m × Fits p from middle to m × ((n : DMove) → Legal p n → Fits p from middle to n → n ≡ m)
+StandsFor p (capture from middle to) m = Legal p m × Fits p from middle to m
+    × ((n : DMove) → Legal p n → Fits p from middle to n → n ≡ m)
 
 -- two legal moves fit
 abbrev pub IsAmbiguous : Position → Form → Type 0
 IsAmbiguous p (quiet from to) = ⊥
-IsAmbiguous p (capture from middle to) = (m : DMove) × (n : DMove) × Legal p m × Fits p from middle to m × Legal p n × Fits p from middle to n × (m ≢ n)
+IsAmbiguous p (capture from middle to) = (m : DMove) × (n : DMove) × Legal p m × Fits p from middle to m × Legal p n
+    × Fits p from middle to n × (m ≢ n)
 
 -- why a text stands for no legal move
 abbrev pub IsRefused : Position → Form → Illegal → Type 0

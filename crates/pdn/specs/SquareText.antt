@@ -1,5 +1,6 @@
 -- The text of a square: its number from 1 to 50 in decimal, as it is written with no 0 before it, and as it is read.
-use Rattle.std.specs.Prelude.{ℕ, ◌+◌, ◌-◌, ◌*◌, ◌/◌, ◌%◌, ◌==◌, ◌&&◌, nat_lt, nat_le, List, [], ◌∷◌, Bool, Result, Ok, Err, if◌then◌else◌}
+use Rattle.std.specs.Prelude.{ℕ, ◌+◌, ◌-◌, ◌*◌, ◌/◌, ◌%◌, ◌==◌, ◌&&◌, nat_lt, nat_le, List, [], ◌∷◌, Bool, Result, Ok}
+use Rattle.std.specs.Prelude.{Err, if◌then◌else◌}
 
 abbrev pub square_text : ℕ → List ℕ
 square_text n = if nat_lt n 10 then (48 + n) ∷ [] else (48 + n / 10) ∷ (48 + n % 10) ∷ []
@@ -12,7 +13,8 @@ pub record Front : Type 0 where
   pub square : ℕ
   pub rest : List ℕ
 
--- A reading of the front of a text gives a square and what follows it, or the number of bytes that still begin a square's
+-- A reading of the front of a text gives a square and what follows it, or the number of bytes that still begin a
+-- square's
 -- text. A reader also takes one 0 before the number.
 abbrev pub FrontReading : Type 0
 FrontReading = Result Front ℕ

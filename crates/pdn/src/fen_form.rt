@@ -1,7 +1,8 @@
 //! The form of a position's text.
 ghost use Rattle.std.specs.Prelude.{◌≡◌, ◌-◌, ◌<◌, ◌≤◌, IfOk, IfErr, IfSome, MatchOption, Ok, Err, Some, None, length};
 ghost use Rattle.pdn.specs.FenItems.{ends_list, ReadsItems, ReadsList};
-ghost use Rattle.pdn.specs.FenForm.{read_side, read_header, read_between, left_over, past_end, ReadsRest, ReadsLists, ReadsForm};
+ghost use Rattle.pdn.specs.FenForm.{read_side, read_header, read_between, left_over, past_end, ReadsRest, ReadsLists};
+ghost use Rattle.pdn.specs.FenForm.{ReadsForm};
 ghost use Rattle.pdn.specs.ReadFen.{IsBadAt};
 ghost use Rattle.pdn.specs.FenValues.{form_value};
 

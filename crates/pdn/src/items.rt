@@ -1,7 +1,9 @@
 //! The items of a position's text.
-ghost use Rattle.std.specs.Prelude.{◌≡◌, ◌+◌, ◌-◌, ◌<◌, ◌≤◌, IfOk, IfErr, IfSome, MatchOption, Ok, Err, Some, None, length};
+ghost use Rattle.std.specs.Prelude.{◌≡◌, ◌+◌, ◌-◌, ◌<◌, ◌≤◌, IfOk, IfErr, IfSome, MatchOption, Ok, Err, Some, None};
+ghost use Rattle.std.specs.Prelude.{length};
 ghost use Rattle.pdn.specs.SquareText.{read_square};
-ghost use Rattle.pdn.specs.FenItems.{past_byte, read_end_second, can_begin, read_end_number, read_end, man, king, king_of, range_of, men_of, read_item};
+ghost use Rattle.pdn.specs.FenItems.{past_byte, read_end_second, can_begin, read_end_number, read_end, man, king};
+ghost use Rattle.pdn.specs.FenItems.{king_of, range_of, men_of, read_item};
 
 use crate::squares_text::{Front, read_square};
 use squares::{DPiece, Dsq, Side};

@@ -3,7 +3,8 @@ ghost use Rattle.pdn.specs.Beginnings.{OffsetsAreLongestBeginnings, SaysLongestB
 ghost use Rattle.pdn.specs.FenBeginnings.{FenOffsetsAreLongestBeginnings};
 ghost use Rattle.pdn.specs.FenGrammar.{FenFormsAreTexts};
 ghost use Rattle.pdn.specs.Grammar.{FormsAreTexts};
-ghost use Rattle.pdn.specs.Laws.{ReadsBack, ReadsOneMove, WritesOneText, ReadsByRules, ReadsOnePosition, ReadsPositionBack};
+ghost use Rattle.pdn.specs.Laws.{ReadsBack, ReadsOneMove, WritesOneText, ReadsByRules, ReadsOnePosition};
+ghost use Rattle.pdn.specs.Laws.{ReadsPositionBack};
 
 /// What is written for a legal move is read as that move.
 pub fn reads_back()

@@ -2,7 +2,8 @@
 ghost use Rattle.std.specs.Prelude.{◌≡◌, ◌++◌, OnOk, IfOk, string_bytes, IsTrue, ◌↔◌};
 ghost use Rattle.std.specs.List.{list_any};
 ghost use Rattle.draughts_moves.specs.Legal.{Legal};
-ghost use Rattle.pdn.specs.MoveText.{HasRival, IsMoveText, is_like, quiet_text, landing_text, landings_text, capture_text};
+ghost use Rattle.pdn.specs.MoveText.{HasRival, IsMoveText, is_like, quiet_text, landing_text, landings_text};
+ghost use Rattle.pdn.specs.MoveText.{capture_text};
 
 use crate::squares_text::push_square;
 use draughts_moves::{Memory, legal, routes};

@@ -1,5 +1,6 @@
 -- Runs of digits, and squares as such.
-use Rattle.std.proofs.Common.{◌≡◌, ℕ, ◌+◌, ◌-◌, ◌*◌, ◌/◌, ◌%◌, ◌<◌, ◌≤◌, inl, inr, List, [], ◌∷◌, ◌++◌, length, true, false, cond, nat_eq, nat_lt, nat_le, ◌&&◌, refl, sym, ap, subst, ◌∙◌, arith}
+use Rattle.std.proofs.Common.{◌≡◌, ℕ, ◌+◌, ◌-◌, ◌*◌, ◌/◌, ◌%◌, ◌<◌, ◌≤◌, inl, inr, List, [], ◌∷◌, ◌++◌, length, true}
+use Rattle.std.proofs.Common.{false, cond, nat_eq, nat_lt, nat_le, ◌&&◌, refl, sym, ap, subst, ◌∙◌, arith}
 use Rattle.std.proofs.lemmas.Bool.Decides.{nat_tests}
 use Rattle.std.specs.List.{prefix_len}
 use Rattle.squares.specs.DraughtsGeometry.{OnBoard}
@@ -21,7 +22,8 @@ pub digit-high : (c : ℕ) → is_digit c ≡ true → c ≤ 57
 digit-high c is = grind (arith, nat_tests, is)
 
 -- digits up to a byte that is none
-pub digits-run : (ds : List ℕ) (c : ℕ) (rest : List ℕ) → AllDigit ds → is_digit c ≡ false → digits_len (ds ++ c ∷ rest) ≡ length ds
+pub digits-run : (ds : List ℕ) (c : ℕ) (rest : List ℕ) → AllDigit ds → is_digit c ≡ false
+    → digits_len (ds ++ c ∷ rest) ≡ length ds
 digits-run [] c rest all none = ap (λ b. cond b (1 + prefix_len is_digit rest) 0) none
 digits-run (d ∷ ds) c rest all none =
     let later = digits-run ds c rest all.1 none in
@@ -31,17 +33,24 @@ never : {A : Type 0} (c d : ℕ) → c ≡ d → is_digit c ≡ true → is_digi
 never c d same yea nay = absurd (let bad : true ≡ false = sym yea ∙ ap is_digit same ∙ nay in cc)
 
 -- the byte after a run of digits is the same, however the run was found
-pub run-one : (ds es : List ℕ) (a b : ℕ) (r q : List ℕ) → AllDigit ds → AllDigit es → is_digit a ≡ false → is_digit b ≡ false → ds ++ a ∷ r ≡ es ++ b ∷ q → a ≡ b
+pub run-one : (ds es : List ℕ) (a b : ℕ) (r q : List ℕ) → AllDigit ds → AllDigit es → is_digit a ≡ false
+    → is_digit b ≡ false → ds ++ a ∷ r ≡ es ++ b ∷ q → a ≡ b
 run-one [] [] a b r q all others one other e = cc
 run-one [] (x ∷ es) a b r q all others one other e = let head : x ≡ a = cc in never x a head others.0 one
 run-one (d ∷ ds) [] a b r q all others one other e = let head : d ≡ b = cc in never d b head all.0 other
-run-one (d ∷ ds) (x ∷ es) a b r q all others one other e = let tail : ds ++ a ∷ r ≡ es ++ b ∷ q = cc in run-one ds es a b r q all.1 others.1 one other tail
+run-one (d ∷ ds) (x ∷ es) a b r q all others one other e = let tail : ds ++ a ∷ r ≡ es ++ b ∷ q = cc in
+    run-one ds es a b r q all.1 others.1 one other tail
 
 number-digits : (n : ℕ) → OnBoard n → AllDigit (square_text n)
 number-digits n on =
-    elim (nat_lt n 10) as (λ b. nat_lt n 10 ≡ b → AllDigit (cond b ((48 + n) ∷ []) ((48 + n / 10) ∷ (48 + n % 10) ∷ []))) [
-      | true ↦ λ is. let low : n < 10 = grind (arith, nat_tests, is) in (digit-test (48 + n) (omega arith) (omega (arith, low)), tt)
-      | false ↦ λ is. let high = on.1 in (digit-test (48 + n / 10) (omega arith) (omega (arith, high)), (digit-test (48 + n % 10) (omega arith) (omega arith), tt))
+    elim (nat_lt n 10) as (λ b. nat_lt n 10 ≡ b
+    → AllDigit (cond b ((48 + n) ∷ []) ((48 + n / 10) ∷ (48 + n % 10) ∷ []))) [
+      | true ↦ λ is. let low : n < 10 = grind (arith, nat_tests, is) in
+          (digit-test (48 + n) (omega arith) (omega (arith, low)), tt)
+      | false ↦ λ is. let high = on.1 in (
+        digit-test (48 + n / 10) (omega arith) (omega (arith, high)),
+        (digit-test (48 + n % 10) (omega arith) (omega arith), tt),
+      )
     ] refl
 
 pub square-digits : (n : ℕ) (text : List ℕ) → IsSquareText n text → AllDigit text
@@ -49,7 +58,8 @@ square-digits n text (on, inl is) = subst AllDigit (sym is) (number-digits n on)
 square-digits n text (on, inr is) = subst AllDigit (sym is) (refl, number-digits n on)
 
 number-some : (n : ℕ) → 0 < length (square_text n)
-number-some n = elim (nat_lt n 10) as (λ b. 0 < length (cond b ((48 + n) ∷ []) ((48 + n / 10) ∷ (48 + n % 10) ∷ []))) [ true ↦ omega arith | false ↦ omega arith ]
+number-some n = elim (nat_lt n 10) as (λ b. 0 < length (cond b ((48 + n) ∷ []) ((48 + n / 10) ∷ (48 + n % 10) ∷ [])))
+    [ true ↦ omega arith | false ↦ omega arith ]
 
 pub square-some : (n : ℕ) (text : List ℕ) → IsSquareText n text → 0 < length text
 square-some n text (on, inl is) = subst (λ t. 0 < length t) (sym is) (number-some n)
@@ -59,7 +69,8 @@ square-some n text (on, inr is) = subst (λ t. 0 < length t) (sym is) (omega ari
 one-len : (n c : ℕ) (rest : List ℕ) → 1 ≤ n → n < 10 → is_digit c ≡ false → plain_len ((48 + n) ∷ c ∷ rest) ≡ 1
 one-len n c rest low high none =
     let first : (nat_le 49 (48 + n) && nat_le (48 + n) 57) ≡ true = grind (arith, nat_tests) in
-    ap (λ b. cond b (with_second (48 + n - 48) (c ∷ rest)) 0) first ∙ ap (λ b. cond (b && nat_le (10 * (48 + n - 48) + (c - 48)) 50) 2 1) none
+    ap (λ b. cond b (with_second (48 + n - 48) (c ∷ rest)) 0) first
+    ∙ ap (λ b. cond (b && nat_le (10 * (48 + n - 48) + (c - 48)) 50) 2 1) none
 
 pub two-len : (n : ℕ) (rest : List ℕ) → 10 ≤ n → n ≤ 50 → plain_len ((48 + n / 10) ∷ (48 + n % 10) ∷ rest) ≡ 2
 two-len n rest low high =
@@ -68,19 +79,26 @@ two-len n rest low high =
     let digit : is_digit (48 + n % 10) ≡ true = digit-test (48 + n % 10) (omega arith) (omega arith) in
     let within : nat_le n 50 ≡ true = grind (arith, nat_tests) in
     ap (λ b. cond b (with_second (48 + n / 10 - 48) ((48 + n % 10) ∷ rest)) 0) first
-    ∙ ap (λ b. cond (b && nat_le (10 * (48 + n / 10 - 48) + (48 + n % 10 - 48)) 50) 2 1) digit ∙ ap (λ k. cond (nat_le k 50) 2 1) back ∙ ap (λ b. cond b 2 1) within
+    ∙ ap (λ b. cond (b && nat_le (10 * (48 + n / 10 - 48) + (48 + n % 10 - 48)) 50) 2 1) digit
+    ∙ ap (λ k. cond (nat_le k 50) 2 1) back ∙ ap (λ b. cond b 2 1) within
 
-plain-exact : (n c : ℕ) (rest : List ℕ) → OnBoard n → is_digit c ≡ false → plain_len (square_text n ++ c ∷ rest) ≡ length (square_text n)
+plain-exact : (n c : ℕ) (rest : List ℕ) → OnBoard n → is_digit c ≡ false
+    → plain_len (square_text n ++ c ∷ rest) ≡ length (square_text n)
 plain-exact n c rest on none =
-    elim (nat_lt n 10) as (λ b. nat_lt n 10 ≡ b → plain_len (cond b ((48 + n) ∷ []) ((48 + n / 10) ∷ (48 + n % 10) ∷ []) ++ c ∷ rest) ≡ length (cond b ((48 + n) ∷ []) ((48 + n / 10) ∷ (48 + n % 10) ∷ []))) [
+    elim (nat_lt n 10) as (λ b. nat_lt n 10 ≡ b
+    → plain_len (cond b ((48 + n) ∷ []) ((48 + n / 10) ∷ (48 + n % 10) ∷ []) ++ c ∷ rest)
+    ≡ length (cond b ((48 + n) ∷ []) ((48 + n / 10) ∷ (48 + n % 10) ∷ []))) [
       | true ↦ λ is. one-len n c rest on.0 (grind (arith, nat_tests, is)) none
       | false ↦ λ is. two-len n (c ∷ rest) (grind (arith, nat_tests, is)) on.1
     ] refl
 
 -- a square's number has no 0 before it
-no-zero : (n c : ℕ) (rest : List ℕ) → OnBoard n → square_len (square_text n ++ c ∷ rest) ≡ plain_len (square_text n ++ c ∷ rest)
+no-zero : (n c : ℕ) (rest : List ℕ) → OnBoard n
+    → square_len (square_text n ++ c ∷ rest) ≡ plain_len (square_text n ++ c ∷ rest)
 no-zero n c rest on =
-    elim (nat_lt n 10) as (λ b. nat_lt n 10 ≡ b → square_len (cond b ((48 + n) ∷ []) ((48 + n / 10) ∷ (48 + n % 10) ∷ []) ++ c ∷ rest) ≡ plain_len (cond b ((48 + n) ∷ []) ((48 + n / 10) ∷ (48 + n % 10) ∷ []) ++ c ∷ rest)) [
+    elim (nat_lt n 10) as (λ b. nat_lt n 10 ≡ b
+    → square_len (cond b ((48 + n) ∷ []) ((48 + n / 10) ∷ (48 + n % 10) ∷ []) ++ c ∷ rest)
+    ≡ plain_len (cond b ((48 + n) ∷ []) ((48 + n / 10) ∷ (48 + n % 10) ∷ []) ++ c ∷ rest)) [
       | true ↦ λ is.
           let low = on.0 in
           let other : nat_eq (48 + n) 48 ≡ false = grind (arith, nat_tests) in
@@ -88,7 +106,9 @@ no-zero n c rest on =
       | false ↦ λ is.
           let great : 10 ≤ n = grind (arith, nat_tests, is) in
           let other : nat_eq (48 + n / 10) 48 ≡ false = grind (arith, nat_tests) in
-          ap (λ b. cond b (both 1 (plain_len ((48 + n % 10) ∷ c ∷ rest))) (plain_len ((48 + n / 10) ∷ (48 + n % 10) ∷ c ∷ rest))) other
+          ap
+          (λ b. cond b (both 1 (plain_len ((48 + n % 10) ∷ c ∷ rest)))
+          (plain_len ((48 + n / 10) ∷ (48 + n % 10) ∷ c ∷ rest))) other
     ] refl
 
 pub both-sum : (a b : ℕ) → 0 < a → 0 < b → both a b ≡ a + b
@@ -98,10 +118,13 @@ both-sum a b first second =
     ap (λ c. cond c 0 (cond (nat_eq b 0) 0 (a + b))) one ∙ ap (λ c. cond c 0 (a + b)) two
 
 -- a square before a byte that is no digit
-pub square-exact : (n : ℕ) (text : List ℕ) (c : ℕ) (rest : List ℕ) → IsSquareText n text → is_digit c ≡ false → square_len (text ++ c ∷ rest) ≡ length text
+pub square-exact : (n : ℕ) (text : List ℕ) (c : ℕ) (rest : List ℕ) → IsSquareText n text → is_digit c ≡ false
+    → square_len (text ++ c ∷ rest) ≡ length text
 square-exact n text c rest (on, inl is) none =
     subst (λ t. square_len (t ++ c ∷ rest) ≡ length t) (sym is) (no-zero n c rest on ∙ plain-exact n c rest on none)
 square-exact n text c rest (on, inr is) none =
     let plain = plain-exact n c rest on none in
     let some = number-some n in
-    subst (λ t. square_len (t ++ c ∷ rest) ≡ length t) (sym is) (both-sum 1 (plain_len (square_text n ++ c ∷ rest)) (omega arith) (omega (arith, plain, some)) ∙ omega (arith, plain))
+    subst (λ t. square_len (t ++ c ∷ rest) ≡ length t) (sym is)
+    (both-sum 1 (plain_len (square_text n ++ c ∷ rest)) (omega arith) (omega (arith, plain, some))
+    ∙ omega (arith, plain))

@@ -1,5 +1,6 @@
 -- What is found passes the test, and a text is at least as long as what it begins with.
-use Rattle.std.proofs.Common.{◌≡◌, ℕ, ◌≤◌, List, [], ◌∷◌, ◌++◌, length, drop, Option, Some, None, Bool, true, false, cond, nat_eq, refl, sym, ap, ◌∙◌, arith}
+use Rattle.std.proofs.Common.{◌≡◌, ℕ, ◌≤◌, List, [], ◌∷◌, ◌++◌, length, drop, Option, Some, None, Bool, true, false}
+use Rattle.std.proofs.Common.{cond, nat_eq, refl, sym, ap, ◌∙◌, arith}
 use Rattle.std.specs.Prelude.{find}
 use Rattle.std.proofs.lemmas.List.{length-append}
 use Rattle.std.specs.List.{starts_with}
@@ -8,7 +9,8 @@ use Rattle.std.proofs.lemmas.Bool.Decides.{Decides-eqb}
 use Rattle.pdn_games.specs.declared.results.ResultWord.{ResultWord}
 use Rattle.pdn_games.specs.Results.{word_text, begins_with, words, result_at}
 
-found-step : {X : Type 0} (p : X → Bool) (y x : X) (rest : Option X) (b : Bool) → p y ≡ b → (rest ≡ Some x → p x ≡ true) → cond b (Some y) rest ≡ Some x → p x ≡ true
+found-step : {X : Type 0} (p : X → Bool) (y x : X) (rest : Option X) (b : Bool) → p y ≡ b → (rest ≡ Some x → p x ≡ true)
+    → cond b (Some y) rest ≡ Some x → p x ≡ true
 found-step p y x rest true is later found = let same : y ≡ x = cc in ap p (sym same) ∙ is
 found-step p y x rest false is later found = later found
 
@@ -18,7 +20,8 @@ found-passes p (y ∷ xs) x found = found-step p y x (find p xs) (p y) refl (fou
 
 pub begins-within : (text front : List ℕ) → starts_with nat_eq text front ≡ true → length front ≤ length text
 begins-within text front begins =
-    let parts : text ≡ front ++ drop (length front) text = (starts_is Decides-eqb text front (starts_with nat_eq text front) refl).0 begins in
+    let parts : text ≡ front ++ drop (length front) text =
+    (starts_is Decides-eqb text front (starts_with nat_eq text front) refl).0 begins in
     let long = ap length parts ∙ length-append front (drop (length front) text) in
     omega (arith, long)
 

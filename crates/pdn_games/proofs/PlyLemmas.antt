@@ -1,5 +1,6 @@
 -- The moves of a written game are found as they were written.
-use Rattle.std.proofs.Common.{◌≡◌, ℕ, ◌^◌, ◌<◌, ◌⊎◌, inl, inr, List, [], ◌∷◌, ◌++◌, Option, Some, None, Bool, true, false, refl, sym, ap, subst, ◌∙◌, arith}
+use Rattle.std.proofs.Common.{◌≡◌, ℕ, ◌^◌, ◌<◌, ◌⊎◌, inl, inr, List, [], ◌∷◌, ◌++◌, Option, Some, None, Bool, true}
+use Rattle.std.proofs.Common.{false, refl, sym, ap, subst, ◌∙◌, arith}
 use Rattle.std.specs.Fmt.{decimal}
 use Rattle.std.specs.Ordering.{nat_cmp}
 use Rattle.std.specs.FinSet as set
@@ -22,7 +23,8 @@ use Rattle.pdn_games.specs.declared.results.ResultWord.TheVariants as word
 use Rattle.pdn_games.specs.Results.{word_text, result_at}
 use Rattle.pdn_games.specs.Lengths.{number_len, move_len, landings_len, landings_within}
 use Rattle.pdn_games.specs.Skips.{past_skipped}
-use Rattle.pdn_games.specs.Tokens.{number, move_by, result, token_front, found, front_at, Placed, Lexes, at_end, skips, takes}
+use Rattle.pdn_games.specs.Tokens.{number, move_by, result, token_front, found, front_at, Placed, Lexes, at_end, skips}
+use Rattle.pdn_games.specs.Tokens.{takes}
 use Rattle.pdn_games.specs.Order.{first_stray}
 use Rattle.pdn_games.specs.Contents.{first_tag, move_texts, result_in}
 use Rattle.pdn_games.proofs.FrontLemmas.{number-front, move-front}
@@ -55,17 +57,21 @@ no-word p m word.Halves legal (form, read, stands) = cc
 no-word p m word.NilOne legal (form, read, stands) = cc
 no-word p m word.Star legal (form, read, stands) = cc
 
-legal-front : (line : Bool) (p : Position) (m : DMove) (c : ℕ) (rest : List ℕ) → Legal p m → (c ≡ 32) ⊎ (c ≡ 10) → front_at line true (move_text p m ++ c ∷ rest) ≡ found (move_by (move_text p m)) (c ∷ rest)
+legal-front : (line : Bool) (p : Position) (m : DMove) (c : ℕ) (rest : List ℕ) → Legal p m → (c ≡ 32) ⊎ (c ≡ 10)
+    → front_at line true (move_text p m ++ c ∷ rest) ≡ found (move_by (move_text p m)) (c ∷ rest)
 legal-front line p m c rest legal ends =
     let read = written-read p m legal in
-    move-front line (move_text p m) read.0 c rest (read_form-text (move_text p m) read.0 read.1) (λ w is. no-word p m w legal (subst (λ t. IsRead p t m) is read)) ends
+    move-front line (move_text p m) read.0 c rest (read_form-text (move_text p m) read.0 read.1)
+    (λ w is. no-word p m w legal (subst (λ t. IsRead p t m) is read)) ends
 
 -- a blank and a line feed are skipped
-pub past-feed : (total : ℕ) (line free : Bool) (rest : List ℕ) (tokens : List Placed) (stop : Option ℕ) → Lexes total true true rest tokens stop → Lexes total line free (10 ∷ rest) tokens stop
+pub past-feed : (total : ℕ) (line free : Bool) (rest : List ℕ) (tokens : List Placed) (stop : Option ℕ)
+    → Lexes total true true rest tokens stop → Lexes total line free (10 ∷ rest) tokens stop
 unfolding front_at past_skipped
 past-feed total line free rest tokens stop h = skips line free (10 ∷ rest) rest tokens stop refl h
 
-past-blank : (total : ℕ) (line free : Bool) (rest : List ℕ) (tokens : List Placed) (stop : Option ℕ) → Lexes total false true rest tokens stop → Lexes total line free (32 ∷ rest) tokens stop
+past-blank : (total : ℕ) (line free : Bool) (rest : List ℕ) (tokens : List Placed) (stop : Option ℕ)
+    → Lexes total false true rest tokens stop → Lexes total line free (32 ∷ rest) tokens stop
 unfolding front_at past_skipped
 past-blank total line free rest tokens stop h = skips line free (32 ∷ rest) rest tokens stop refl h
 
@@ -79,7 +85,8 @@ word_for score.FirstWins = word.TwoNil
 word_for score.Draw = word.OneOne
 word_for score.SecondWins = word.NilTwo
 
-score-front : (line : Bool) (s : Score) → front_at line true (score_text s ++ 10 ∷ []) ≡ found (result (word_for s)) (10 ∷ [])
+score-front : (line : Bool) (s : Score) → front_at line true (score_text s ++ 10 ∷ [])
+    ≡ found (result (word_for s)) (10 ∷ [])
 unfolding front_at past_skipped token_front number_len move_len landings_len landings_within result_at
 score-front true score.FirstWins = refl
 score-front true score.Draw = refl
@@ -108,31 +115,50 @@ pub record AreOf (texts : List (List ℕ)) (w : ResultWord) (tokens : List Place
 
 -- tokens of the rest of a text
 abbrev pub Found : ℕ → Bool → Bool → List ℕ → List (List ℕ) → ResultWord → Type 0
-Found total line free text texts w = (tokens : List Placed) × Lexes total line free text tokens None × AreOf texts w tokens
+Found total line free text texts w = (tokens : List Placed) × Lexes total line free text tokens None
+    × AreOf texts w tokens
 
-pub score-found : (total : ℕ) (line : Bool) (s : Score) → Found total line true (score_text s ++ 10 ∷ []) [] (word_for s)
+pub score-found : (total : ℕ) (line : Bool) (s : Score)
+    → Found total line true (score_text s ++ 10 ∷ []) [] (word_for s)
 score-found total line s = (
   record { at = _; token = result (word_for s) } ∷ [],
-  takes line true (score_text s ++ 10 ∷ []) (10 ∷ []) (result (word_for s)) [] None (score-front line s) (past-feed total false false [] [] None (at-nothing total true true)),
+  takes line true (score_text s ++ 10 ∷ []) (10 ∷ []) (result (word_for s)) [] None (score-front line s)
+      (past-feed total false false [] [] None (at-nothing total true true)),
   record { first = refl; later = refl; moves = refl; ends = refl; untagged = λ name. refl },
 )
 
-pub feed-found : (total : ℕ) (line free : Bool) (rest : List ℕ) (texts : List (List ℕ)) (w : ResultWord) → Found total true true rest texts w → Found total line free (10 ∷ rest) texts w
-feed-found total line free rest texts w (tokens, lexes, are) = (tokens, past-feed total line free rest tokens None lexes, are)
+pub feed-found : (total : ℕ) (line free : Bool) (rest : List ℕ) (texts : List (List ℕ)) (w : ResultWord)
+    → Found total true true rest texts w → Found total line free (10 ∷ rest) texts w
+feed-found total line free rest texts w (tokens, lexes, are) =
+    (tokens, past-feed total line free rest tokens None lexes, are)
 
-pub blank-found : (total : ℕ) (line free : Bool) (rest : List ℕ) (texts : List (List ℕ)) (w : ResultWord) → Found total false true rest texts w → Found total line free (32 ∷ rest) texts w
-blank-found total line free rest texts w (tokens, lexes, are) = (tokens, past-blank total line free rest tokens None lexes, are)
+pub blank-found : (total : ℕ) (line free : Bool) (rest : List ℕ) (texts : List (List ℕ)) (w : ResultWord)
+    → Found total false true rest texts w → Found total line free (32 ∷ rest) texts w
+blank-found total line free rest texts w (tokens, lexes, are) =
+    (tokens, past-blank total line free rest tokens None lexes, are)
 
-pub number-found : (total : ℕ) (line : Bool) (n : ℕ) (rest : List ℕ) (texts : List (List ℕ)) (w : ResultWord) → n < 2 ^ 64 → Found total false true (32 ∷ rest) texts w → Found total line true (decimal n ++ 46 ∷ 32 ∷ rest) texts w
+pub number-found : (total : ℕ) (line : Bool) (n : ℕ) (rest : List ℕ) (texts : List (List ℕ)) (w : ResultWord)
+    → n < 2 ^ 64 → Found total false true (32 ∷ rest) texts w
+    → Found total line true (decimal n ++ 46 ∷ 32 ∷ rest) texts w
 number-found total line n rest texts w fits (tokens, lexes, are) = (
   record { at = _; token = number } ∷ tokens,
   takes line true (decimal n ++ 46 ∷ 32 ∷ rest) (32 ∷ rest) number tokens None (number-front line n rest fits) lexes,
   record { first = are.later; later = are.later; moves = are.moves; ends = are.ends; untagged = are.untagged },
 )
 
-pub move-found : (total : ℕ) (line : Bool) (p : Position) (m : DMove) (c : ℕ) (rest : List ℕ) (texts : List (List ℕ)) (w : ResultWord) → Legal p m → (c ≡ 32) ⊎ (c ≡ 10) → Found total false false (c ∷ rest) texts w → Found total line true (move_text p m ++ c ∷ rest) (move_text p m ∷ texts) w
+pub move-found : (total : ℕ) (line : Bool) (p : Position) (m : DMove) (c : ℕ) (rest : List ℕ) (texts : List (List ℕ))
+    (w : ResultWord) → Legal p m → (c ≡ 32) ⊎ (c ≡ 10) → Found total false false (c ∷ rest) texts w
+    → Found total line true (move_text p m ++ c ∷ rest) (move_text p m ∷ texts) w
 move-found total line p m c rest texts w legal ends (tokens, lexes, are) = (
   record { at = _; token = move_by (move_text p m) } ∷ tokens,
-  takes line true (move_text p m ++ c ∷ rest) (c ∷ rest) (move_by (move_text p m)) tokens None (legal-front line p m c rest legal ends) lexes,
-  record { first = are.later; later = are.later; moves = ap (λ l. move_text p m ∷ l) are.moves; ends = are.ends; untagged = are.untagged },
+  takes line true (move_text p m ++ c ∷ rest) (c ∷ rest) (move_by (move_text p m)) tokens None
+      (legal-front line p m c rest legal ends) lexes,
+  record {
+    first = are.later;
+    later = are.later;
+    moves = ap (λ l. move_text p m ∷ l) are.moves;
+    ends =
+        are.ends;
+    untagged = are.untagged;
+  },
 )

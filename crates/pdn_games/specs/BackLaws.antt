@@ -28,4 +28,5 @@ pub record IsKept (event white black : List ℕ) (score : Score) (ms : List DMov
 abbrev pub WrittenIsRead : Type 0
 WrittenIsRead =
     (event white black : List ℕ) (date : CivilTime) (score : Score) (ms : List DMove) (g : PdnGame) →
-    IsKept event white black score ms → g.moves.items ≡ ms → g.score ≡ score → IsTextOf (game_text event date white black (Some score) ms) g
+    IsKept event white black score ms → g.moves.items ≡ ms → g.score ≡ score
+    → IsTextOf (game_text event date white black (Some score) ms) g

@@ -1,5 +1,6 @@
 -- What the tokens of a game's text say.
-use Rattle.std.specs.Prelude.{ℕ, ◌||◌, not, nat_eq, Bool, false, Option, Some, None, List, [], ◌∷◌, codes, if◌then◌else◌}
+use Rattle.std.specs.Prelude.{ℕ, ◌||◌, not, nat_eq, Bool, false, Option, Some, None, List, [], ◌∷◌, codes}
+use Rattle.std.specs.Prelude.{if◌then◌else◌}
 use Rattle.std.specs.List.{starts_with}
 use Rattle.std.specs.Str.{bytes_eq}
 use Rattle.squares.specs.DraughtsOpening.{opening}

@@ -41,7 +41,8 @@ landing_len (c ∷ rest) = if is_cross c then both 1 (square_len rest) else 0
 -- such landings one after another, up to so many
 unfoldable pub landings_within : ℕ → List ℕ → ℕ
 landings_within zero text = 0
-landings_within (suc n) text = if landing_len text == 0 then 0 else landing_len text + landings_within n (drop (landing_len text) text)
+landings_within (suc n) text = if landing_len text == 0 then 0 else landing_len text + landings_within n
+    (drop (landing_len text) text)
 
 -- as many landings as there are; a text cannot have more of them than bytes
 unfoldable pub landings_len : List ℕ → ℕ

@@ -1,5 +1,6 @@
 -- The game of a text, and why a text is refused.
-use Rattle.std.specs.Prelude.{◌≡◌, ◌&&◌, ℕ, Bool, true, false, Option, Some, None, List, Result, Ok, Err, codes, if◌then◌else◌}
+use Rattle.std.specs.Prelude.{◌≡◌, ◌&&◌, ℕ, Bool, true, false, Option, Some, None, List, Result, Ok, Err, codes}
+use Rattle.std.specs.Prelude.{if◌then◌else◌}
 use Rattle.squares.specs.declared.sides.Side.{Side}
 use Rattle.squares.specs.declared.sides.Score.{Score}
 use Rattle.squares.specs.declared.sides.Score.TheVariants as score
@@ -44,13 +45,16 @@ abbrev pub ruled : Option DEnd → Side → Option Score
 ruled None turn = None
 ruled (Some end) turn = Some (outcome_of end turn)
 
--- The score of a text's result, which is that of the rules, where they ended the game, and that of its own tag, if this tells one.
+-- The score of a text's result, which is that of the rules, where they ended the game, and that of its own tag, if this
+-- tells one.
 abbrev pub settled : Option Score → Option Score → Option Score → Result Score PdnFault
 settled None by_rule by_tag = Err fault.Unfinished
-settled (Some claim) by_rule by_tag = if agrees claim by_rule && agrees claim by_tag then Ok claim else Err fault.ResultDiffers
+settled (Some claim) by_rule by_tag = if agrees claim by_rule && agrees claim by_tag then Ok claim else Err
+    fault.ResultDiffers
 
 abbrev pub score_in : List Placed → List DMove → Result Score PdnFault
-score_in tokens ms = settled (said (result_in tokens)) (ruled (end_of opening ms) (last_position opening ms).turn) (told (first_tag (codes "Result") tokens))
+score_in tokens ms = settled (said (result_in tokens)) (ruled (end_of opening ms) (last_position opening ms).turn)
+    (told (first_tag (codes "Result") tokens))
 
 -- the tokens of a text that has the form of a game's text
 pub record AreTokens (text : List ℕ) (tokens : List Placed) : Type 0 where
@@ -106,7 +110,8 @@ TextFails text f = (tokens : List Placed) × AreTokens text tokens × Fails toke
 -- why a text is refused: it has not the form, and then the rest
 abbrev pub IsRefused : List ℕ → PdnFault → Type 0
 IsRefused text fault.Memory = Unit {0}
-IsRefused text (fault.BadText offset) = (tokens : List Placed) × (stop : Option ℕ) × TextTokens text tokens stop × (bad_at tokens stop ≡ Some offset)
+IsRefused text (fault.BadText offset) = (tokens : List Placed) × (stop : Option ℕ) × TextTokens text tokens stop
+    × (bad_at tokens stop ≡ Some offset)
 IsRefused text (fault.Ambiguous ply) = TextFails text (fault.Ambiguous ply)
 IsRefused text (fault.Illegal ply cause) = TextFails text (fault.Illegal ply cause)
 IsRefused text fault.OtherType = TextFails text fault.OtherType

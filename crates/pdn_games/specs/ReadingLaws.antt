@@ -15,4 +15,5 @@ TextsAreOfOne = (text : List ℕ) (g h : PdnGame) → IsTextOf text g → IsText
 
 -- a text of a game is refused for want of memory alone
 abbrev pub TextsOfGamesAreRead : Type 0
-TextsOfGamesAreRead = (text : List ℕ) (g : PdnGame) (f : PdnFault) → IsTextOf text g → IsRefused text f → f ≡ fault.Memory
+TextsOfGamesAreRead = (text : List ℕ) (g : PdnGame) (f : PdnFault) → IsTextOf text g → IsRefused text f
+    → f ≡ fault.Memory

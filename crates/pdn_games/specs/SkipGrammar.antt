@@ -29,15 +29,20 @@ pub data IsInner : List ℕ → Type 0 where
   braces : (inside text : List ℕ) → Lacks 125 inside → IsInner text → IsInner (123 ∷ inside ++ 125 ∷ text)
   brackets : (inside text : List ℕ) → IsInner inside → IsInner text → IsInner (40 ∷ inside ++ 41 ∷ text)
 
--- Something that is skipped, and what follows it: a blank or a line's end, a comment in braces, `$` and as many digits as there are,
--- brackets, as many `!` and `?` as there are, and the rest of a line from `;` on, or from `%` on where it begins the line.
+-- Something that is skipped, and what follows it: a blank or a line's end, a comment in braces, `$` and as many digits
+-- as there are,
+-- brackets, as many `!` and `?` as there are, and the rest of a line from `;` on, or from `%` on where it begins the
+-- line.
 pub data IsSkipped (line : Bool) (text rest : List ℕ) : Type 0 where
   blank : (c : ℕ) → is_blank c ≡ true → text ≡ c ∷ rest → IsSkipped line text rest
   comment : (inside : List ℕ) → Lacks 125 inside → text ≡ 123 ∷ inside ++ 125 ∷ rest → IsSkipped line text rest
-  note : (digits : List ℕ) → 0 < length digits → IsRun is_digit digits rest → text ≡ 36 ∷ digits ++ rest → IsSkipped line text rest
+  note : (digits : List ℕ) → 0 < length digits → IsRun is_digit digits rest → text ≡ 36 ∷ digits ++ rest
+      → IsSkipped line text rest
   variation : (inside : List ℕ) → IsInner inside → text ≡ 40 ∷ inside ++ 41 ∷ rest → IsSkipped line text rest
-  marks : (c : ℕ) (run : List ℕ) → is_mark c ≡ true → IsRun is_mark run rest → text ≡ c ∷ run ++ rest → IsSkipped line text rest
-  line_end : (c : ℕ) (run : List ℕ) → (c ≡ 59) ⊎ ((c ≡ 37) × (line ≡ true)) → IsRun is_in_line run rest → text ≡ c ∷ run ++ rest → IsSkipped line text rest
+  marks : (c : ℕ) (run : List ℕ) → is_mark c ≡ true → IsRun is_mark run rest → text ≡ c ∷ run ++ rest
+      → IsSkipped line text rest
+  line_end : (c : ℕ) (run : List ℕ) → (c ≡ 59) ⊎ ((c ≡ 37) × (line ≡ true)) → IsRun is_in_line run rest
+      → text ≡ c ∷ run ++ rest → IsSkipped line text rest
 
 -- That is what the reader skips.
 abbrev pub SkipsAreSuch : Type 0

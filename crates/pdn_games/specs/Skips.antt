@@ -1,5 +1,6 @@
 -- What is skipped between the tokens of a game's text.
-use Rattle.std.specs.Prelude.{ℕ, ◌+◌, ◌-◌, ◌==◌, ◌&&◌, ◌||◌, not, List, [], ◌∷◌, drop, Bool, false, Option, Some, None, if◌then◌else◌}
+use Rattle.std.specs.Prelude.{ℕ, ◌+◌, ◌-◌, ◌==◌, ◌&&◌, ◌||◌, not, List, [], ◌∷◌, drop, Bool, false, Option, Some, None}
+use Rattle.std.specs.Prelude.{if◌then◌else◌}
 use Rattle.std.specs.List.{prefix_len}
 use Rattle.std.specs.Option.{option_map_or}
 use Rattle.pdn_games.specs.declared.skips.Nesting.{Nesting}
@@ -47,7 +48,8 @@ past_marks text = drop (prefix_len is_mark text) text
 abbrev pub past_line : List ℕ → List ℕ
 past_line text = drop (prefix_len is_in_line text) text
 
--- What follows what is skipped, if a text begins with such: a blank or a line's end, a comment in braces, `$` and digits, brackets,
+-- What follows what is skipped, if a text begins with such: a blank or a line's end, a comment in braces, `$` and
+-- digits, brackets,
 -- a run of `!` and `?`, the rest of a line from `;` on, or from `%` on where it begins the line.
 unfoldable pub past_skipped : Bool → List ℕ → Option (List ℕ)
 past_skipped begins_line [] = None

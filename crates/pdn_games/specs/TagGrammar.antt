@@ -9,7 +9,8 @@ pub data IsValue : List ℕ → Type 0 where
   byte : (c : ℕ) (text : List ℕ) → c ≢ 34 → c ≢ 92 → IsValue text → IsValue (c ∷ text)
   escaped : (c : ℕ) (text : List ℕ) → IsValue text → IsValue (92 ∷ c ∷ text)
 
--- What follows the bracket that begins a tag: a name of letters, digits and `_`, a value in quotes, and a bracket, with blanks
+-- What follows the bracket that begins a tag: a name of letters, digits and `_`, a value in quotes, and a bracket, with
+-- blanks
 -- before each of them.
 pub record IsTag (text name value rest : List ℕ) : Type 0 where
   pub first : List ℕ
@@ -25,4 +26,5 @@ pub record IsTag (text name value rest : List ℕ) : Type 0 where
 
 -- Such are the tags that are read.
 abbrev pub TagsAreSuch : Type 0
-TagsAreSuch = (text name value rest : List ℕ) → (tag_front text ≡ Some (record { name = name; value = value; rest = rest })) ↔ IsTag text name value rest
+TagsAreSuch = (text name value rest : List ℕ)
+    → (tag_front text ≡ Some (record { name = name; value = value; rest = rest })) ↔ IsTag text name value rest

@@ -1,5 +1,6 @@
 -- A tag: `[Name "value"]`, where blanks may stand between its parts.
-use Rattle.std.specs.Prelude.{ℕ, ◌==◌, ◌&&◌, ◌||◌, ◌+◌, nat_le, List, [], ◌∷◌, take, drop, Bool, false, Option, Some, None, if◌then◌else◌}
+use Rattle.std.specs.Prelude.{ℕ, ◌==◌, ◌&&◌, ◌||◌, ◌+◌, nat_le, List, [], ◌∷◌, take, drop, Bool, false, Option, Some}
+use Rattle.std.specs.Prelude.{None, if◌then◌else◌}
 use Rattle.std.specs.List.{prefix_len}
 use Rattle.std.specs.Option.{option_map_or}
 use Rattle.pdn.specs.FenItems.{past_byte}
@@ -24,9 +25,11 @@ pub record Part : Type 0 where
 abbrev pub name_front : List ℕ → Option Part
 name_front text =
     if prefix_len is_name_byte text == 0 then None
-    else Some (record { value = take (prefix_len is_name_byte text) text; rest = drop (prefix_len is_name_byte text) text })
+    else Some
+    (record { value = take (prefix_len is_name_byte text) text; rest = drop (prefix_len is_name_byte text) text })
 
--- Whether the byte after this one is escaped, or none where this one is the quote that closes a value. A backslash escapes the
+-- Whether the byte after this one is escaped, or none where this one is the quote that closes a value. A backslash
+-- escapes the
 -- byte after it.
 abbrev pub quote_step : Bool → ℕ → Option Bool
 quote_step escaped c = if escaped then Some false else if c == 34 then None else Some (c == 92)
@@ -40,7 +43,8 @@ abbrev pub up_to_quote : List ℕ → Option ℕ → Option Part
 up_to_quote text None = None
 up_to_quote text (Some n) = Some (record { value = take n text; rest = drop (n + 1) text })
 
--- The value, as it is written, before the quote that closes it. No value that counts in a game's text has a quote or a backslash.
+-- The value, as it is written, before the quote that closes it. No value that counts in a game's text has a quote or a
+-- backslash.
 abbrev pub value_front : List ℕ → Option Part
 value_front text = up_to_quote text (quote_at 0 false text)
 

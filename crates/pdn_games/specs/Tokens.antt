@@ -1,5 +1,6 @@
 -- The tokens of a game's text.
-use Rattle.std.specs.Prelude.{◌≡◌, ℕ, ◌-◌, ◌==◌, ◌&&◌, nat_lt, List, [], ◌∷◌, length, take, drop, Bool, true, false, Option, Some, None, if◌then◌else◌}
+use Rattle.std.specs.Prelude.{◌≡◌, ℕ, ◌-◌, ◌==◌, ◌&&◌, nat_lt, List, [], ◌∷◌, length, take, drop, Bool, true, false}
+use Rattle.std.specs.Prelude.{Option, Some, None, if◌then◌else◌}
 use Rattle.pdn_games.specs.declared.results.ResultWord.{ResultWord}
 use Rattle.pdn_games.specs.Lengths.{number_len, move_len}
 use Rattle.pdn_games.specs.Results.{word_text, result_at}
@@ -33,15 +34,18 @@ result_token text (Some w) = Some (record { token = result w; rest = drop (lengt
 -- The longest of a move's number, a move and a result, by their lengths; a result before a move of the same length.
 abbrev pub longest : List ℕ → ℕ → ℕ → Option ResultWord → Option TokenFront
 longest text numbered moved word =
-    if nat_lt moved numbered && nat_lt (word_len word) numbered then Some (record { token = number; rest = drop numbered text })
-    else if nat_lt (word_len word) moved then Some (record { token = move_by (take moved text); rest = drop moved text })
+    if nat_lt moved numbered && nat_lt (word_len word) numbered then Some
+    (record { token = number; rest = drop numbered text })
+    else if nat_lt (word_len word) moved then Some
+    (record { token = move_by (take moved text); rest = drop moved text })
     else result_token text word
 
 -- the token that a text begins with
 unfoldable pub token_front : List ℕ → Option TokenFront
 token_front [] = None
 token_front (c ∷ rest) =
-    if c == 91 then tag_token (tag_front rest) else longest (c ∷ rest) (number_len (c ∷ rest)) (move_len (c ∷ rest)) (result_at (c ∷ rest))
+    if c == 91 then tag_token (tag_front rest) else longest (c ∷ rest) (number_len (c ∷ rest)) (move_len (c ∷ rest))
+    (result_at (c ∷ rest))
 
 -- What a text begins with: nothing more, something skipped, a token, or what is neither; with what follows.
 pub data Front : Type 0 where
@@ -80,13 +84,19 @@ pub record Placed : Type 0 where
   pub at : ℕ
   pub token : Token
 
--- The tokens from a place of a text on, which has so many bytes, and where they stop, if not at the text's end: at the first byte
+-- The tokens from a place of a text on, which has so many bytes, and where they stop, if not at the text's end: at the
+-- first byte
 -- at which neither a token may stand and begins, nor something that is skipped.
 pub data Lexes (total : ℕ) : Bool → Bool → List ℕ → List Placed → Option ℕ → Type 0 where
   at_end : (line free : Bool) (text : List ℕ) → front_at line free text ≡ ended → Lexes total line free text [] None
-  stops : (line free : Bool) (text : List ℕ) → front_at line free text ≡ stuck → Lexes total line free text [] (Some (total - length text))
-  skips : (line free : Bool) (text rest : List ℕ) (tokens : List Placed) (stop : Option ℕ) → front_at line free text ≡ skipped rest → Lexes total (begins_feed text) true rest tokens stop → Lexes total line free text tokens stop
-  takes : (line free : Bool) (text rest : List ℕ) (token : Token) (tokens : List Placed) (stop : Option ℕ) → front_at line free text ≡ found token rest → Lexes total false (lets_follow token) rest tokens stop → Lexes total line free text (record { at = total - length text; token = token } ∷ tokens) stop
+  stops : (line free : Bool) (text : List ℕ) → front_at line free text ≡ stuck
+      → Lexes total line free text [] (Some (total - length text))
+  skips : (line free : Bool) (text rest : List ℕ) (tokens : List Placed) (stop : Option ℕ)
+      → front_at line free text ≡ skipped rest → Lexes total (begins_feed text) true rest tokens stop
+      → Lexes total line free text tokens stop
+  takes : (line free : Bool) (text rest : List ℕ) (token : Token) (tokens : List Placed) (stop : Option ℕ)
+      → front_at line free text ≡ found token rest → Lexes total false (lets_follow token) rest tokens stop
+      → Lexes total line free text (record { at = total - length text; token = token } ∷ tokens) stop
 
 -- the tokens of a whole text, and where they stop
 abbrev pub TextTokens : List ℕ → List Placed → Option ℕ → Type 0

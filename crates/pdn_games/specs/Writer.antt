@@ -23,11 +23,12 @@ unfoldable pub whole_text : PdnHead → List DMove → List ℕ
 whole_text head ms = game_text head.event.now head.date head.white.now head.black.now head.score ms
 
 -- To the bytes from before the head and these moves were added, which a writer has now; and the game stands after them.
-pub record HasWritten (head : PdnHead) (ms : List DMove) (before now : Option (List ℕ)) (game : GameWriter) : Type 0 where
-  pub written : Appends before now (text_up_to head ms)
-  pub position : game.position ≡ last_position opening ms
-  pub plies : game.plies ≡ length ms
-  pub score : game.score ≡ head.score
+pub record HasWritten (head : PdnHead) (ms : List DMove) (before now : Option (List ℕ)) (game : GameWriter) : Type 0
+  where
+    pub written : Appends before now (text_up_to head ms)
+    pub position : game.position ≡ last_position opening ms
+    pub plies : game.plies ≡ length ms
+    pub score : game.score ≡ head.score
 
 -- the move is legal after those that are written, whose number still grows
 abbrev pub MayFollow : GameWriter → DMove → Type 0
@@ -72,5 +73,6 @@ TagsBeginGames =
 -- a beginning of the text up to some moves begins the whole text of each game that goes on from them
 abbrev pub MovesBeginGames : Type 0
 MovesBeginGames =
-    (head : PdnHead) (ms more : List DMove) (before now : Option (List ℕ)) → AppendsSome before now (text_up_to head ms) →
+    (head : PdnHead) (ms more : List DMove) (before now : Option (List ℕ)) → AppendsSome before now (text_up_to head ms)
+    →
     AppendsSome before now (whole_text head (ms ++ more))

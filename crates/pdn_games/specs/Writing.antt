@@ -1,5 +1,6 @@
 -- The one text of a game.
-use Rattle.std.specs.Prelude.{ℕ, ◌+◌, ◌/◌, ◌%◌, ◌==◌, Option, Some, None, List, [], ◌∷◌, ◌++◌, length, codes, unsigned_abs, if◌then◌else◌}
+use Rattle.std.specs.Prelude.{ℕ, ◌+◌, ◌/◌, ◌%◌, ◌==◌, Option, Some, None, List, [], ◌∷◌, ◌++◌, length, codes}
+use Rattle.std.specs.Prelude.{unsigned_abs, if◌then◌else◌}
 use Rattle.std.specs.Fmt.{decimal}
 use Rattle.clocks.specs.declared.dates.CivilTime.{CivilTime}
 use Rattle.squares.specs.declared.sides.Score.{Score}
@@ -20,7 +21,8 @@ two_digits n = (48 + n / 10 % 10) ∷ (48 + n % 10) ∷ []
 
 -- `YYYY.MM.DD`
 abbrev pub date_text : CivilTime → List ℕ
-date_text at = two_digits (unsigned_abs at.year / 100) ++ (two_digits (unsigned_abs at.year) ++ (46 ∷ two_digits at.month ++ 46 ∷ two_digits at.day))
+date_text at = two_digits (unsigned_abs at.year / 100)
+    ++ (two_digits (unsigned_abs at.year) ++ (46 ∷ two_digits at.month ++ 46 ∷ two_digits at.day))
 
 -- the score as it is written, or `*` for a game that goes on
 abbrev pub result_text : Option Score → List ℕ
@@ -30,10 +32,14 @@ result_text (Some score) = score_text score
 -- the tags of a game, and the empty line after them
 abbrev pub head_text : List ℕ → CivilTime → List ℕ → List ℕ → Option Score → List ℕ
 head_text event date white black score =
-    tag_line (codes "Event") event ++ (tag_line (codes "Date") (date_text date) ++ (tag_line (codes "White") white ++ (tag_line (codes "Black") black ++
+    tag_line (codes "Event") event
+    ++
+    (tag_line (codes "Date") (date_text date)
+    ++ (tag_line (codes "White") white ++ (tag_line (codes "Black") black ++
     (tag_line (codes "Result") (result_text score) ++ (tag_line (codes "GameType") (codes "20") ++ 10 ∷ [])))))
 
--- A move, after so many plies: one of White's stands after its number, `1. 32-28`, and one of Black's after a blank at the line's end.
+-- A move, after so many plies: one of White's stands after its number, `1. 32-28`, and one of Black's after a blank at
+-- the line's end.
 abbrev pub ply_text : ℕ → List ℕ → List ℕ
 ply_text plies text = if plies % 2 == 0 then decimal (plies / 2 + 1) ++ (46 ∷ 32 ∷ text) else 32 ∷ text ++ 10 ∷ []
 
@@ -48,4 +54,5 @@ end_text plies score = if plies % 2 == 0 then result_text score ++ 10 ∷ [] els
 
 -- the whole text of a game
 abbrev pub game_text : List ℕ → CivilTime → List ℕ → List ℕ → Option Score → List DMove → List ℕ
-game_text event date white black score ms = head_text event date white black score ++ (plies_text opening 0 ms ++ end_text (length ms) score)
+game_text event date white black score ms =
+    head_text event date white black score ++ (plies_text opening 0 ms ++ end_text (length ms) score)

@@ -26,7 +26,8 @@ pub fn moves_are_longest()
     ensures { MovesAreLongest }
 {}
 
-/// What is skipped between tokens is what the grammar says: blanks, comments, notes, brackets, marks, and lines of comment.
+/// What is skipped between tokens is what the grammar says: blanks, comments, notes, brackets, marks, and lines of
+/// comment.
 pub fn skips_are_such()
     ensures { SkipsAreSuch }
 {}

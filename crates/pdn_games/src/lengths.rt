@@ -2,7 +2,8 @@
 ghost use Rattle.std.specs.Prelude.{◌≡◌, ◌+◌, ◌≤◌, ◌<◌, ◌^◌, length, drop};
 ghost use Rattle.pdn.specs.Forms.{is_cross};
 ghost use Rattle.pdn.specs.SquareText as square_text;
-ghost use Rattle.pdn_games.specs.Lengths.{both, either, with_second, plain_len, square_len, step_len, landing_len, landings_len, tail_len, move_len, is_dot, digits_len, dots_len, number_len};
+ghost use Rattle.pdn_games.specs.Lengths.{both, either, with_second, plain_len, square_len, step_len, landing_len};
+ghost use Rattle.pdn_games.specs.Lengths.{landings_len, tail_len, move_len, is_dot, digits_len, dots_len, number_len};
 
 /// What follows so many bytes of a text.
 pub fn after(text: &[u8], bytes: usize) -> &[u8]

@@ -1,7 +1,8 @@
 //! The order in which the tokens of a game's text stand.
 ghost use Rattle.std.specs.Prelude.{◌≡◌};
 ghost use Rattle.pdn_games.specs.declared.order.Part.TheVariants as part;
-ghost use Rattle.pdn_games.specs.Order.{after_tag, after_move, after_result, next, first_stray, or_else, missing, bad_at};
+ghost use Rattle.pdn_games.specs.Order.{after_tag, after_move, after_result, next, first_stray, or_else, missing};
+ghost use Rattle.pdn_games.specs.Order.{bad_at};
 ghost use Rattle.pdn_games.specs.TokenValues.{token_of, all_placed};
 
 use crate::tokens::{Placed, Token};

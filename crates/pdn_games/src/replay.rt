@@ -6,7 +6,8 @@ ghost use Rattle.draughts_draws.specs.Ends.{end_of};
 ghost use Rattle.pdn.specs.ReadMove.{IsRead, HasReadFault};
 ghost use Rattle.pdn_games.specs.Contents.{move_texts};
 ghost use Rattle.pdn_games.specs.Moves.{MeanAll, RefusesMoves};
-ghost use Rattle.pdn_games.specs.Replaying.{IsMoveForm, HasItsForm, HaveForms, Stands, GrowsBy, GrowsWith, RefusesText, RefusesIn, at_ply, fault_of};
+ghost use Rattle.pdn_games.specs.Replaying.{IsMoveForm, HasItsForm, HaveForms, Stands, GrowsBy, GrowsWith, RefusesText};
+ghost use Rattle.pdn_games.specs.Replaying.{RefusesIn, at_ply, fault_of};
 ghost use Rattle.pdn_games.specs.TokenValues.{token_of, all_placed};
 
 use crate::faults::PdnFault;

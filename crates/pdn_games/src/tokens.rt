@@ -1,7 +1,8 @@
 //! The tokens of a game's text.
 ghost use Rattle.std.specs.Prelude.{◌≡◌, ◌≤◌, ◌<◌, IfOk, IfSome, MatchOption, Some, None, length};
 ghost use Rattle.pdn_games.specs.Results as results;
-ghost use Rattle.pdn_games.specs.Tokens.{word_len, longest, token_front, front_with, front_at, begins_feed, lets_follow, TextTokens};
+ghost use Rattle.pdn_games.specs.Tokens.{word_len, longest, token_front, front_with, front_at, begins_feed};
+ghost use Rattle.pdn_games.specs.Tokens.{lets_follow, TextTokens};
 ghost use Rattle.pdn_games.specs.TokenFronts.{front_of, IsShorter};
 ghost use Rattle.pdn_games.specs.TokenValues.{token_of, all_placed};
 
@@ -189,7 +190,8 @@ pub struct Lexed<'a> {
     pub stop: Option<usize>,
 }
 
-/// The tokens of a text, up to the first byte at which neither a token may stand and begins, nor something that is skipped.
+/// The tokens of a text, up to the first byte at which neither a token may stand and begins, nor something that is
+/// skipped.
 pub fn tokens_of(alloc: Global, text: &[u8]) -> Result<Lexed<'_>, AllocError>
     ensures { IfOk result (λ lexed. TextTokens text.now (all_placed lexed.tokens.items) lexed.stop) }
 {

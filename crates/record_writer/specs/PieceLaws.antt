@@ -15,7 +15,8 @@ pub begun-whole : (before after : Option (List ℕ)) (text : List ℕ) → Appen
 begun-whole before after text h = record { done = text; left = []; parts = append-nil text; appended = h }
 
 -- a text, and then a beginning of the next
-pub begun-next : (before mid after : Option (List ℕ)) (text next : List ℕ) → Appends before mid text → AppendsSome mid after next →
+pub begun-next : (before mid after : Option (List ℕ)) (text next : List ℕ) → Appends before mid text
+    → AppendsSome mid after next →
     AppendsSome before after (text ++ next)
 begun-next before mid after text next h some = record {
   done = text ++ some.done;

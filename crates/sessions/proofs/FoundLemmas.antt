@@ -13,11 +13,15 @@ use Rattle.sqlite.proofs.Theorems.{opens_again}
 use Rattle.sessions.specs.Finds.{Finds}
 
 -- Where the files hold what a stop left, an opening finds a member of what the connection may leave.
-pub next_finds : {D : Type 0} {g : Ghosts D} (old : Held (FileStore D g)) (last : FileStore D g) → IsTrue (view last).is_numbered → AreDatabases (recovers last) → IsQuiet view faults recovers is_shielded old.store last
-    → (left : Image) → (store_state last).may_leave left → (found : Trees) → Finds left found → ∥ (file_state old).may_leave found ∥₁
+pub next_finds : {D : Type 0} {g : Ghosts D} (old : Held (FileStore D g)) (last : FileStore D g)
+    → IsTrue (view last).is_numbered → AreDatabases (recovers last)
+    → IsQuiet view faults recovers is_shielded old.store last
+    → (left : Image) → (store_state last).may_leave left → (found : Trees) → Finds left found
+    → ∥ (file_state old).may_leave found ∥₁
 next_finds old last numbered sound quiet left may found finds =
     let back : recovers last found → (file_state old).may_leave found = quiet.outcomes found in
-    ∥∥₁_map (opens_again last numbered sound left may) (λ held. back (subst (recovers last) (sym (finds held.0 held.2)) held.1))
+    ∥∥₁_map (opens_again last numbered sound left may)
+    (λ held. back (subst (recovers last) (sym (finds held.0 held.2)) held.1))
 
 -- a disk that is clean in the end was clean
 pub was_clean : (before after : ℕ) → before ≤ after → after ≡ 0 → before ≡ 0

@@ -41,7 +41,8 @@ pub fn end<D: Disk + Drop>(club: Club<FileStore<D>>) -> FileStore<D>
         ∥ (file_state club.connection).may_leave found ∥₁ }
     ensures history { IsClean (store_view result) → (sessions : _) →
         ((db : _) → (file_state club.connection).may_leave db → IsReachable sessions db) →
-        (left : _) → (store_state result).may_leave left → (found : _) → Finds left found → ∥ IsReachable sessions found ∥₁ }
+        (left : _) → (store_state result).may_leave left → (found : _) → Finds left found →
+        ∥ IsReachable sessions found ∥₁ }
 {
     let conn = club.into_connection();
     close(conn)

@@ -1,5 +1,6 @@
 -- Boards that are filled square by square: rank after rank, and in each from file 9 down.
-use Rattle.std.proofs.Common.{◌≡◌, ◌≢◌, ℕ, zero, suc, ◌+◌, ◌-◌, ◌<◌, ◌≤◌, ◌⊎◌, inl, inr, true, false, cond, nat_eq, List, ◌∷◌, ◌++◌, Option, Some, None, refl, sym, ap, ◌∙◌, arith}
+use Rattle.std.proofs.Common.{◌≡◌, ◌≢◌, ℕ, zero, suc, ◌+◌, ◌-◌, ◌<◌, ◌≤◌, ◌⊎◌, inl, inr, true, false, cond, nat_eq}
+use Rattle.std.proofs.Common.{List, ◌∷◌, ◌++◌, Option, Some, None, refl, sym, ap, ◌∙◌, arith}
 use Rattle.std.proofs.lemmas.Bool.Decides.{nat_tests}
 use Rattle.std.specs.Ordering.{nat_cmp, eq_by_cmp}
 use Rattle.std.specs.Cmp.{nat_cmp_total, unsigned_tied}
@@ -32,14 +33,18 @@ pub record Fresh (rank left : ℕ) (board : ShogiBoard) : Type 0 where
 
 get-put : (board : ShogiBoard) (n q : ℕ) (piece : SPiece) → q ≡ n → map.get (map.insert board n piece) q ≡ Some piece
 get-put board n q piece e =
-    map.get-insert nat_cmp_total board n piece q ∙ ap (λ b. cond b (Some piece) (map.get board q)) (unsigned_tied q n ∙ nat_eq_same q n e)
+    map.get-insert nat_cmp_total board n piece q
+    ∙ ap (λ b. cond b (Some piece) (map.get board q)) (unsigned_tied q n ∙ nat_eq_same q n e)
 
-get-other : (board : ShogiBoard) (n q : ℕ) (piece : SPiece) → q ≢ n → map.get (map.insert board n piece) q ≡ map.get board q
+get-other : (board : ShogiBoard) (n q : ℕ) (piece : SPiece) → q ≢ n
+    → map.get (map.insert board n piece) q ≡ map.get board q
 get-other board n q piece e =
-    map.get-insert nat_cmp_total board n piece q ∙ ap (λ b. cond b (Some piece) (map.get board q)) (unsigned_tied q n ∙ nat_eq_other q n e)
+    map.get-insert nat_cmp_total board n piece q
+    ∙ ap (λ b. cond b (Some piece) (map.get board q)) (unsigned_tied q n ∙ nat_eq_other q n e)
 
 -- squares of other files or ranks have other numbers
-apart : (f k file rank : ℕ) → OnShogiBoard f k → OnShogiBoard file rank → ((f ≢ file) ⊎ (k ≢ rank)) → shogi_number f k ≢ shogi_number file rank
+apart : (f k file rank : ℕ) → OnShogiBoard f k → OnShogiBoard file rank → ((f ≢ file) ⊎ (k ≢ rank))
+    → shogi_number f k ≢ shogi_number file rank
 apart f k file rank on there (inl differs) e = differs (omega arith)
 apart f k file rank on there (inr differs) e = differs (omega arith)
 
@@ -48,8 +53,10 @@ module _ (rank left : ℕ) (piece : SPiece) (board : ShogiBoard) (on : OnShogiBo
   next_board : ShogiBoard
   next_board = map.insert board (shogi_number left rank) piece
 
-  other : (f k : ℕ) → OnShogiBoard f k → ((f ≢ left) ⊎ (k ≢ rank)) → at (map.insert board (shogi_number left rank) piece) f k ≡ at board f k
-  other f k here differs = get-other board (shogi_number left rank) (shogi_number f k) piece (apart f k left rank here on differs)
+  other : (f k : ℕ) → OnShogiBoard f k → ((f ≢ left) ⊎ (k ≢ rank))
+      → at (map.insert board (shogi_number left rank) piece) f k ≡ at board f k
+  other f k here differs = get-other board (shogi_number left rank) (shogi_number f k) piece
+      (apart f k left rank here on differs)
 
   differs-ahead : (f k : ℕ) → Ahead rank (left - 1) f k → (f ≢ left) ⊎ (k ≢ rank)
   differs-ahead f k (inl a) = inr (λ e. absurd (omega arith))
@@ -70,16 +77,24 @@ module _ (rank left : ℕ) (piece : SPiece) (board : ShogiBoard) (on : OnShogiBo
   pub fresh-put : Fresh rank left board → Fresh rank (left - 1) (map.insert board (shogi_number left rank) piece)
   fresh-put h =
       record {
-        on_squares = λ n off. get-other board (shogi_number left rank) n piece (λ e. absurd (omega (arith, off, on.0.1, on.1.1, e))) ∙ h.on_squares n off;
+        on_squares = λ n off. get-other board (shogi_number left rank) n piece
+            (λ e. absurd (omega (arith, off, on.0.1, on.1.1, e))) ∙ h.on_squares n off;
         none = λ f k here ahead. other f k here (differs-ahead f k ahead) ∙ h.none f k here (still-ahead f k ahead);
       }
 
   module _ (whole : ShogiBoard) where
-    pub keeps-unput : Keeps rank (left - 1) whole (map.insert board (shogi_number left rank) piece) → Keeps rank left whole board
-    keeps-unput h = record { same = λ f k here passed. h.same f k here (still-passed f k passed) ∙ other f k here (differs-passed f k passed) }
+    pub keeps-unput : Keeps rank (left - 1) whole (map.insert board (shogi_number left rank) piece)
+        → Keeps rank left whole board
+    keeps-unput h =
+        record {
+          same = λ f k here passed. h.same f k here (still-passed f k passed)
+              ∙ other f k here (differs-passed f k passed);
+        }
 
-    pub stands-put : Keeps rank (left - 1) whole (map.insert board (shogi_number left rank) piece) → at whole left rank ≡ Some piece
-    stands-put h = h.same left rank on (inr (refl, omega (arith, on.0.0))) ∙ get-put board (shogi_number left rank) (shogi_number left rank) piece refl
+    pub stands-put : Keeps rank (left - 1) whole (map.insert board (shogi_number left rank) piece)
+        → at whole left rank ≡ Some piece
+    stands-put h = h.same left rank on (inr (refl, omega (arith, on.0.0)))
+        ∙ get-put board (shogi_number left rank) (shogi_number left rank) piece refl
 
     cases-passed : (f k : ℕ) → Passed rank (left - 1) f k → Passed rank left f k ⊎ ((k ≡ rank) × (f ≡ left))
     cases-passed f k (inl a) = inl (inl a)
@@ -89,14 +104,16 @@ module _ (rank left : ℕ) (piece : SPiece) (board : ShogiBoard) (on : OnShogiBo
           | false ↦ λ e. inl (inr (a.0, grind (arith, nat_tests, a.1)))
         ] refl
 
-    pub keeps-put : Keeps rank left whole board → at whole left rank ≡ Some piece → Keeps rank (left - 1) whole (map.insert board (shogi_number left rank) piece)
+    pub keeps-put : Keeps rank left whole board → at whole left rank ≡ Some piece
+        → Keeps rank (left - 1) whole (map.insert board (shogi_number left rank) piece)
     keeps-put h stands =
         record {
           same = λ f k here passed. elim (cases-passed f k passed) [
             | inl before ↦ h.same f k here before ∙ sym (other f k here (differs-passed f k before))
             | inr this ↦
                 let square : shogi_number f k ≡ shogi_number left rank = λ i. shogi_number (this.1 i) (this.0 i) in
-                ap (map.get whole) square ∙ stands ∙ sym (get-put board (shogi_number left rank) (shogi_number f k) piece square)
+                ap (map.get whole) square ∙ stands ∙ sym
+                (get-put board (shogi_number left rank) (shogi_number f k) piece square)
           ];
         }
 
@@ -111,34 +128,41 @@ module _ (rank left n : ℕ) (board : ShogiBoard) (within : n ≤ left) where
   still-passed-gap f k (inr a) = inr (a.0, omega (arith, a.1))
 
   pub fresh-gap : Fresh rank left board → Fresh rank (left - n) board
-  fresh-gap h = record { on_squares = h.on_squares; none = λ f k here ahead. h.none f k here (still-ahead-gap f k ahead) }
+  fresh-gap h =
+      record { on_squares = h.on_squares; none = λ f k here ahead. h.none f k here (still-ahead-gap f k ahead) }
 
   module _ (whole : ShogiBoard) where
     pub keeps-ungap : Keeps rank (left - n) whole board → Keeps rank left whole board
     keeps-ungap h = record { same = λ f k here passed. h.same f k here (still-passed-gap f k passed) }
 
     -- they are empty on the whole board too
-    pub none-gap : Keeps rank (left - n) whole board → Fresh rank left board → (1 ≤ rank) → rank ≤ 9 → left ≤ 9 → (f : ℕ) → left - n < f → f ≤ left → at whole f rank ≡ None
+    pub none-gap : Keeps rank (left - n) whole board → Fresh rank left board → (1 ≤ rank) → rank ≤ 9 → left ≤ 9
+        → (f : ℕ) → left - n < f → f ≤ left → at whole f rank ≡ None
     none-gap h fresh low high most f above below =
         let on : OnShogiBoard f rank = ((omega arith, omega arith), (low, high)) in
         h.same f rank on (inr (refl, above)) ∙ fresh.none f rank on (inr (refl, below))
 
-    cases-gap : (f k : ℕ) → Passed rank (left - n) f k → Passed rank left f k ⊎ ((k ≡ rank) × ((left - n < f) × (f ≤ left)))
+    cases-gap : (f k : ℕ) → Passed rank (left - n) f k → Passed rank left f k
+        ⊎ ((k ≡ rank) × ((left - n < f) × (f ≤ left)))
     cases-gap f k (inl a) = inl (inl a)
     cases-gap f k (inr a) = elim (by f) [ inl more ↦ inl (inr (a.0, more)) | inr less ↦ inr (a.0, (a.1, less)) ]
       where
         by : (f : ℕ) → (left < f) ⊎ (f ≤ left)
-        by f = elim (Rattle.std.specs.Prelude.nat_lt left f) as (λ b. Rattle.std.specs.Prelude.nat_lt left f ≡ b → (left < f) ⊎ (f ≤ left)) [
-          | true ↦ λ e. inl (grind (arith, nat_tests))
-          | false ↦ λ e. inr (grind (arith, nat_tests))
-        ] refl
+        by f =
+            elim (Rattle.std.specs.Prelude.nat_lt left f) as (λ b. Rattle.std.specs.Prelude.nat_lt left f ≡ b
+            → (left < f) ⊎ (f ≤ left)) [
+              | true ↦ λ e. inl (grind (arith, nat_tests))
+              | false ↦ λ e. inr (grind (arith, nat_tests))
+            ] refl
 
-    pub keeps-gap : Keeps rank left whole board → Fresh rank left board → ((f : ℕ) → left - n < f → f ≤ left → at whole f rank ≡ None) → Keeps rank (left - n) whole board
+    pub keeps-gap : Keeps rank left whole board → Fresh rank left board
+        → ((f : ℕ) → left - n < f → f ≤ left → at whole f rank ≡ None) → Keeps rank (left - n) whole board
     keeps-gap h fresh none =
         record {
           same = λ f k here passed. elim (cases-gap f k passed) [
             | inl before ↦ h.same f k here before
-            | inr this ↦ ap (at whole f) this.0 ∙ none f this.1.0 this.1.1 ∙ sym (fresh.none f k here (inr (this.0, this.1.1)))
+            | inr this ↦ ap (at whole f) this.0 ∙ none f this.1.0 this.1.1
+                ∙ sym (fresh.none f k here (inr (this.0, this.1.1)))
           ];
         }
 
@@ -161,7 +185,8 @@ module _ (rank : ℕ) where
   ahead-next f k (inr a) = inl (omega (arith, a.0))
 
   pub fresh-next : (board : ShogiBoard) → Fresh rank 0 board → Fresh (rank + 1) 9 board
-  fresh-next board h = record { on_squares = h.on_squares; none = λ f k here ahead. h.none f k here (ahead-next f k ahead) }
+  fresh-next board h =
+      record { on_squares = h.on_squares; none = λ f k here ahead. h.none f k here (ahead-next f k ahead) }
 
   pub keeps-next : (whole board : ShogiBoard) → Keeps rank 0 whole board → Keeps (rank + 1) 9 whole board
   keeps-next whole board h = record { same = λ f k here passed. h.same f k here (passed-next f k here passed) }
@@ -170,7 +195,12 @@ module _ (rank : ℕ) where
   keeps-before whole board h = record { same = λ f k here passed. h.same f k here (next-passed f k passed) }
 
 pub fresh-empty : Fresh 1 9 map.empty
-fresh-empty = record { on_squares = λ n off. map.get-empty nat_cmp n; none = λ f k here ahead. map.get-empty nat_cmp (shogi_number f k) }
+fresh-empty =
+    record {
+      on_squares = λ n off. map.get-empty nat_cmp n;
+      none =
+          λ f k here ahead. map.get-empty nat_cmp (shogi_number f k);
+    }
 
 pub keeps-empty : (whole : ShogiBoard) → Keeps 1 9 whole map.empty
 keeps-empty whole = record { same = λ f k here passed. nothing f k here passed }
@@ -183,7 +213,8 @@ pub keeps-itself : (rank left : ℕ) (whole board : ShogiBoard) → whole ≡ bo
 keeps-itself rank left whole board e = record { same = λ f k here passed. ap (λ b. at b f k) e }
 
 -- a board of which all squares are passed is the whole board
-pub keeps-whole : (whole board : ShogiBoard) → Keeps 9 0 whole board → IsOnSquares whole → IsOnSquares board → whole ≡ board
+pub keeps-whole : (whole board : ShogiBoard) → Keeps 9 0 whole board → IsOnSquares whole → IsOnSquares board
+    → whole ≡ board
 keeps-whole whole board h on_whole on_board =
     map.same_map nat_cmp_total nat_cmp-IsAntisymmetric _ _ (λ q. each q)
   where
@@ -198,20 +229,26 @@ keeps-whole whole board h on_whole on_board =
     on q below =
         let here : OnShogiBoard (file_of q) (rank_of q) = ((omega arith, omega arith), (omega arith, omega arith)) in
         let number : shogi_number (file_of q) (rank_of q) ≡ q = omega arith in
-        ap (map.get whole) (sym number) ∙ h.same (file_of q) (rank_of q) here (all-passed (file_of q) (rank_of q) here) ∙ ap (map.get board) number
+        ap (map.get whole) (sym number) ∙ h.same (file_of q) (rank_of q) here (all-passed (file_of q) (rank_of q) here)
+        ∙ ap (map.get board) number
 
     each : (q : ℕ) → map.get whole q ≡ map.get board q
-    each q = elim (Rattle.std.specs.Prelude.nat_lt q 81) as (λ b. Rattle.std.specs.Prelude.nat_lt q 81 ≡ b → map.get whole q ≡ map.get board q) [
-      | true ↦ λ e. on q (grind (arith, nat_tests))
-      | false ↦ λ e. let off : 81 ≤ q = grind (arith, nat_tests) in on_whole q off ∙ sym (on_board q off)
-    ] refl
+    each q =
+        elim (Rattle.std.specs.Prelude.nat_lt q 81) as (λ b. Rattle.std.specs.Prelude.nat_lt q 81 ≡ b
+        → map.get whole q ≡ map.get board q) [
+          | true ↦ λ e. on q (grind (arith, nat_tests))
+          | false ↦ λ e. let off : 81 ≤ q = grind (arith, nat_tests) in on_whole q off ∙ sym (on_board q off)
+        ] refl
 
 -- the cells of a rank that begins with empty squares
-pub cells-gap : (board : ShogiBoard) (rank n left rest : ℕ) → left ≡ n + rest → ((f : ℕ) → rest < f → f ≤ left → at board f rank ≡ None) → cells_from board rank left ≡ empty_cells n ++ cells_from board rank rest
+pub cells-gap : (board : ShogiBoard) (rank n left rest : ℕ) → left ≡ n + rest
+    → ((f : ℕ) → rest < f → f ≤ left → at board f rank ≡ None)
+    → cells_from board rank left ≡ empty_cells n ++ cells_from board rank rest
 cells-gap board rank zero left rest e none = ap (cells_from board rank) (omega (arith, e))
 cells-gap board rank (suc n) zero rest e none = absurd (omega (arith, e))
 cells-gap board rank (suc n) (suc left) rest e none =
-    λ i. none (suc left) (omega (arith, e)) (omega arith) i ∷ cells-gap board rank n left rest (omega (arith, e)) (λ f a b. none f a (omega (arith, b))) i
+    λ i. none (suc left) (omega (arith, e)) (omega arith) i ∷ cells-gap board rank n left rest (omega (arith, e))
+    (λ f a b. none f a (omega (arith, b))) i
 
 -- and such cells mean empty squares
 pub record GapCells (board : ShogiBoard) (rank n left : ℕ) (more : List (Option SPiece)) : Type 0 where
@@ -219,12 +256,19 @@ pub record GapCells (board : ShogiBoard) (rank n left : ℕ) (more : List (Optio
   pub more_is : more ≡ cells_from board rank (left - n)
   pub none : (f : ℕ) → left - n < f → f ≤ left → at board f rank ≡ None
 
-head-is : (x y : Option SPiece) (xs ys : List (Option SPiece)) → ◌≡◌ {A = List (Option SPiece)} (x ∷ xs) (y ∷ ys) → (x ≡ y) × (xs ≡ ys)
+head-is : (x y : Option SPiece) (xs ys : List (Option SPiece)) → ◌≡◌ {A = List (Option SPiece)} (x ∷ xs) (y ∷ ys)
+    → (x ≡ y) × (xs ≡ ys)
 head-is x y xs ys e = (cc, cc)
 
-pub gap-cells : (board : ShogiBoard) (rank n left : ℕ) (more : List (Option SPiece)) → cells_from board rank left ≡ empty_cells n ++ more → GapCells board rank n left more
+pub gap-cells : (board : ShogiBoard) (rank n left : ℕ) (more : List (Option SPiece))
+    → cells_from board rank left ≡ empty_cells n ++ more → GapCells board rank n left more
 gap-cells board rank zero left more e =
-    record { within = omega arith; more_is = sym e ∙ ap (cells_from board rank) (omega arith); none = λ f above below. absurd (omega arith) }
+    record {
+      within = omega arith;
+      more_is = sym e ∙ ap (cells_from board rank) (omega arith);
+      none =
+          λ f above below. absurd (omega arith);
+    }
 gap-cells board rank (suc n) zero more e = cc
 gap-cells board rank (suc n) (suc left) more e =
     let parts = head-is (at board (suc left) rank) None (cells_from board rank left) (empty_cells n ++ more) e in
@@ -239,12 +283,16 @@ gap-cells board rank (suc n) (suc left) more e =
     }
 
 -- and a piece before others is that of the next square
-pub piece-cells : (board : ShogiBoard) (rank left : ℕ) (piece : SPiece) (more : List (Option SPiece)) → cells_from board rank left ≡ Some piece ∷ more → (1 ≤ left) × ((at board left rank ≡ Some piece) × (more ≡ cells_from board rank (left - 1)))
+pub piece-cells : (board : ShogiBoard) (rank left : ℕ) (piece : SPiece) (more : List (Option SPiece))
+    → cells_from board rank left ≡ Some piece ∷ more → (1 ≤ left)
+    × ((at board left rank ≡ Some piece) × (more ≡ cells_from board rank (left - 1)))
 piece-cells board rank zero piece more e = cc
 piece-cells board rank (suc left) piece more e =
     let parts = head-is (at board (suc left) rank) (Some piece) (cells_from board rank left) more e in
     (omega arith, (parts.0, sym parts.1 ∙ ap (cells_from board rank) (omega arith)))
 
-pub cells-piece : (board : ShogiBoard) (rank left : ℕ) (piece : SPiece) → 1 ≤ left → at board left rank ≡ Some piece → cells_from board rank left ≡ Some piece ∷ cells_from board rank (left - 1)
+pub cells-piece : (board : ShogiBoard) (rank left : ℕ) (piece : SPiece) → 1 ≤ left → at board left rank ≡ Some piece
+    → cells_from board rank left ≡ Some piece ∷ cells_from board rank (left - 1)
 cells-piece board rank zero piece h e = absurd (omega arith)
-cells-piece board rank (suc left) piece h e = λ i. e i ∷ (let same : left ≡ suc left - 1 = omega arith in cells_from board rank (same i))
+cells-piece board rank (suc left) piece h e = λ i.
+    e i ∷ (let same : left ≡ suc left - 1 = omega arith in cells_from board rank (same i))

@@ -32,20 +32,24 @@ same-hands a b items is_a is_b =
     let second = same-hand a.second b.second (λ kind. is_a Second kind ∙ sym (is_b Second kind)) in
     λ i. record { first = first i; second = second i }
 
-pub stands-for-one : (text : List ℕ) (p q : ShogiPosition) (m n : ℕ) → IsSfenText text p m → IsSfenText text q n → (p ≡ q) × (m ≡ n)
+pub stands-for-one : (text : List ℕ) (p q : ShogiPosition) (m n : ℕ) → IsSfenText text p m → IsSfenText text q n
+    → (p ≡ q) × (m ≡ n)
 stands-for-one text p q m n is_p is_q =
     let a : SfenForm = record { board = p.board; turn = p.turn; held = is_p.0; number = m } in
     let b : SfenForm = record { board = q.board; turn = q.turn; held = is_q.0; number = n } in
     let same = one-form text a b is_p.1 is_q.1 in
     let held : is_p.0 ≡ is_q.0 = ap (λ (f : SfenForm). f.held) same in
-    let hands = same-hands p.hands q.hands is_q.0 (subst (AreHands p.hands) held is_p.2) is_q.2 in
-    (λ i. record { board = (same i).board; hands = hands i; turn = (same i).turn }, ap (λ (f : SfenForm). f.number) same)
+    let hands = same-hands p.hands q.hands is_q.0 (subst (AreHands p.hands) held is_p.2) is_q.2 in (
+      λ i. record { board = (same i).board; hands = hands i; turn = (same i).turn },
+      ap (λ (f : SfenForm). f.number) same,
+    )
 
 not-longer : (text : List ℕ) (m n : ℕ) → IsLongestBeginning text m → IsLongestBeginning text n → m ≤ n
 not-longer text m n longest_m longest_n = by (nat_lt n m) refl
   where
     by : (b : Bool) → nat_lt n m ≡ b → m ≤ n
-    by true e = let above : n < m = grind (arith, nat_tests) in absurd (longest_n.longest m above longest_m.within longest_m.begins)
+    by true e = let above : n < m = grind (arith, nat_tests) in
+        absurd (longest_n.longest m above longest_m.within longest_m.begins)
     by false e = grind (arith, nat_tests)
 
 many-same : (a b : SfenForm) → a ≡ b → HasTooMany a → HasTooMany b
@@ -66,8 +70,10 @@ one-fault text Kings (BadText n) a b = absurd (b.0 a.0 a.1)
 one-fault text Kings TooManyPieces a b = absurd (a.2 (many-same b.0 a.0 (one-form text b.0 a.0 b.1 a.1) b.2))
 one-fault text Kings Kings a b = refl
 
-pub not-refused : (text : List ℕ) (fault : SfenFault) (p : ShogiPosition) (n : ℕ) → IsRefused text fault → IsSfenText text p n → ⊥
-not-refused text (BadText m) p n refused is = refused.0 (record { board = p.board; turn = p.turn; held = is.0; number = n }) is.1
+pub not-refused : (text : List ℕ) (fault : SfenFault) (p : ShogiPosition) (n : ℕ) → IsRefused text fault
+    → IsSfenText text p n → ⊥
+not-refused text (BadText m) p n refused is =
+    refused.0 (record { board = p.board; turn = p.turn; held = is.0; number = n }) is.1
 not-refused text TooManyPieces p n refused is =
     let form : SfenForm = record { board = p.board; turn = p.turn; held = is.0; number = n } in
     let many = many-same refused.0 form (one-form text refused.0 form refused.1 is.1) refused.2 in

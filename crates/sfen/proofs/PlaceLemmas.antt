@@ -1,5 +1,6 @@
 -- Where bytes lead a reader.
-use Rattle.std.proofs.Common.{◌≡◌, ℕ, ◌+◌, ◌-◌, ◌*◌, ◌≤◌, Bool, true, false, cond, ◌&&◌, nat_eq, nat_le, nat_lt, Option, Some, None, refl, subst, arith}
+use Rattle.std.proofs.Common.{◌≡◌, ℕ, ◌+◌, ◌-◌, ◌*◌, ◌≤◌, Bool, true, false, cond, ◌&&◌, nat_eq, nat_le, nat_lt, Option}
+use Rattle.std.proofs.Common.{Some, None, refl, subst, arith}
 use Rattle.std.proofs.lemmas.Bool.Decides.{nat_tests}
 use Rattle.squares.specs.declared.sides.Side.{Side}
 use Rattle.squares.specs.declared.sides.Side.TheVariants.{Second}
@@ -11,7 +12,8 @@ use Rattle.squares.specs.ShogiPieces.{demoted, hand_kind, promotes_to}
 use Rattle.sfen.specs.declared.signs.Sign.{Sign}
 use Rattle.sfen.specs.declared.signs.Sign.TheVariants.{Zero, Digit, Piece, White, Plus, Minus, Slash, Blank, Other}
 use Rattle.sfen.specs.declared.places.Place.{Place}
-use Rattle.sfen.specs.declared.places.Place.TheVariants.{Rank, Promoted, Turn, AfterTurn, Hands, Held, AfterZero, OneDigit, TwoDigits, NoHands, Number, Digits}
+use Rattle.sfen.specs.declared.places.Place.TheVariants.{Rank, Promoted, Turn, AfterTurn, Hands, Held, AfterZero}
+use Rattle.sfen.specs.declared.places.Place.TheVariants.{OneDigit, TwoDigits, NoHands, Number, Digits}
 use Rattle.sfen.specs.declared.places.Action.{Action}
 use Rattle.sfen.specs.declared.places.Action.TheVariants.{Pass, Put}
 use Rattle.sfen.specs.Signs.{IsSaneSign}
@@ -22,15 +24,19 @@ abbrev pub IfStep : (Place → Action → Type 0) → Step → Type 0
 IfStep P None = Unit {0}
 IfStep P (Some step) = P step.0 step.1
 
-pub if-step : (P : Place → Action → Type 0) (b : Bool) (place : Place) (action : Action) → (b ≡ true → P place action) → IfStep P (cond b (Some (place, action)) None)
+pub if-step : (P : Place → Action → Type 0) (b : Bool) (place : Place) (action : Action) → (b ≡ true → P place action)
+    → IfStep P (cond b (Some (place, action)) None)
 if-step P true place action h = h refl
 if-step P false place action h = tt
 
 -- a piece is put on a square of the board
-pub if-placed : (P : Place → Action → Type 0) (rank left : ℕ) (piece : SPiece) → (1 ≤ left → left ≤ 9 → P (Rank rank (left - 1)) (Put (shogi_number left rank) piece)) → IfStep P (placed rank left piece)
+pub if-placed : (P : Place → Action → Type 0) (rank left : ℕ) (piece : SPiece)
+    → (1 ≤ left → left ≤ 9 → P (Rank rank (left - 1)) (Put (shogi_number left rank) piece))
+    → IfStep P (placed rank left piece)
 if-placed P rank left piece h = by (on_board left rank) (λ e. h (grind (arith, nat_tests)) (grind (arith, nat_tests)))
   where
-    by : (b : Bool) → (b ≡ true → P (Rank rank (left - 1)) (Put (shogi_number left rank) piece)) → IfStep P (put_at rank left piece (cond b (Some (shogi_number left rank)) None))
+    by : (b : Bool) → (b ≡ true → P (Rank rank (left - 1)) (Put (shogi_number left rank) piece))
+        → IfStep P (put_at rank left piece (cond b (Some (shogi_number left rank)) None))
     by true h = h refl
     by false h = tt
 
@@ -56,10 +62,14 @@ sane-item Blank s = tt
 sane-item Other s = tt
 
 sane-rank : (rank left : ℕ) (sign : Sign) → (1 ≤ rank) → rank ≤ 9 → left ≤ 9 → IfStep Leads (in_rank rank left sign)
-sane-rank rank left (Digit n) low high l = if-step Leads (nat_le n left) (Rank rank (left - n)) Pass (λ e. ((low, high), omega arith))
-sane-rank rank left (Piece side kind) low high l = sane-placed rank left (record { side = side; role = demoted kind }) low high
-sane-rank rank left Plus low high l = if-step Leads (nat_lt 0 left) (Promoted rank left) Pass (λ e. ((low, high), (grind (arith, nat_tests), l)))
-sane-rank rank left Slash low high l = if-step Leads (nat_eq left 0 && nat_lt rank 9) (Rank (rank + 1) 9) Pass (λ e. ((omega arith, grind (arith, nat_tests)), omega arith))
+sane-rank rank left (Digit n) low high l =
+    if-step Leads (nat_le n left) (Rank rank (left - n)) Pass (λ e. ((low, high), omega arith))
+sane-rank rank left (Piece side kind) low high l =
+    sane-placed rank left (record { side = side; role = demoted kind }) low high
+sane-rank rank left Plus low high l = if-step Leads (nat_lt 0 left) (Promoted rank left) Pass
+    (λ e. ((low, high), (grind (arith, nat_tests), l)))
+sane-rank rank left Slash low high l = if-step Leads (nat_eq left 0 && nat_lt rank 9) (Rank (rank + 1) 9) Pass
+    (λ e. ((omega arith, grind (arith, nat_tests)), omega arith))
 sane-rank rank left Blank low high l = if-step Leads (nat_eq left 0 && nat_eq rank 9) Turn Pass (λ e. tt)
 sane-rank rank left Zero low high l = tt
 sane-rank rank left White low high l = tt
@@ -67,7 +77,8 @@ sane-rank rank left Minus low high l = tt
 sane-rank rank left Other low high l = tt
 
 sane-more : (number digit : ℕ) → 1 ≤ number → digit ≤ 9 → IfStep Leads (one_more number digit)
-sane-more number digit low d = if-step Leads (nat_lt number 1000) (Digits (10 * number + digit)) Pass (λ e. (omega arith, grind (arith, nat_tests)))
+sane-more number digit low d = if-step Leads (nat_lt number 1000) (Digits (10 * number + digit)) Pass
+    (λ e. (omega arith, grind (arith, nat_tests)))
 
 pub sane-next : (place : Place) (sign : Sign) → IsSane place → IsSaneSign sign → IfStep Leads (next place sign)
 sane-next (Rank rank left) sign p s = sane-rank rank left sign p.0.0 p.0.1 p.1
@@ -101,5 +112,6 @@ sane-next (Digits number) Zero p s = sane-more number 0 p.0 (omega arith)
 sane-next (Digits number) (Digit n) p s = sane-more number n p.0 s.1
 sane-next (Digits number) _ p s = tt
 
-pub next-sane : (place : Place) (sign : Sign) (to : Place) (action : Action) → IsSane place → IsSaneSign sign → next place sign ≡ Some (to, action) → IsSane to
+pub next-sane : (place : Place) (sign : Sign) (to : Place) (action : Action) → IsSane place → IsSaneSign sign
+    → next place sign ≡ Some (to, action) → IsSane to
 next-sane place sign to action p s e = subst (IfStep Leads) e (sane-next place sign p s)

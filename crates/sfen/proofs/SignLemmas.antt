@@ -1,5 +1,6 @@
 -- What bytes are as signs, and signs as bytes.
-use Rattle.std.proofs.Common.{◌≡◌, ℕ, ◌+◌, ◌-◌, ◌≤◌, Bool, true, false, cond, ◌&&◌, nat_eq, nat_le, Option, Some, None, refl, ap, ◌∙◌, arith}
+use Rattle.std.proofs.Common.{◌≡◌, ℕ, ◌+◌, ◌-◌, ◌≤◌, Bool, true, false, cond, ◌&&◌, nat_eq, nat_le, Option, Some, None}
+use Rattle.std.proofs.Common.{refl, ap, ◌∙◌, arith}
 use Rattle.std.proofs.lemmas.Bool.Decides.{nat_tests}
 use Rattle.squares.specs.DraughtsMarks.{nat_eq-same}
 use Rattle.squares.specs.declared.sides.Side.{Side}
@@ -57,14 +58,16 @@ sign-is c =
     let P = λ (s : Sign). IsSign s c in
     let is = nat_eq-same c in
     by-test P (nat_eq c 48) _ _ (is 48) (λ _.
-    by-test P (nat_le 49 c && nat_le c 57) _ _ (λ e. (grind (arith, nat_tests), (grind (arith, nat_tests), grind (arith, nat_tests)))) (λ _.
+    by-test P (nat_le 49 c && nat_le c 57) _ _
+    (λ e. (grind (arith, nat_tests), (grind (arith, nat_tests), grind (arith, nat_tests)))) (λ _.
     by-test P (nat_eq c 43) _ _ (is 43) (λ _.
     by-test P (nat_eq c 45) _ _ (is 45) (λ _.
     by-test P (nat_eq c 47) _ _ (is 47) (λ _.
     by-test P (nat_eq c 32) _ _ (is 32) (λ _.
     by-test P (nat_eq c 119) _ _ (is 119) (λ _.
     by-test P (nat_le 65 c && nat_le c 90) _ _ (λ e. first-piece c (capital_kind c) (capital-is c)) (λ _.
-    by-test P (nat_le 97 c && nat_le c 122) _ _ (λ e. second-piece c (capital_kind (c - 32)) (grind (arith, nat_tests)) (capital-is (c - 32))) (λ _. tt)))))))))
+    by-test P (nat_le 97 c && nat_le c 122) _ _
+    (λ e. second-piece c (capital_kind (c - 32)) (grind (arith, nat_tests)) (capital-is (c - 32))) (λ _. tt)))))))))
 
 if-true : {A : Type 0} (b : Bool) (x y : A) → b ≡ true → cond b x y ≡ x
 if-true true x y e = refl
@@ -77,7 +80,8 @@ if-false false x y e = refl
 -- the sign of a byte
 pub sign-digit : (n : ℕ) → 1 ≤ n → n ≤ 9 → sign_of (48 + n) ≡ Digit n
 sign-digit n low high =
-    if-false (nat_eq (48 + n) 48) _ _ (grind (arith, nat_tests)) ∙ if-true (nat_le 49 (48 + n) && nat_le (48 + n) 57) _ _ (grind (arith, nat_tests)) ∙ ap Digit (omega arith)
+    if-false (nat_eq (48 + n) 48) _ _ (grind (arith, nat_tests))
+    ∙ if-true (nat_le 49 (48 + n) && nat_le (48 + n) 57) _ _ (grind (arith, nat_tests)) ∙ ap Digit (omega arith)
 
 pub sign-letter : (side : Side) (kind : Kind) → sign_of (letter side kind) ≡ Piece side kind
 sign-letter First kind.King = refl

@@ -24,9 +24,17 @@ pub record Stage : Type 0 where
 
 abbrev pub moved : Place → Action → Stage → Stage
 moved to Pass s = record s { place = to }
-moved to (Put square piece) s = record { place = to; board = map.insert s.board square piece; turn = s.turn; held = s.held }
+moved to (Put square piece) s =
+    record { place = to; board = map.insert s.board square piece; turn = s.turn; held = s.held }
 moved to (Move side) s = record { place = to; board = s.board; turn = side; held = s.held }
-moved to (Hold side kind count) s = record { place = to; board = s.board; turn = s.turn; held = s.held ++ record { side = side; kind = kind; count = count } ∷ [] }
+moved to (Hold side kind count) s =
+    record {
+      place = to;
+      board = s.board;
+      turn = s.turn;
+      held =
+          s.held ++ record { side = side; kind = kind; count = count } ∷ [];
+    }
 
 abbrev pub moved_by : Step → Stage → Option Stage
 moved_by None s = None
@@ -49,7 +57,8 @@ tally_from hands (item ∷ items) = tally_from (holding item.side item.kind item
 abbrev pub tally : List HeldItem → Hands
 tally items = tally_from (record { first = no_pieces; second = no_pieces }) items
 
-tally-more : (hands : Hands) (items : List HeldItem) (item : HeldItem) → tally_from hands (items ++ item ∷ []) ≡ holding item.side item.kind item.count (tally_from hands items)
+tally-more : (hands : Hands) (items : List HeldItem) (item : HeldItem)
+    → tally_from hands (items ++ item ∷ []) ≡ holding item.side item.kind item.count (tally_from hands items)
 tally-more hands [] item = refl
 tally-more hands (first ∷ items) item = tally-more (holding first.side first.kind first.count hands) items item
 
@@ -57,14 +66,18 @@ tally-more hands (first ∷ items) item = tally-more (holding first.side first.k
 abbrev pub seen : Stage → Reading
 seen s = record { place = s.place; board = s.board; hands = tally s.held; turn = s.turn }
 
-seen-step : (to : Place) (action : Action) (s : Stage) → record (act action (seen s)) { place = to } ≡ seen (moved to action s)
+seen-step : (to : Place) (action : Action) (s : Stage)
+    → record (act action (seen s)) { place = to } ≡ seen (moved to action s)
 seen-step to Pass s = refl
 seen-step to (Put square piece) s = refl
 seen-step to (Move side) s = refl
 seen-step to (Hold side kind count) s = λ i. record {
   place = to;
   board = s.board;
-  hands = sym (tally-more (record { first = no_pieces; second = no_pieces }) s.held (record { side = side; kind = kind; count = count })) i;
+  hands =
+      sym
+      (tally-more (record { first = no_pieces; second = no_pieces }) s.held
+      (record { side = side; kind = kind; count = count })) i;
   turn = s.turn;
 }
 
@@ -77,7 +90,9 @@ pub seen-run : (text : List ℕ) (s : Stage) → run take_byte (seen s) text ≡
 seen-run [] s = refl
 seen-run (c ∷ text) s =
     ap (if_some (λ r. run take_byte r text)) (seen-follow (next s.place (sign_of c)) s)
-    ∙ (elim (grow s c) as (λ o. if_some (λ r. run take_byte r text) (option_map seen o) ≡ option_map seen (if_some (λ t. run grow t text) o)) [
+    ∙
+    (elim (grow s c) as (λ o. if_some (λ r. run take_byte r text) (option_map seen o)
+    ≡ option_map seen (if_some (λ t. run grow t text) o)) [
       | None ↦ refl
       | Some t ↦ seen-run text t
     ])

@@ -1,5 +1,6 @@
 -- A text that is no move's is refused where its longest beginning ends that begins one.
-use Rattle.std.proofs.Common.{◌≡◌, ℕ, zero, suc, lit≤, ◌+◌, ◌-◌, ◌<◌, ◌≤◌, List, [], ◌∷◌, ◌++◌, length, take, max, Bool, true, false, is_some, Option, Some, None, refl, sym, ap, subst, ◌⊎◌, inl, inr, arith}
+use Rattle.std.proofs.Common.{◌≡◌, ℕ, zero, suc, lit≤, ◌+◌, ◌-◌, ◌<◌, ◌≤◌, List, [], ◌∷◌, ◌++◌, length, take, max, Bool}
+use Rattle.std.proofs.Common.{true, false, is_some, Option, Some, None, refl, sym, ap, subst, ◌⊎◌, inl, inr, arith}
 use Rattle.std.proofs.lemmas.Bool.{eqb-true}
 use Rattle.squares.specs.declared.shogi.piece.HandKind.{HandKind}
 use Rattle.squares.specs.declared.shogi.moves.SMove.{SMove}
@@ -9,9 +10,11 @@ use Rattle.squares.specs.ShogiPieces.{on_board}
 use Rattle.sfen.specs.declared.usi_reading.Place.{Place}
 use Rattle.sfen.specs.Letters.{capital}
 use Rattle.sfen.specs.UsiText.{usi_text, IsOnBoard, IsUsiText, BeginsUsi, IsLongestUsiBeginning, IsNoUsi}
-use Rattle.sfen.specs.UsiReading.{reach, step_places, drop_places, usi_reach, usi_reading, kind_reading, is_file, is_rank}
+use Rattle.sfen.specs.UsiReading.{reach, step_places, drop_places, usi_reach, usi_reading, kind_reading, is_file}
+use Rattle.sfen.specs.UsiReading.{is_rank}
 use Rattle.sfen.proofs.UsiReachLemmas.{reach-within, reach-begin, Passes, fill}
-use Rattle.sfen.proofs.UsiTextLemmas.{square-bytes, is_file-text, is_rank-text, kind_reading-text, kind_reading-sound, usi_reading-sound, text-read}
+use Rattle.sfen.proofs.UsiTextLemmas.{square-bytes, is_file-text, is_rank-text, kind_reading-text, kind_reading-sound}
+use Rattle.sfen.proofs.UsiTextLemmas.{usi_reading-sound, text-read}
 
 -- of two numbers one is no more than the other
 le_or_more : (j k : ℕ) → (j ≤ k) ⊎ (k < j)
@@ -30,7 +33,8 @@ max-either m n = elim (le_or_more m n) [ inl h ↦ inr (omega (arith, h)) | inr 
 abbrev pub WholeFits : List Place → List ℕ → Type 0
 WholeFits places text = length text ≤ reach places text
 
-step-fits : (from to : ℕ) (promote : Bool) → from < 81 → to < 81 → WholeFits step_places (usi_text (Step from to promote))
+step-fits : (from to : ℕ) (promote : Bool) → from < 81 → to < 81
+    → WholeFits step_places (usi_text (Step from to promote))
 unfolding step_places
 step-fits from to true f t =
     let a : is_file (48 + file_of from) ≡ true = is_file-text from f in
@@ -53,7 +57,8 @@ drop-fits kind to t =
     let d : is_rank (96 + rank_of to) ≡ true = is_rank-text to t in
     rw (a, c, d) (lit≤ tt)
 
-longer : (text rest : List ℕ) (n : ℕ) (m : SMove) → n ≤ length text → IsOnBoard m → take n text ++ rest ≡ usi_text m → n ≤ usi_reach text
+longer : (text rest : List ℕ) (n : ℕ) (m : SMove) → n ≤ length text → IsOnBoard m → take n text ++ rest ≡ usi_text m
+    → n ≤ usi_reach text
 longer text rest n (Step from to promote) h on e =
     let whole = subst (WholeFits step_places) (sym e) (step-fits from to promote on.0 on.1) in
     let far = reach-begin step_places n text rest h whole in
@@ -74,8 +79,10 @@ step-of (a ∷ b ∷ c ∷ d ∷ []) h = absurd h.1.1.1.1
 step-of (a ∷ b ∷ c ∷ d ∷ e ∷ []) h =
     let first = square-bytes a b h.0 h.1.0 in
     let second = square-bytes c d h.1.1.0 h.1.1.1.0 in
-    let plus = eqb-true e 43 h.1.1.1.1.0 in
-    (Step (shogi_number (a - 48) (b - 96)) (shogi_number (c - 48) (d - 96)) true, ((first.0, second.0), λ i. first.1 i ++ (second.1 i ++ plus i ∷ [])))
+    let plus = eqb-true e 43 h.1.1.1.1.0 in (
+      Step (shogi_number (a - 48) (b - 96)) (shogi_number (c - 48) (d - 96)) true,
+      ((first.0, second.0), λ i. first.1 i ++ (second.1 i ++ plus i ∷ [])),
+    )
 step-of (a ∷ b ∷ c ∷ d ∷ e ∷ f ∷ text) h = absurd h.1.1.1.1.1
 
 drop-of : (text : List ℕ) → Passes drop_places text → (m : SMove) × IsUsiText text m
@@ -102,7 +109,8 @@ unfolding drop_places
 drop-passes = (refl, (refl, (refl, (refl, tt))))
 
 -- the longer of two beginnings begins a move's text
-begins-longer : (text : List ℕ) (m n : ℕ) → BeginsUsi (take m text) → BeginsUsi (take n text) → BeginsUsi (take (max m n) text)
+begins-longer : (text : List ℕ) (m n : ℕ) → BeginsUsi (take m text) → BeginsUsi (take n text)
+    → BeginsUsi (take (max m n) text)
 begins-longer text m n a b =
     elim (max-either m n) [
       | inl e ↦ subst (λ (k : ℕ). BeginsUsi (take k text)) (sym e) a
@@ -128,12 +136,20 @@ no-usi text e = record {
 one-longest : (text : List ℕ) (j k : ℕ) → IsLongestUsiBeginning text j → IsLongestUsiBeginning text k → j ≤ k
 one-longest text j k a b = elim (le_or_more j k) [ inl h ↦ h | inr h ↦ absurd (b.longest j h a.within a.begins) ]
 
-not-read : (text : List ℕ) → ((m : SMove) → IsUsiText text m → ⊥) → (r : Option SMove) → usi_reading text ≡ r → usi_reading text ≡ None
+not-read : (text : List ℕ) → ((m : SMove) → IsUsiText text m → ⊥) → (r : Option SMove) → usi_reading text ≡ r
+    → usi_reading text ≡ None
 not-read text none None e = e
 not-read text none (Some m) e = absurd (none m (usi_reading-sound text m e))
 
-pub refused-here : (text : List ℕ) (bytes : ℕ) → IsNoUsi text bytes → (usi_reading text ≡ None) × (usi_reach text ≡ bytes)
+pub refused-here : (text : List ℕ) (bytes : ℕ) → IsNoUsi text bytes → (usi_reading text ≡ None)
+    × (usi_reach text ≡ bytes)
 refused-here text bytes h =
     let none = not-read text h.none (usi_reading text) refl in
-    let own = no-usi text none in
-    (none, omega (arith, one-longest text bytes (usi_reach text) h.longest own.longest, one-longest text (usi_reach text) bytes own.longest h.longest))
+    let own = no-usi text none in (
+      none,
+      omega (
+        arith,
+        one-longest text bytes (usi_reach text) h.longest own.longest,
+        one-longest text (usi_reach text) bytes own.longest h.longest,
+      ),
+    )

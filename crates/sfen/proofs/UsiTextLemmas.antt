@@ -1,5 +1,6 @@
 -- The texts of moves are those that are read, each as its move.
-use Rattle.std.proofs.Common.{◌≡◌, ℕ, ◌+◌, ◌-◌, ◌<◌, ◌≤◌, List, [], ◌∷◌, ◌++◌, Bool, true, false, cond, ◌&&◌, nat_eq, nat_le, Option, Some, None, refl, sym, ap, subst, ◌∙◌, arith}
+use Rattle.std.proofs.Common.{◌≡◌, ℕ, ◌+◌, ◌-◌, ◌<◌, ◌≤◌, List, [], ◌∷◌, ◌++◌, Bool, true, false, cond, ◌&&◌, nat_eq}
+use Rattle.std.proofs.Common.{nat_le, Option, Some, None, refl, sym, ap, subst, ◌∙◌, arith}
 use Rattle.std.proofs.lemmas.Bool.{eqb-true}
 use Rattle.std.proofs.lemmas.Bool.Decides.{nat_tests}
 use Rattle.squares.specs.declared.shogi.piece.HandKind.{HandKind}
@@ -45,7 +46,9 @@ pub is_rank-text : (n : ℕ) → n < 81 → is_rank (96 + rank_of n) ≡ true
 is_rank-text n h = rw (le_true 97 (96 + rank_of n) (omega arith), le_true (96 + rank_of n) 105 (omega arith)) refl
 
 -- the square of a file's digit and a rank's letter
-pub square-bytes : (file rank : ℕ) → is_file file ≡ true → is_rank rank ≡ true → (shogi_number (file - 48) (rank - 96) < 81) × (file ∷ rank ∷ [] ≡ square_text (shogi_number (file - 48) (rank - 96)))
+pub square-bytes : (file rank : ℕ) → is_file file ≡ true → is_rank rank ≡ true
+    → (shogi_number (file - 48) (rank - 96) < 81)
+    × (file ∷ rank ∷ [] ≡ square_text (shogi_number (file - 48) (rank - 96)))
 square-bytes file rank f r =
     let fb = file-bounds file f in
     let rb = rank-bounds rank r in
@@ -54,9 +57,12 @@ square-bytes file rank f r =
     let is_rank : rank ≡ 96 + rank_of n = omega (arith, fb.0, fb.1, rb.0, rb.1) in
     (omega (arith, fb.0, fb.1, rb.0, rb.1), λ i. is_file i ∷ is_rank i ∷ [])
 
-pub square_reading-sound : (file rank n : ℕ) → square_reading file rank ≡ Some n → (n < 81) × (file ∷ rank ∷ [] ≡ square_text n)
+pub square_reading-sound : (file rank n : ℕ) → square_reading file rank ≡ Some n → (n < 81)
+    × (file ∷ rank ∷ [] ≡ square_text n)
 square_reading-sound file rank n =
-    elim (is_file file && is_rank rank) as (λ b. (is_file file && is_rank rank) ≡ b → cond b (Some (shogi_number (file - 48) (rank - 96))) None ≡ Some n → (n < 81) × (file ∷ rank ∷ [] ≡ square_text n)) [
+    elim (is_file file && is_rank rank) as (λ b. (is_file file && is_rank rank) ≡ b
+    → cond b (Some (shogi_number (file - 48) (rank - 96))) None ≡ Some n → (n < 81)
+    × (file ∷ rank ∷ [] ≡ square_text n)) [
       | true ↦ λ is e.
           let tests = and_true (is_file file) (is_rank rank) is in
           let same : shogi_number (file - 48) (rank - 96) ≡ n = cc in
@@ -69,7 +75,8 @@ square_reading-text n h =
     let file : is_file (48 + file_of n) ≡ true = is_file-text n h in
     let rank : is_rank (96 + rank_of n) ≡ true = is_rank-text n h in
     let number : shogi_number (48 + file_of n - 48) (96 + rank_of n - 96) ≡ n = omega arith in
-    (λ i. cond (file i && rank i) (Some (shogi_number (48 + file_of n - 48) (96 + rank_of n - 96))) None) ∙ ap Some number
+    (λ i. cond (file i && rank i) (Some (shogi_number (48 + file_of n - 48) (96 + rank_of n - 96))) None)
+    ∙ ap Some number
 
 pub kind_reading-text : (kind : HandKind) → kind_reading (capital (on_board kind)) ≡ Some kind
 kind_reading-text in_hand.Rook = refl
@@ -81,7 +88,9 @@ kind_reading-text in_hand.Lance = refl
 kind_reading-text in_hand.Pawn = refl
 
 -- one test of a letter: it is that of the kind, or the others tell
-one_letter : (c d : ℕ) (kind found : HandKind) (others : Option HandKind) → d ≡ capital (on_board kind) → (others ≡ Some found → c ≡ capital (on_board found)) → cond (nat_eq c d) (Some kind) others ≡ Some found → c ≡ capital (on_board found)
+one_letter : (c d : ℕ) (kind found : HandKind) (others : Option HandKind) → d ≡ capital (on_board kind)
+    → (others ≡ Some found → c ≡ capital (on_board found)) → cond (nat_eq c d) (Some kind) others ≡ Some found
+    → c ≡ capital (on_board found)
 one_letter c d kind found others is_letter rest =
     elim (nat_eq c d) as (λ b. nat_eq c d ≡ b → cond b (Some kind) others ≡ Some found → c ≡ capital (on_board found)) [
       | true ↦ λ is e.
@@ -101,17 +110,20 @@ kind_reading-sound c found e =
     (one_letter c 80 in_hand.Pawn found None refl (λ h. absurd cc)))))))
     e
 
-step-sound : (a b c d : ℕ) (promote : Bool) (m : SMove) (from to : Option ℕ) → square_reading a b ≡ from → square_reading c d ≡ to → step_of from to promote ≡ Some m → IsUsiText (a ∷ b ∷ c ∷ d ∷ promotion_text promote) m
+step-sound : (a b c d : ℕ) (promote : Bool) (m : SMove) (from to : Option ℕ) → square_reading a b ≡ from
+    → square_reading c d ≡ to → step_of from to promote ≡ Some m → IsUsiText (a ∷ b ∷ c ∷ d ∷ promotion_text promote) m
 step-sound a b c d promote m (Some from) (Some to) f t e =
     let first = square_reading-sound a b from f in
     let second = square_reading-sound c d to t in
     let same : Step from to promote ≡ m = cc in
-    let text : a ∷ b ∷ c ∷ d ∷ promotion_text promote ≡ usi_text (Step from to promote) = λ i. first.1 i ++ (second.1 i ++ promotion_text promote) in
+    let text : a ∷ b ∷ c ∷ d ∷ promotion_text promote ≡ usi_text (Step from to promote) = λ i.
+    first.1 i ++ (second.1 i ++ promotion_text promote) in
     subst (λ (n : SMove). IsUsiText (a ∷ b ∷ c ∷ d ∷ promotion_text promote) n) same ((first.0, second.0), text)
 step-sound a b c d promote m (Some from) None f t e = absurd cc
 step-sound a b c d promote m None to f t e = absurd cc
 
-drop-sound : (a c d : ℕ) (m : SMove) (kind : Option HandKind) (to : Option ℕ) → kind_reading a ≡ kind → square_reading c d ≡ to → drop_of kind to ≡ Some m → IsUsiText (a ∷ 42 ∷ c ∷ d ∷ []) m
+drop-sound : (a c d : ℕ) (m : SMove) (kind : Option HandKind) (to : Option ℕ) → kind_reading a ≡ kind
+    → square_reading c d ≡ to → drop_of kind to ≡ Some m → IsUsiText (a ∷ 42 ∷ c ∷ d ∷ []) m
 drop-sound a c d m (Some kind) (Some to) k t e =
     let first = kind_reading-sound a kind k in
     let second = square_reading-sound c d to t in
@@ -128,15 +140,21 @@ usi_reading-sound (a ∷ []) m e = absurd cc
 usi_reading-sound (a ∷ b ∷ []) m e = absurd cc
 usi_reading-sound (a ∷ b ∷ c ∷ []) m e = absurd cc
 usi_reading-sound (a ∷ b ∷ c ∷ d ∷ []) m e =
-    elim (nat_eq b 42) as (λ t. nat_eq b 42 ≡ t → cond t (drop_of (kind_reading a) (square_reading c d)) (step_of (square_reading a b) (square_reading c d) false) ≡ Some m → IsUsiText (a ∷ b ∷ c ∷ d ∷ []) m) [
+    elim (nat_eq b 42) as (λ t. nat_eq b 42 ≡ t
+    → cond t (drop_of (kind_reading a) (square_reading c d))
+    (step_of (square_reading a b) (square_reading c d) false) ≡ Some m → IsUsiText (a ∷ b ∷ c ∷ d ∷ []) m) [
       | true ↦ λ is h.
-          subst (λ (x : ℕ). IsUsiText (a ∷ x ∷ c ∷ d ∷ []) m) (sym (eqb-true b 42 is)) (drop-sound a c d m (kind_reading a) (square_reading c d) refl refl h)
+          subst (λ (x : ℕ). IsUsiText (a ∷ x ∷ c ∷ d ∷ []) m) (sym (eqb-true b 42 is))
+          (drop-sound a c d m (kind_reading a) (square_reading c d) refl refl h)
       | false ↦ λ is h. step-sound a b c d false m (square_reading a b) (square_reading c d) refl refl h
     ] refl e
 usi_reading-sound (a ∷ b ∷ c ∷ d ∷ f ∷ []) m e =
-    elim (nat_eq f 43) as (λ t. nat_eq f 43 ≡ t → cond t (step_of (square_reading a b) (square_reading c d) true) None ≡ Some m → IsUsiText (a ∷ b ∷ c ∷ d ∷ f ∷ []) m) [
+    elim (nat_eq f 43) as (λ t. nat_eq f 43 ≡ t
+    → cond t (step_of (square_reading a b) (square_reading c d) true) None ≡ Some m
+    → IsUsiText (a ∷ b ∷ c ∷ d ∷ f ∷ []) m) [
       | true ↦ λ is h.
-          subst (λ (x : ℕ). IsUsiText (a ∷ b ∷ c ∷ d ∷ x ∷ []) m) (sym (eqb-true f 43 is)) (step-sound a b c d true m (square_reading a b) (square_reading c d) refl refl h)
+          subst (λ (x : ℕ). IsUsiText (a ∷ b ∷ c ∷ d ∷ x ∷ []) m) (sym (eqb-true f 43 is))
+          (step-sound a b c d true m (square_reading a b) (square_reading c d) refl refl h)
       | false ↦ λ is h. absurd cc
     ] refl e
 usi_reading-sound (a ∷ b ∷ c ∷ d ∷ f ∷ g ∷ rest) m e = absurd cc
@@ -145,10 +163,13 @@ usi_reading-sound (a ∷ b ∷ c ∷ d ∷ f ∷ g ∷ rest) m e = absurd cc
 pub usi_reading-text : (m : SMove) → IsOnBoard m → usi_reading (usi_text m) ≡ Some m
 usi_reading-text (Step from to false) on =
     let no_star : nat_eq (96 + rank_of from) 42 ≡ false = eq_false 42 (96 + rank_of from) (omega arith) in
-    let steps = step_of (square_reading (48 + file_of from) (96 + rank_of from)) (square_reading (48 + file_of to) (96 + rank_of to)) false in
+    let steps = step_of (square_reading (48 + file_of from) (96 + rank_of from))
+    (square_reading (48 + file_of to) (96 + rank_of to)) false in
     let drops = drop_of (kind_reading (48 + file_of from)) (square_reading (48 + file_of to) (96 + rank_of to)) in
-    ap (λ b. cond b drops steps) no_star ∙ (λ i. step_of (square_reading-text from on.0 i) (square_reading-text to on.1 i) false)
-usi_reading-text (Step from to true) on = λ i. step_of (square_reading-text from on.0 i) (square_reading-text to on.1 i) true
+    ap (λ b. cond b drops steps) no_star
+    ∙ (λ i. step_of (square_reading-text from on.0 i) (square_reading-text to on.1 i) false)
+usi_reading-text (Step from to true) on =
+    λ i. step_of (square_reading-text from on.0 i) (square_reading-text to on.1 i) true
 usi_reading-text (Drop kind to) on = λ i. drop_of (kind_reading-text kind i) (square_reading-text to on i)
 
 pub text-read : (text : List ℕ) (m : SMove) → IsUsiText text m → usi_reading text ≡ Some m

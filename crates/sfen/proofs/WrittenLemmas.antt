@@ -24,14 +24,17 @@ small-set in_hand.Lance = lit≤ tt
 small-set in_hand.Pawn = lit≤ tt
 
 -- a hand holds no more than the set of a game has
-first-few : (board : ShogiBoard) (hands : Hands) → KeepsSets board hands → (kind : HandKind) → count_of kind hands.first ≤ 99
+first-few : (board : ShogiBoard) (hands : Hands) → KeepsSets board hands → (kind : HandKind)
+    → count_of kind hands.first ≤ 99
 first-few board hands keeps kind = omega (arith, keeps kind, small-set kind)
 
-second-few : (board : ShogiBoard) (hands : Hands) → KeepsSets board hands → (kind : HandKind) → count_of kind hands.second ≤ 99
+second-few : (board : ShogiBoard) (hands : Hands) → KeepsSets board hands → (kind : HandKind)
+    → count_of kind hands.second ≤ 99
 second-few board hands keeps kind = omega (arith, keeps kind, small-set kind)
 
 -- the text of a position, and after it that of a number
-text-with : (p : ShogiPosition) (number : ℕ) (number_text : List ℕ) → IsShogiPosition p.board p.hands → IsOnSquares p.board → IsNumberText number number_text → IsSfenText (position_text p ++ number_text) p number
+text-with : (p : ShogiPosition) (number : ℕ) (number_text : List ℕ) → IsShogiPosition p.board p.hands
+    → IsOnSquares p.board → IsNumberText number number_text → IsSfenText (position_text p ++ number_text) p number
 unfolding position_text
 text-with p number number_text sound on number_is = (
   items_of p.hands,
@@ -48,14 +51,19 @@ text-with p number number_text sound on number_is = (
   sound,
 )
 
-pub position-written : (p : ShogiPosition) (number : ℕ) → IsShogiPosition p.board p.hands → IsOnSquares p.board → 1 ≤ number → number ≤ 9999 → IsSfenText (sfen_text p number) p number
+pub position-written : (p : ShogiPosition) (number : ℕ) → IsShogiPosition p.board p.hands → IsOnSquares p.board
+    → 1 ≤ number → number ≤ 9999 → IsSfenText (sfen_text p number) p number
 unfolding sfen_text
-position-written p number sound on low high = text-with p number (32 ∷ decimal number) sound on (number-written number low high)
+position-written p number sound on low high =
+    text-with p number (32 ∷ decimal number) sound on (number-written number low high)
 
 -- the text without a number leaves out the number 1
-pub position-alone : (p : ShogiPosition) → IsShogiPosition p.board p.hands → IsOnSquares p.board → IsSfenText (position_text p) p 1
-position-alone p sound on = subst (λ t. IsSfenText t p 1) (append-nil (position_text p)) (text-with p 1 [] sound on (inl (refl, refl)))
+pub position-alone : (p : ShogiPosition) → IsShogiPosition p.board p.hands → IsOnSquares p.board
+    → IsSfenText (position_text p) p 1
+position-alone p sound on = subst (λ t. IsSfenText t p 1) (append-nil (position_text p))
+    (text-with p 1 [] sound on (inl (refl, refl)))
 
 -- a position with a text is sound, and keeps to the squares
-pub text-sound : (text : List ℕ) (p : ShogiPosition) (number : ℕ) → IsSfenText text p number → IsShogiPosition p.board p.hands × IsOnSquares p.board
+pub text-sound : (text : List ℕ) (p : ShogiPosition) (number : ℕ) → IsSfenText text p number
+    → IsShogiPosition p.board p.hands × IsOnSquares p.board
 text-sound text p number h = (h.3, h.1.board_is.1)

@@ -1,14 +1,17 @@
 -- The written number is the text of the number.
-use Rattle.std.proofs.Common.{◌≡◌, ℕ, zero, suc, ◌+◌, ◌*◌, ◌/◌, ◌%◌, ◌<◌, ◌≤◌, List, [], ◌∷◌, ◌++◌, refl, sym, ap, ◌∙◌, ◌⊎◌, inl, inr, arith}
+use Rattle.std.proofs.Common.{◌≡◌, ℕ, zero, suc, ◌+◌, ◌*◌, ◌/◌, ◌%◌, ◌<◌, ◌≤◌, List, [], ◌∷◌, ◌++◌, refl, sym, ap, ◌∙◌}
+use Rattle.std.proofs.Common.{◌⊎◌, inl, inr, arith}
 use Rattle.std.specs.Fmt.{decimal}
 use Rattle.std.proofs.lemmas.Fmt.{decimal_digit, decimal_step, decimal_by_steps}
-use Rattle.sfen.specs.SfenGrammar.{AreDigits, digit_texts, value_after, IsDecimalText, IsNumberText, IsCountText, one_digit, two_digits}
+use Rattle.sfen.specs.SfenGrammar.{AreDigits, digit_texts, value_after, IsDecimalText, IsNumberText, IsCountText}
+use Rattle.sfen.specs.SfenGrammar.{one_digit, two_digits}
 
 digits-more : (digits : List ℕ) (d : ℕ) → d ≤ 9 → AreDigits digits → AreDigits (digits ++ d ∷ [])
 digits-more [] d h all = (h, tt)
 digits-more (x ∷ digits) d h all = (all.0, digits-more digits d h all.1)
 
-value-more : (first : ℕ) (digits : List ℕ) (d : ℕ) → value_after first (digits ++ d ∷ []) ≡ 10 * value_after first digits + d
+value-more : (first : ℕ) (digits : List ℕ) (d : ℕ)
+    → value_after first (digits ++ d ∷ []) ≡ 10 * value_after first digits + d
 value-more first [] d = refl
 value-more first (x ∷ digits) d = value-more (10 * first + x) digits d
 
@@ -21,9 +24,21 @@ abbrev pub IsInDecimal : ℕ → List ℕ → Type 0
 IsInDecimal n text = 1 ≤ n → n ≤ 9999 → IsDecimalText n text
 
 decimal-one : (n : ℕ) → n < 10 → IsInDecimal n ((48 + n) ∷ [])
-decimal-one n h = λ low high. record { first = n; more = []; not_zero = low; is_digit = omega (arith, h); are_digits = tt; value = refl; within = high; text_is = refl }
+decimal-one n h =
+    λ low high. record {
+      first = n;
+      more = [];
+      not_zero = low;
+      is_digit = omega (arith, h);
+      are_digits = tt;
+      value =
+          refl;
+      within = high;
+      text_is = refl;
+    }
 
-decimal-more : (n : ℕ) (digits : List ℕ) → 10 ≤ n → IsInDecimal (n / 10) digits → IsInDecimal n (digits ++ (48 + n % 10) ∷ [])
+decimal-more : (n : ℕ) (digits : List ℕ) → 10 ≤ n → IsInDecimal (n / 10) digits
+    → IsInDecimal n (digits ++ (48 + n % 10) ∷ [])
 decimal-more n digits h front = λ low high.
     let t = front (omega (arith, h)) (omega (arith, high)) in
     record {
@@ -40,11 +55,13 @@ decimal-more n digits h front = λ low high.
     }
 
 pub number-written : (n : ℕ) → 1 ≤ n → n ≤ 9999 → IsNumberText n (32 ∷ decimal n)
-number-written n low high = inr (decimal n, decimal_by_steps IsInDecimal decimal-one decimal-more n (omega (arith, high)) low high, refl)
+number-written n low high =
+    inr (decimal n, decimal_by_steps IsInDecimal decimal-one decimal-more n (omega (arith, high)) low high, refl)
 
 -- a count of one digit or two
 two-digits : (n : ℕ) → 10 ≤ n → n ≤ 99 → decimal n ≡ (48 + n / 10) ∷ (48 + n % 10) ∷ []
-two-digits n low high = decimal_step n low (omega (arith, high)) ∙ ap (λ t. t ++ (48 + n % 10) ∷ []) (decimal_digit (n / 10) (omega (arith, high)))
+two-digits n low high = decimal_step n low (omega (arith, high))
+    ∙ ap (λ t. t ++ (48 + n % 10) ∷ []) (decimal_digit (n / 10) (omega (arith, high)))
 
 -- of two numbers one is less than the other or not
 pub below_or_not : (j k : ℕ) → (j < k) ⊎ (k ≤ j)

@@ -24,7 +24,8 @@ letter Second kind = capital kind + 32
 
 -- the letter of its kind, after a `+` if it is promoted
 abbrev pub piece_text : SPiece → List ℕ
-piece_text piece = if is_promoted piece.role then 43 ∷ letter piece.side (kind_of piece.role) ∷ [] else letter piece.side (kind_of piece.role) ∷ []
+piece_text piece = if is_promoted piece.role then 43 ∷ letter piece.side (kind_of piece.role)
+    ∷ [] else letter piece.side (kind_of piece.role) ∷ []
 
 -- b is First, who is Black, and w Second
 abbrev pub turn_letter : Side → ℕ

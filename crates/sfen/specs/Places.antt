@@ -1,5 +1,6 @@
 -- How the bytes of a position's text lead a reader from place to place, and what each adds to the position.
-use Rattle.std.specs.Prelude.{◌≤◌, ℕ, ◌+◌, ◌-◌, ◌*◌, ◌==◌, ◌&&◌, nat_le, nat_lt, Bool, Option, Some, None, if◌then◌else◌}
+use Rattle.std.specs.Prelude.{◌≤◌, ℕ, ◌+◌, ◌-◌, ◌*◌, ◌==◌, ◌&&◌, nat_le, nat_lt, Bool, Option, Some, None}
+use Rattle.std.specs.Prelude.{if◌then◌else◌}
 use Rattle.squares.specs.declared.sides.Side.{Side}
 use Rattle.squares.specs.declared.sides.Side.TheVariants.{First, Second}
 use Rattle.squares.specs.declared.shogi.piece.Kind.TheVariants as kind
@@ -11,7 +12,8 @@ use Rattle.squares.specs.ShogiPieces.{demoted, hand_kind, promotes_to}
 use Rattle.sfen.specs.declared.signs.Sign.{Sign}
 use Rattle.sfen.specs.declared.signs.Sign.TheVariants.{Zero, Digit, Piece, White, Plus, Minus, Slash, Blank}
 use Rattle.sfen.specs.declared.places.Place.{Place}
-use Rattle.sfen.specs.declared.places.Place.TheVariants.{Rank, Promoted, Turn, AfterTurn, Hands, Held, AfterZero, OneDigit, TwoDigits, NoHands, Number, Digits}
+use Rattle.sfen.specs.declared.places.Place.TheVariants.{Rank, Promoted, Turn, AfterTurn, Hands, Held, AfterZero}
+use Rattle.sfen.specs.declared.places.Place.TheVariants.{OneDigit, TwoDigits, NoHands, Number, Digits}
 use Rattle.sfen.specs.declared.places.Action.{Action}
 use Rattle.sfen.specs.declared.places.Action.TheVariants.{Pass, Put, Move, Hold}
 

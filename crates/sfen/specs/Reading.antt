@@ -50,7 +50,14 @@ no_pieces = record { rook = 0; bishop = 0; gold = 0; silver = 0; knight = 0; lan
 
 -- before the first rank, with nothing on the board and in the hands
 abbrev pub beginning : Reading
-beginning = record { place = Rank 1 9; board = map.empty; hands = record { first = no_pieces; second = no_pieces }; turn = First }
+beginning =
+    record {
+      place = Rank 1 9;
+      board = map.empty;
+      hands = record { first = no_pieces; second = no_pieces };
+      turn =
+          First;
+    }
 
 -- the reading goes on through so many bytes, and not through the next
 pub record StopsAt (text : List ℕ) (bytes : ℕ) : Type 0 where

@@ -1,5 +1,6 @@
 -- Which texts stand for positions of shogi (SFEN), by their parts.
-use Rattle.std.specs.Prelude.{◌≡◌, ◌⊎◌, ◌+◌, ◌*◌, ◌<◌, ◌≤◌, ℕ, zero, suc, ◌&&◌, Bool, true, false, List, [], ◌∷◌, ◌++◌, length, take, Option, Some, None, if◌then◌else◌}
+use Rattle.std.specs.Prelude.{◌≡◌, ◌⊎◌, ◌+◌, ◌*◌, ◌<◌, ◌≤◌, ℕ, zero, suc, ◌&&◌, Bool, true, false, List, [], ◌∷◌, ◌++◌}
+use Rattle.std.specs.Prelude.{length, take, Option, Some, None, if◌then◌else◌}
 use Rattle.std.specs.FinMap as map
 use Rattle.squares.specs.declared.sides.Side.{Side}
 use Rattle.squares.specs.declared.sides.Side.TheVariants.{First, Second}
@@ -43,7 +44,8 @@ IsRankItem (Stands piece) = Unit {0}
 abbrev pub AreRankItems : List RankItem → List (Option SPiece) → List ℕ → Type 0
 AreRankItems [] cells text = (cells ≡ []) × (text ≡ [])
 AreRankItems (item ∷ items) cells text =
-    (more : List (Option SPiece)) × (rest : List ℕ) × IsRankItem item × (cells ≡ item_cells item ++ more) × (text ≡ item_text item ++ rest) × AreRankItems items more rest
+    (more : List (Option SPiece)) × (rest : List ℕ) × IsRankItem item × (cells ≡ item_cells item ++ more)
+    × (text ≡ item_text item ++ rest) × AreRankItems items more rest
 
 abbrev pub IsRankText : List (Option SPiece) → List ℕ → Type 0
 IsRankText cells text = (items : List RankItem) × AreRankItems items cells text
@@ -60,7 +62,8 @@ rank_cells board rank = cells_from board rank 9
 -- a rank and so many more below it, parted by `/`
 abbrev pub AreRanks : ShogiBoard → ℕ → ℕ → List ℕ → Type 0
 AreRanks board rank zero text = IsRankText (rank_cells board rank) text
-AreRanks board rank (suc more) text = (first : List ℕ) × (rest : List ℕ) × (text ≡ first ++ 47 ∷ rest) × IsRankText (rank_cells board rank) first × AreRanks board (suc rank) more rest
+AreRanks board rank (suc more) text = (first : List ℕ) × (rest : List ℕ) × (text ≡ first ++ 47 ∷ rest)
+    × IsRankText (rank_cells board rank) first × AreRanks board (suc rank) more rest
 
 -- the board holds pieces on its squares alone
 abbrev pub IsOnSquares : ShogiBoard → Type 0
@@ -80,14 +83,17 @@ pub record HeldItem : Type 0 where
 pub data IsCountText (count : ℕ) (text : List ℕ) : Type 0 where
   unwritten : count ≡ 1 → text ≡ [] → IsCountText count text
   one_digit : 1 ≤ count → count ≤ 9 → text ≡ (48 + count) ∷ [] → IsCountText count text
-  two_digits : (tens ones : ℕ) → tens ≤ 9 → ones ≤ 9 → count ≡ 10 * tens + ones → 1 ≤ count → text ≡ (48 + tens) ∷ (48 + ones) ∷ [] → IsCountText count text
+  two_digits : (tens ones : ℕ) → tens ≤ 9 → ones ≤ 9 → count ≡ 10 * tens + ones → 1 ≤ count
+      → text ≡ (48 + tens) ∷ (48 + ones) ∷ [] → IsCountText count text
 
 abbrev pub IsHeldText : HeldItem → List ℕ → Type 0
-IsHeldText item text = (digits : List ℕ) × IsCountText item.count digits × (text ≡ digits ++ letter item.side (on_board item.kind) ∷ [])
+IsHeldText item text = (digits : List ℕ) × IsCountText item.count digits
+    × (text ≡ digits ++ letter item.side (on_board item.kind) ∷ [])
 
 abbrev pub AreHeldTexts : List HeldItem → List ℕ → Type 0
 AreHeldTexts [] text = text ≡ []
-AreHeldTexts (item ∷ items) text = (first : List ℕ) × (rest : List ℕ) × (text ≡ first ++ rest) × IsHeldText item first × AreHeldTexts items rest
+AreHeldTexts (item ∷ items) text = (first : List ℕ) × (rest : List ℕ) × (text ≡ first ++ rest) × IsHeldText item first
+    × AreHeldTexts items rest
 
 -- the pieces in the hands, or `-` where there are none
 abbrev pub IsHandText : List HeldItem → List ℕ → Type 0
@@ -141,9 +147,11 @@ pub record IsDecimalText (number : ℕ) (text : List ℕ) : Type 0 where
 
 -- a blank and the number of the next move, which is 1 where it is left out
 abbrev pub IsNumberText : ℕ → List ℕ → Type 0
-IsNumberText number text = ((text ≡ []) × (number ≡ 1)) ⊎ ((decimal : List ℕ) × IsDecimalText number decimal × (text ≡ 32 ∷ decimal))
+IsNumberText number text = ((text ≡ []) × (number ≡ 1))
+    ⊎ ((decimal : List ℕ) × IsDecimalText number decimal × (text ≡ 32 ∷ decimal))
 
--- what a text gives: the pieces on the board, the side to move, the pieces in the hands as they are listed, and the move's number
+-- what a text gives: the pieces on the board, the side to move, the pieces in the hands as they are listed, and the
+-- move's number
 pub record SfenForm : Type 0 where
   pub board : ShogiBoard
   pub turn : Side
@@ -176,17 +184,21 @@ pub record IsLongestBeginning (text : List ℕ) (bytes : ℕ) : Type 0 where
 -- a text that stands for a position and the number of the next move
 abbrev pub IsSfenText : List ℕ → ShogiPosition → ℕ → Type 0
 IsSfenText text position number =
-    (items : List HeldItem) × HasSfenForm text (record { board = position.board; turn = position.turn; held = items; number = number }) × AreHands position.hands items × IsShogiPosition position.board position.hands
+    (items : List HeldItem) × HasSfenForm text
+    (record { board = position.board; turn = position.turn; held = items; number = number })
+    × AreHands position.hands items × IsShogiPosition position.board position.hands
 
 -- how many pieces of a kind the board and the hands have together
 abbrev pub form_total : SfenForm → HandKind → ℕ
-form_total form kind = count_on (holds_kind kind) form.board + held_total First kind form.held + held_total Second kind form.held
+form_total form kind = count_on (holds_kind kind) form.board + held_total First kind form.held + held_total Second kind
+    form.held
 
 -- more pieces of a kind than the set of a game has
 abbrev pub HasTooMany : SfenForm → Type 0
 HasTooMany form = (kind : HandKind) × (set_size kind < form_total form kind)
 
--- Why a text is refused: it has no form, and so long is its longest beginning that begins one; or it has one with more pieces
+-- Why a text is refused: it has no form, and so long is its longest beginning that begins one; or it has one with more
+-- pieces
 -- of a kind than a set has; or with no more, but not with one king on each side.
 abbrev pub IsRefused : List ℕ → SfenFault → Type 0
 IsRefused text (BadText bytes) = HasNoForm text × IsLongestBeginning text bytes

@@ -53,7 +53,8 @@ kinds_text side hand (kind ∷ kinds) = held_text side kind (count_of kind hand)
 
 -- the kinds in the order in which hands are written
 unfoldable pub hand_kinds : List HandKind
-hand_kinds = in_hand.Rook ∷ in_hand.Bishop ∷ in_hand.Gold ∷ in_hand.Silver ∷ in_hand.Knight ∷ in_hand.Lance ∷ in_hand.Pawn ∷ []
+hand_kinds = in_hand.Rook ∷ in_hand.Bishop ∷ in_hand.Gold ∷ in_hand.Silver ∷ in_hand.Knight ∷ in_hand.Lance
+    ∷ in_hand.Pawn ∷ []
 
 -- a hyphen for nothing
 abbrev pub or_hyphen : List ℕ → List ℕ

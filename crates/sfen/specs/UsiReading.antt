@@ -1,5 +1,6 @@
 -- Reading the text of a move: the move, and how far a text goes along with moves' texts.
-use Rattle.std.specs.Prelude.{ℕ, ◌-◌, ◌==◌, ◌&&◌, nat_le, max, is_some, Bool, true, false, Option, Some, None, List, [], ◌∷◌, if◌then◌else◌}
+use Rattle.std.specs.Prelude.{ℕ, ◌-◌, ◌==◌, ◌&&◌, nat_le, max, is_some, Bool, true, false, Option, Some, None, List, []}
+use Rattle.std.specs.Prelude.{◌∷◌, if◌then◌else◌}
 use Rattle.std.proofs.Common.{suc}
 use Rattle.squares.specs.declared.shogi.piece.HandKind.{HandKind}
 use Rattle.squares.specs.declared.shogi.piece.HandKind.TheVariants as in_hand
@@ -44,7 +45,8 @@ drop_of None to = None
 -- the move of a text
 abbrev pub usi_reading : List ℕ → Option SMove
 usi_reading (a ∷ b ∷ c ∷ d ∷ []) =
-    if b == 42 then drop_of (kind_reading a) (square_reading c d) else step_of (square_reading a b) (square_reading c d) false
+    if b == 42 then drop_of (kind_reading a) (square_reading c d) else step_of (square_reading a b) (square_reading c d)
+    false
 usi_reading (a ∷ b ∷ c ∷ d ∷ e ∷ []) =
     if e == 43 then step_of (square_reading a b) (square_reading c d) true else None
 usi_reading _ = None

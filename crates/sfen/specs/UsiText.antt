@@ -1,4 +1,5 @@
--- The text of a move (USI): the squares of a step, with `+` where it promotes, or the letter of a dropped piece, `*` and its square.
+-- The text of a move (USI): the squares of a step, with `+` where it promotes, or the letter of a dropped piece, `*`
+-- and its square.
 use Rattle.std.specs.Prelude.{◌≡◌, ◌<◌, ◌≤◌, ℕ, ◌+◌, Bool, true, false, List, [], ◌∷◌, ◌++◌, length, take}
 use Rattle.squares.specs.declared.shogi.moves.SMove.{SMove}
 use Rattle.squares.specs.declared.shogi.moves.SMove.TheVariants.{Step, Drop}

@@ -10,7 +10,8 @@ use Rattle.sfen.specs.UsiReading.{usi_reading, usi_reach}
 
 -- The written text of a position stands for that position, and for the number of the next move.
 abbrev pub WritesPositions : Type 0
-WritesPositions = (p : ShogiPosition) (number : ℕ) → IsShogiPosition p.board p.hands → IsOnSquares p.board → 1 ≤ number → number ≤ 9999 → IsSfenText (sfen_text p number) p number
+WritesPositions = (p : ShogiPosition) (number : ℕ) → IsShogiPosition p.board p.hands → IsOnSquares p.board → 1 ≤ number
+    → number ≤ 9999 → IsSfenText (sfen_text p number) p number
 
 -- So does the text without a number, and for the number 1.
 abbrev pub WritesPositionsAlone : Type 0
@@ -27,7 +28,8 @@ HasGreatestRuns (Gap n ∷ Stands piece ∷ items) = HasGreatestRuns items
 
 -- A rank is written by runs of empty squares that are as long as they can be.
 abbrev pub WritesGreatestRuns : Type 0
-WritesGreatestRuns = (board : ShogiBoard) (rank : ℕ) → (items : List RankItem) × AreRankItems items (rank_cells board rank) (rank_text board rank) × HasGreatestRuns items
+WritesGreatestRuns = (board : ShogiBoard) (rank : ℕ) → (items : List RankItem)
+    × AreRankItems items (rank_cells board rank) (rank_text board rank) × HasGreatestRuns items
 
 -- The written text of a move on the board is read as that move.
 abbrev pub ReadsMovesBack : Type 0

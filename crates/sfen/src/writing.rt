@@ -5,7 +5,8 @@ ghost use Rattle.std.specs.FinMap as map;
 ghost use Rattle.squares.specs.ShogiGeometry.{OnShogiBoard, shogi_number};
 ghost use Rattle.sfen.specs.Letters.{piece_text};
 ghost use Rattle.sfen.specs.SfenGrammar.{IsSfenText};
-ghost use Rattle.sfen.specs.SfenText.{gap_text, rank_text, board_text, held_text, kinds_text, hand_kinds, hands_text, position_text, sfen_text};
+ghost use Rattle.sfen.specs.SfenText.{gap_text, rank_text, board_text, held_text, kinds_text, hand_kinds, hands_text};
+ghost use Rattle.sfen.specs.SfenText.{position_text, sfen_text};
 
 use crate::letters::{letter, turn_letter};
 use squares::{Hand, HandKind, Hands, Memory, SBoard, SPiece, SPos, Side, Ssq};

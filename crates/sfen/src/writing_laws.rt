@@ -1,5 +1,6 @@
 //! What ties the written texts to what they stand for.
-ghost use Rattle.sfen.specs.WritingLaws.{WritesPositions, WritesPositionsAlone, WritesGreatestRuns, ReadsMovesBack, ReadsMoveTexts, HasOneMove, HasOneOffset};
+ghost use Rattle.sfen.specs.WritingLaws.{WritesPositions, WritesPositionsAlone, WritesGreatestRuns, ReadsMovesBack};
+ghost use Rattle.sfen.specs.WritingLaws.{ReadsMoveTexts, HasOneMove, HasOneOffset};
 
 /// The text that is written for a position stands for that position and number.
 pub fn writes_positions()

@@ -12,7 +12,8 @@ use Rattle.squares.specs.ShogiBoard.{ShogiBoard}
 use Rattle.squares.specs.ShogiSets.{holds_king, is_king}
 use Rattle.squares.specs.In.{list_any-found, list_any-finds}
 use Rattle.shogi_moves.specs.Reach.{Reach, Attacked, KingAttacked, king}
-use Rattle.shogi_moves.specs.Search.{all_squares, piece_reaches, side_reaches, attacked, king_attacked_at, king_attacked}
+use Rattle.shogi_moves.specs.Search.{all_squares, piece_reaches, side_reaches, attacked, king_attacked_at}
+use Rattle.shogi_moves.specs.Search.{king_attacked}
 use Rattle.shogi_moves.proofs.ReachLemmas.{piece_reaches-sound, piece_reaches-complete, Reach-on}
 use Rattle.shogi_moves.proofs.TruthLemmas.{and_true, true_and, same_side-itself, same_side-same, In-all_squares}
 
@@ -26,18 +27,27 @@ module _ (board : ShogiBoard) (side : Side) (y x : ℕ) where
   side_reaches-sound : side_reaches board side y x ≡ true → SideReaches board side y x
   unfolding side_reaches
   side_reaches-sound e =
-      elim (map.get board x) as (λ o. map.get board x ≡ o → option_map_or (λ piece. same_side piece.side side && piece_reaches board piece x y) o false ≡ true → SideReaches board side y x) [
+      elim (map.get board x) as (λ o. map.get board x ≡ o
+      → option_map_or (λ piece. same_side piece.side side && piece_reaches board piece x y) o false ≡ true
+      → SideReaches board side y x) [
         | None ↦ λ _ e. cc
         | Some piece ↦ λ stands e.
             let w = and_true (same_side piece.side side) (piece_reaches board piece x y) e in
-            record { piece = piece; own = same_side-same piece.side side w.0; reach = piece_reaches-sound board piece x y stands w.1 }
+            record {
+              piece = piece;
+              own = same_side-same piece.side side w.0;
+              reach =
+                  piece_reaches-sound board piece x y stands w.1;
+            }
       ] refl e
 
-  side_reaches-complete : (piece : SPiece) → piece.side ≡ side → Reach board piece x y → side_reaches board side y x ≡ true
+  side_reaches-complete : (piece : SPiece) → piece.side ≡ side → Reach board piece x y
+      → side_reaches board side y x ≡ true
   unfolding side_reaches
   side_reaches-complete piece own r =
       ap (λ o. option_map_or (λ p. same_side p.side side && piece_reaches board p x y) o false) r.stands
-      ∙ true_and (same_side piece.side side) (piece_reaches board piece x y) (same_side-itself piece.side side own) (piece_reaches-complete board piece x y r)
+      ∙ true_and (same_side piece.side side) (piece_reaches board piece x y) (same_side-itself piece.side side own)
+      (piece_reaches-complete board piece x y r)
 
 module _ (board : ShogiBoard) (side : Side) (square : ℕ) where
   attacked-sound : attacked board side square ≡ true → Attacked board side square
@@ -50,7 +60,8 @@ module _ (board : ShogiBoard) (side : Side) (square : ℕ) where
   attacked-complete : Attacked board side square → attacked board side square ≡ true
   unfolding attacked
   attacked-complete a =
-      list_any-finds (side_reaches board (other side) square) all_squares a.from (In-all_squares a.from (Reach-on board a.piece a.from square a.reach).0)
+      list_any-finds (side_reaches board (other side) square) all_squares a.from
+      (In-all_squares a.from (Reach-on board a.piece a.from square a.reach).0)
       (side_reaches-complete board (other side) square a.from a.piece a.enemy a.reach)
 
   pub attacked-is : IsTrue (attacked board side square) ↔ Attacked board side square
@@ -89,13 +100,20 @@ module _ (board : ShogiBoard) (side : Side) where
   king_attacked-sound e =
       let w = list_any-found (king_attacked_at board side) all_squares e in
       let v = and_true (holds_king side (map.get board w.0)) (attacked board side w.0) w.2 in
-      record { square = w.0; stands = holds_king-king side (map.get board w.0) v.0; attacked = attacked-sound board side w.0 v.1 }
+      record {
+        square = w.0;
+        stands = holds_king-king side (map.get board w.0) v.0;
+        attacked =
+            attacked-sound board side w.0 v.1;
+      }
 
   king_attacked-complete : KingAttacked board side → king_attacked board side ≡ true
   unfolding king_attacked king_attacked_at
   king_attacked-complete k =
-      list_any-finds (king_attacked_at board side) all_squares k.square (In-all_squares k.square (Reach-on board k.attacked.piece k.attacked.from k.square k.attacked.reach).1)
-      (true_and (holds_king side (map.get board k.square)) (attacked board side k.square) (king-holds_king side (map.get board k.square) k.stands) (attacked-complete board side k.square k.attacked))
+      list_any-finds (king_attacked_at board side) all_squares k.square
+      (In-all_squares k.square (Reach-on board k.attacked.piece k.attacked.from k.square k.attacked.reach).1)
+      (true_and (holds_king side (map.get board k.square)) (attacked board side k.square)
+      (king-holds_king side (map.get board k.square) k.stands) (attacked-complete board side k.square k.attacked))
 
   pub king_attacked-is : IsTrue (king_attacked board side) ↔ KingAttacked board side
   king_attacked-is = (king_attacked-sound, king_attacked-complete)

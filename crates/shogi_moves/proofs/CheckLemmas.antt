@@ -24,20 +24,38 @@ record FirstIn (fails : Illegal → Bool) (rules : List Illegal) (rule : Illegal
   passes : Passes fails before
 
 module _ (fails : Illegal → Bool) where
-  first_of-split : (before after : List Illegal) (rule : Illegal) → Passes fails before → fails rule ≡ true → first_of fails (before ++ rule ∷ after) ≡ Err rule
+  first_of-split : (before after : List Illegal) (rule : Illegal) → Passes fails before → fails rule ≡ true
+      → first_of fails (before ++ rule ∷ after) ≡ Err rule
   first_of-split [] after rule passes e = ap (λ t. cond t (Err rule) (first_of fails after)) e
-  first_of-split (r ∷ before) after rule passes e = ap (λ t. cond t (Err r) (first_of fails (before ++ rule ∷ after))) passes.0 ∙ first_of-split before after rule passes.1 e
+  first_of-split (r ∷ before) after rule passes e =
+      ap (λ t. cond t (Err r) (first_of fails (before ++ rule ∷ after))) passes.0
+      ∙ first_of-split before after rule passes.1 e
 
   first_of-first : (rules : List Illegal) (rule : Illegal) → first_of fails rules ≡ Err rule → FirstIn fails rules rule
   first_of-first [] rule e = cc
   first_of-first (r ∷ rules) rule e =
-      elim (fails r) as (λ t. fails r ≡ t → cond t (Err r) (first_of fails rules) ≡ Err rule → FirstIn fails (r ∷ rules) rule) [
+      elim (fails r) as (λ t. fails r ≡ t → cond t (Err r) (first_of fails rules) ≡ Err rule
+      → FirstIn fails (r ∷ rules) rule) [
         | true ↦ λ is e.
             let same : r ≡ rule = cc in
-            record { before = []; after = rules; order = ap (λ x. x ∷ rules) same; broken = ap fails (sym same) ∙ is; passes = tt }
+            record {
+              before = [];
+              after = rules;
+              order = ap (λ x. x ∷ rules) same;
+              broken = ap fails (sym same)
+                  ∙ is;
+              passes = tt;
+            }
         | false ↦ λ is e.
             let w = first_of-first rules rule e in
-            record { before = r ∷ w.before; after = w.after; order = ap (λ rs. r ∷ rs) w.order; broken = w.broken; passes = (is, w.passes) }
+            record {
+              before = r ∷ w.before;
+              after = w.after;
+              order = ap (λ rs. r ∷ rs) w.order;
+              broken =
+                  w.broken;
+              passes = (is, w.passes);
+            }
       ] refl e
 
   first_of-passes : (rules : List Illegal) → IsOk (first_of fails rules) → Passes fails rules
@@ -50,7 +68,8 @@ module _ (fails : Illegal → Bool) where
 
   passes-first_of : (rules : List Illegal) → Passes fails rules → IsOk (first_of fails rules)
   passes-first_of [] h = refl
-  passes-first_of (r ∷ rules) h = subst (λ t. IsOk (cond t (Err r) (first_of fails rules))) (sym h.0) (passes-first_of rules h.1)
+  passes-first_of (r ∷ rules) h = subst (λ t. IsOk (cond t (Err r) (first_of fails rules))) (sym h.0)
+      (passes-first_of rules h.1)
 
 module _ (p : ShogiPosition) (m : SMove) where
   broken-is : (rule : Illegal) → IsTrue (broken p m rule) ↔ Breaks p m rule
@@ -81,8 +100,16 @@ module _ (p : ShogiPosition) (m : SMove) where
   unfolding check_of
   check_of-refused rule = (
     λ e. let w = first_of-first (broken p m) rules_in_order rule e in
-        record { before = w.before; after = w.after; order = w.order; breaks = (broken-is rule).0 w.broken; keeps = keeps_all w.before w.passes },
-    λ f. ap (first_of (broken p m)) f.order ∙ first_of-split (broken p m) f.before f.after rule (passes_all f.before f.keeps) ((broken-is rule).1 f.breaks),
+        record {
+          before = w.before;
+          after = w.after;
+          order = w.order;
+          breaks = (broken-is rule).0 w.broken;
+          keeps =
+              keeps_all w.before w.passes;
+        },
+    λ f. ap (first_of (broken p m)) f.order ∙ first_of-split (broken p m) f.before f.after rule
+        (passes_all f.before f.keeps) ((broken-is rule).1 f.breaks),
   )
 
   moves_so : (t : Bool) → is_movement p m ≡ t → not t ≡ false → Movement p m
@@ -105,5 +132,11 @@ module _ (p : ShogiPosition) (m : SMove) where
           no_pawn_mate = kept illegal.DropMate w.1.1.1.1.1.1.0;
         },
     λ l. passes-first_of (broken p m) rules_in_order
-        (passes_all rules_in_order ((λ none. none l.pseudo.moves), (l.pseudo.holds, (l.pseudo.promotes, (l.pseudo.alive, (l.pseudo.one_pawn, (l.safe, (l.no_pawn_mate, tt)))))))),
+        (passes_all rules_in_order (
+          (λ none. none l.pseudo.moves),
+          (
+            l.pseudo.holds,
+            (l.pseudo.promotes, (l.pseudo.alive, (l.pseudo.one_pawn, (l.safe, (l.no_pawn_mate, tt))))),
+          ),
+        )),
   )

@@ -1,5 +1,6 @@
 -- A drop uncovers no king: what attacks it after the drop attacked it before.
-use Rattle.std.proofs.Common.{◌≡◌, ℕ, Bool, true, false, cond, Option, Some, None, List, [], ◌∷◌, nat_eq, refl, sym, ap, ◌∙◌}
+use Rattle.std.proofs.Common.{◌≡◌, ℕ, Bool, true, false, cond, Option, Some, None, List, [], ◌∷◌, nat_eq, refl, sym, ap}
+use Rattle.std.proofs.Common.{◌∙◌}
 use Rattle.std.specs.Cmp.{nat_cmp_total, unsigned_tied}
 use Rattle.std.specs.FinMap as map
 use Rattle.squares.specs.declared.sides.Side.{Side}
@@ -20,16 +21,21 @@ use Rattle.shogi_moves.specs.Computed.{is_drop}
 use Rattle.shogi_moves.proofs.AttackLemmas.{king_attacked-is}
 
 -- what stands on a square after a piece is put on another
-put_at : (board : ShogiBoard) (to q : ℕ) (piece : SPiece) (o : Option SPiece) → map.get (map.insert board to piece) q ≡ o → (Some piece ≡ o → ⊥) → map.get board q ≡ o
+put_at : (board : ShogiBoard) (to q : ℕ) (piece : SPiece) (o : Option SPiece)
+    → map.get (map.insert board to piece) q ≡ o → (Some piece ≡ o → ⊥) → map.get board q ≡ o
 put_at board to q piece o is other =
     elim (nat_eq q to) as (λ b. cond b (Some piece) (map.get board q) ≡ o → map.get board q ≡ o) [
       | true ↦ λ e. absurd (other e)
       | false ↦ λ e. e
-    ] (sym (map.get-insert nat_cmp_total board to piece q ∙ ap (λ b. cond b (Some piece) (map.get board q)) (unsigned_tied q to)) ∙ is)
+    ]
+    (sym (map.get-insert nat_cmp_total board to piece q
+    ∙ ap (λ b. cond b (Some piece) (map.get board q)) (unsigned_tied q to)) ∙ is)
 
-clear_before : (board : ShogiBoard) (to : ℕ) (piece : SPiece) (squares : List ℕ) → AllClear (map.insert board to piece) squares → AllClear board squares
+clear_before : (board : ShogiBoard) (to : ℕ) (piece : SPiece) (squares : List ℕ)
+    → AllClear (map.insert board to piece) squares → AllClear board squares
 clear_before board to piece [] h = tt
-clear_before board to piece (n ∷ ns) h = (put_at board to n piece None h.0 (λ e. cc), clear_before board to piece ns h.1)
+clear_before board to piece (n ∷ ns) h =
+    (put_at board to n piece None h.0 (λ e. cc), clear_before board to piece ns h.1)
 
 enemy_of_itself : (side : Side) → side ≡ other side → ⊥
 enemy_of_itself First e = cc
@@ -45,7 +51,8 @@ module _ (board : ShogiBoard) (side : Side) (to : ℕ) (r : Role) (common : is_k
     piece = a.piece;
     enemy = a.enemy;
     reach = record {
-      stands = put_at board to a.from dropped (Some a.piece) a.reach.stands (λ e. let own : dropped ≡ a.piece = cc in enemy_of_itself side (ap (λ (p : SPiece). p.side) own ∙ a.enemy));
+      stands = put_at board to a.from dropped (Some a.piece) a.reach.stands (λ e. let own : dropped ≡ a.piece = cc in
+          enemy_of_itself side (ap (λ (p : SPiece). p.side) own ∙ a.enemy));
       heading = a.reach.heading;
       before = a.reach.before;
       after = a.reach.after;
@@ -80,9 +87,11 @@ not_true : (b c : Bool) → (b ≡ true → c ≡ true) → c ≡ false → b �
 not_true true c h e = let t : true ≡ false = sym (h refl) ∙ e in cc
 not_true false c h e = refl
 
-pub drop-safe : (p : ShogiPosition) (m : SMove) → is_drop m ≡ true → king_attacked p.board p.turn ≡ false → king_attacked (board_after p m) p.turn ≡ false
+pub drop-safe : (p : ShogiPosition) (m : SMove) → is_drop m ≡ true → king_attacked p.board p.turn ≡ false
+    → king_attacked (board_after p m) p.turn ≡ false
 drop-safe p (Step from to promote) e safe = cc
 drop-safe p (Drop kind to) e safe =
     not_true (king_attacked (board_after p (Drop kind to)) p.turn) (king_attacked p.board p.turn)
     (λ t. (king_attacked-is p.board p.turn).1
-    (king_attacked_before p.board p.turn to (dropped_role kind) (no_king_dropped kind) ((king_attacked-is (board_after p (Drop kind to)) p.turn).0 t))) safe
+    (king_attacked_before p.board p.turn to (dropped_role kind) (no_king_dropped kind)
+    ((king_attacked-is (board_after p (Drop kind to)) p.turn).0 t))) safe

@@ -1,11 +1,13 @@
 -- Lines by steps are lines by files and ranks.
-use Rattle.std.proofs.Common.{◌≡◌, ℕ, zero, suc, ◌+◌, ◌<◌, ◌≤◌, cond, Some, None, List, [], ◌∷◌, length, get_or, true, false, refl, sym, ap, ◌∙◌, subst, arith}
+use Rattle.std.proofs.Common.{◌≡◌, ℕ, zero, suc, ◌+◌, ◌<◌, ◌≤◌, cond, Some, None, List, [], ◌∷◌, length, get_or, true}
+use Rattle.std.proofs.Common.{false, refl, sym, ap, ◌∙◌, subst, arith}
 use Rattle.std.specs.Option.{option_map_or}
 use Rattle.squares.specs.declared.sides.Side.{Side}
 use Rattle.squares.specs.declared.sides.Side.TheVariants.{First, Second}
 use Rattle.squares.specs.ShogiGeometry.{OnShogiBoard, file_of, rank_of, shogi_number}
 use Rattle.shogi_moves.specs.declared.heading.Heading.{Heading}
-use Rattle.shogi_moves.specs.declared.heading.Heading.TheVariants.{Forward, ForwardLeft, ForwardRight, Left, Right, Back, BackLeft, BackRight, JumpLeft, JumpRight}
+use Rattle.shogi_moves.specs.declared.heading.Heading.TheVariants.{Forward, ForwardLeft, ForwardRight, Left, Right}
+use Rattle.shogi_moves.specs.declared.heading.Heading.TheVariants.{Back, BackLeft, BackRight, JumpLeft, JumpRight}
 use Rattle.shogi_moves.specs.Reach.{next_file, next_rank, square_at, step, line}
 use Rattle.shogi_moves.specs.Laws.{FileMoved, RankMoved, IsMoved}
 use Rattle.shogi_moves.proofs.HeadingLemmas.{is_on, is_on-on, on-is_on, step-square_at}
@@ -49,7 +51,8 @@ file-more JumpRight k f g l a b = omega (arith, a, b)
 
 -- the next file on the way to a later one
 abbrev FileFirst : Heading → ℕ → ℕ → ℕ → Type 0
-FileFirst h k f l = ((1 ≤ next_file h f) × (next_file h f ≤ 9)) × FileMoved h 1 f (next_file h f) × FileMoved h (k + 1) (next_file h f) l
+FileFirst h k f l = ((1 ≤ next_file h f) × (next_file h f ≤ 9)) × FileMoved h 1 f (next_file h f)
+    × FileMoved h (k + 1) (next_file h f) l
 
 file-first : (h : Heading) (k f l : ℕ) → 1 ≤ f → f ≤ 9 → 1 ≤ l → l ≤ 9 → FileMoved h (suc k + 1) f l → FileFirst h k f l
 file-first Forward k f l a b c d w = ((omega (arith, w), omega (arith, w)), omega (arith, w), omega (arith, w))
@@ -108,7 +111,8 @@ next-rank Second BackRight r g w = omega (arith, w)
 next-rank Second JumpLeft r g w = omega (arith, w)
 next-rank Second JumpRight r g w = omega (arith, w)
 
-rank-more : (s : Side) (h : Heading) (k r g l : ℕ) → RankMoved s h 1 r g → RankMoved s h (k + 1) g l → RankMoved s h (suc k + 1) r l
+rank-more : (s : Side) (h : Heading) (k r g l : ℕ) → RankMoved s h 1 r g → RankMoved s h (k + 1) g l
+    → RankMoved s h (suc k + 1) r l
 rank-more First Forward k r g l a b = omega (arith, a, b)
 rank-more First ForwardLeft k r g l a b = omega (arith, a, b)
 rank-more First ForwardRight k r g l a b = omega (arith, a, b)
@@ -132,12 +136,16 @@ rank-more Second JumpRight k r g l a b = omega (arith, a, b)
 
 -- the next rank on the way to a later one
 abbrev RankFirst : Side → Heading → ℕ → ℕ → ℕ → Type 0
-RankFirst s h k r l = ((1 ≤ next_rank s h r) × (next_rank s h r ≤ 9)) × RankMoved s h 1 r (next_rank s h r) × RankMoved s h (k + 1) (next_rank s h r) l
+RankFirst s h k r l = ((1 ≤ next_rank s h r) × (next_rank s h r ≤ 9)) × RankMoved s h 1 r (next_rank s h r)
+    × RankMoved s h (k + 1) (next_rank s h r) l
 
-rank-first : (s : Side) (h : Heading) (k r l : ℕ) → 1 ≤ r → r ≤ 9 → 1 ≤ l → l ≤ 9 → RankMoved s h (suc k + 1) r l → RankFirst s h k r l
+rank-first : (s : Side) (h : Heading) (k r l : ℕ) → 1 ≤ r → r ≤ 9 → 1 ≤ l → l ≤ 9 → RankMoved s h (suc k + 1) r l
+    → RankFirst s h k r l
 rank-first First Forward k r l a b c d w = ((omega (arith, w), omega (arith, w)), omega (arith, w), omega (arith, w))
-rank-first First ForwardLeft k r l a b c d w = ((omega (arith, w), omega (arith, w)), omega (arith, w), omega (arith, w))
-rank-first First ForwardRight k r l a b c d w = ((omega (arith, w), omega (arith, w)), omega (arith, w), omega (arith, w))
+rank-first First ForwardLeft k r l a b c d w =
+    ((omega (arith, w), omega (arith, w)), omega (arith, w), omega (arith, w))
+rank-first First ForwardRight k r l a b c d w =
+    ((omega (arith, w), omega (arith, w)), omega (arith, w), omega (arith, w))
 rank-first First Left k r l a b c d w = ((omega (arith, w), omega (arith, w)), omega (arith, w), omega (arith, w))
 rank-first First Right k r l a b c d w = ((omega (arith, w), omega (arith, w)), omega (arith, w), omega (arith, w))
 rank-first First Back k r l a b c d w = ((omega (arith, w), omega (arith, w)), omega (arith, w), omega (arith, w))
@@ -146,8 +154,10 @@ rank-first First BackRight k r l a b c d w = ((omega (arith, w), omega (arith, w
 rank-first First JumpLeft k r l a b c d w = ((omega (arith, w), omega (arith, w)), omega (arith, w), omega (arith, w))
 rank-first First JumpRight k r l a b c d w = ((omega (arith, w), omega (arith, w)), omega (arith, w), omega (arith, w))
 rank-first Second Forward k r l a b c d w = ((omega (arith, w), omega (arith, w)), omega (arith, w), omega (arith, w))
-rank-first Second ForwardLeft k r l a b c d w = ((omega (arith, w), omega (arith, w)), omega (arith, w), omega (arith, w))
-rank-first Second ForwardRight k r l a b c d w = ((omega (arith, w), omega (arith, w)), omega (arith, w), omega (arith, w))
+rank-first Second ForwardLeft k r l a b c d w =
+    ((omega (arith, w), omega (arith, w)), omega (arith, w), omega (arith, w))
+rank-first Second ForwardRight k r l a b c d w =
+    ((omega (arith, w), omega (arith, w)), omega (arith, w), omega (arith, w))
 rank-first Second Left k r l a b c d w = ((omega (arith, w), omega (arith, w)), omega (arith, w), omega (arith, w))
 rank-first Second Right k r l a b c d w = ((omega (arith, w), omega (arith, w)), omega (arith, w), omega (arith, w))
 rank-first Second Back k r l a b c d w = ((omega (arith, w), omega (arith, w)), omega (arith, w), omega (arith, w))
@@ -183,7 +193,8 @@ number-same n h = omega arith
 
 square_at-some : (f r m : ℕ) → square_at f r ≡ Some m → OnShogiBoard f r × (shogi_number f r ≡ m)
 square_at-some f r m e =
-    elim (is_on f r) as (λ c. is_on f r ≡ c → cond c (Some (shogi_number f r)) None ≡ Some m → OnShogiBoard f r × (shogi_number f r ≡ m)) [
+    elim (is_on f r) as (λ c. is_on f r ≡ c → cond c (Some (shogi_number f r)) None ≡ Some m → OnShogiBoard f r
+    × (shogi_number f r ≡ m)) [
       | true ↦ λ on e. let is : shogi_number f r ≡ m = cc in (is_on-on f r on, is)
       | false ↦ λ _ e. cc
     ] refl e
@@ -200,30 +211,49 @@ module _ (side : Side) (heading : Heading) where
       let file : f ≡ file_of m = sym (number-file f r w.0) ∙ ap file_of w.1 in
       let rank : r ≡ rank_of m = sym (number-rank f r w.0) ∙ ap rank_of w.1 in (
         subst (λ l. l < 81) w.1 (number-below f r w.0),
-        (file-next heading (file_of n) (file_of m) (file-low n) (file-low m) file, rank-next side heading (rank_of n) (rank_of m) (rank-low n) (rank-low m) rank),
+        (
+          file-next heading (file_of n) (file_of m) (file-low n) (file-low m) file,
+          rank-next side heading (rank_of n) (rank_of m) (rank-low n) (rank-low m) rank,
+        ),
       )
 
   moved-step : (n m : ℕ) → n < 81 → m < 81 → IsMoved side heading 1 n m → step side heading n ≡ Some m
   moved-step n m h k w =
       step-square_at side heading n h
-      ∙ (λ i. square_at (next-file heading (file_of n) (file_of m) w.0 i) (next-rank side heading (rank_of n) (rank_of m) w.1 i))
-      ∙ square_at-number (file_of m) (rank_of m) ((file-low m, file-high m k), (rank-low m, rank-high m)) ∙ ap Some (number-same m k)
+      ∙
+      (λ i. square_at (next-file heading (file_of n) (file_of m) w.0 i)
+      (next-rank side heading (rank_of n) (rank_of m) w.1 i))
+      ∙ square_at-number (file_of m) (rank_of m) ((file-low m, file-high m k), (rank-low m, rank-high m))
+      ∙ ap Some (number-same m k)
 
-  moved-more : (k n m l : ℕ) → IsMoved side heading 1 n m → IsMoved side heading (k + 1) m l → IsMoved side heading (suc k + 1) n l
-  moved-more k n m l a b = (file-more heading k (file_of n) (file_of m) (file_of l) a.0 b.0, rank-more side heading k (rank_of n) (rank_of m) (rank_of l) a.1 b.1)
+  moved-more : (k n m l : ℕ) → IsMoved side heading 1 n m → IsMoved side heading (k + 1) m l
+      → IsMoved side heading (suc k + 1) n l
+  moved-more k n m l a b = (
+    file-more heading k (file_of n) (file_of m) (file_of l) a.0 b.0,
+    rank-more side heading k (rank_of n) (rank_of m) (rank_of l) a.1 b.1,
+  )
 
-  moved-first : (k n l : ℕ) → n < 81 → l < 81 → IsMoved side heading (suc k + 1) n l → (m : ℕ) × (m < 81) × IsMoved side heading 1 n m × IsMoved side heading (k + 1) m l
+  moved-first : (k n l : ℕ) → n < 81 → l < 81 → IsMoved side heading (suc k + 1) n l → (m : ℕ) × (m < 81)
+      × IsMoved side heading 1 n m × IsMoved side heading (k + 1) m l
   moved-first k n l h i w =
       let f = next_file heading (file_of n) in
       let r = next_rank side heading (rank_of n) in
-      let a = file-first heading k (file_of n) (file_of l) (file-low n) (file-high n h) (file-low l) (file-high l i) w.0 in
-      let b = rank-first side heading k (rank_of n) (rank_of l) (rank-low n) (rank-high n) (rank-low l) (rank-high l) w.1 in
+      let a = file-first heading k (file_of n) (file_of l) (file-low n) (file-high n h) (file-low l) (file-high l i) w.0
+      in
+      let b = rank-first side heading k (rank_of n) (rank_of l) (rank-low n) (rank-high n) (rank-low l) (rank-high l)
+      w.1 in
       let file = sym (number-file f r (a.0, b.0)) in
       let rank = sym (number-rank f r (a.0, b.0)) in (
         shogi_number f r,
         number-below f r (a.0, b.0),
-        (subst (λ x. FileMoved heading 1 (file_of n) x) file a.1, subst (λ x. RankMoved side heading 1 (rank_of n) x) rank b.1),
-        (subst (λ x. FileMoved heading (k + 1) x (file_of l)) file a.2, subst (λ x. RankMoved side heading (k + 1) x (rank_of l)) rank b.2),
+        (
+          subst (λ x. FileMoved heading 1 (file_of n) x) file a.1,
+          subst (λ x. RankMoved side heading 1 (rank_of n) x) rank b.1,
+        ),
+        (
+          subst (λ x. FileMoved heading (k + 1) x (file_of l)) file a.2,
+          subst (λ x. RankMoved side heading (k + 1) x (rank_of l)) rank b.2,
+        ),
       )
 
   line_first : (j n m : ℕ) → step side heading n ≡ Some m → line (suc j) side heading n ≡ m ∷ line j side heading m
@@ -233,18 +263,23 @@ module _ (side : Side) (heading : Heading) where
   abbrev HasAt : List ℕ → ℕ → ℕ → Type 0
   HasAt xs k m = (k < length xs) × (get_or xs k 0 ≡ m)
 
-  pub line-moved : (j n k m : ℕ) → n < 81 → HasAt (line j side heading n) k m → (k < j) × (m < 81) × IsMoved side heading (k + 1) n m
+  pub line-moved : (j n k m : ℕ) → n < 81 → HasAt (line j side heading n) k m → (k < j) × (m < 81)
+      × IsMoved side heading (k + 1) n m
   unfolding line
   line-moved zero n k m on h = absurd (omega (arith, h.0))
   line-moved (suc j) n zero m on h =
-      elim (step side heading n) as (λ o. step side heading n ≡ o → HasAt (option_map_or (λ m. m ∷ line j side heading m) o []) 0 m → (0 < suc j) × (m < 81) × IsMoved side heading 1 n m) [
+      elim (step side heading n) as (λ o. step side heading n ≡ o
+      → HasAt (option_map_or (λ m. m ∷ line j side heading m) o []) 0 m → (0 < suc j) × (m < 81)
+      × IsMoved side heading 1 n m) [
         | None ↦ λ e h. absurd (omega (arith, h.0))
         | Some s ↦ λ e h.
             let w = step-moved n s on e in
             (omega arith, subst (λ l. l < 81) h.1 w.0, subst (λ l. IsMoved side heading 1 n l) h.1 w.1)
       ] refl h
   line-moved (suc j) n (suc k) m on h =
-      elim (step side heading n) as (λ o. step side heading n ≡ o → HasAt (option_map_or (λ m. m ∷ line j side heading m) o []) (suc k) m → (suc k < suc j) × (m < 81) × IsMoved side heading (suc k + 1) n m) [
+      elim (step side heading n) as (λ o. step side heading n ≡ o
+      → HasAt (option_map_or (λ m. m ∷ line j side heading m) o []) (suc k) m → (suc k < suc j) × (m < 81)
+      × IsMoved side heading (suc k + 1) n m) [
         | None ↦ λ e h. absurd (omega (arith, h.0))
         | Some s ↦ λ e h.
             let v = step-moved n s on e in
@@ -252,10 +287,13 @@ module _ (side : Side) (heading : Heading) where
             (omega (arith, w.0), w.1, moved-more k n s m v.1 w.2)
       ] refl h
 
-  pub moved-line : (j n k m : ℕ) → n < 81 → k < j → m < 81 → IsMoved side heading (k + 1) n m → HasAt (line j side heading n) k m
+  pub moved-line : (j n k m : ℕ) → n < 81 → k < j → m < 81 → IsMoved side heading (k + 1) n m
+      → HasAt (line j side heading n) k m
   moved-line zero n k m on h om w = absurd (omega arith)
-  moved-line (suc j) n zero m on h om w = subst (λ xs. HasAt xs 0 m) (sym (line_first j n m (moved-step n m on om w))) (omega arith, refl)
+  moved-line (suc j) n zero m on h om w = subst (λ xs. HasAt xs 0 m) (sym (line_first j n m (moved-step n m on om w)))
+      (omega arith, refl)
   moved-line (suc j) n (suc k) m on h om w =
       let v = moved-first k n m on om w in
       let rest = moved-line j v.0 k m v.1 (omega arith) om v.3 in
-      subst (λ xs. HasAt xs (suc k) m) (sym (line_first j n v.0 (moved-step n v.0 on v.1 v.2))) (omega (arith, rest.0), rest.1)
+      subst (λ xs. HasAt xs (suc k) m) (sym (line_first j n v.0 (moved-step n v.0 on v.1 v.2)))
+      (omega (arith, rest.0), rest.1)

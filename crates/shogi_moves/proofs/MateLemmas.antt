@@ -10,7 +10,9 @@ use Rattle.squares.specs.In.{In, list_any-found, list_any-finds}
 use Rattle.shogi_moves.specs.Reach.{KingAttacked}
 use Rattle.shogi_moves.specs.Search.{all_squares, king_attacked}
 use Rattle.shogi_moves.specs.Rules.{Movement, Pseudo, Safe, Mate, MatesByPawn, Legal, HasMove, board_after, play}
-use Rattle.shogi_moves.specs.Computed.{is_pseudo, leaves_king, escapes, all_kinds, some_step_between, some_step_from, some_step, some_drop_of, some_drop, some_move, drops_pawn, is_mate, mates_by_pawn, is_legal, has_move}
+use Rattle.shogi_moves.specs.Computed.{is_pseudo, leaves_king, escapes, all_kinds, some_step_between, some_step_from}
+use Rattle.shogi_moves.specs.Computed.{some_step, some_drop_of, some_drop, some_move, drops_pawn, is_mate}
+use Rattle.shogi_moves.specs.Computed.{mates_by_pawn, is_legal, has_move}
 use Rattle.shogi_moves.proofs.AttackLemmas.{king_attacked-is}
 use Rattle.shogi_moves.proofs.ReachLemmas.{Reach-on}
 use Rattle.shogi_moves.proofs.RuleLemmas.{is_pseudo-is, drops_pawn-is}
@@ -42,14 +44,16 @@ module _ (test : SMove → Bool) where
         | inl step ↦
             let w = list_any-found (some_step_from test) all_squares step in
             let v = list_any-found (some_step_between test w.0) all_squares w.2 in
-            elim (or_cases (test (Step w.0 v.0 false)) (test (Step w.0 v.0 true)) v.2) [ inl a ↦ (Step w.0 v.0 false, a) | inr b ↦ (Step w.0 v.0 true, b) ]
+            elim (or_cases (test (Step w.0 v.0 false)) (test (Step w.0 v.0 true)) v.2)
+            [ inl a ↦ (Step w.0 v.0 false, a) | inr b ↦ (Step w.0 v.0 true, b) ]
         | inr drop ↦
             let w = list_any-found (some_drop_of test) all_kinds drop in
             let v = list_any-found (λ to. test (Drop w.0 to)) all_squares w.2 in
             (Drop w.0 v.0, v.2)
       ]
 
-  step-between : (from to : ℕ) (promote : Bool) → test (Step from to promote) ≡ true → some_step_between test from to ≡ true
+  step-between : (from to : ℕ) (promote : Bool) → test (Step from to promote) ≡ true
+      → some_step_between test from to ≡ true
   step-between from to false e = true_or (test (Step from to false)) (test (Step from to true)) e
   step-between from to true e = or_true (test (Step from to false)) (test (Step from to true)) e
 
@@ -58,10 +62,12 @@ module _ (test : SMove → Bool) where
   some_move-finds (Step from to promote) on e =
       true_or (some_step test) (some_drop test)
       (list_any-finds (some_step_from test) all_squares from (In-all_squares from on.0)
-      (list_any-finds (some_step_between test from) all_squares to (In-all_squares to on.1) (step-between from to promote e)))
+      (list_any-finds (some_step_between test from) all_squares to (In-all_squares to on.1)
+      (step-between from to promote e)))
   some_move-finds (Drop kind to) on e =
       or_true (some_step test) (some_drop test)
-      (list_any-finds (some_drop_of test) all_kinds kind (In-all_kinds kind) (list_any-finds (λ to. test (Drop kind to)) all_squares to (In-all_squares to on) e))
+      (list_any-finds (some_drop_of test) all_kinds kind (In-all_kinds kind)
+      (list_any-finds (λ to. test (Drop kind to)) all_squares to (In-all_squares to on) e))
 
 module _ (p : ShogiPosition) (m : SMove) where
   pub leaves_king-is : IsTrue (leaves_king p m) ↔ KingAttacked (board_after p m) p.turn
@@ -70,7 +76,8 @@ module _ (p : ShogiPosition) (m : SMove) where
 
   pub escapes-is : IsTrue (escapes p m) ↔ (Pseudo p m × Safe p m)
   unfolding escapes
-  escapes-is = and-is (is_pseudo p m) (not (leaves_king p m)) (is_pseudo-is p m) (not-is (leaves_king p m) leaves_king-is)
+  escapes-is = and-is (is_pseudo p m) (not (leaves_king p m)) (is_pseudo-is p m)
+      (not-is (leaves_king p m) leaves_king-is)
 
 module _ (p : ShogiPosition) where
   some_escape-is : IsTrue (some_move (escapes p)) ↔ ((m : SMove) × Pseudo p m × Safe p m)
@@ -82,7 +89,8 @@ module _ (p : ShogiPosition) where
   pub is_mate-is : IsTrue (is_mate p) ↔ Mate p
   unfolding is_mate
   is_mate-is =
-      let both = and-is (king_attacked p.board p.turn) (not (some_move (escapes p))) (king_attacked-is p.board p.turn) (not-is (some_move (escapes p)) some_escape-is) in (
+      let both = and-is (king_attacked p.board p.turn) (not (some_move (escapes p))) (king_attacked-is p.board p.turn)
+      (not-is (some_move (escapes p)) some_escape-is) in (
         λ e. let w = both.0 e in record { attacked = w.0; no_escape = λ m pseudo safe. w.1 (m, pseudo, safe) },
         λ mate. both.1 (mate.attacked, λ w. mate.no_escape w.0 w.1 w.2),
       )
@@ -95,7 +103,8 @@ module _ (p : ShogiPosition) (m : SMove) where
   pub is_legal-is : IsTrue (is_legal p m) ↔ Legal p m
   unfolding is_legal
   is_legal-is =
-      let both = and-is (escapes p m) (not (mates_by_pawn p m)) (escapes-is p m) (not-is (mates_by_pawn p m) mates_by_pawn-is) in (
+      let both = and-is (escapes p m) (not (mates_by_pawn p m)) (escapes-is p m)
+      (not-is (mates_by_pawn p m) mates_by_pawn-is) in (
         λ e. let w = both.0 e in record { pseudo = w.0.0; safe = w.0.1; no_pawn_mate = w.1 },
         λ l. both.1 ((l.pseudo, l.safe), l.no_pawn_mate),
       )

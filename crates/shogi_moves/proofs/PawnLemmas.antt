@@ -20,7 +20,8 @@ use Rattle.shogi_moves.proofs.KingLemmas.{any-passing}
 
 pub pawn-cell : (side : Side) (o : Option SPiece) → holds (pawn side) o ≡ holds_pawn side o
 pawn-cell side None = refl
-pawn-cell side (Some piece) = turn (same_side piece.side side) (same_role piece.role role.Pawn) (is_pawn piece.role) (one piece.role)
+pawn-cell side (Some piece) = turn (same_side piece.side side) (same_role piece.role role.Pawn) (is_pawn piece.role)
+    (one piece.role)
   where
     turn : (a b c : Bool) → b ≡ c → (a && b) ≡ (c && a)
     turn true true true e = refl
@@ -46,6 +47,11 @@ pawn-cell side (Some piece) = turn (same_side piece.side side) (same_role piece.
     one role.PromotedLance = refl
     one role.PromotedPawn = refl
 
-pub pawns-on_file : (board : ShogiBoard) (side : Side) (square : ℕ) (pawns : Numbers) → ((q : ℕ) → set.contains pawns q ≡ holds_pawn side (map.get board q)) → list_any (λ q. file_of q == file_of square) (ascending 0 81 pawns) ≡ pawn_on_file board side square
+pub pawns-on_file : (board : ShogiBoard) (side : Side) (square : ℕ) (pawns : Numbers)
+    → ((q : ℕ) → set.contains pawns q ≡ holds_pawn side (map.get board q))
+    → list_any (λ q. file_of q == file_of square) (ascending 0 81 pawns) ≡ pawn_on_file board side square
 unfolding ascending pawn_on_file pawn_on_file_at all_squares
-pawns-on_file board side square pawns are = sym (any-passing (λ q. holds_pawn side (map.get board q)) (λ q. file_of q == file_of square) (set.contains pawns) 0 81 are)
+pawns-on_file board side square pawns are =
+    sym
+    (any-passing (λ q. holds_pawn side (map.get board q)) (λ q. file_of q == file_of square) (set.contains pawns) 0 81
+    are)

@@ -1,5 +1,6 @@
 -- The computed test whether a piece reaches a square is the relation.
-use Rattle.std.proofs.Common.{◌≡◌, ℕ, zero, suc, ◌<◌, Bool, true, false, cond, ◌&&◌, ◌||◌, nat_eq, nat_lt, Option, Some, None, List, [], ◌∷◌, ◌++◌, inl, inr, refl, sym, ap, ◌∙◌, subst, arith}
+use Rattle.std.proofs.Common.{◌≡◌, ℕ, zero, suc, ◌<◌, Bool, true, false, cond, ◌&&◌, ◌||◌, nat_eq, nat_lt, Option, Some}
+use Rattle.std.proofs.Common.{None, List, [], ◌∷◌, ◌++◌, inl, inr, refl, sym, ap, ◌∙◌, subst, arith}
 use Rattle.std.specs.Prelude.{is_none}
 use Rattle.std.specs.Option.{option_map_or}
 use Rattle.std.specs.FinMap as map
@@ -9,7 +10,8 @@ use Rattle.squares.specs.ShogiBoard.{ShogiBoard}
 use Rattle.squares.specs.ShogiGeometry.{OnShogiBoard, file_of, rank_of, shogi_number}
 use Rattle.squares.specs.In.{In, In-right, list_any-found, list_any-finds}
 use Rattle.shogi_moves.specs.declared.heading.Heading.{Heading}
-use Rattle.shogi_moves.specs.declared.heading.Heading.TheVariants.{Forward, ForwardLeft, ForwardRight, Left, Right, Back, BackLeft, BackRight, JumpLeft, JumpRight}
+use Rattle.shogi_moves.specs.declared.heading.Heading.TheVariants.{Forward, ForwardLeft, ForwardRight, Left, Right}
+use Rattle.shogi_moves.specs.declared.heading.Heading.TheVariants.{Back, BackLeft, BackRight, JumpLeft, JumpRight}
 use Rattle.shogi_moves.specs.Reach.{next_file, next_rank, square_at, step, line, range, AllClear, Reach}
 use Rattle.shogi_moves.specs.Search.{all_headings, comes_to, piece_reaches}
 use Rattle.shogi_moves.proofs.HeadingLemmas.{is_on, is_on-on}
@@ -41,13 +43,16 @@ is_none-none (Some a) e = cc
 Comes-one : (board : ShogiBoard) (y n : ℕ) (ns : List ℕ) → n ≡ y → Comes board y (n ∷ ns)
 Comes-one board y n ns e = record { before = []; after = ns; along = ap (λ m. m ∷ ns) e; clear = tt }
 
-Comes-more : (board : ShogiBoard) (y n : ℕ) (ns : List ℕ) → map.get board n ≡ None → Comes board y ns → Comes board y (n ∷ ns)
-Comes-more board y n ns none c = record { before = n ∷ c.before; after = c.after; along = ap (λ ms. n ∷ ms) c.along; clear = (none, c.clear) }
+Comes-more : (board : ShogiBoard) (y n : ℕ) (ns : List ℕ) → map.get board n ≡ None → Comes board y ns
+    → Comes board y (n ∷ ns)
+Comes-more board y n ns none c =
+    record { before = n ∷ c.before; after = c.after; along = ap (λ ms. n ∷ ms) c.along; clear = (none, c.clear) }
 
 comes_to-sound : (board : ShogiBoard) (y : ℕ) (ns : List ℕ) → comes_to board y ns ≡ true → Comes board y ns
 comes_to-sound board y [] e = cc
 comes_to-sound board y (n ∷ ns) e =
-    elim (nat_eq n y) as (λ c. nat_eq n y ≡ c → (c || (is_none (map.get board n) && comes_to board y ns)) ≡ true → Comes board y (n ∷ ns)) [
+    elim (nat_eq n y) as (λ c. nat_eq n y ≡ c → (c || (is_none (map.get board n) && comes_to board y ns)) ≡ true
+    → Comes board y (n ∷ ns)) [
       | true ↦ λ here _. Comes-one board y n ns (nat_eq-same n y here)
       | false ↦ λ _ e.
           let w = and_true (is_none (map.get board n)) (comes_to board y ns) e in
@@ -58,8 +63,10 @@ or_true : (a : Bool) → (a || true) ≡ true
 or_true true = refl
 or_true false = refl
 
-comes_to-split : (board : ShogiBoard) (y : ℕ) (before after : List ℕ) → AllClear board before → comes_to board y (before ++ y ∷ after) ≡ true
-comes_to-split board y [] after clear = ap (λ c. c || (is_none (map.get board y) && comes_to board y after)) (same-nat_eq y)
+comes_to-split : (board : ShogiBoard) (y : ℕ) (before after : List ℕ) → AllClear board before
+    → comes_to board y (before ++ y ∷ after) ≡ true
+comes_to-split board y [] after clear = ap (λ c. c || (is_none (map.get board y) && comes_to board y after))
+    (same-nat_eq y)
 comes_to-split board y (n ∷ before) after clear =
     (λ i. nat_eq n y || (is_none (clear.0 i) && comes_to-split board y before after clear.1 i)) ∙ or_true (nat_eq n y)
 
@@ -77,7 +84,8 @@ module _ (board : ShogiBoard) (piece : SPiece) (x y : ℕ) where
   pub piece_reaches-complete : Reach board piece x y → piece_reaches board piece x y ≡ true
   unfolding piece_reaches
   piece_reaches-complete r =
-      list_any-finds goes all_headings r.heading (In-all_headings r.heading) (ap (comes_to board y) r.along ∙ comes_to-split board y r.before r.after r.clear)
+      list_any-finds goes all_headings r.heading (In-all_headings r.heading)
+      (ap (comes_to board y) r.along ∙ comes_to-split board y r.before r.after r.clear)
 
 -- lines stay on the board, and begin on it
 number-on : (f r : ℕ) → OnShogiBoard f r → shogi_number f r < 81
@@ -93,8 +101,12 @@ square_at-on f r m e =
 step-on : (side : Side) (heading : Heading) (n m : ℕ) → step side heading n ≡ Some m → (n < 81) × (m < 81)
 unfolding step
 step-on side heading n m e =
-    elim (nat_lt n 81) as (λ c. nat_lt n 81 ≡ c → cond c (square_at (next_file heading (file_of n)) (next_rank side heading (rank_of n))) None ≡ Some m → (n < 81) × (m < 81)) [
-      | true ↦ λ on e. (nat_lt-less n 81 on, square_at-on (next_file heading (file_of n)) (next_rank side heading (rank_of n)) m e)
+    elim (nat_lt n 81) as (λ c. nat_lt n 81 ≡ c
+    → cond c (square_at (next_file heading (file_of n)) (next_rank side heading (rank_of n))) None ≡ Some m
+    → (n < 81) × (m < 81)) [
+      | true ↦
+          λ on e.
+          (nat_lt-less n 81 on, square_at-on (next_file heading (file_of n)) (next_rank side heading (rank_of n)) m e)
       | false ↦ λ _ e. cc
     ] refl e
 
@@ -102,7 +114,8 @@ line-on : (k : ℕ) (side : Side) (heading : Heading) (n y : ℕ) → In y (line
 unfolding line
 line-on zero side heading n y h = absurd h
 line-on (suc k) side heading n y h =
-    elim (step side heading n) as (λ o. step side heading n ≡ o → In y (option_map_or (λ m. m ∷ line k side heading m) o []) → (n < 81) × (y < 81)) [
+    elim (step side heading n) as (λ o. step side heading n ≡ o
+    → In y (option_map_or (λ m. m ∷ line k side heading m) o []) → (n < 81) × (y < 81)) [
       | None ↦ λ _ h. absurd h
       | Some m ↦ λ e h.
           let w = step-on side heading n m e in
@@ -111,4 +124,5 @@ line-on (suc k) side heading n y h =
 
 pub Reach-on : (board : ShogiBoard) (piece : SPiece) (x y : ℕ) → Reach board piece x y → (x < 81) × (y < 81)
 Reach-on board piece x y r =
-    line-on (range piece.role r.heading) piece.side r.heading x y (subst (λ ms. In y ms) (sym r.along) (In-right y r.before (y ∷ r.after) (inl refl)))
+    line-on (range piece.role r.heading) piece.side r.heading x y
+    (subst (λ ms. In y ms) (sym r.along) (In-right y r.before (y ∷ r.after) (inl refl)))

@@ -1,5 +1,6 @@
 -- The tests of the rules, computed.
-use Rattle.std.specs.Prelude.{ℕ, Bool, true, false, not, ◌&&◌, ◌||◌, ◌==◌, nat_lt, is_none, Option, Some, None, Result, Ok, Err, List, [], ◌∷◌, if◌then◌else◌}
+use Rattle.std.specs.Prelude.{ℕ, Bool, true, false, not, ◌&&◌, ◌||◌, ◌==◌, nat_lt, is_none, Option, Some, None, Result}
+use Rattle.std.specs.Prelude.{Ok, Err, List, [], ◌∷◌, if◌then◌else◌}
 use Rattle.std.specs.Option.{option_map_or}
 use Rattle.std.specs.List.{list_any}
 use Rattle.std.specs.FinMap as map
@@ -18,12 +19,15 @@ use Rattle.squares.specs.ShogiGeometry.{file_of}
 use Rattle.shogi_moves.specs.declared.checking.Illegal.{Illegal}
 use Rattle.shogi_moves.specs.declared.checking.Illegal.TheVariants as illegal
 use Rattle.shogi_moves.specs.Search.{all_squares, piece_reaches, king_attacked}
-use Rattle.shogi_moves.specs.Rules.{may_promote, is_stuck, may_land, held, dropped_role, target, board_after, play, rules_in_order}
+use Rattle.shogi_moves.specs.Rules.{may_promote, is_stuck, may_land, held, dropped_role, target, board_after, play}
+use Rattle.shogi_moves.specs.Rules.{rules_in_order}
 
 -- whether the piece on `from` goes to `to`
 unfoldable pub goes : ShogiPosition → ℕ → ℕ → Bool → Bool
 goes p from to promote =
-    option_map_or (λ piece. same_side piece.side p.turn && may_land p.turn (map.get p.board to) && (not promote || may_promote piece from to) && piece_reaches p.board piece from to) (map.get p.board from) false
+    option_map_or
+    (λ piece. same_side piece.side p.turn && may_land p.turn (map.get p.board to) &&
+    (not promote || may_promote piece from to) && piece_reaches p.board piece from to) (map.get p.board from) false
 
 -- whether the square is on the board, and empty
 unfoldable pub is_free : ShogiBoard → ℕ → Bool
@@ -72,7 +76,8 @@ unfoldable pub drops_second_pawn : ShogiPosition → SMove → Bool
 drops_second_pawn p m = drops_pawn m && pawn_on_file p.board p.turn (target m)
 
 unfoldable pub is_pseudo : ShogiPosition → SMove → Bool
-is_pseudo p m = is_movement p m && not (lacks p m) && not (stays p m) && not (drops_dead p m) && not (drops_second_pawn p m)
+is_pseudo p m = is_movement p m && not (lacks p m) && not (stays p m) && not (drops_dead p m) && not
+    (drops_second_pawn p m)
 
 -- a piece from the hand
 abbrev pub is_drop : SMove → Bool
@@ -87,7 +92,8 @@ unfoldable pub escapes : ShogiPosition → SMove → Bool
 escapes p m = is_pseudo p m && not (leaves_king p m)
 
 abbrev pub all_kinds : List HandKind
-all_kinds = in_hand.Rook ∷ in_hand.Bishop ∷ in_hand.Gold ∷ in_hand.Silver ∷ in_hand.Knight ∷ in_hand.Lance ∷ in_hand.Pawn ∷ []
+all_kinds = in_hand.Rook ∷ in_hand.Bishop ∷ in_hand.Gold ∷ in_hand.Silver ∷ in_hand.Knight ∷ in_hand.Lance
+    ∷ in_hand.Pawn ∷ []
 
 -- whether some step or drop passes the test
 abbrev pub some_step_between : (SMove → Bool) → ℕ → ℕ → Bool

@@ -7,7 +7,8 @@ use Rattle.squares.specs.declared.shogi.piece.SPiece.{SPiece}
 use Rattle.squares.specs.Sides.{same_side}
 use Rattle.squares.specs.ShogiBoard.{ShogiBoard}
 use Rattle.shogi_moves.specs.declared.heading.Heading.{Heading}
-use Rattle.shogi_moves.specs.declared.heading.Heading.TheVariants.{Forward, ForwardLeft, ForwardRight, Left, Right, Back, BackLeft, BackRight, JumpLeft, JumpRight}
+use Rattle.shogi_moves.specs.declared.heading.Heading.TheVariants.{Forward, ForwardLeft, ForwardRight, Left, Right}
+use Rattle.shogi_moves.specs.declared.heading.Heading.TheVariants.{Back, BackLeft, BackRight, JumpLeft, JumpRight}
 use Rattle.shogi_moves.specs.Reach.{line, range}
 use Rattle.shogi_moves.specs.Search.{all_headings}
 
@@ -17,7 +18,8 @@ farthest JumpLeft = 1
 farthest JumpRight = 1
 farthest _ = 8
 
--- the heading of an enemy that comes from where a heading leads: forward is forward for both, and left for one is right for the other
+-- the heading of an enemy that comes from where a heading leads: forward is forward for both, and left for one is right
+-- for the other
 abbrev pub facing : Heading → Heading
 facing Forward = Forward
 facing ForwardLeft = ForwardRight
@@ -33,12 +35,14 @@ facing JumpRight = JumpLeft
 -- whether the piece there, so many squares behind the first, is an enemy that comes so far, or else the rest is so
 abbrev pub faced_by : Side → Heading → ℕ → Bool → Option SPiece → Bool
 faced_by side heading distance rest None = rest
-faced_by side heading distance rest (Some piece) = not (same_side piece.side side) && nat_lt distance (range piece.role (facing heading))
+faced_by side heading distance rest (Some piece) =
+    not (same_side piece.side side) && nat_lt distance (range piece.role (facing heading))
 
 -- whether the first piece on the squares is an enemy that comes so far
 abbrev pub faced : ShogiBoard → Side → Heading → ℕ → List ℕ → Bool
 faced board side heading distance [] = false
-faced board side heading distance (n ∷ ns) = faced_by side heading distance (faced board side heading (distance + 1) ns) (map.get board n)
+faced board side heading distance (n ∷ ns) =
+    faced_by side heading distance (faced board side heading (distance + 1) ns) (map.get board n)
 
 unfoldable pub faced_along : ShogiBoard → Side → ℕ → Heading → Bool
 faced_along board side square heading = faced board side heading 0 (line (farthest heading) side heading square)

@@ -6,7 +6,8 @@ use Rattle.squares.specs.declared.sides.Side.TheVariants.{First, Second}
 use Rattle.squares.specs.Sides.{other}
 use Rattle.squares.specs.ShogiGeometry.{file_of, rank_of}
 use Rattle.shogi_moves.specs.declared.heading.Heading.{Heading}
-use Rattle.shogi_moves.specs.declared.heading.Heading.TheVariants.{Forward, ForwardLeft, ForwardRight, Left, Right, Back, BackLeft, BackRight, JumpLeft, JumpRight}
+use Rattle.shogi_moves.specs.declared.heading.Heading.TheVariants.{Forward, ForwardLeft, ForwardRight, Left, Right}
+use Rattle.shogi_moves.specs.declared.heading.Heading.TheVariants.{Back, BackLeft, BackRight, JumpLeft, JumpRight}
 use Rattle.squares.specs.declared.shogi.moves.SMove.{SMove}
 use Rattle.squares.specs.ShogiSets.{ShogiPosition}
 use Rattle.shogi_moves.specs.declared.checking.Illegal.{Illegal}
@@ -14,9 +15,11 @@ use Rattle.shogi_moves.specs.Reach.{line}
 use Rattle.shogi_moves.specs.Rules.{Legal, HasMove, FirstBroken, play}
 use Rattle.shogi_moves.specs.Computed.{check_of, has_move}
 
--- The computed answer of a check is the one by the rules: it passes the legal moves, and names the first rule that a move breaks.
+-- The computed answer of a check is the one by the rules: it passes the legal moves, and names the first rule that a
+-- move breaks.
 abbrev pub CheckIs : Type 0
-CheckIs = (p : ShogiPosition) (m : SMove) → (IsOk (check_of p m) ↔ Legal p m) × ((rule : Illegal) → (check_of p m ≡ Err rule) ↔ FirstBroken p m rule)
+CheckIs = (p : ShogiPosition) (m : SMove) → (IsOk (check_of p m) ↔ Legal p m)
+    × ((rule : Illegal) → (check_of p m ≡ Err rule) ↔ FirstBroken p m rule)
 
 -- The computed answer whether there is a move is the one by the rules.
 abbrev pub HasMoveIs : Type 0
@@ -59,11 +62,14 @@ RankMoved side JumpRight k from to = IsAhead side (2 * k) from to
 
 -- m stands k times on from n, for a piece of the side
 abbrev pub IsMoved : Side → Heading → ℕ → ℕ → ℕ → Type 0
-IsMoved side heading k n m = FileMoved heading k (file_of n) (file_of m) × RankMoved side heading k (rank_of n) (rank_of m)
+IsMoved side heading k n m = FileMoved heading k (file_of n) (file_of m)
+    × RankMoved side heading k (rank_of n) (rank_of m)
 
--- The line of at most so many squares from n has m at place k, counted from 0, exactly where m is the square of the board
+-- The line of at most so many squares from n has m at place k, counted from 0, exactly where m is the square of the
+-- board
 -- that stands k + 1 times on from n. So it ends where files or ranks leave the board.
 abbrev pub LinesFollowCoordinates : Type 0
 LinesFollowCoordinates =
     (distance : ℕ) (side : Side) (heading : Heading) (n k m : ℕ) → n < 81 →
-    ((k < length (line distance side heading n)) × (slice_index (line distance side heading n) k ≡ m)) ↔ ((k < distance) × (m < 81) × IsMoved side heading (k + 1) n m)
+    ((k < length (line distance side heading n)) × (slice_index (line distance side heading n) k ≡ m))
+    ↔ ((k < distance) × (m < 81) × IsMoved side heading (k + 1) n m)

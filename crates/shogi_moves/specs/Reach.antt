@@ -1,5 +1,6 @@
 -- Which squares the pieces of shogi reach, and which squares are attacked.
-use Rattle.std.specs.Prelude.{◌≡◌, ℕ, ◌+◌, ◌-◌, nat_lt, nat_le, ◌&&◌, Option, Some, None, List, [], ◌∷◌, ◌++◌, if◌then◌else◌}
+use Rattle.std.specs.Prelude.{◌≡◌, ℕ, ◌+◌, ◌-◌, nat_lt, nat_le, ◌&&◌, Option, Some, None, List, [], ◌∷◌, ◌++◌}
+use Rattle.std.specs.Prelude.{if◌then◌else◌}
 use Rattle.std.specs.Option.{option_map_or}
 use Rattle.std.specs.FinMap as map
 use Rattle.std.proofs.Common.{zero, suc}
@@ -12,7 +13,8 @@ use Rattle.squares.specs.Sides.{other}
 use Rattle.squares.specs.ShogiBoard.{ShogiBoard}
 use Rattle.squares.specs.ShogiGeometry.{file_of, rank_of, shogi_number}
 use Rattle.shogi_moves.specs.declared.heading.Heading.{Heading}
-use Rattle.shogi_moves.specs.declared.heading.Heading.TheVariants.{Forward, ForwardLeft, ForwardRight, Left, Right, Back, BackLeft, BackRight, JumpLeft, JumpRight}
+use Rattle.shogi_moves.specs.declared.heading.Heading.TheVariants.{Forward, ForwardLeft, ForwardRight, Left, Right}
+use Rattle.shogi_moves.specs.declared.heading.Heading.TheVariants.{Back, BackLeft, BackRight, JumpLeft, JumpRight}
 
 -- Files run from 1 at the right to 9 at the left, as First sees the board.
 abbrev pub next_file : Heading → ℕ → ℕ
@@ -46,11 +48,13 @@ next_rank side JumpRight rank = ranks_forward side 2 rank
 
 -- the square of a file and a rank, if they are on the board
 abbrev pub square_at : ℕ → ℕ → Option ℕ
-square_at file rank = if (nat_le 1 file && nat_le file 9) && (nat_le 1 rank && nat_le rank 9) then Some (shogi_number file rank) else None
+square_at file rank = if (nat_le 1 file && nat_le file 9) && (nat_le 1 rank && nat_le rank 9) then Some
+    (shogi_number file rank) else None
 
 -- the next square for a piece of that side, if there is one; from a number that is no square there is none
 unfoldable pub step : Side → Heading → ℕ → Option ℕ
-step side heading n = if nat_lt n 81 then square_at (next_file heading (file_of n)) (next_rank side heading (rank_of n)) else None
+step side heading n = if nat_lt n 81 then square_at (next_file heading (file_of n))
+    (next_rank side heading (rank_of n)) else None
 
 -- at most k squares from n on, the nearest first, up to the board's edge
 unfoldable pub line : ℕ → Side → Heading → ℕ → List ℕ

@@ -1,5 +1,6 @@
 -- The moves of shogi: which are legal, and the position that a move leaves.
-use Rattle.std.specs.Prelude.{◌≡◌, ◌<◌, ℕ, ◌+◌, ◌-◌, Bool, true, false, not, ◌&&◌, ◌||◌, nat_le, Option, Some, None, List, [], ◌∷◌, ◌++◌, option_and_then, if◌then◌else◌}
+use Rattle.std.specs.Prelude.{◌≡◌, ◌<◌, ℕ, ◌+◌, ◌-◌, Bool, true, false, not, ◌&&◌, ◌||◌, nat_le, Option, Some, None}
+use Rattle.std.specs.Prelude.{List, [], ◌∷◌, ◌++◌, option_and_then, if◌then◌else◌}
 use Rattle.std.specs.Option.{option_map_or}
 use Rattle.std.specs.FinMap as map
 use Rattle.squares.specs.declared.sides.Side.{Side}
@@ -38,7 +39,8 @@ can_promote _ = false
 
 -- a step that begins or ends in the far three ranks may promote
 abbrev pub may_promote : SPiece → ℕ → ℕ → Bool
-may_promote piece from to = can_promote piece.role && (nat_le (far_rank piece.side from) 3 || nat_le (far_rank piece.side to) 3)
+may_promote piece from to = can_promote piece.role &&
+    (nat_le (far_rank piece.side from) 3 || nat_le (far_rank piece.side to) 3)
 
 -- on how many of the last ranks the piece could never move again
 abbrev pub last_ranks : Role → ℕ
@@ -88,7 +90,8 @@ Lacks p (Drop kind to) = held p.hands p.turn kind ≡ 0
 
 -- the piece that stands on the square could never move again on the other
 abbrev pub StuckAfter : ShogiPosition → ℕ → ℕ → Type 0
-StuckAfter p from to = (piece : SPiece) × (map.get p.board from ≡ Some piece) × (is_stuck piece.side piece.role to ≡ true)
+StuckAfter p from to = (piece : SPiece) × (map.get p.board from ≡ Some piece)
+    × (is_stuck piece.side piece.role to ≡ true)
 
 -- a step that does not promote, to where the piece could never move again
 abbrev pub Stays : ShogiPosition → SMove → Type 0
@@ -127,10 +130,16 @@ DropsSecondPawn p m = DropsPawn m × PawnOnFile p.board p.turn (target m)
 
 -- what the moved piece is after the step
 abbrev pub arrived : SPiece → Bool → SPiece
-arrived piece promote = record { side = piece.side; role = if promote then option_map_or (λ r. r) (promotes_to (kind_of piece.role)) piece.role else piece.role }
+arrived piece promote =
+    record {
+      side = piece.side;
+      role = if promote then option_map_or (λ r. r) (promotes_to (kind_of piece.role))
+          piece.role else piece.role;
+    }
 
 abbrev pub board_after : ShogiPosition → SMove → ShogiBoard
-board_after p (Step from to promote) = option_map_or (λ piece. map.insert (map.remove p.board from) to (arrived piece promote)) (map.get p.board from) p.board
+board_after p (Step from to promote) = option_map_or
+    (λ piece. map.insert (map.remove p.board from) to (arrived piece promote)) (map.get p.board from) p.board
 board_after p (Drop kind to) = map.insert p.board to (record { side = p.turn; role = dropped_role kind })
 
 -- the kind of a taken piece, in the hand: it goes there unpromoted
@@ -138,10 +147,12 @@ abbrev pub taken_kind : Option SPiece → Option HandKind
 taken_kind cell = option_and_then (λ piece. hand_kind (kind_of piece.role)) cell
 
 abbrev pub hands_after : ShogiPosition → SMove → Hands
-hands_after p (Step from to promote) = option_map_or (λ kind. with_held p.hands p.turn kind (held p.hands p.turn kind + 1)) (taken_kind (map.get p.board to)) p.hands
+hands_after p (Step from to promote) = option_map_or
+    (λ kind. with_held p.hands p.turn kind (held p.hands p.turn kind + 1)) (taken_kind (map.get p.board to)) p.hands
 hands_after p (Drop kind to) = with_held p.hands p.turn kind (held p.hands p.turn kind - 1)
 
--- The position after a move: the piece stands on its square, promoted or not; what it took is in the hand, unpromoted, and
+-- The position after a move: the piece stands on its square, promoted or not; what it took is in the hand, unpromoted,
+-- and
 -- what was dropped is out of it; the turn passes.
 abbrev pub play : ShogiPosition → SMove → ShogiPosition
 play p m = record { board = board_after p m; hands = hands_after p m; turn = other p.turn }
@@ -187,7 +198,8 @@ Breaks p m illegal.DropMate = MatesByPawn p m
 
 -- the rules in the order in which a refusal names them
 abbrev pub rules_in_order : List Illegal
-rules_in_order = illegal.NoSuchMove ∷ illegal.NotInHand ∷ illegal.MustPromote ∷ illegal.DeadDrop ∷ illegal.TwoPawns ∷ illegal.KingAttacked ∷ illegal.DropMate ∷ []
+rules_in_order = illegal.NoSuchMove ∷ illegal.NotInHand ∷ illegal.MustPromote ∷ illegal.DeadDrop ∷ illegal.TwoPawns
+    ∷ illegal.KingAttacked ∷ illegal.DropMate ∷ []
 
 abbrev pub KeepsAll : ShogiPosition → SMove → List Illegal → Type 0
 KeepsAll p m [] = Unit {0}

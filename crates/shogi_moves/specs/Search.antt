@@ -9,7 +9,8 @@ use Rattle.squares.specs.Sides.{other, same_side}
 use Rattle.squares.specs.ShogiBoard.{ShogiBoard}
 use Rattle.squares.specs.ShogiSets.{holds_king}
 use Rattle.shogi_moves.specs.declared.heading.Heading.{Heading}
-use Rattle.shogi_moves.specs.declared.heading.Heading.TheVariants.{Forward, ForwardLeft, ForwardRight, Left, Right, Back, BackLeft, BackRight, JumpLeft, JumpRight}
+use Rattle.shogi_moves.specs.declared.heading.Heading.TheVariants.{Forward, ForwardLeft, ForwardRight, Left, Right}
+use Rattle.shogi_moves.specs.declared.heading.Heading.TheVariants.{Back, BackLeft, BackRight, JumpLeft, JumpRight}
 use Rattle.shogi_moves.specs.Reach.{line, range}
 
 -- the squares of the board
@@ -17,7 +18,8 @@ unfoldable pub all_squares : List ℕ
 all_squares = range_with_len 0 81
 
 abbrev pub all_headings : List Heading
-all_headings = Forward ∷ ForwardLeft ∷ ForwardRight ∷ Left ∷ Right ∷ Back ∷ BackLeft ∷ BackRight ∷ JumpLeft ∷ JumpRight ∷ []
+all_headings = Forward ∷ ForwardLeft ∷ ForwardRight ∷ Left ∷ Right ∷ Back ∷ BackLeft ∷ BackRight ∷ JumpLeft ∷ JumpRight
+    ∷ []
 
 -- whether a walk along the squares comes to y before it meets a piece on an earlier one
 abbrev pub comes_to : ShogiBoard → ℕ → List ℕ → Bool
@@ -26,11 +28,13 @@ comes_to board y (n ∷ ns) = n == y || (is_none (map.get board n) && comes_to b
 
 -- whether the piece, standing on x, reaches y
 unfoldable pub piece_reaches : ShogiBoard → SPiece → ℕ → ℕ → Bool
-piece_reaches board piece x y = list_any (λ heading. comes_to board y (line (range piece.role heading) piece.side heading x)) all_headings
+piece_reaches board piece x y = list_any
+    (λ heading. comes_to board y (line (range piece.role heading) piece.side heading x)) all_headings
 
 -- whether a piece of the side on x reaches y
 unfoldable pub side_reaches : ShogiBoard → Side → ℕ → ℕ → Bool
-side_reaches board side y x = option_map_or (λ piece. same_side piece.side side && piece_reaches board piece x y) (map.get board x) false
+side_reaches board side y x = option_map_or (λ piece. same_side piece.side side && piece_reaches board piece x y)
+    (map.get board x) false
 
 unfoldable pub attacked : ShogiBoard → Side → ℕ → Bool
 attacked board side square = list_any (side_reaches board (other side) square) all_squares

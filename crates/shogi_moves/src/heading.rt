@@ -1,6 +1,7 @@
 //! The ways that pieces go, and how far.
 ghost use Rattle.std.specs.Prelude.{◌≡◌, ◌≤◌};
-ghost use Rattle.shogi_moves.specs.Reach.{next_file, ranks_forward, next_rank, straight, diagonal, gold, silver, knight, ahead, range, step};
+ghost use Rattle.shogi_moves.specs.Reach.{next_file, ranks_forward, next_rank, straight, diagonal, gold, silver};
+ghost use Rattle.shogi_moves.specs.Reach.{knight, ahead, range, step};
 
 use squares::{Role, Side, Ssq};
 

@@ -10,7 +10,8 @@ ghost use Rattle.shogi_moves.specs.Rules.{may_land};
 ghost use Rattle.shogi_moves.specs.Computed.{is_pseudo};
 ghost use Rattle.shogi_moves.specs.Search.{piece_reaches};
 ghost use Rattle.shogi_moves.specs.Steps.{step_passes};
-ghost use Rattle.shogi_moves.specs.Listing.{if_passes, steps_between, steps_from, all_steps, drops_on, drops_of, all_drops, all_moves};
+ghost use Rattle.shogi_moves.specs.Listing.{if_passes, steps_between, steps_from, all_steps, drops_on, drops_of};
+ghost use Rattle.shogi_moves.specs.Listing.{all_drops, all_moves};
 
 use crate::board_squares::all_squares;
 use crate::layout::Layout;

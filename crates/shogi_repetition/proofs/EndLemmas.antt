@@ -1,5 +1,6 @@
 -- The computed end of a line is its only end.
-use Rattle.std.proofs.Common.{◌≡◌, ℕ, suc, ◌+◌, ◌-◌, ◌<◌, ◌≤◌, nat_eq, nat_lt, nat_le, Bool, true, false, not, ◌||◌, cond, List, length, drop, get_or, Option, Some, None, refl, sym, ap, ◌∙◌, subst, arith}
+use Rattle.std.proofs.Common.{◌≡◌, ℕ, suc, ◌+◌, ◌-◌, ◌<◌, ◌≤◌, nat_eq, nat_lt, nat_le, Bool, true, false, not, ◌||◌}
+use Rattle.std.proofs.Common.{cond, List, length, drop, get_or, Option, Some, None, refl, sym, ap, ◌∙◌, subst, arith}
 use Rattle.std.specs.Prelude.{IsTrue, ◌↔◌, if◌then◌else◌}
 use Rattle.std.specs.List.{count_by}
 use Rattle.std.specs.Option.{option_map_or}
@@ -18,8 +19,10 @@ use Rattle.shogi_moves.proofs.AttackLemmas.{king_attacked-is}
 use Rattle.shogi_repetition.specs.declared.ends.SEnd.{SEnd}
 use Rattle.shogi_repetition.specs.declared.ends.SEnd.TheVariants.{NoMove, PerpetualCheck, Fourfold, PlyLimit}
 use Rattle.shogi_repetition.specs.Line.{last_position, position_after, positions}
-use Rattle.shogi_repetition.specs.Ends.{StandsAfter, StandsFourTimes, FirstStands, InCheck, GaveCheckThroughout, ChecksAlone, EndsSo}
-use Rattle.shogi_repetition.specs.Computed.{is_in_check, keeps_checking, checks_throughout, stands_four_times, since_first, end_by_checks, repetition, first_end, end_of}
+use Rattle.shogi_repetition.specs.Ends.{StandsAfter, StandsFourTimes, FirstStands, InCheck, GaveCheckThroughout}
+use Rattle.shogi_repetition.specs.Ends.{ChecksAlone, EndsSo}
+use Rattle.shogi_repetition.specs.Computed.{is_in_check, keeps_checking, checks_throughout, stands_four_times}
+use Rattle.shogi_repetition.specs.Computed.{since_first, end_by_checks, repetition, first_end, end_of}
 use Rattle.shogi_repetition.proofs.LineLemmas.{length-positions, get-positions}
 use Rattle.shogi_repetition.proofs.PlaceLemmas.{next, counted, FirstPlace, first, steps, stepped}
 
@@ -43,7 +46,8 @@ apart f g less more =
     ] refl
 
 -- a move of the side, with or without check
-step-is : {P : Type 0} (side turn : Side) (b : Bool) → (IsTrue b ↔ P) → ((same_side turn (other side) || b) ≡ true) ↔ (turn ≡ side → P)
+step-is : {P : Type 0} (side turn : Side) (b : Bool) → (IsTrue b ↔ P)
+    → ((same_side turn (other side) || b) ≡ true) ↔ (turn ≡ side → P)
 step-is First First b h = (λ e _. h.0 e, λ f. h.1 (f refl))
 step-is First Second b h = (λ _ e. cc, λ _. refl)
 step-is Second First b h = (λ _ e. cc, λ _. refl)
@@ -66,7 +70,8 @@ module _ (start : ShogiPosition) (ms : List SMove) where
   stands k h e = sym (get-positions start ms k last h) ∙ same_shogi_position-same (get_or all k last) last e
 
   passes : (k : ℕ) → k ≤ length ms → StandsAfter start ms k → Passes k
-  passes k h e = ap (λ p. same_shogi_position p last) (get-positions start ms k last h ∙ e) ∙ same_shogi_position-itself last
+  passes k h e = ap (λ p. same_shogi_position p last) (get-positions start ms k last h ∙ e)
+      ∙ same_shogi_position-itself last
 
   stands-last : StandsAfter start ms (length ms)
   stands-last = ap (last_position start) (take_all (length ms) ms (omega arith))
@@ -115,9 +120,12 @@ module _ (start : ShogiPosition) (ms : List SMove) where
       let at_c : third ≤ length ms = omega (arith, cn) in
       let at_n : length ms ≤ length ms = omega arith in
       let a = counted is_last last all 0 first (omega arith) (within first at_a) (passes first at_a s.at_first) in
-      let b = counted is_last last all (suc first) second (omega (arith, ab)) (within second at_b) (passes second at_b s.at_second) in
-      let c = counted is_last last all (suc second) third (omega (arith, bc)) (within third at_c) (passes third at_c s.at_third) in
-      let n = counted is_last last all (suc third) (length ms) (omega (arith, cn)) (within (length ms) at_n) (passes (length ms) at_n stands-last) in
+      let b = counted is_last last all (suc first) second (omega (arith, ab)) (within second at_b)
+      (passes second at_b s.at_second) in
+      let c = counted is_last last all (suc second) third (omega (arith, bc)) (within third at_c)
+      (passes third at_c s.at_third) in
+      let n = counted is_last last all (suc third) (length ms) (omega (arith, cn)) (within (length ms) at_n)
+      (passes (length ms) at_n stands-last) in
       omega (arith, a, b, c, n)
 
   four-is : IsTrue (stands_four_times last all) ↔ StandsFourTimes start ms
@@ -125,7 +133,8 @@ module _ (start : ShogiPosition) (ms : List SMove) where
   four-is = (λ e. found-four (four (count_by is_last all) e), λ s. at_least_four (count_by is_last all) (four-found s))
 
   pub place : FirstPlace is_last last all (length ms)
-  place = let at_n : length ms ≤ length ms = omega arith in first is_last last all (length ms) (within (length ms) at_n) (passes (length ms) at_n stands-last)
+  place = let at_n : length ms ≤ length ms = omega arith in
+      first is_last last all (length ms) (within (length ms) at_n) (passes (length ms) at_n stands-last)
 
   pub first-stands : FirstStands start ms place.place
   first-stands =
@@ -139,7 +148,8 @@ module _ (start : ShogiPosition) (ms : List SMove) where
   pub since_first-is : since_first last all ≡ drop place.place all
   unfolding since_first
   since_first-is =
-      let below_all : nat_lt place.place (length all) ≡ true = less place.place (length all) (within place.place place.no_later) in
+      let below_all : nat_lt place.place (length all) ≡ true =
+      less place.place (length all) (within place.place place.no_later) in
       ap (λ n. option_map_or (λ f. drop f all) (cond (nat_lt n (length all)) (Some n) None) all) place.is
       ∙ ap (λ b. option_map_or (λ f. drop f all) (cond b (Some place.place) None) all) below_all
 
@@ -153,13 +163,17 @@ module _ (start : ShogiPosition) (ms : List SMove) where
     abbrev Kept : ℕ → Type 0
     Kept k = keeps_checking side (get_or rest k last) (get_or rest (suc k) last) ≡ true
 
-    one : (k : ℕ) → f + suc k ≤ length ms → Kept k ↔ ((position_after start ms (f + k)).turn ≡ side → InCheck (position_after start ms (f + suc k)))
+    one : (k : ℕ) → f + suc k ≤ length ms → Kept k
+        ↔ ((position_after start ms (f + k)).turn ≡ side → InCheck (position_after start ms (f + suc k)))
     one k h =
-        let before : get_or rest k last ≡ position_after start ms (f + k) = get_or-drop f all k last ∙ get-positions start ms (f + k) last (omega (arith, h)) in
-        let after : get_or rest (suc k) last ≡ position_after start ms (f + suc k) = get_or-drop f all (suc k) last ∙ get-positions start ms (f + suc k) last h in
+        let before : get_or rest k last ≡ position_after start ms (f + k) = get_or-drop f all k last
+        ∙ get-positions start ms (f + k) last (omega (arith, h)) in
+        let after : get_or rest (suc k) last ≡ position_after start ms (f + suc k) = get_or-drop f all (suc k) last
+        ∙ get-positions start ms (f + suc k) last h in
         let p = position_after start ms (f + k) in
         let q = position_after start ms (f + suc k) in
-        let same : keeps_checking side (get_or rest k last) (get_or rest (suc k) last) ≡ keeps_checking side p q = λ i. keeps_checking side (before i) (after i) in
+        let same : keeps_checking side (get_or rest k last) (get_or rest (suc k) last) ≡ keeps_checking side p q = λ i.
+        keeps_checking side (before i) (after i) in
         let step = step-is side p.turn (is_in_check q) (checks-is q) in
         (λ e. step.0 (sym same ∙ e), λ g. same ∙ step.1 g)
 
@@ -175,12 +189,15 @@ module _ (start : ShogiPosition) (ms : List SMove) where
           let kept = steps (keeps_checking side) last rest e j (omega (arith, from, below, room)) in
           let at : f + j ≡ k = omega (arith, from) in
           let next_at : f + suc j ≡ k + 1 = omega (arith, from) in
-          subst (λ n. InCheck (position_after start ms n)) next_at ((one j (omega (arith, from, below))).0 kept (ap (λ n. (position_after start ms n).turn) at ∙ own)),
+          subst (λ n. InCheck (position_after start ms n)) next_at
+          ((one j (omega (arith, from, below))).0 kept (ap (λ n. (position_after start ms n).turn) at ∙ own)),
       λ gave. stepped (keeps_checking side) last rest (λ k h.
           let room = length-rest in
           let bound : f + suc k ≤ length ms = omega (arith, h, room) in
           let next_at : f + k + 1 ≡ f + suc k = omega arith in
-          (one k bound).1 (λ own. subst (λ n. InCheck (position_after start ms n)) next_at (gave (f + k) (omega arith) (omega (arith, bound)) own))),
+          (one k bound).1
+          (λ own. subst (λ n. InCheck (position_after start ms n)) next_at
+          (gave (f + k) (omega arith) (omega (arith, bound)) own))),
     )
 
   -- the last position stood first at one place
@@ -198,8 +215,13 @@ module _ (start : ShogiPosition) (ms : List SMove) where
   one-alone : (a b : Side) → ChecksAlone start ms a → ChecksAlone start ms b → a ≡ b
   one-alone First First x y = refl
   one-alone Second Second x y = refl
-  one-alone First Second x y = absurd (x.alone (subst (λ f. GaveCheckThroughout start ms Second f) (one-first y.since x.since y.first x.first) y.checks))
-  one-alone Second First x y = absurd (x.alone (subst (λ f. GaveCheckThroughout start ms First f) (one-first y.since x.since y.first x.first) y.checks))
+  one-alone First Second x y =
+      absurd
+      (x.alone
+      (subst (λ f. GaveCheckThroughout start ms Second f) (one-first y.since x.since y.first x.first) y.checks))
+  one-alone Second First x y =
+      absurd
+      (x.alone (subst (λ f. GaveCheckThroughout start ms First f) (one-first y.since x.since y.first x.first) y.checks))
 
   abbrev Throughout : Side → Type 0
   Throughout side = GaveCheckThroughout start ms side place.place
@@ -212,9 +234,28 @@ module _ (start : ShogiPosition) (ms : List SMove) where
       )
 
   -- the end by which sides gave check throughout
-  by_checks : (a b : Bool) → (IsTrue a ↔ Throughout First) → (IsTrue b ↔ Throughout Second) → HasMove last → StandsFourTimes start ms → EndsSo start ms (Some (end_by_checks a b))
-  by_checks true false first second has stands = (has, stands, record { since = place.place; first = first-stands; checks = first.0 refl; alone = λ gave. let e = second.1 gave in cc })
-  by_checks false true first second has stands = (has, stands, record { since = place.place; first = first-stands; checks = second.0 refl; alone = λ gave. let e = first.1 gave in cc })
+  by_checks : (a b : Bool) → (IsTrue a ↔ Throughout First) → (IsTrue b ↔ Throughout Second) → HasMove last
+      → StandsFourTimes start ms → EndsSo start ms (Some (end_by_checks a b))
+  by_checks true false first second has stands = (
+    has,
+    stands,
+    record {
+      since = place.place;
+      first = first-stands;
+      checks = first.0 refl;
+      alone = λ gave. let e = second.1 gave in cc;
+    },
+  )
+  by_checks false true first second has stands = (
+    has,
+    stands,
+    record {
+      since = place.place;
+      first = first-stands;
+      checks = second.0 refl;
+      alone = λ gave. let e = first.1 gave in cc;
+    },
+  )
   by_checks true true first second has stands = (
     has,
     stands,
@@ -233,24 +274,33 @@ module _ (start : ShogiPosition) (ms : List SMove) where
   )
 
   checked : (side : Side) → IsTrue (checks_throughout side (since_first last all)) ↔ Throughout side
-  checked side = subst (λ (ps : List ShogiPosition). IsTrue (checks_throughout side ps) ↔ Throughout side) (sym since_first-is) (throughout-is side place.place)
+  checked side = subst (λ (ps : List ShogiPosition). IsTrue (checks_throughout side ps) ↔ Throughout side)
+      (sym since_first-is) (throughout-is side place.place)
 
   by_repetition : HasMove last → StandsFourTimes start ms → EndsSo start ms (Some (repetition last all))
   unfolding repetition
-  by_repetition has stands = by_checks (checks_throughout First (since_first last all)) (checks_throughout Second (since_first last all)) (checked First) (checked Second) has stands
+  by_repetition has stands = by_checks (checks_throughout First (since_first last all))
+      (checks_throughout Second (since_first last all)) (checked First) (checked Second) has stands
 
-  by_tests : (can four_times at_limit : Bool) (repeated : SEnd) → (IsTrue can ↔ HasMove last) → (IsTrue four_times ↔ StandsFourTimes start ms) → (IsTrue at_limit ↔ (length ms ≡ 600)) → (HasMove last → StandsFourTimes start ms → EndsSo start ms (Some repeated)) → EndsSo start ms (if not can then Some NoMove else if four_times then Some repeated else if at_limit then Some PlyLimit else None)
+  by_tests : (can four_times at_limit : Bool) (repeated : SEnd) → (IsTrue can ↔ HasMove last)
+      → (IsTrue four_times ↔ StandsFourTimes start ms) → (IsTrue at_limit ↔ (length ms ≡ 600))
+      → (HasMove last → StandsFourTimes start ms → EndsSo start ms (Some repeated))
+      →
+      EndsSo start ms
+      (if not can then Some NoMove else if four_times then Some repeated else if at_limit then Some PlyLimit else None)
   by_tests false s q r moves fourth limit ends = λ has. let e = moves.1 has in cc
   by_tests true true q r moves fourth limit ends = ends (moves.0 refl) (fourth.0 refl)
   by_tests true false true r moves fourth limit ends = (moves.0 refl, λ s. let e = fourth.1 s in cc, limit.0 refl)
-  by_tests true false false r moves fourth limit ends = (moves.0 refl, λ s. let e = fourth.1 s in cc, λ n. let e = limit.1 n in cc)
+  by_tests true false false r moves fourth limit ends =
+      (moves.0 refl, λ s. let e = fourth.1 s in cc, λ n. let e = limit.1 n in cc)
 
   same_number : (n m : ℕ) → IsTrue (nat_eq n m) ↔ (n ≡ m)
   same_number n m = (λ e. grind (arith, common_steps), λ e. grind (arith, common_steps))
 
   pub end_of-is : EndsSo start ms (end_of start ms)
   unfolding end_of first_end
-  end_of-is = by_tests (has_move last) (stands_four_times last all) (nat_eq (length ms) 600) (repetition last all) (has_move-is last) four-is (same_number (length ms) 600) by_repetition
+  end_of-is = by_tests (has_move last) (stands_four_times last all) (nat_eq (length ms) 600) (repetition last all)
+      (has_move-is last) four-is (same_number (length ms) 600) by_repetition
 
   pub one-end : (one two : Option SEnd) → EndsSo start ms one → EndsSo start ms two → one ≡ two
   one-end None None x y = refl
@@ -265,7 +315,8 @@ module _ (start : ShogiPosition) (ms : List SMove) where
   one-end (Some NoMove) (Some PlyLimit) x y = absurd (x y.0)
   one-end (Some (PerpetualCheck a)) None x y = absurd (y.1 x.1)
   one-end (Some (PerpetualCheck a)) (Some NoMove) x y = absurd (y x.0)
-  one-end (Some (PerpetualCheck a)) (Some (PerpetualCheck b)) x y = ap (λ side. Some (PerpetualCheck side)) (one-alone a b x.2 y.2)
+  one-end (Some (PerpetualCheck a)) (Some (PerpetualCheck b)) x y =
+      ap (λ side. Some (PerpetualCheck side)) (one-alone a b x.2 y.2)
   one-end (Some (PerpetualCheck a)) (Some Fourfold) x y = absurd (y.2 a x.2)
   one-end (Some (PerpetualCheck a)) (Some PlyLimit) x y = absurd (y.1 x.1)
   one-end (Some Fourfold) None x y = absurd (y.1 x.1)

@@ -1,5 +1,6 @@
 -- The end of a line, computed from its positions.
-use Rattle.std.specs.Prelude.{ℕ, ◌==◌, ◌||◌, nat_le, not, if◌then◌else◌, Bool, true, false, Option, Some, None, List, length, count_by, drop}
+use Rattle.std.specs.Prelude.{ℕ, ◌==◌, ◌||◌, nat_le, not, if◌then◌else◌, Bool, true, false, Option, Some, None, List}
+use Rattle.std.specs.Prelude.{length, count_by, drop}
 use Rattle.std.specs.List.{list_all, position, zip}
 use Rattle.std.specs.Option.{option_map_or}
 use Rattle.squares.specs.declared.sides.Side.{Side}
@@ -42,12 +43,14 @@ end_by_checks true true = Fourfold
 end_by_checks false false = Fourfold
 
 unfoldable pub repetition : ShogiPosition → List ShogiPosition → SEnd
-repetition last ps = end_by_checks (checks_throughout First (since_first last ps)) (checks_throughout Second (since_first last ps))
+repetition last ps = end_by_checks (checks_throughout First (since_first last ps))
+    (checks_throughout Second (since_first last ps))
 
 -- the first end that holds after so many plies, by the last position and all positions of a line
 unfoldable pub first_end : ShogiPosition → List ShogiPosition → ℕ → Option SEnd
 first_end last ps plies =
-    if not (has_move last) then Some NoMove else if stands_four_times last ps then Some (repetition last ps) else if plies == 600 then Some PlyLimit else None
+    if not (has_move last) then Some NoMove else if stands_four_times last ps then Some
+    (repetition last ps) else if plies == 600 then Some PlyLimit else None
 
 -- the end of a line, if its last ply ends it
 unfoldable pub end_of : ShogiPosition → List SMove → Option SEnd

@@ -23,9 +23,11 @@ pub record FirstAt (start : ShogiPosition) (ms : List SMove) (p : ShogiPosition)
 -- how often a position stood in a line, and when first
 abbrev pub HasStood : ShogiPosition → List SMove → ShogiPosition → Option Stood → Type 0
 HasStood start ms p None = count_by (λ q. same_shogi_position q p) (positions start ms) ≡ 0
-HasStood start ms p (Some s) = (s.times ≡ count_by (λ q. same_shogi_position q p) (positions start ms)) × FirstAt start ms p s.first
+HasStood start ms p (Some s) = (s.times ≡ count_by (λ q. same_shogi_position q p) (positions start ms))
+    × FirstAt start ms p s.first
 
--- The line is played by the rules, and the marks have its last position, its plies, its tail, and how often each position
+-- The line is played by the rules, and the marks have its last position, its plies, its tail, and how often each
+-- position
 -- stood in it, and when first.
 pub record Follows (start : ShogiPosition) (ms : List SMove) (marks : Marks) : Type 0 where
   pub played : IsPlayed start ms (length ms)
@@ -47,7 +49,8 @@ GrowsBy m old new = (start : ShogiPosition) (ms : List SMove) → Follows start 
 
 -- Where the marks are those of a line, the line with this move more has the fault.
 abbrev pub IsRefused : SMove → Marks → Fault → Type 0
-IsRefused m old fault = (start : ShogiPosition) (ms : List SMove) → Follows start ms old → HasFault start (ms ++ m ∷ []) fault
+IsRefused m old fault = (start : ShogiPosition) (ms : List SMove) → Follows start ms old
+    → HasFault start (ms ++ m ∷ []) fault
 
 -- The marks are still those of the same line.
 abbrev pub StaysSo : Marks → Marks → Type 0

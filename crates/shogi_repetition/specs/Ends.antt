@@ -41,7 +41,8 @@ InCheck p = KingAttacked p.board p.turn
 -- Each move that the side made after f plies left the enemy's king attacked.
 abbrev pub GaveCheckThroughout : ShogiPosition → List SMove → Side → ℕ → Type 0
 GaveCheckThroughout start ms side f =
-    (k : ℕ) → f ≤ k → k < length ms → (position_after start ms k).turn ≡ side → InCheck (position_after start ms (k + 1))
+    (k : ℕ) → f ≤ k → k < length ms → (position_after start ms k).turn ≡ side
+    → InCheck (position_after start ms (k + 1))
 
 -- Since the last position stood first, the side gave check throughout, and the other did not.
 pub record ChecksAlone (start : ShogiPosition) (ms : List SMove) (side : Side) : Type 0 where
@@ -50,16 +51,20 @@ pub record ChecksAlone (start : ShogiPosition) (ms : List SMove) (side : Side) :
   pub checks : GaveCheckThroughout start ms side since
   pub alone : GaveCheckThroughout start ms (other side) since → ⊥
 
--- The end of a line, if its last ply ends it: the side to move has no move; else the position stands for the fourth time, by
+-- The end of a line, if its last ply ends it: the side to move has no move; else the position stands for the fourth
+-- time, by
 -- perpetual check of one side or not; else 600 plies were played.
 abbrev pub EndsSo : ShogiPosition → List SMove → Option SEnd → Type 0
 EndsSo start ms (Some NoMove) = HasMove (last_position start ms) → ⊥
-EndsSo start ms (Some (PerpetualCheck side)) = HasMove (last_position start ms) × StandsFourTimes start ms × ChecksAlone start ms side
-EndsSo start ms (Some Fourfold) = HasMove (last_position start ms) × StandsFourTimes start ms × ((side : Side) → ChecksAlone start ms side → ⊥)
+EndsSo start ms (Some (PerpetualCheck side)) = HasMove (last_position start ms) × StandsFourTimes start ms
+    × ChecksAlone start ms side
+EndsSo start ms (Some Fourfold) = HasMove (last_position start ms) × StandsFourTimes start ms
+    × ((side : Side) → ChecksAlone start ms side → ⊥)
 EndsSo start ms (Some PlyLimit) = HasMove (last_position start ms) × (StandsFourTimes start ms → ⊥) × (length ms ≡ 600)
 EndsSo start ms None = HasMove (last_position start ms) × (StandsFourTimes start ms → ⊥) × (length ms ≢ 600)
 
--- The score of an end, by the side to move after it: a side without a move loses, and so does one that checks perpetually. The
+-- The score of an end, by the side to move after it: a side without a move loses, and so does one that checks
+-- perpetually. The
 -- rest are draws.
 abbrev pub outcome_of : SEnd → Side → Score
 outcome_of NoMove turn = loses turn

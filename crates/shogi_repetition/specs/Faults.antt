@@ -18,11 +18,15 @@ pub record GoesOn (start : ShogiPosition) (ms : List SMove) (k : ℕ) : Type 0 w
 abbrev pub IsPlayed : ShogiPosition → List SMove → ℕ → Type 0
 IsPlayed start ms n = (k : ℕ) → k < n → GoesOn start ms k
 
--- Plies count from 1. A line has a fault at the first ply that is not played by the rules. It is that of a move after the
--- end, where the game ended before that ply, whatever the move is. Otherwise it is that of an illegal move, with the first rule
+-- Plies count from 1. A line has a fault at the first ply that is not played by the rules. It is that of a move after
+-- the
+-- end, where the game ended before that ply, whatever the move is. Otherwise it is that of an illegal move, with the
+-- first rule
 -- that the move breaks.
 abbrev pub HasFault : ShogiPosition → List SMove → Fault → Type 0
 HasFault start ms Memory = Unit {0}
-HasFault start ms (AfterEnd ply) = (k : ℕ) × (end : SEnd) × (ply ≡ k + 1) × (k < length ms) × IsPlayed start ms k × EndsSo start (take k ms) (Some end)
+HasFault start ms (AfterEnd ply) = (k : ℕ) × (end : SEnd) × (ply ≡ k + 1) × (k < length ms) × IsPlayed start ms k
+    × EndsSo start (take k ms) (Some end)
 HasFault start ms (Illegal ply cause) =
-    (k : ℕ) × (m : SMove) × (ply ≡ k + 1) × (slice_get ms k ≡ Some m) × IsPlayed start ms k × EndsSo start (take k ms) None × FirstBroken (position_after start ms k) m cause
+    (k : ℕ) × (m : SMove) × (ply ≡ k + 1) × (slice_get ms k ≡ Some m) × IsPlayed start ms k
+    × EndsSo start (take k ms) None × FirstBroken (position_after start ms k) m cause

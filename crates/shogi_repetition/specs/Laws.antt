@@ -12,8 +12,10 @@ EachLineHasAnEnd = (start : ShogiPosition) (ms : List SMove) → (end : Option S
 
 -- no line has two ends, nor an end where it goes on
 abbrev pub NoLineHasTwoEnds : Type 0
-NoLineHasTwoEnds = (start : ShogiPosition) (ms : List SMove) (one two : Option SEnd) → EndsSo start ms one → EndsSo start ms two → one ≡ two
+NoLineHasTwoEnds = (start : ShogiPosition) (ms : List SMove) (one two : Option SEnd) → EndsSo start ms one
+    → EndsSo start ms two → one ≡ two
 
 -- the end is the computed one
 abbrev pub EndsAreComputed : Type 0
-EndsAreComputed = (start : ShogiPosition) (ms : List SMove) (end : Option SEnd) → EndsSo start ms end ↔ (end ≡ end_of start ms)
+EndsAreComputed = (start : ShogiPosition) (ms : List SMove) (end : Option SEnd)
+    → EndsSo start ms end ↔ (end ≡ end_of start ms)

@@ -1,5 +1,6 @@
 -- Two numbers of a line, by which its last ply is judged without the plies before it.
-use Rattle.std.specs.Prelude.{◌≡◌, ℕ, ◌+◌, ◌-◌, ◌*◌, ◌==◌, ◌++◌, nat_le, not, if◌then◌else◌, Bool, Option, Some, None, List, [], ◌∷◌, length, count_by, drop, filter}
+use Rattle.std.specs.Prelude.{◌≡◌, ℕ, ◌+◌, ◌-◌, ◌*◌, ◌==◌, ◌++◌, nat_le, not, if◌then◌else◌, Bool, Option, Some, None}
+use Rattle.std.specs.Prelude.{List, [], ◌∷◌, length, count_by, drop, filter}
 use Rattle.std.specs.List.{suffix_len}
 use Rattle.squares.specs.declared.sides.Side.{Side}
 use Rattle.squares.specs.declared.sides.Side.TheVariants.{First, Second}
@@ -41,23 +42,28 @@ count_on checks gives_check = if gives_check then checks + 1 else 0
 
 -- after a move the other side has the turn
 abbrev pub tail_after : Tail → Bool → Side → Tail
-tail_after tail gives_check First = record { first_checks = tail.first_checks; second_checks = count_on tail.second_checks gives_check }
-tail_after tail gives_check Second = record { first_checks = count_on tail.first_checks gives_check; second_checks = tail.second_checks }
+tail_after tail gives_check First =
+    record { first_checks = tail.first_checks; second_checks = count_on tail.second_checks gives_check }
+tail_after tail gives_check Second =
+    record { first_checks = count_on tail.first_checks gives_check; second_checks = tail.second_checks }
 
 abbrev pub next_tail : Tail → ShogiPosition → Tail
 next_tail tail after = tail_after tail (is_in_check after) after.turn
 
--- A side made half of the moves since the position stood first. It checked throughout where so many of its moves, in a row,
+-- A side made half of the moves since the position stood first. It checked throughout where so many of its moves, in a
+-- row,
 -- gave check.
 abbrev pub repetition_by : Tail → ℕ → SEnd
 repetition_by tail plies = end_by_checks (nat_le plies (2 * tail.first_checks)) (nat_le plies (2 * tail.second_checks))
 
--- the end of a line with this tail and this last position, which stood so often, and first after that ply, after so many plies
+-- the end of a line with this tail and this last position, which stood so often, and first after that ply, after so
+-- many plies
 unfoldable pub end_by : Tail → ShogiPosition → ℕ → ℕ → ℕ → Option SEnd
 end_by tail last plies times first =
     if not (has_move last)
     then Some NoMove
-    else if nat_le 4 times then Some (repetition_by tail (plies - first)) else if plies == 600 then Some PlyLimit else None
+    else if nat_le 4 times then Some (repetition_by tail (plies - first)) else if plies == 600 then Some
+    PlyLimit else None
 
 -- ---- laws
 
@@ -66,7 +72,8 @@ abbrev pub TailsBegin : Type 0
 TailsBegin = (start : ShogiPosition) → tail_of start [] ≡ no_checks
 
 abbrev pub TailsGoOn : Type 0
-TailsGoOn = (start : ShogiPosition) (ms : List SMove) (m : SMove) → tail_of start (ms ++ m ∷ []) ≡ next_tail (tail_of start ms) (play (last_position start ms) m)
+TailsGoOn = (start : ShogiPosition) (ms : List SMove) (m : SMove)
+    → tail_of start (ms ++ m ∷ []) ≡ next_tail (tail_of start ms) (play (last_position start ms) m)
 
 -- how often the last position of a line stood in it
 abbrev pub times_stood : ShogiPosition → List SMove → ℕ

@@ -8,7 +8,8 @@ use crate::ends::SEnd;
 use crate::repeating::{can_move, end_by_checks, is_in_check};
 use squares::{SPos, Side};
 
-/// What tells the end of a line's last ply, beside the last position, the number of plies, and how often and after which ply
+/// What tells the end of a line's last ply, beside the last position, the number of plies, and how often and after
+/// which ply
 /// first that position stood.
 #[derive(Clone, Copy, Debug, PartialEq, Eq)]
 pub struct Tail {
@@ -74,7 +75,8 @@ impl Tail {
         )
     }
 
-    /// The end that the rules give the line with this tail, whose last position stood so often after so many plies, and first
+    /// The end that the rules give the line with this tail, whose last position stood so often after so many plies, and
+    /// first
     /// after the ply `first`.
     #[tactic(auto, unfolding(crate::specs::Tails::end_by))]
     pub fn end(self, position: &SPos, plies: usize, times: usize, first: usize) -> Option<SEnd>

@@ -1,5 +1,6 @@
 -- Words that are shifted by the rows' numbers have the squares beside those of a set.
-use Rattle.std.proofs.Common.{◌≡◌, ℕ, zero, suc, ◌+◌, ◌-◌, ◌^◌, ◌<◌, ◌≤◌, Bool, true, false, cond, not, ◌&&◌, ◌||◌, nat_eq, nat_le, nat_lt, Option, Some, None, inl, inr, refl, sym, ap, ◌∙◌, subst, arith}
+use Rattle.std.proofs.Common.{◌≡◌, ℕ, zero, suc, ◌+◌, ◌-◌, ◌^◌, ◌<◌, ◌≤◌, Bool, true, false, cond, not, ◌&&◌, ◌||◌}
+use Rattle.std.proofs.Common.{nat_eq, nat_le, nat_lt, Option, Some, None, inl, inr, refl, sym, ap, ◌∙◌, subst, arith}
 use Rattle.std.specs.List.{list_all, range_with_len}
 use Rattle.std.specs.Option.{option_map_or}
 use Rattle.std.specs.FinSet as set
@@ -38,7 +39,9 @@ second_alone true false = refl
 second_alone false true = refl
 second_alone false false = refl
 
-joined : (s : Numbers) (next : Option ℕ) (e o : Bool) (a b : ℕ) (x y : Bool) → says next e o a b ≡ true → (e ≡ true → x ≡ set.contains s a) → (o ≡ true → y ≡ set.contains s b) → (x && e || y && o) ≡ option_map_or (set.contains s) next false
+joined : (s : Numbers) (next : Option ℕ) (e o : Bool) (a b : ℕ) (x y : Bool) → says next e o a b ≡ true
+    → (e ≡ true → x ≡ set.contains s a) → (o ≡ true → y ≡ set.contains s b)
+    → (x && e || y && o) ≡ option_map_or (set.contains s) next false
 joined s None true o a b x y h f g = cc
 joined s None false true a b x y h f g = cc
 joined s None false false a b x y h f g = neither x y
@@ -60,7 +63,8 @@ comes_after k n true h e = grind (arith, nat_tests)
 comes_after k n false h e = cc
 
 abbrev up : Direction → ℕ → ℕ → ℕ → ℕ → ℕ → Bool
-up d v k w l n = says (step d (n + 1)) (has_bit v n) (has_bit w n) (n + 1 - k) (n + 1 - l) && (after k (has_bit v n) n && after l (has_bit w n) n)
+up d v k w l n = says (step d (n + 1)) (has_bit v n) (has_bit w n) (n + 1 - k) (n + 1 - l) &&
+    (after k (has_bit v n) n && after l (has_bit w n) n)
 
 abbrev down : Direction → ℕ → ℕ → ℕ → ℕ → ℕ → Bool
 down d v k w l n = says (step d (n + 1)) (has_bit v n) (has_bit w n) (n + 1 + k) (n + 1 + l)
@@ -90,38 +94,63 @@ step_past : (d : Direction) (n : ℕ) → 50 ≤ n → step d (n + 1) ≡ None
 unfolding step
 step_past d n past =
     let high : nat_le (n + 1) 50 ≡ false = grind (arith, common_steps) in
-    ap (λ b. cond (nat_le 1 (n + 1) && b) (neighbor d (n + 1)) None) high ∙ no_square (nat_le 1 (n + 1)) (neighbor d (n + 1))
+    ap (λ b. cond (nat_le 1 (n + 1) && b) (neighbor d (n + 1)) None) high
+    ∙ no_square (nat_le 1 (n + 1)) (neighbor d (n + 1))
 
 step_none : (d : Direction) → step d 0 ≡ None
 unfolding step
 step_none d = refl
 
-module _ (d : Direction) (s even odd result : Numbers) (v k w l : ℕ) (small_v : v < 2 ^ 50) (small_w : w < 2 ^ 50) (none : set.contains result 0 ≡ false) (squares : (n : ℕ) → set.contains result (n + 1) ≡ (set.contains even (n + 1) && has_bit v n || set.contains odd (n + 1) && has_bit w n)) where
-  past_board : (n : ℕ) → 50 ≤ n → set.contains result (n + 1) ≡ option_map_or (set.contains s) (step d (n + 1)) false
-  past_board n past =
-      squares n ∙ (λ i. set.contains even (n + 1) && has_bit_above 1 50 v small_v n past i || set.contains odd (n + 1) && has_bit_above 1 50 w small_w n past i)
-      ∙ neither (set.contains even (n + 1)) (set.contains odd (n + 1)) ∙ sym (ap (λ o. option_map_or (set.contains s) o false) (step_past d n past))
+module _ (d : Direction) (s even odd result : Numbers) (v k w l : ℕ) (small_v : v < 2 ^ 50) (small_w : w < 2 ^ 50)
+    (none : set.contains result 0 ≡ false) (squares : (n : ℕ)
+    →
+    set.contains result (n + 1) ≡ (set.contains even (n + 1) && has_bit v n || set.contains odd (n + 1) && has_bit w n))
+  where
+    past_board : (n : ℕ) → 50 ≤ n → set.contains result (n + 1) ≡ option_map_or (set.contains s) (step d (n + 1)) false
+    past_board n past =
+        squares n
+        ∙
+        (λ i. set.contains even (n + 1) && has_bit_above 1 50 v small_v n past i || set.contains odd (n + 1) &&
+        has_bit_above 1 50 w small_w n past i)
+        ∙ neither (set.contains even (n + 1)) (set.contains odd (n + 1))
+        ∙ sym (ap (λ o. option_map_or (set.contains s) o false) (step_past d n past))
 
-  all_squares : ((n : ℕ) → n < 50 → set.contains result (n + 1) ≡ option_map_or (set.contains s) (step d (n + 1)) false) → (q : ℕ) → set.contains result q ≡ option_map_or (set.contains s) (step d q) false
-  all_squares inside zero = none ∙ sym (ap (λ o. option_map_or (set.contains s) o false) (step_none d))
-  all_squares inside (suc n) =
-      let is : n + 1 ≡ suc n = omega arith in
-      subst (λ q. set.contains result q ≡ option_map_or (set.contains s) (step d q) false) is (elim (cases_lt n 50) [ inl less ↦ inside n less | inr past ↦ past_board n past ])
+    all_squares : ((n : ℕ) → n < 50 → set.contains result (n + 1)
+        ≡ option_map_or (set.contains s) (step d (n + 1)) false)
+        → (q : ℕ) → set.contains result q ≡ option_map_or (set.contains s) (step d q) false
+    all_squares inside zero = none ∙ sym (ap (λ o. option_map_or (set.contains s) o false) (step_none d))
+    all_squares inside (suc n) =
+        let is : n + 1 ≡ suc n = omega arith in
+        subst (λ q. set.contains result q ≡ option_map_or (set.contains s) (step d q) false) is
+        (elim (cases_lt n 50) [ inl less ↦ inside n less | inr past ↦ past_board n past ])
 
-  pub beside_up : list_all (up d v k w l) (range_with_len 0 50) ≡ true → ((q : ℕ) → k < q → q ≤ 50 → set.contains even q ≡ set.contains s (q - k)) → ((q : ℕ) → l < q → q ≤ 50 → set.contains odd q ≡ set.contains s (q - l)) → (q : ℕ) → set.contains result q ≡ option_map_or (set.contains s) (step d q) false
-  beside_up table from_even from_odd =
-      all_squares (λ n less.
-      let right = all_found (up d v k w l) (range_with_len 0 50) n (in_range 0 50 n (omega arith) (omega arith)) table in
-      let one = and_true (says (step d (n + 1)) (has_bit v n) (has_bit w n) (n + 1 - k) (n + 1 - l)) (after k (has_bit v n) n && after l (has_bit w n) n) right in
-      let two = and_true (after k (has_bit v n) n) (after l (has_bit w n) n) one.1 in
-      squares n
-      ∙ joined s (step d (n + 1)) (has_bit v n) (has_bit w n) (n + 1 - k) (n + 1 - l) (set.contains even (n + 1)) (set.contains odd (n + 1)) one.0
-      (λ e. from_even (n + 1) (comes_after k n (has_bit v n) two.0 e) (omega arith)) (λ e. from_odd (n + 1) (comes_after l n (has_bit w n) two.1 e) (omega arith)))
+    pub beside_up : list_all (up d v k w l) (range_with_len 0 50) ≡ true
+        → ((q : ℕ) → k < q → q ≤ 50 → set.contains even q ≡ set.contains s (q - k))
+        → ((q : ℕ) → l < q → q ≤ 50 → set.contains odd q ≡ set.contains s (q - l)) → (q : ℕ)
+        → set.contains result q ≡ option_map_or (set.contains s) (step d q) false
+    beside_up table from_even from_odd =
+        all_squares (λ n less.
+        let right = all_found (up d v k w l) (range_with_len 0 50) n (in_range 0 50 n (omega arith) (omega arith)) table
+        in
+        let one = and_true (says (step d (n + 1)) (has_bit v n) (has_bit w n) (n + 1 - k) (n + 1 - l))
+        (after k (has_bit v n) n && after l (has_bit w n) n) right in
+        let two = and_true (after k (has_bit v n) n) (after l (has_bit w n) n) one.1 in
+        squares n
+        ∙ joined s (step d (n + 1)) (has_bit v n) (has_bit w n) (n + 1 - k) (n + 1 - l) (set.contains even (n + 1))
+        (set.contains odd (n + 1)) one.0
+        (λ e. from_even (n + 1) (comes_after k n (has_bit v n) two.0 e) (omega arith))
+        (λ e. from_odd (n + 1) (comes_after l n (has_bit w n) two.1 e) (omega arith)))
 
-  pub beside_down : list_all (down d v k w l) (range_with_len 0 50) ≡ true → ((q : ℕ) → 1 ≤ q → set.contains even q ≡ set.contains s (q + k)) → ((q : ℕ) → 1 ≤ q → set.contains odd q ≡ set.contains s (q + l)) → (q : ℕ) → set.contains result q ≡ option_map_or (set.contains s) (step d q) false
-  beside_down table from_even from_odd =
-      all_squares (λ n less.
-      let right = all_found (down d v k w l) (range_with_len 0 50) n (in_range 0 50 n (omega arith) (omega arith)) table in
-      squares n
-      ∙ joined s (step d (n + 1)) (has_bit v n) (has_bit w n) (n + 1 + k) (n + 1 + l) (set.contains even (n + 1)) (set.contains odd (n + 1)) right
-      (λ e. from_even (n + 1) (omega arith)) (λ e. from_odd (n + 1) (omega arith)))
+    pub beside_down : list_all (down d v k w l) (range_with_len 0 50) ≡ true
+        → ((q : ℕ) → 1 ≤ q → set.contains even q ≡ set.contains s (q + k))
+        → ((q : ℕ) → 1 ≤ q → set.contains odd q ≡ set.contains s (q + l)) → (q : ℕ)
+        → set.contains result q ≡ option_map_or (set.contains s) (step d q) false
+    beside_down table from_even from_odd =
+        all_squares (λ n less.
+        let right = all_found (down d v k w l) (range_with_len 0 50) n (in_range 0 50 n (omega arith) (omega arith))
+        table
+        in
+        squares n
+        ∙ joined s (step d (n + 1)) (has_bit v n) (has_bit w n) (n + 1 + k) (n + 1 + l) (set.contains even (n + 1))
+        (set.contains odd (n + 1)) right
+        (λ e. from_even (n + 1) (omega arith)) (λ e. from_odd (n + 1) (omega arith)))

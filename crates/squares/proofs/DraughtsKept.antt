@@ -1,5 +1,6 @@
 -- The cells and the sets of squares are kept together.
-use Rattle.std.proofs.Common.{◌≡◌, ℕ, zero, suc, ◌+◌, ◌<◌, Bool, true, false, not, ◌&&◌, ◌||◌, cond, nat_le, Option, Some, None, List, length, get_or, inl, inr, refl, sym, ap, ◌∙◌, subst, arith, replicate}
+use Rattle.std.proofs.Common.{◌≡◌, ℕ, zero, suc, ◌+◌, ◌<◌, Bool, true, false, not, ◌&&◌, ◌||◌, cond, nat_le, Option}
+use Rattle.std.proofs.Common.{Some, None, List, length, get_or, inl, inr, refl, sym, ap, ◌∙◌, subst, arith, replicate}
 use Rattle.std.specs.Ordering.{nat_cmp, eq_by_cmp}
 use Rattle.std.specs.Cmp.{nat_cmp_total, unsigned_tied}
 use Rattle.std.specs.FinMap as map
@@ -23,51 +24,71 @@ use Rattle.squares.specs.DraughtsKept.{is_king, Marks, KeepsCells, noted}
 module _ (test : Option DPiece → Bool) (s : Numbers) (board : Board) (n : ℕ) (marks : Marks test s board) where
   put_noted : (p : DPiece) → Marks test (noted s n (test (Some p))) (map.insert board n p)
   put_noted p q =
-      elim (test (Some p)) as (λ b. test (Some p) ≡ b → set.contains (noted s n b) q ≡ test (cond (eq_by_cmp nat_cmp q n) (Some p) (map.get board q))) [
+      elim (test (Some p)) as (λ b. test (Some p) ≡ b
+      → set.contains (noted s n b) q ≡ test (cond (eq_by_cmp nat_cmp q n) (Some p) (map.get board q))) [
         | true ↦ λ is.
             set.contains-insert nat_cmp_total s n q
-            ∙ elim (eq_by_cmp nat_cmp q n) as (λ e. (e || set.contains s q) ≡ test (cond e (Some p) (map.get board q))) [ true ↦ sym is | false ↦ marks q ]
+            ∙ elim (eq_by_cmp nat_cmp q n) as (λ e. (e || set.contains s q) ≡ test (cond e (Some p) (map.get board q)))
+            [ true ↦ sym is | false ↦ marks q ]
         | false ↦ λ is.
             set.contains-remove nat_cmp_total s n q
-            ∙ elim (eq_by_cmp nat_cmp q n) as (λ e. (not e && set.contains s q) ≡ test (cond e (Some p) (map.get board q))) [ true ↦ sym is | false ↦ marks q ]
+            ∙ elim (eq_by_cmp nat_cmp q n) as (λ e. (not e && set.contains s q)
+            ≡ test (cond e (Some p) (map.get board q))) [ true ↦ sym is | false ↦ marks q ]
       ] refl
       ∙ sym (ap test (map.get-insert nat_cmp_total board n p q))
 
   taken_off : test None ≡ false → Marks test (set.remove s n) (map.remove board n)
   taken_off none q =
       set.contains-remove nat_cmp_total s n q
-      ∙ elim (eq_by_cmp nat_cmp q n) as (λ e. (not e && set.contains s q) ≡ test (cond e None (map.get board q))) [ true ↦ sym none | false ↦ marks q ]
+      ∙ elim (eq_by_cmp nat_cmp q n) as (λ e. (not e && set.contains s q) ≡ test (cond e None (map.get board q)))
+      [ true ↦ sym none | false ↦ marks q ]
       ∙ sym (ap test (map.get-remove nat_cmp_total board n q))
 
-module _ (cells : List (Option DPiece)) (first second kings : Numbers) (kept : KeepsCells cells first second kings) (k n : ℕ) (is : n ≡ k + 1) (within : k < 50) where
+module _ (cells : List (Option DPiece)) (first second kings : Numbers) (kept : KeepsCells cells first second kings)
+    (k n : ℕ) (is : n ≡ k + 1) (within : k < 50) where
   in_cells : k < length cells
   in_cells = omega (arith, kept.has_cells)
 
-  pub kept_with : (p : DPiece) (f s r : Numbers) → f ≡ noted first n (is_of First (Some p)) → s ≡ noted second n (is_of Second (Some p)) → r ≡ noted kings n p.king → KeepsCells (list_set cells k (Some p)) f s r
+  pub kept_with : (p : DPiece) (f s r : Numbers) → f ≡ noted first n (is_of First (Some p))
+      → s ≡ noted second n (is_of Second (Some p)) → r ≡ noted kings n p.king
+      → KeepsCells (list_set cells k (Some p)) f s r
   kept_with p f s r ef es er =
-      let board : map.insert (board_of cells) n p ≡ board_of (list_set cells k (Some p)) = sym (board_of-put cells k n p is in_cells) in
+      let board : map.insert (board_of cells) n p ≡ board_of (list_set cells k (Some p)) =
+      sym (board_of-put cells k n p is in_cells) in
       record {
         has_cells = length-set cells k (Some p) ∙ kept.has_cells;
-        of_first = subst (λ t. Marks (is_of First) t (board_of (list_set cells k (Some p)))) (sym ef) (subst (Marks (is_of First) _) board (put_noted (is_of First) first (board_of cells) n kept.of_first p));
-        of_second = subst (λ t. Marks (is_of Second) t (board_of (list_set cells k (Some p)))) (sym es) (subst (Marks (is_of Second) _) board (put_noted (is_of Second) second (board_of cells) n kept.of_second p));
-        of_kings = subst (λ t. Marks is_king t (board_of (list_set cells k (Some p)))) (sym er) (subst (Marks is_king _) board (put_noted is_king kings (board_of cells) n kept.of_kings p));
+        of_first = subst (λ t. Marks (is_of First) t (board_of (list_set cells k (Some p)))) (sym ef)
+            (subst (Marks (is_of First) _) board (put_noted (is_of First) first (board_of cells) n kept.of_first p));
+        of_second = subst (λ t. Marks (is_of Second) t (board_of (list_set cells k (Some p)))) (sym es)
+            (subst (Marks (is_of Second) _) board
+            (put_noted (is_of Second) second (board_of cells) n kept.of_second p));
+        of_kings = subst (λ t. Marks is_king t (board_of (list_set cells k (Some p)))) (sym er)
+            (subst (Marks is_king _) board (put_noted is_king kings (board_of cells) n kept.of_kings p));
       }
 
-  pub kept_without : (f s r : Numbers) → f ≡ set.remove first n → s ≡ set.remove second n → r ≡ set.remove kings n → KeepsCells (list_set cells k None) f s r
+  pub kept_without : (f s r : Numbers) → f ≡ set.remove first n → s ≡ set.remove second n → r ≡ set.remove kings n
+      → KeepsCells (list_set cells k None) f s r
   kept_without f s r ef es er =
-      let board : map.remove (board_of cells) n ≡ board_of (list_set cells k None) = sym (board_of-clear cells k n is in_cells) in
+      let board : map.remove (board_of cells) n ≡ board_of (list_set cells k None) =
+      sym (board_of-clear cells k n is in_cells) in
       record {
         has_cells = length-set cells k None ∙ kept.has_cells;
-        of_first = subst (λ t. Marks (is_of First) t (board_of (list_set cells k None))) (sym ef) (subst (Marks (is_of First) _) board (taken_off (is_of First) first (board_of cells) n kept.of_first refl));
-        of_second = subst (λ t. Marks (is_of Second) t (board_of (list_set cells k None))) (sym es) (subst (Marks (is_of Second) _) board (taken_off (is_of Second) second (board_of cells) n kept.of_second refl));
-        of_kings = subst (λ t. Marks is_king t (board_of (list_set cells k None))) (sym er) (subst (Marks is_king _) board (taken_off is_king kings (board_of cells) n kept.of_kings refl));
+        of_first = subst (λ t. Marks (is_of First) t (board_of (list_set cells k None))) (sym ef)
+            (subst (Marks (is_of First) _) board (taken_off (is_of First) first (board_of cells) n kept.of_first refl));
+        of_second = subst (λ t. Marks (is_of Second) t (board_of (list_set cells k None))) (sym es)
+            (subst (Marks (is_of Second) _) board
+            (taken_off (is_of Second) second (board_of cells) n kept.of_second refl));
+        of_kings = subst (λ t. Marks is_king t (board_of (list_set cells k None))) (sym er)
+            (subst (Marks is_king _) board (taken_off is_king kings (board_of cells) n kept.of_kings refl));
       }
 
 -- the empty board
-pub kept_empty : (f s r : Numbers) → f ≡ set.empty → s ≡ set.empty → r ≡ set.empty → KeepsCells (replicate 50 None) f s r
+pub kept_empty : (f s r : Numbers) → f ≡ set.empty → s ≡ set.empty → r ≡ set.empty
+    → KeepsCells (replicate 50 None) f s r
 unfolding board_of
 kept_empty f s r ef es er =
-    let none : (a : Numbers) → a ≡ set.empty → (q : ℕ) → set.contains a q ≡ false = λ a is q. ap (λ b. set.contains b q) is ∙ set.contains-empty nat_cmp q in
+    let none : (a : Numbers) → a ≡ set.empty → (q : ℕ)
+    → set.contains a q ≡ false = λ a is q. ap (λ b. set.contains b q) is ∙ set.contains-empty nat_cmp q in
     let cell : (q : ℕ) → map.get (board_of (replicate 50 None)) q ≡ None = λ q. map.get-empty nat_cmp q in
     record {
       has_cells = refl;
@@ -78,14 +99,21 @@ kept_empty f s r ef es er =
 
 no_king : (n : ℕ) → is_king (opening_piece n) ≡ false
 no_king n =
-    elim (nat_le n 20) as (λ b. is_king (cond b (Some (record { side = Second; king = false })) (cond (nat_le n 30) None (Some (record { side = First; king = false })))) ≡ false) [
+    elim (nat_le n 20) as (λ b.
+    is_king
+    (cond b (Some (record { side = Second; king = false }))
+    (cond (nat_le n 30) None (Some (record { side = First; king = false })))) ≡ false) [
       | true ↦ refl
-      | false ↦ elim (nat_le n 30) as (λ b. is_king (cond b None (Some (record { side = First; king = false }))) ≡ false) [ true ↦ refl | false ↦ refl ]
+      | false ↦
+          elim (nat_le n 30) as (λ b. is_king (cond b None (Some (record { side = First; king = false }))) ≡ false)
+          [ true ↦ refl | false ↦ refl ]
     ]
 
 -- the opening has no king
-pub no_kings : (cells : List (Option DPiece)) (r : Numbers) → r ≡ set.empty → length cells ≡ 50 → ((k : ℕ) → k < 50 → get_or cells k None ≡ opening_piece (k + 1)) → Marks is_king r (board_of cells)
-no_kings cells r none many filled zero = ap (λ a. set.contains a 0) none ∙ set.contains-empty nat_cmp 0 ∙ sym (ap is_king (get-board_of-zero cells))
+pub no_kings : (cells : List (Option DPiece)) (r : Numbers) → r ≡ set.empty → length cells ≡ 50
+    → ((k : ℕ) → k < 50 → get_or cells k None ≡ opening_piece (k + 1)) → Marks is_king r (board_of cells)
+no_kings cells r none many filled zero = ap (λ a. set.contains a 0) none ∙ set.contains-empty nat_cmp 0
+    ∙ sym (ap is_king (get-board_of-zero cells))
 no_kings cells r none many filled (suc k) =
     ap (λ a. set.contains a (suc k)) none ∙ set.contains-empty nat_cmp (suc k)
     ∙ sym (ap is_king (get-board_of cells (suc k) k (omega arith))
@@ -98,18 +126,24 @@ no_kings cells r none many filled (suc k) =
 abbrev pub cleared_of : Numbers → Board → Board
 cleared_of s board = map.retain_keys board (λ n. not (set.contains s n))
 
-at_cleared : (s : Numbers) (board : Board) (q : ℕ) → map.get (cleared_of s board) q ≡ cond (not (set.contains s q)) (map.get board q) None
-at_cleared s board q = map.get-retain_keys board (λ n. not (set.contains s n)) q (λ x e. ap (λ n. not (set.contains s n)) (sym (nat_cmp-IsAntisymmetric q x e)))
+at_cleared : (s : Numbers) (board : Board) (q : ℕ)
+    → map.get (cleared_of s board) q ≡ cond (not (set.contains s q)) (map.get board q) None
+at_cleared s board q = map.get-retain_keys board (λ n. not (set.contains s n)) q
+    (λ x e. ap (λ n. not (set.contains s n)) (sym (nat_cmp-IsAntisymmetric q x e)))
 
-pub cleared_next : (before after : Numbers) (board new : Board) (n : ℕ) → after ≡ set.remove before n → set.contains before n ≡ true → new ≡ map.remove board n → cleared_of after new ≡ cleared_of before board
+pub cleared_next : (before after : Numbers) (board new : Board) (n : ℕ) → after ≡ set.remove before n
+    → set.contains before n ≡ true → new ≡ map.remove board n → cleared_of after new ≡ cleared_of before board
 cleared_next before after board new n less has step =
     (λ i. cleared_of (less i) (step i))
     ∙ map.same_map nat_cmp_total nat_cmp-IsAntisymmetric _ _
     (λ q. at_cleared (set.remove before n) (map.remove board n) q
     ∙ (λ i. cond (not (set.contains-remove nat_cmp_total before n q i)) (map.get-remove nat_cmp_total board n q i) None)
-    ∙ elim (eq_by_cmp nat_cmp q n) as (λ e. eq_by_cmp nat_cmp q n ≡ e → cond (not (not e && set.contains before q)) (cond e None (map.get board q)) None ≡ cond (not (set.contains before q)) (map.get board q) None) [
+    ∙ elim (eq_by_cmp nat_cmp q n) as (λ e. eq_by_cmp nat_cmp q n ≡ e
+    → cond (not (not e && set.contains before q)) (cond e None (map.get board q)) None
+    ≡ cond (not (set.contains before q)) (map.get board q) None) [
       | true ↦ λ e.
-          let here : set.contains before q ≡ true = ap (set.contains before) (nat_eq-same q n (sym (unsigned_tied q n) ∙ e)) ∙ has in
+          let here : set.contains before q ≡ true =
+          ap (set.contains before) (nat_eq-same q n (sym (unsigned_tied q n) ∙ e)) ∙ has in
           sym (ap (λ b. cond (not b) (map.get board q) None) here)
       | false ↦ λ _. refl
     ] refl
@@ -118,7 +152,8 @@ cleared_next before after board new n less has step =
 pub cleared_none : (s : Numbers) (board : Board) → s ≡ set.empty → cleared_of s board ≡ board
 cleared_none s board none =
     map.same_map nat_cmp_total nat_cmp-IsAntisymmetric _ _
-    (λ q. at_cleared s board q ∙ ap (λ b. cond (not b) (map.get board q) None) (ap (λ a. set.contains a q) none ∙ set.contains-empty nat_cmp q))
+    (λ q. at_cleared s board q ∙ ap (λ b. cond (not b) (map.get board q) None)
+    (ap (λ a. set.contains a q) none ∙ set.contains-empty nat_cmp q))
 
 same_or_other : (side : Side) → not (same_side side First || same_side side Second) ≡ false
 same_or_other First = refl

@@ -1,5 +1,6 @@
 -- The squares of a side's pieces, gathered cell by cell.
-use Rattle.std.proofs.Common.{◌≡◌, ℕ, zero, suc, ◌+◌, ◌<◌, ◌≤◌, true, false, ◌||◌, ◌⊎◌, inl, inr, nat_eq, Option, None, List, length, get_or, refl, sym, ap, ◌∙◌, arith}
+use Rattle.std.proofs.Common.{◌≡◌, ℕ, zero, suc, ◌+◌, ◌<◌, ◌≤◌, true, false, ◌||◌, ◌⊎◌, inl, inr, nat_eq, Option, None}
+use Rattle.std.proofs.Common.{List, length, get_or, refl, sym, ap, ◌∙◌, arith}
 use Rattle.std.specs.FinMap as map
 use Rattle.std.specs.FinSet as set
 use Rattle.std.specs.Ordering.{nat_cmp}
@@ -35,11 +36,14 @@ module _ (side : Side) (cells : List (Option DPiece)) where
     other : (n q : ℕ) → (nat_eq q n ≡ false) → set.contains (set.insert s n) q ≡ set.contains s q
     other n q e = contains-insert_nat s n q ∙ ap (λ b. b || set.contains s q) e
 
-    pub first-more : (n : ℕ) → n ≡ i + 1 → is_of side (get_or cells i None) ≡ true → HasFirst side cells (i + 1) (set.insert s n)
+    pub first-more : (n : ℕ) → n ≡ i + 1 → is_of side (get_or cells i None) ≡ true
+        → HasFirst side cells (i + 1) (set.insert s n)
     first-more n is one =
         record {
           seen = λ k less. elim (cases_eq k i) [
-            | inl e ↦ contains-insert_nat s n (k + 1) ∙ ap (λ b. b || set.contains s (k + 1)) (nat_eq_same (k + 1) n (omega arith)) ∙ sym (ap (λ j. is_of side (get_or cells j None)) e ∙ one)
+            | inl e ↦ contains-insert_nat s n (k + 1)
+                ∙ ap (λ b. b || set.contains s (k + 1)) (nat_eq_same (k + 1) n (omega arith))
+                ∙ sym (ap (λ j. is_of side (get_or cells j None)) e ∙ one)
             | inr d ↦ other n (k + 1) (nat_eq_other (k + 1) n (λ same. d (omega arith))) ∙ h.seen k (omega arith)
           ];
           ahead = λ q far. elim far [
@@ -48,10 +52,14 @@ module _ (side : Side) (cells : List (Option DPiece)) where
           ];
         }
 
-  pub first-all : (i : ℕ) (s : Squares) → length cells ≤ i → HasFirst side cells i s → (n : ℕ) → set.contains s n ≡ is_of side (map.get (board_of cells) n)
+  pub first-all : (i : ℕ) (s : Squares) → length cells ≤ i → HasFirst side cells i s → (n : ℕ)
+      → set.contains s n ≡ is_of side (map.get (board_of cells) n)
   first-all i s all h zero = h.ahead 0 (inl refl) ∙ sym (ap (is_of side) (get-board_of-zero cells))
   first-all i s all h (suc k) =
       elim (cases_lt k i) [
-        | inl less ↦ (let is : suc k ≡ k + 1 = omega arith in ap (set.contains s) is) ∙ h.seen k less ∙ sym (ap (is_of side) (get-board_of cells (suc k) k (omega arith)))
-        | inr past ↦ h.ahead (suc k) (inr (omega arith)) ∙ sym (ap (is_of side) (get-board_of cells (suc k) k (omega arith) ∙ get_or_past cells k None (omega arith)))
+        | inl less ↦ (let is : suc k ≡ k + 1 = omega arith in ap (set.contains s) is) ∙ h.seen k less
+            ∙ sym (ap (is_of side) (get-board_of cells (suc k) k (omega arith)))
+        | inr past ↦ h.ahead (suc k) (inr (omega arith))
+            ∙ sym
+            (ap (is_of side) (get-board_of cells (suc k) k (omega arith) ∙ get_or_past cells k None (omega arith)))
       ]

@@ -1,5 +1,6 @@
 -- The table of next squares is the geometry.
-use Rattle.std.proofs.Common.{◌≡◌, ℕ, zero, suc, ◌+◌, ◌<◌, ◌≤◌, Bool, true, false, ◌&&◌, nat_eq, nat_le, Option, Some, None, List, [], ◌∷◌, inl, inr, refl, sym, ap, ◌∙◌, arith}
+use Rattle.std.proofs.Common.{◌≡◌, ℕ, zero, suc, ◌+◌, ◌<◌, ◌≤◌, Bool, true, false, ◌&&◌, nat_eq, nat_le, Option, Some}
+use Rattle.std.proofs.Common.{None, List, [], ◌∷◌, inl, inr, refl, sym, ap, ◌∙◌, arith}
 use Rattle.std.specs.List.{list_all, range_with_len, slice_index}
 use Rattle.std.proofs.lemmas.Bool.{cases_eq}
 use Rattle.std.proofs.lemmas.Grind.{common_steps}
@@ -33,7 +34,8 @@ and_true false b e = cc
 
 pub in_range : (a n v : ℕ) → a ≤ v → v < a + n → In v (range_with_len a n)
 in_range a zero v h k = absurd (omega arith)
-in_range a (suc n) v h k = elim (cases_eq a v) [ inl e ↦ inl e | inr d ↦ inr (in_range (a + 1) n v (omega arith) (omega arith)) ]
+in_range a (suc n) v h k = elim (cases_eq a v)
+    [ inl e ↦ inl e | inr d ↦ inr (in_range (a + 1) n v (omega arith) (omega arith)) ]
 
 pub all_found : {A : Type 0} (f : A → Bool) (xs : List A) (x : A) → In x xs → list_all f xs ≡ true → f x ≡ true
 all_found f [] x h e = absurd h
@@ -41,7 +43,8 @@ all_found f (y ∷ xs) x (inl same) e = ap f (sym same) ∙ (and_true (f y) (lis
 all_found f (y ∷ xs) x (inr h) e = all_found f xs x h (and_true (f y) (list_all f xs) e).1
 
 one_right : (d : Direction) (n : ℕ) → OnBoard n → right d n ≡ true
-one_right d n on = all_found (right d) (range_with_len 1 50) n (in_range 1 50 n on.0 (omega (arith, on.1))) (all_right d)
+one_right d n on = all_found (right d) (range_with_len 1 50) n (in_range 1 50 n on.0 (omega (arith, on.1)))
+    (all_right d)
 
 none_said : (k : ℕ) (o : Option ℕ) → says k o ≡ true → k ≡ 0 → None ≡ o
 none_said k None e z = refl

@@ -1,5 +1,6 @@
 -- The dark squares of the board by number, 1 to 50, and by row and column, and the lines along them.
-use Rattle.std.specs.Prelude.{◌≡◌, ℕ, ◌+◌, ◌-◌, ◌*◌, ◌/◌, ◌%◌, ◌≤◌, ◌==◌, ◌||◌, ◌&&◌, nat_le, Option, Some, None, List, [], ◌∷◌, if◌then◌else◌}
+use Rattle.std.specs.Prelude.{◌≡◌, ℕ, ◌+◌, ◌-◌, ◌*◌, ◌/◌, ◌%◌, ◌≤◌, ◌==◌, ◌||◌, ◌&&◌, nat_le, Option, Some, None, List}
+use Rattle.std.specs.Prelude.{[], ◌∷◌, if◌then◌else◌}
 use Rattle.std.specs.Option.{option_map_or}
 use Rattle.std.proofs.Common.{zero, suc, refl, ap, ◌∙◌, arith}
 use Rattle.squares.specs.declared.draughts.direction.Direction.{Direction}
@@ -34,10 +35,14 @@ IsMoved DownRight k n m = (row_of m ≡ row_of n + k) × (column_of m ≡ column
 
 -- the next square in a direction from a square of the board, if there is one
 unfoldable pub neighbor : Direction → ℕ → Option ℕ
-neighbor UpLeft n = if row_of n == 0 || column_of n == 0 then None else Some (number_at (row_of n - 1) (column_of n - 1))
-neighbor UpRight n = if row_of n == 0 || column_of n == 9 then None else Some (number_at (row_of n - 1) (column_of n + 1))
-neighbor DownLeft n = if row_of n == 9 || column_of n == 0 then None else Some (number_at (row_of n + 1) (column_of n - 1))
-neighbor DownRight n = if row_of n == 9 || column_of n == 9 then None else Some (number_at (row_of n + 1) (column_of n + 1))
+neighbor UpLeft n = if row_of n == 0 || column_of n == 0 then None else Some
+    (number_at (row_of n - 1) (column_of n - 1))
+neighbor UpRight n = if row_of n == 0 || column_of n == 9 then None else Some
+    (number_at (row_of n - 1) (column_of n + 1))
+neighbor DownLeft n = if row_of n == 9 || column_of n == 0 then None else Some
+    (number_at (row_of n + 1) (column_of n - 1))
+neighbor DownRight n = if row_of n == 9 || column_of n == 9 then None else Some
+    (number_at (row_of n + 1) (column_of n + 1))
 
 -- the next square in a direction, if there is one; from a number that is no square there is none
 unfoldable pub step : Direction → ℕ → Option ℕ

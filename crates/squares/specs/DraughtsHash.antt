@@ -9,4 +9,5 @@ use Rattle.squares.specs.DraughtsBoard.{Position}
 
 -- what stands on each square, in the order of the squares, and then the turn
 unfoldable pub hash_writes : (Option DPiece → HashWrites) → (Side → HashWrites) → Position → HashWrites
-hash_writes of_cell of_turn p = slice of_cell (map (λ n. finite_map.get p.board n) (range_with_len 1 50)) ++ of_turn p.turn
+hash_writes of_cell of_turn p = slice of_cell (map (λ n. finite_map.get p.board n) (range_with_len 1 50))
+    ++ of_turn p.turn

@@ -1,5 +1,6 @@
 -- Beside its cells a position keeps the squares of each side, and those of the kings.
-use Rattle.std.proofs.Common.{◌≡◌, ℕ, zero, suc, Bool, false, cond, Option, Some, None, List, length, sym, ap, ◌∙◌, arith, inl, inr}
+use Rattle.std.proofs.Common.{◌≡◌, ℕ, zero, suc, Bool, false, cond, Option, Some, None, List, length, sym, ap, ◌∙◌}
+use Rattle.std.proofs.Common.{arith, inl, inr}
 use Rattle.std.specs.Cmp.{nat_cmp_total}
 use Rattle.std.specs.FinMap as map
 use Rattle.std.specs.FinSet as set
@@ -37,11 +38,13 @@ unfoldable pub squares_where : (Option DPiece → Bool) → Board → Numbers
 squares_where test board = set.from_list (passing (λ n. test (map.get board n)) 1 50)
 
 -- the set that the board was kept with
-module _ (test : Option DPiece → Bool) (none : test None ≡ false) (cells : List (Option DPiece)) (s : Numbers) (many : length cells ≡ 50) (marks : Marks test s (board_of cells)) where
+module _ (test : Option DPiece → Bool) (none : test None ≡ false) (cells : List (Option DPiece)) (s : Numbers)
+    (many : length cells ≡ 50) (marks : Marks test s (board_of cells)) where
   each : (q : ℕ) → set.contains (squares_where test (board_of cells)) q ≡ test (map.get (board_of cells) q)
   unfolding squares_where
   each zero =
-      set.contains-from_list_nat (passing (λ n. test (map.get (board_of cells) n)) 1 50) 0 ∙ passing-below (λ n. test (map.get (board_of cells) n)) 1 50 0 (omega arith)
+      set.contains-from_list_nat (passing (λ n. test (map.get (board_of cells) n)) 1 50) 0
+      ∙ passing-below (λ n. test (map.get (board_of cells) n)) 1 50 0 (omega arith)
       ∙ sym (ap test (get-board_of-zero cells) ∙ none)
   each (suc k) =
       set.contains-from_list_nat (passing (λ n. test (map.get (board_of cells) n)) 1 50) (suc k)

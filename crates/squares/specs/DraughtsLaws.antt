@@ -10,10 +10,12 @@ NumbersGivePlaces = (n : ℕ) → OnBoard n → IsDark (row_of n) (column_of n) 
 -- A dark square gives a number of the board, and that number the square.
 abbrev pub PlacesGiveNumbers : Type 0
 PlacesGiveNumbers =
-    (row column : ℕ) → IsDark row column → OnBoard (number_at row column) × (row_of (number_at row column) ≡ row) × (column_of (number_at row column) ≡ column)
+    (row column : ℕ) → IsDark row column → OnBoard (number_at row column) × (row_of (number_at row column) ≡ row)
+    × (column_of (number_at row column) ≡ column)
 
 -- The line from n in a direction has m at place k, counted from 0, exactly where m is the square of the board
 -- that stands k + 1 rows and columns from n. So it ends where those coordinates leave the board.
 abbrev pub LinesFollowCoordinates : Type 0
 LinesFollowCoordinates =
-    (toward : Direction) (n k m : ℕ) → OnBoard n → ((k < length (ray toward n)) × (slice_index (ray toward n) k ≡ m)) ↔ (OnBoard m × IsMoved toward (k + 1) n m)
+    (toward : Direction) (n k m : ℕ) → OnBoard n
+    → ((k < length (ray toward n)) × (slice_index (ray toward n) k ≡ m)) ↔ (OnBoard m × IsMoved toward (k + 1) n m)

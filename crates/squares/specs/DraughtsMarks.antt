@@ -1,5 +1,6 @@
 -- What fifty marks say of the set that they keep.
-use Rattle.std.proofs.Common.{◌≡◌, ℕ, zero, suc, ◌+◌, ◌<◌, Bool, true, false, cond, ◌||◌, List, [], ◌∷◌, length, get_or, nat_eq, ◌≢◌, ◌⊎◌, inl, inr, refl, sym, ap, ◌∙◌, arith, add_comm}
+use Rattle.std.proofs.Common.{◌≡◌, ℕ, zero, suc, ◌+◌, ◌<◌, Bool, true, false, cond, ◌||◌, List, [], ◌∷◌, length, get_or}
+use Rattle.std.proofs.Common.{nat_eq, ◌≢◌, ◌⊎◌, inl, inr, refl, sym, ap, ◌∙◌, arith, add_comm}
 use Rattle.std.specs.Prelude.{map}
 use Rattle.std.specs.Ordering.{nat_cmp}
 use Rattle.std.specs.Cmp.{nat_cmp_total, unsigned_tied}
@@ -50,33 +51,42 @@ pub squares_of-no_zero : (bs : List Bool) → set.contains (squares_of bs) 0 ≡
 unfolding squares_of
 squares_of-no_zero bs = set.contains-from_list_nat (marked 1 bs) 0 ∙ marked_below bs 1 0 (omega arith)
 
-pub marks_back : (bs : List Bool) → length bs ≡ 50 → map (λ n. set.contains (squares_of bs) n) (range_with_len 1 50) ≡ bs
+pub marks_back : (bs : List Bool) → length bs ≡ 50
+    → map (λ n. set.contains (squares_of bs) n) (range_with_len 1 50) ≡ bs
 marks_back bs h =
     ext_get_or false _ _ (simp length-map (sym h))
     (λ k below. let b : k < 50 = simp length-map at below in
-    get_or-map-range_with_len (λ n. set.contains (squares_of bs) n) 1 50 k (k + 1) false b (omega arith) ∙ contains-squares_of bs (k + 1) k refl)
+    get_or-map-range_with_len (λ n. set.contains (squares_of bs) n) 1 50 k (k + 1) false b (omega arith)
+    ∙ contains-squares_of bs (k + 1) k refl)
 
 -- what an inserted square does to membership, by the numbers' own test
 pub contains-insert_nat : (s : Squares) (n q : ℕ) → set.contains (set.insert s n) q ≡ (nat_eq q n || set.contains s q)
-contains-insert_nat s n q = set.contains-insert nat_cmp_total s n q ∙ ap (λ b. b || set.contains s q) (unsigned_tied q n)
+contains-insert_nat s n q = set.contains-insert nat_cmp_total s n q
+    ∙ ap (λ b. b || set.contains s q) (unsigned_tied q n)
 
-set_or : (bs : List Bool) (j k : ℕ) → k < length bs → ((j ≡ k) ⊎ (j ≢ k)) → get_or (list_set bs k true) j false ≡ (nat_eq j k || get_or bs j false)
+set_or : (bs : List Bool) (j k : ℕ) → k < length bs → ((j ≡ k) ⊎ (j ≢ k))
+    → get_or (list_set bs k true) j false ≡ (nat_eq j k || get_or bs j false)
 set_or bs j k h (inl same) = rw (nat_eq_same j k same) (rw same (get_or-set_same bs k true false h))
 set_or bs j k h (inr other) = rw (nat_eq_other j k other) (get_or-set_other bs k j true false other)
 
-squares_of-mark_at : (bs : List Bool) (n k q : ℕ) → n ≡ k + 1 → k < length bs → set.contains (squares_of (list_set bs k true)) q ≡ (nat_eq q n || set.contains (squares_of bs) q)
+squares_of-mark_at : (bs : List Bool) (n k q : ℕ) → n ≡ k + 1 → k < length bs
+    → set.contains (squares_of (list_set bs k true)) q ≡ (nat_eq q n || set.contains (squares_of bs) q)
 squares_of-mark_at bs n k zero e h =
-    squares_of-no_zero (list_set bs k true) ∙ sym (ap (λ b. b || set.contains (squares_of bs) 0) (nat_eq_above 0 n (omega arith)) ∙ squares_of-no_zero bs)
+    squares_of-no_zero (list_set bs k true) ∙ sym
+    (ap (λ b. b || set.contains (squares_of bs) 0) (nat_eq_above 0 n (omega arith)) ∙ squares_of-no_zero bs)
 squares_of-mark_at bs n k (suc j) e h =
     let there = contains-squares_of (list_set bs k true) (suc j) j (omega arith) in
     let before = contains-squares_of bs (suc j) j (omega arith) in
     let same : nat_eq (suc j) n ≡ nat_eq j k = grind (arith, common_steps) in
-    there ∙ set_or bs j k h (cases_eq j k) ∙ sym (ap (λ b. b || set.contains (squares_of bs) (suc j)) same ∙ ap (λ b. nat_eq j k || b) before)
+    there ∙ set_or bs j k h (cases_eq j k) ∙ sym
+    (ap (λ b. b || set.contains (squares_of bs) (suc j)) same ∙ ap (λ b. nat_eq j k || b) before)
 
 -- to mark one more square is to insert it
-pub squares_of-mark : (bs : List Bool) (n k : ℕ) → n ≡ k + 1 → k < length bs → squares_of (list_set bs k true) ≡ set.insert (squares_of bs) n
+pub squares_of-mark : (bs : List Bool) (n k : ℕ) → n ≡ k + 1 → k < length bs
+    → squares_of (list_set bs k true) ≡ set.insert (squares_of bs) n
 squares_of-mark bs n k e h =
-    set.same_set nat_cmp_total nat_cmp-IsAntisymmetric _ _ (λ q. squares_of-mark_at bs n k q e h ∙ sym (contains-insert_nat (squares_of bs) n q))
+    set.same_set nat_cmp_total nat_cmp-IsAntisymmetric _ _
+    (λ q. squares_of-mark_at bs n k q e h ∙ sym (contains-insert_nat (squares_of bs) n q))
 
 len-marked : (bs : List Bool) (n : ℕ) → set.len (set.from_list {R = nat_cmp} (marked n bs)) ≡ count_by (λ b. b) bs
 len-marked [] n = set.len-empty nat_cmp

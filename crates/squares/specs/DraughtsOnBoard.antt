@@ -1,5 +1,6 @@
 -- The squares of the board are 1 to 50, and lines stay on it.
-use Rattle.std.proofs.Common.{◌≡◌, ℕ, zero, suc, ◌+◌, ◌%◌, ◌≤◌, ◌≢◌, Bool, true, false, cond, ◌||◌, ◌&&◌, nat_le, Some, None, List, [], ◌∷◌, nat_eq, refl, ap, subst, arith, ◌⊎◌, inl, inr}
+use Rattle.std.proofs.Common.{◌≡◌, ℕ, zero, suc, ◌+◌, ◌%◌, ◌≤◌, ◌≢◌, Bool, true, false, cond, ◌||◌, ◌&&◌, nat_le, Some}
+use Rattle.std.proofs.Common.{None, List, [], ◌∷◌, nat_eq, refl, ap, subst, arith, ◌⊎◌, inl, inr}
 use Rattle.std.proofs.lemmas.Grind.{common_steps}
 use Rattle.std.specs.Option.{option_map_or}
 use Rattle.squares.specs.declared.draughts.direction.Direction.{Direction}
@@ -22,21 +23,27 @@ pub nat_eq-differs : (m n : ℕ) → nat_eq m n ≡ false → m ≢ n
 nat_eq-differs m n e = λ h. grind (arith, common_steps)
 
 -- the square of a step that was made, if its place is on the board
-step_made : (a b : Bool) (n m r c : ℕ) → cond (a || b) None (Some (number_at r c)) ≡ Some m → (a ≡ false → b ≡ false → (r ≤ 9) × (c ≤ 9)) → OnBoard m
+step_made : (a b : Bool) (n m r c : ℕ) → cond (a || b) None (Some (number_at r c)) ≡ Some m
+    → (a ≡ false → b ≡ false → (r ≤ 9) × (c ≤ 9)) → OnBoard m
 step_made true b n m r c e h = cc
 step_made false true n m r c e h = cc
-step_made false false n m r c e h = let is : number_at r c ≡ m = cc in subst OnBoard is (let w = h refl refl in number_at-on r c w.0 w.1)
+step_made false false n m r c e h = let is : number_at r c ≡ m = cc in
+    subst OnBoard is (let w = h refl refl in number_at-on r c w.0 w.1)
 
 neighbor-on_board : (d : Direction) (n m : ℕ) → OnBoard n → neighbor d n ≡ Some m → OnBoard m
 unfolding neighbor
-neighbor-on_board UpLeft n m on e = step_made (nat_eq (row_of n) 0) (nat_eq (column_of n) 0) n m _ _ e (λ p q. (omega arith, omega arith))
+neighbor-on_board UpLeft n m on e = step_made (nat_eq (row_of n) 0) (nat_eq (column_of n) 0) n m _ _ e
+    (λ p q. (omega arith, omega arith))
 neighbor-on_board UpRight n m on e =
-    step_made (nat_eq (row_of n) 0) (nat_eq (column_of n) 9) n m _ _ e (λ p q. let differs = nat_eq-differs (column_of n) 9 q in (omega arith, omega arith))
+    step_made (nat_eq (row_of n) 0) (nat_eq (column_of n) 9) n m _ _ e
+    (λ p q. let differs = nat_eq-differs (column_of n) 9 q in (omega arith, omega arith))
 neighbor-on_board DownLeft n m on e =
-    step_made (nat_eq (row_of n) 9) (nat_eq (column_of n) 0) n m _ _ e (λ p q. let differs = nat_eq-differs (row_of n) 9 p in (omega arith, omega arith))
+    step_made (nat_eq (row_of n) 9) (nat_eq (column_of n) 0) n m _ _ e
+    (λ p q. let differs = nat_eq-differs (row_of n) 9 p in (omega arith, omega arith))
 neighbor-on_board DownRight n m on e =
     step_made (nat_eq (row_of n) 9) (nat_eq (column_of n) 9) n m _ _ e
-    (λ p q. let differs = nat_eq-differs (row_of n) 9 p in let differs' = nat_eq-differs (column_of n) 9 q in (omega arith, omega arith))
+    (λ p q. let differs = nat_eq-differs (row_of n) 9 p in let differs' = nat_eq-differs (column_of n) 9 q in
+    (omega arith, omega arith))
 
 and_true : (a b : Bool) → (a && b) ≡ true → (a ≡ true) × (b ≡ true)
 and_true true b e = (refl, e)
@@ -48,7 +55,8 @@ is_on n e = let w = and_true (nat_le 1 n) (nat_le n 50) e in (grind (arith, comm
 pub step-on_board : (d : Direction) (n m : ℕ) → step d n ≡ Some m → OnBoard m
 unfolding step
 step-on_board d n m e =
-    elim (nat_le 1 n && nat_le n 50) as (λ c. (nat_le 1 n && nat_le n 50) ≡ c → cond c (neighbor d n) None ≡ Some m → OnBoard m) [
+    elim (nat_le 1 n && nat_le n 50) as (λ c. (nat_le 1 n && nat_le n 50) ≡ c → cond c (neighbor d n) None ≡ Some m
+    → OnBoard m) [
       | true ↦ λ on e. neighbor-on_board d n m (is_on n on) e
       | false ↦ λ _ e. cc
     ] refl e
@@ -86,5 +94,6 @@ ray-off d n =
 pub number_at-row_of : (n : ℕ) → OnBoard n → number_at (row_of n) (column_of n) ≡ n
 number_at-row_of n on = omega arith
 
-pub row_of-number_at : (r c : ℕ) → r ≤ 9 → c ≤ 9 → (r + c) % 2 ≡ 1 → (row_of (number_at r c) ≡ r) × (column_of (number_at r c) ≡ c)
+pub row_of-number_at : (r c : ℕ) → r ≤ 9 → c ≤ 9 → (r + c) % 2 ≡ 1 → (row_of (number_at r c) ≡ r)
+    × (column_of (number_at r c) ≡ c)
 row_of-number_at r c hr hc odd = (omega arith, omega arith)

@@ -1,5 +1,7 @@
--- Two positions are the same exactly where they are one position: the same pieces on the same squares, and the same turn.
-use Rattle.std.proofs.Common.{◌≡◌, ℕ, Bool, true, false, ◌&&◌, not, nat_eq, Option, Some, None, List, [], ◌∷◌, ◌∙◌, refl, sym, ap}
+-- Two positions are the same exactly where they are one position: the same pieces on the same squares, and the same
+-- turn.
+use Rattle.std.proofs.Common.{◌≡◌, ℕ, Bool, true, false, ◌&&◌, not, nat_eq, Option, Some, None, List, [], ◌∷◌, ◌∙◌}
+use Rattle.std.proofs.Common.{refl, sym, ap}
 use Rattle.std.specs.Cmp.{IsEquivalence, IsPartialEquivalence, partial_equiv_from_equiv, both_ways}
 use Rattle.std.specs.FinMap as map
 use Rattle.squares.specs.declared.draughts.piece.DPiece.{DPiece}
@@ -109,7 +111,8 @@ unfolding same_position
 same_position-same p q e =
     let w = and_true (same_side p.turn q.turn) (same_entries (map.entries p.board) (map.entries q.board)) e in
     let turn = same_side-same p.turn q.turn w.0 in
-    let board = map.same_entries_map p.board q.board (same_entries-same (map.entries p.board) (map.entries q.board) w.1) in
+    let board = map.same_entries_map p.board q.board (same_entries-same (map.entries p.board) (map.entries q.board) w.1)
+    in
     λ i. record { board = board i; turn = turn i }
 
 pub same_position-itself : (p : Position) → same_position p p ≡ true

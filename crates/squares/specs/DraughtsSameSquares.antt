@@ -20,7 +20,8 @@ unfolding same_squares
 same_squares-same s t e =
     let w = and_true (set.is_subset s t) (set.is_subset t s) e in
     set.same_set nat_cmp_total nat_cmp-IsAntisymmetric s t
-    (λ q. both_ways (set.contains s q) (set.contains t q) (set.is_subset-contains nat_cmp_total s t w.0 q) (set.is_subset-contains nat_cmp_total t s w.1 q))
+    (λ q. both_ways (set.contains s q) (set.contains t q) (set.is_subset-contains nat_cmp_total s t w.0 q)
+    (set.is_subset-contains nat_cmp_total t s w.1 q))
 
 pub same_squares-itself : (s : Squares) → same_squares s s ≡ true
 unfolding same_squares

@@ -28,4 +28,5 @@ squares_of marks = set.from_list (marked 1 marks)
 -- what taking the least square out of a set answers and leaves
 abbrev pub PopsSquare : Squares → Option ℕ → Squares → Type 0
 PopsSquare before None after = (before ≡ set.empty) × (ascending before ≡ []) × (after ≡ before)
-PopsSquare before (Some n) after = (ascending before ≡ n ∷ ascending after) × (after ≡ set.remove before n) × (set.contains before n ≡ true)
+PopsSquare before (Some n) after = (ascending before ≡ n ∷ ascending after) × (after ≡ set.remove before n)
+    × (set.contains before n ≡ true)

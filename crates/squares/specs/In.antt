@@ -1,5 +1,6 @@
 -- Membership of a list by recursion.
-use Rattle.std.proofs.Common.{◌≡◌, ℕ, Bool, true, false, ◌||◌, ◌∙◌, ◌⊎◌, inl, inr, List, [], ◌∷◌, ◌++◌, refl, sym, ap, subst, arith, length, get_or, zero, suc, ◌<◌, ◌≤◌, ◌+◌, take, drop}
+use Rattle.std.proofs.Common.{◌≡◌, ℕ, Bool, true, false, ◌||◌, ◌∙◌, ◌⊎◌, inl, inr, List, [], ◌∷◌, ◌++◌, refl, sym, ap}
+use Rattle.std.proofs.Common.{subst, arith, length, get_or, zero, suc, ◌<◌, ◌≤◌, ◌+◌, take, drop}
 use Rattle.std.proofs.lemmas.List.{take_more, drop_more}
 use Rattle.std.proofs.lemmas.Grind.{common_steps}
 use Rattle.std.specs.Prelude.{map}
@@ -33,12 +34,14 @@ In-from_map f z [] h = absurd h
 In-from_map f z (y ∷ xs) (inl e) = (y, inl refl, e)
 In-from_map f z (y ∷ xs) (inr h) = let w = In-from_map f z xs h in (w.0, inr w.1, w.2)
 
-pub In-flat_map : {A B : Type 0} (f : A → List B) (z : B) (x : A) (xs : List A) → In x xs → In z (f x) → In z (flat_map f xs)
+pub In-flat_map : {A B : Type 0} (f : A → List B) (z : B) (x : A) (xs : List A) → In x xs → In z (f x)
+    → In z (flat_map f xs)
 In-flat_map f z x [] h k = absurd h
 In-flat_map f z x (y ∷ xs) (inl e) k = In-left z (f y) (flat_map f xs) (subst (λ w. In z (f w)) (sym e) k)
 In-flat_map f z x (y ∷ xs) (inr h) k = In-right z (f y) (flat_map f xs) (In-flat_map f z x xs h k)
 
-pub In-from_flat_map : {A B : Type 0} (f : A → List B) (z : B) (xs : List A) → In z (flat_map f xs) → (x : A) × In x xs × In z (f x)
+pub In-from_flat_map : {A B : Type 0} (f : A → List B) (z : B) (xs : List A) → In z (flat_map f xs) → (x : A) × In x xs
+    × In z (f x)
 In-from_flat_map f z [] h = absurd h
 In-from_flat_map f z (y ∷ xs) h =
     elim (In-cases z (f y) (flat_map f xs) h) [
@@ -51,7 +54,8 @@ In-get_or [] i d h = absurd (omega arith)
 In-get_or (x ∷ xs) zero d h = inl refl
 In-get_or (x ∷ xs) (suc i) d h = inr (In-get_or xs i d (omega arith))
 
-pub In-take_more : {A : Type 0} (xs : List A) (i : ℕ) (x d : A) → i < length xs → In x (take (i + 1) xs) → In x (take i xs) ⊎ (get_or xs i d ≡ x)
+pub In-take_more : {A : Type 0} (xs : List A) (i : ℕ) (x d : A) → i < length xs → In x (take (i + 1) xs)
+    → In x (take i xs) ⊎ (get_or xs i d ≡ x)
 In-take_more xs i x d h k =
     elim (In-cases x (take i xs) (get_or xs i d ∷ []) (subst (λ ys. In x ys) (take_more xs i d h) k)) [
       | inl a ↦ inl a

@@ -1,5 +1,6 @@
 -- What a list has once elements are put into it in order.
-use Rattle.std.proofs.Common.{◌≡◌, ℕ, ◌⊎◌, inl, inr, List, [], ◌∷◌, ◌++◌, refl, sym, ap, ◌∙◌, subst, ◌+◌, ◌<◌, ◌≤◌, length, take, drop, get_or, arith, append_assoc}
+use Rattle.std.proofs.Common.{◌≡◌, ℕ, ◌⊎◌, inl, inr, List, [], ◌∷◌, ◌++◌, refl, sym, ap, ◌∙◌, subst, ◌+◌, ◌<◌, ◌≤◌}
+use Rattle.std.proofs.Common.{length, take, drop, get_or, arith, append_assoc}
 use Rattle.std.proofs.lemmas.Grind.{common_steps}
 use Rattle.std.proofs.lemmas.List.{drop_more, take_more, take_all, take-append-drop, map-append, flat_map_more}
 use Rattle.std.specs.Prelude.{map}
@@ -13,7 +14,8 @@ use Rattle.std.specs.declared.cmp.Ordering.TheVariants.{Less, Equal, Greater}
 use Rattle.squares.specs.OrderedLists.{put_by, put, put_all}
 use Rattle.squares.specs.In.{In, In-cases}
 
-pub map-flat_map : {A B C : Type 0} (g : B → C) (f : A → List B) (xs : List A) → map g (flat_map f xs) ≡ flat_map (λ x. map g (f x)) xs
+pub map-flat_map : {A B C : Type 0} (g : B → C) (f : A → List B) (xs : List A)
+    → map g (flat_map f xs) ≡ flat_map (λ x. map g (f x)) xs
 map-flat_map g f [] = refl
 map-flat_map g f (x ∷ xs) = map-append g (f x) (flat_map f xs) ∙ ap (λ r. map g (f x) ++ r) (map-flat_map g f xs)
 
@@ -23,7 +25,8 @@ module _ {A : Type 0} (order : A → A → Ordering) (total : IsTotalOrder order
   put-in m y [] (inr never) = absurd never
   put-in m y (x ∷ xs) h =
       elim (order x m) as (λ o. In y (put_by o m x xs (put order m xs)) → In y (x ∷ xs) ⊎ (m ≡ y)) [
-        | Less ↦ λ k. elim k [ inl e ↦ inl (inl e) | inr r ↦ elim (put-in m y xs r) [ inl a ↦ inl (inr a) | inr e ↦ inr e ] ]
+        | Less ↦
+            λ k. elim k [ inl e ↦ inl (inl e) | inr r ↦ elim (put-in m y xs r) [ inl a ↦ inl (inr a) | inr e ↦ inr e ] ]
         | Equal ↦ λ k. inl k
         | Greater ↦ λ k. elim k [ inl e ↦ inr e | inr r ↦ inl r ]
       ] h
@@ -47,7 +50,8 @@ module _ {A : Type 0} (order : A → A → Ordering) (total : IsTotalOrder order
         | Greater ↦ λ _. inl refl
       ] refl
 
-  pub less_all : (x : A) (ys : List A) → ((y : A) → In y ys → order x y ≡ Less) → AllByRecursion (λ y. order x y ≡ Less) ys
+  pub less_all : (x : A) (ys : List A) → ((y : A) → In y ys → order x y ≡ Less)
+      → AllByRecursion (λ y. order x y ≡ Less) ys
   less_all x [] h = tt
   less_all x (y ∷ ys) h = (h y (inl refl), less_all x ys (λ z k. h z (inr k)))
 
@@ -57,11 +61,13 @@ module _ {A : Type 0} (order : A → A → Ordering) (total : IsTotalOrder order
   all_less x y (z ∷ ys) h (inr k) = all_less x y ys h.1 k
 
   -- a list in order before another, each of whose elements comes after all of the first
-  pub append-sorted : (xs ys : List A) → IsStrictlySortedBy order xs → IsStrictlySortedBy order ys → ((x y : A) → In x xs → In y ys → order x y ≡ Less) → IsStrictlySortedBy order (xs ++ ys)
+  pub append-sorted : (xs ys : List A) → IsStrictlySortedBy order xs → IsStrictlySortedBy order ys
+      → ((x y : A) → In x xs → In y ys → order x y ≡ Less) → IsStrictlySortedBy order (xs ++ ys)
   unfolding IsStrictlySortedBy
   append-sorted [] ys s t h = t
   append-sorted (x ∷ xs) ys s t h = (
-    less_all x (xs ++ ys) (λ y k. elim (In-cases y xs ys k) [ inl a ↦ all_less x y xs s.0 a | inr b ↦ h x y (inl refl) b ]),
+    less_all x (xs ++ ys)
+        (λ y k. elim (In-cases y xs ys k) [ inl a ↦ all_less x y xs s.0 a | inr b ↦ h x y (inl refl) b ]),
     append-sorted xs ys s.1 t (λ a b k l. h a b (inr k) l),
   )
 
@@ -70,12 +76,22 @@ module _ {A : Type 0} (order : A → A → Ordering) (total : IsTotalOrder order
   put-sorted m [] h = (tt, tt)
   put-sorted m (x ∷ xs) h =
       elim (order x m) as (λ o. order x m ≡ o → IsStrictlySortedBy order (put_by o m x xs (put order m xs))) [
-        | Less ↦ λ e.
-            (less_all x (put order m xs) (λ y k. elim (put-in m y xs k) [ inl a ↦ all_less x y xs h.0 a | inr is ↦ ap (order x) (sym is) ∙ e ]), put-sorted m xs h.1)
+        | Less ↦ λ e. (
+          less_all x (put order m xs)
+              (λ y k. elim (put-in m y xs k) [ inl a ↦ all_less x y xs h.0 a | inr is ↦ ap (order x) (sym is) ∙ e ]),
+          put-sorted m xs h.1,
+        )
         | Equal ↦ λ _. h
         | Greater ↦ λ e.
-            let before : order m x ≡ Less = total.antisymm m x ∙ ap ordering_reverse e in
-            (less_all m (x ∷ xs) (λ y k. elim k [ inl is ↦ ap (order m) (sym is) ∙ before | inr r ↦ total.trans m x y before (all_less x y xs h.0 r) ]), h)
+            let before : order m x ≡ Less = total.antisymm m x ∙ ap ordering_reverse e in (
+              less_all m (x ∷ xs)
+                  (λ y k. elim k [
+                    | inl is ↦ ap (order m) (sym is) ∙ before
+                    | inr r ↦
+                        total.trans m x y before (all_less x y xs h.0 r)
+                  ]),
+              h,
+            )
       ] refl
 
   pub put_all-sorted : (ms xs : List A) → IsStrictlySortedBy order xs → IsStrictlySortedBy order (put_all order ms xs)
@@ -95,10 +111,12 @@ module _ {A : Type 0} (order : A → A → Ordering) (total : IsTotalOrder order
   put_all-keeps (m ∷ ms) xs y h = put_all-keeps ms (put order m xs) y (put-keeps m y xs h)
 
   -- where only equal elements of the two lists tie
-  pub put_all-has : (ms xs : List A) (y : A) → ((a b : A) → In a xs ⊎ In a ms → In b ms → order a b ≡ Equal → a ≡ b) → In y ms → In y (put_all order ms xs)
+  pub put_all-has : (ms xs : List A) (y : A) → ((a b : A) → In a xs ⊎ In a ms → In b ms → order a b ≡ Equal → a ≡ b)
+      → In y ms → In y (put_all order ms xs)
   put_all-has [] xs y same h = absurd h
   put_all-has (m ∷ ms) xs y same (inl e) =
-      put_all-keeps ms (put order m xs) y (subst (λ z. In z (put order m xs)) e (put-has m xs (λ x k t. same x m (inl k) (inl refl) t)))
+      put_all-keeps ms (put order m xs) y
+      (subst (λ z. In z (put order m xs)) e (put-has m xs (λ x k t. same x m (inl k) (inl refl) t)))
   put_all-has (m ∷ ms) xs y same (inr h) =
       put_all-has ms (put order m xs) y
       (λ a b k l t. same a b
@@ -111,7 +129,8 @@ module _ {A : Type 0} (order : A → A → Ordering) (total : IsTotalOrder order
   put_all-append (m ∷ ms) ns xs = put_all-append ms ns (put order m xs)
 
   -- The steps of a loop that looks for the place.
-  module _ (m x : A) (xs : List A) (i : ℕ) (h : i < length xs) (is : x ≡ get_or xs i x) (rest : take i xs ++ put order m (drop i xs) ≡ put order m xs) where
+  module _ (m x : A) (xs : List A) (i : ℕ) (h : i < length xs) (is : x ≡ get_or xs i x)
+      (rest : take i xs ++ put order m (drop i xs) ≡ put order m xs) where
     here : drop i xs ≡ x ∷ drop (i + 1) xs
     here = drop_more xs i x h ∙ ap (λ y. y ∷ drop (i + 1) xs) (sym is)
 
@@ -120,25 +139,32 @@ module _ {A : Type 0} (order : A → A → Ordering) (total : IsTotalOrder order
 
     pub put-at_equal : order x m ≡ Equal → xs ≡ put order m xs
     put-at_equal e =
-        sym (take-append-drop i xs) ∙ ap (λ r. take i xs ++ r) (here ∙ sym (by_here ∙ ap (λ o. put_by o m x (drop (i + 1) xs) (put order m (drop (i + 1) xs))) e)) ∙ rest
+        sym (take-append-drop i xs) ∙ ap (λ r. take i xs ++ r)
+        (here ∙ sym (by_here ∙ ap (λ o. put_by o m x (drop (i + 1) xs) (put order m (drop (i + 1) xs))) e)) ∙ rest
 
     pub put-at_greater : order x m ≡ Greater → take i xs ++ m ∷ drop i xs ≡ put order m xs
     put-at_greater e =
-        ap (λ r. take i xs ++ r) (ap (λ r. m ∷ r) here ∙ sym (by_here ∙ ap (λ o. put_by o m x (drop (i + 1) xs) (put order m (drop (i + 1) xs))) e)) ∙ rest
+        ap (λ r. take i xs ++ r) (ap (λ r. m ∷ r) here
+        ∙ sym (by_here ∙ ap (λ o. put_by o m x (drop (i + 1) xs) (put order m (drop (i + 1) xs))) e)) ∙ rest
 
     pub put-at_less : order x m ≡ Less → take (i + 1) xs ++ put order m (drop (i + 1) xs) ≡ put order m xs
     put-at_less e =
         ap (λ r. r ++ put order m (drop (i + 1) xs)) (take_more xs i x h ∙ ap (λ y. take i xs ++ y ∷ []) (sym is))
         ∙ append_assoc (take i xs) (x ∷ []) (put order m (drop (i + 1) xs))
-        ∙ ap (λ r. take i xs ++ r) (sym (by_here ∙ ap (λ o. put_by o m x (drop (i + 1) xs) (put order m (drop (i + 1) xs))) e)) ∙ rest
+        ∙ ap (λ r. take i xs ++ r)
+        (sym (by_here ∙ ap (λ o. put_by o m x (drop (i + 1) xs) (put order m (drop (i + 1) xs))) e)) ∙ rest
 
-  pub put-at_end : (m : A) (xs : List A) (i : ℕ) → length xs ≤ i → take i xs ++ put order m (drop i xs) ≡ put order m xs → xs ++ m ∷ [] ≡ put order m xs
+  pub put-at_end : (m : A) (xs : List A) (i : ℕ) → length xs ≤ i → take i xs ++ put order m (drop i xs) ≡ put order m xs
+      → xs ++ m ∷ [] ≡ put order m xs
   put-at_end m xs i h rest =
       let none : drop i xs ≡ [] = grind (arith, common_steps) in
       sym (ap (λ r. r ++ m ∷ []) (take_all i xs h)) ∙ ap (λ r. take i xs ++ put order m r) (sym none) ∙ rest
 
   -- one more piece
-  pub put_all-more : {B : Type 0} (f : B → List A) (xs : List B) (i : ℕ) (x : B) (before old new : List A) → i < length xs → x ≡ get_or xs i x → old ≡ put_all order (flat_map f (take i xs)) before → new ≡ put_all order (f x) old → new ≡ put_all order (flat_map f (take (i + 1) xs)) before
+  pub put_all-more : {B : Type 0} (f : B → List A) (xs : List B) (i : ℕ) (x : B) (before old new : List A)
+      → i < length xs → x ≡ get_or xs i x → old ≡ put_all order (flat_map f (take i xs)) before
+      → new ≡ put_all order (f x) old → new ≡ put_all order (flat_map f (take (i + 1) xs)) before
   put_all-more f xs i x before old new h is so_far step =
       step ∙ ap (put_all order (f x)) so_far ∙ sym (put_all-append (flat_map f (take i xs)) (f x) before)
-      ∙ ap (λ ms. put_all order ms before) (flat_map_more f [] (take i xs) x ∙ ap (flat_map f) (ap (λ y. take i xs ++ y ∷ []) is ∙ sym (take_more xs i x h)))
+      ∙ ap (λ ms. put_all order ms before) (flat_map_more f [] (take i xs) x
+      ∙ ap (flat_map f) (ap (λ y. take i xs ++ y ∷ []) is ∙ sym (take_more xs i x h)))

@@ -1,5 +1,6 @@
 -- How many elements at the end of a list pass a test, in a row.
-use Rattle.std.proofs.Common.{◌≡◌, ℕ, zero, suc, ◌+◌, ◌-◌, ◌≤◌, Bool, true, false, ◌&&◌, cond, List, [], ◌∷◌, ◌++◌, length, drop, refl, sym, ap, ◌∙◌, arith, length-append}
+use Rattle.std.proofs.Common.{◌≡◌, ℕ, zero, suc, ◌+◌, ◌-◌, ◌≤◌, Bool, true, false, ◌&&◌, cond, List, [], ◌∷◌, ◌++◌}
+use Rattle.std.proofs.Common.{length, drop, refl, sym, ap, ◌∙◌, arith, length-append}
 use Rattle.std.specs.Prelude.{nat_le, reverse}
 use Rattle.std.specs.List.{list_all, prefix_len, suffix_len}
 use Rattle.std.proofs.lemmas.Grind.{common_steps}
@@ -8,7 +9,8 @@ use Rattle.std.proofs.lemmas.List.Folds.{list_all-append}
 
 module _ {X : Type 0} (test : X → Bool) where
   -- one element more
-  pub suffix_len-more : (xs : List X) (x : X) → suffix_len test (xs ++ x ∷ []) ≡ cond (test x) (1 + suffix_len test xs) 0
+  pub suffix_len-more : (xs : List X) (x : X)
+      → suffix_len test (xs ++ x ∷ []) ≡ cond (test x) (1 + suffix_len test xs) 0
   suffix_len-more xs x = ap (prefix_len test) (reverse-append xs (x ∷ []))
 
   -- the last n elements are all so
@@ -16,7 +18,8 @@ module _ {X : Type 0} (test : X → Bool) where
   end_so n xs = nat_le n (length xs) && list_all test (drop (length xs - n) xs)
 
   none-so : (xs : List X) → end_so 0 xs ≡ true
-  none-so xs = let e : drop (length xs - 0) xs ≡ [] = drop_all (length xs - 0) xs (omega arith) in rw e (grind (arith, common_steps))
+  none-so xs = let e : drop (length xs - 0) xs ≡ [] = drop_all (length xs - 0) xs (omega arith) in
+      rw e (grind (arith, common_steps))
 
   drop-more : (k : ℕ) (xs : List X) (x : X) → k ≤ length xs → drop k (xs ++ x ∷ []) ≡ drop k xs ++ x ∷ []
   drop-more zero xs x h = refl
@@ -43,11 +46,17 @@ module _ {X : Type 0} (test : X → Bool) where
   so-more n xs x =
       let long : length (xs ++ x ∷ []) ≡ length xs + 1 = length-append xs (x ∷ []) in
       let at : length (xs ++ x ∷ []) - suc n ≡ length xs - n = omega (arith, long) in
-      let cut : drop (length (xs ++ x ∷ []) - suc n) (xs ++ x ∷ []) ≡ drop (length xs - n) xs ++ x ∷ [] = ap (λ k. drop k (xs ++ x ∷ [])) at ∙ drop-more (length xs - n) xs x (omega arith) in
-      let all : list_all test (drop (length (xs ++ x ∷ []) - suc n) (xs ++ x ∷ [])) ≡ cond (test x) (list_all test (drop (length xs - n) xs)) false =
-      ap (list_all test) cut ∙ list_all-append test (drop (length xs - n) xs) (x ∷ []) ∙ last-so (list_all test (drop (length xs - n) xs)) (test x) in
-      let enough : nat_le (suc n) (length (xs ++ x ∷ [])) ≡ nat_le n (length xs) = ap (nat_le (suc n)) long ∙ shorter n (length xs) in
-      (λ i. enough i && all i) ∙ elim (test x) as (λ b. (nat_le n (length xs) && cond b (list_all test (drop (length xs - n) xs)) false) ≡ cond b (end_so n xs) false) [
+      let cut : drop (length (xs ++ x ∷ []) - suc n) (xs ++ x ∷ []) ≡ drop (length xs - n) xs ++ x ∷ [] =
+      ap (λ k. drop k (xs ++ x ∷ [])) at ∙ drop-more (length xs - n) xs x (omega arith) in
+      let all : list_all test (drop (length (xs ++ x ∷ []) - suc n) (xs ++ x ∷ []))
+      ≡ cond (test x) (list_all test (drop (length xs - n) xs)) false =
+      ap (list_all test) cut ∙ list_all-append test (drop (length xs - n) xs) (x ∷ [])
+      ∙ last-so (list_all test (drop (length xs - n) xs)) (test x) in
+      let enough : nat_le (suc n) (length (xs ++ x ∷ [])) ≡ nat_le n (length xs) = ap (nat_le (suc n)) long
+      ∙ shorter n (length xs) in
+      (λ i. enough i && all i)
+      ∙ elim (test x) as (λ b. (nat_le n (length xs) && cond b (list_all test (drop (length xs - n) xs)) false)
+      ≡ cond b (end_so n xs) false) [
         | true ↦ refl
         | false ↦ elim (nat_le n (length xs)) as (λ b. (b && false) ≡ false) [ true ↦ refl | false ↦ refl ]
       ]
@@ -68,7 +77,8 @@ module _ {X : Type 0} (test : X → Bool) where
   backwards (suc n) [] = fails (nat_le (suc n) 0) _ (le-none n) ∙ sym (le-none n)
   backwards (suc n) (y ∷ ys) =
       let turned : reverse (y ∷ ys) ≡ reverse ys ++ y ∷ [] = reverse-append (y ∷ []) ys in
-      ap (end_so (suc n)) turned ∙ so-more n (reverse ys) y ∙ ap (λ b. cond (test y) b false) (backwards n ys) ∙ passed n (prefix_len test ys) (test y)
+      ap (end_so (suc n)) turned ∙ so-more n (reverse ys) y ∙ ap (λ b. cond (test y) b false) (backwards n ys)
+      ∙ passed n (prefix_len test ys) (test y)
 
   -- the last n elements are all so exactly where the run at the end has at least n
   pub end_so-run : (n : ℕ) (xs : List X) → end_so n xs ≡ nat_le n (suffix_len test xs)

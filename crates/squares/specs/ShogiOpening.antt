@@ -13,7 +13,8 @@ use Rattle.squares.specs.ShogiSets.{ShogiPosition}
 
 -- what stands on a file of the back rank: from the fifth file outward king, golds, silvers, knights and lances
 abbrev pub back_role : ℕ → Role
-back_role file = if file == 5 then King else if file == 4 || file == 6 then Gold else if file == 3 || file == 7 then Silver else if file == 2 || file == 8 then Knight else Lance
+back_role file = if file == 5 then King else if file == 4 || file == 6 then Gold else if file == 3 || file ==
+    7 then Silver else if file == 2 || file == 8 then Knight else Lance
 
 -- what stands on the second rank of First: the rook on the second file and the bishop on the eighth
 abbrev pub second_role : ℕ → Option Role
@@ -21,7 +22,8 @@ second_role file = if file == 2 then Some Rook else if file == 8 then Some Bisho
 
 -- what First has on a file, so many ranks from its edge
 abbrev pub army_role : ℕ → ℕ → Option Role
-army_role file row = if row == 1 then Some (back_role file) else if row == 2 then second_role file else if row == 3 then Some Pawn else None
+army_role file row = if row == 1 then Some (back_role file) else if row == 2 then second_role file else if row ==
+    3 then Some Pawn else None
 
 -- a piece of the side, where it has that role there
 abbrev pub piece_of : Side → Option Role → Option SPiece
@@ -30,7 +32,8 @@ piece_of side (Some role) = Some (record { side = side; role = role })
 
 -- what stands on a file and a rank: Second's army is First's, turned about the middle of the board
 abbrev pub opening_piece : ℕ → ℕ → Option SPiece
-opening_piece file rank = if nat_le rank 3 then piece_of Second (army_role (10 - file) rank) else piece_of First (army_role file (10 - rank))
+opening_piece file rank = if nat_le rank 3 then piece_of Second (army_role (10 - file) rank) else piece_of First
+    (army_role file (10 - rank))
 
 abbrev pub opening_cell : ℕ → Option SPiece
 opening_cell n = opening_piece (file_of n) (rank_of n)
@@ -39,4 +42,10 @@ abbrev pub no_hand : Hand
 no_hand = record { rook = 0; bishop = 0; gold = 0; silver = 0; knight = 0; lance = 0; pawn = 0 }
 
 unfoldable pub opening : ShogiPosition
-opening = record { board = shogi_board_of (map opening_cell (range_with_len 0 81)); hands = record { first = no_hand; second = no_hand }; turn = First }
+opening =
+    record {
+      board = shogi_board_of (map opening_cell (range_with_len 0 81));
+      hands =
+          record { first = no_hand; second = no_hand };
+      turn = First;
+    }

@@ -27,10 +27,12 @@ piece_cmp = (piece_order.ghosts).cmp
 abbrev pub entry_cmp : ℕ × SPiece → ℕ × SPiece → Ordering
 entry_cmp = then_cmp (flip_args (on (λ e. e.0) nat_cmp)) (on (λ e. e.1) piece_cmp)
 
--- Boards are ordered by what stands on the first square where they differ. There nothing is less than a piece: so the board
+-- Boards are ordered by what stands on the first square where they differ. There nothing is less than a piece: so the
+-- board
 -- whose next piece stands on a later square is less, and one with no further piece is less than one that has one.
 unfoldable pub board_cmp : ShogiBoard → ShogiBoard → Ordering
 board_cmp = on map.entries (slice_cmp entry_cmp)
 
 unfoldable pub position_cmp : ShogiPosition → ShogiPosition → Ordering
-position_cmp = then_cmp (then_cmp (on (λ p. p.turn) side_cmp) (on (λ p. p.hands) hands_cmp)) (on (λ p. p.board) board_cmp)
+position_cmp = then_cmp (then_cmp (on (λ p. p.turn) side_cmp) (on (λ p. p.hands) hands_cmp))
+    (on (λ p. p.board) board_cmp)

@@ -18,7 +18,8 @@ use Rattle.squares.specs.declared.shogi.hand.Hands.{Hands}
 use Rattle.squares.specs.declared.shogi.piece.SPiece.{SPiece}
 use Rattle.squares.specs.ShogiBoard.{ShogiBoard}
 use Rattle.squares.specs.ShogiSets.{ShogiPosition}
-use Rattle.squares.specs.ShogiSamePosition.{same_shogi_position, same_shogi_position-itself, same_shogi_position-same, same_hand, same_hands-same}
+use Rattle.squares.specs.ShogiSamePosition.{same_shogi_position, same_shogi_position-itself, same_shogi_position-same}
+use Rattle.squares.specs.ShogiSamePosition.{same_hand, same_hands-same}
 use Rattle.squares.specs.DraughtsMarks.{nat_eq-same}
 use Rattle.squares.specs.ShogiOrder.{side_cmp, hands_cmp, piece_cmp, entry_cmp, board_cmp, position_cmp}
 
@@ -46,7 +47,8 @@ hands_cmp-tied a b e = same_hands-same a b (hands_laws.matches_eq-law a b ∙ e)
 
 piece_cmp-tied : (a b : SPiece) → is_eq (piece_cmp a b) ≡ true → a ≡ b
 piece_cmp-tied a b e =
-    let w = both (sameb side.the_type a.side b.side) (sameb role.the_type a.role b.role) (piece_laws.matches_eq-law a b ∙ e) in
+    let w = both (sameb side.the_type a.side b.side) (sameb role.the_type a.role b.role)
+    (piece_laws.matches_eq-law a b ∙ e) in
     let sides = same_true side.the_type tt a.side b.side w.0 in
     let roles = same_true role.the_type tt a.role b.role w.1 in
     λ i. record { side = sides i; role = roles i }
@@ -80,12 +82,14 @@ board_cmp-same a b e = map.same_entries_map a b (entries-tied (map.entries a) (m
 pub position_cmp-total : IsTotalOrder position_cmp
 unfolding position_cmp
 position_cmp-total =
-    then_total (then_total (on_total (λ p. p.turn) side_laws.total-law) (on_total (λ p. p.hands) hands_laws.total-law)) (on_total (λ p. p.board) board_cmp-total)
+    then_total (then_total (on_total (λ p. p.turn) side_laws.total-law) (on_total (λ p. p.hands) hands_laws.total-law))
+    (on_total (λ p. p.board) board_cmp-total)
 
 position_cmp-same : (p q : ShogiPosition) → is_eq (position_cmp p q) ≡ true → p ≡ q
 unfolding position_cmp
 position_cmp-same p q e =
-    let v = then_tied (ordering_then (side_cmp p.turn q.turn) (hands_cmp p.hands q.hands)) (board_cmp p.board q.board) e in
+    let v = then_tied (ordering_then (side_cmp p.turn q.turn) (hands_cmp p.hands q.hands)) (board_cmp p.board q.board) e
+    in
     let w = then_tied (side_cmp p.turn q.turn) (hands_cmp p.hands q.hands) v.0 in
     let turn = side_cmp-tied p.turn q.turn w.0 in
     let hands = hands_cmp-tied p.hands q.hands w.1 in
@@ -95,7 +99,9 @@ position_cmp-same p q e =
 pub position_cmp-tied : (p q : ShogiPosition) → same_shogi_position p q ≡ eq_by_cmp position_cmp p q
 position_cmp-tied p q =
     both_ways (same_shogi_position p q) (eq_by_cmp position_cmp p q)
-    (λ e. ap is_eq (subst (λ r. position_cmp p r ≡ Equal) (same_shogi_position-same p q e) (tied_itself position_cmp-total p)))
+    (λ e.
+    ap is_eq
+    (subst (λ r. position_cmp p r ≡ Equal) (same_shogi_position-same p q e) (tied_itself position_cmp-total p)))
     (λ e. subst (λ r. same_shogi_position p r ≡ true) (position_cmp-same p q e) (same_shogi_position-itself p))
 
 pub position_cmp-partial : IsPartialOrder same_shogi_position (as_partial_cmp position_cmp)

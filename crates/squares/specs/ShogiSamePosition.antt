@@ -1,4 +1,5 @@
--- Two positions of shogi are the same exactly where they are one position: the same pieces on the same squares, the same
+-- Two positions of shogi are the same exactly where they are one position: the same pieces on the same squares, the
+-- same
 -- hands, and the same turn.
 use Rattle.std.proofs.Common.{◌≡◌, ℕ, Bool, true, false, ◌&&◌, nat_eq, List, [], ◌∷◌, ◌∙◌, refl, sym, ap}
 use Rattle.std.specs.Cmp.{IsEquivalence, IsPartialEquivalence, partial_equiv_from_equiv, both_ways}
@@ -39,7 +40,10 @@ same_shogi_board a b = same_shogi_entries (map.entries a) (map.entries b)
 -- whether a hand holds as many of each kind as another
 unfoldable pub same_hand : Hand → Hand → Bool
 same_hand a b =
-    nat_eq a.rook b.rook && (nat_eq a.bishop b.bishop && (nat_eq a.gold b.gold && (nat_eq a.silver b.silver && (nat_eq a.knight b.knight && (nat_eq a.lance b.lance && nat_eq a.pawn b.pawn)))))
+    nat_eq a.rook b.rook &&
+    (nat_eq a.bishop b.bishop &&
+    (nat_eq a.gold b.gold &&
+    (nat_eq a.silver b.silver && (nat_eq a.knight b.knight && (nat_eq a.lance b.lance && nat_eq a.pawn b.pawn)))))
 
 abbrev pub same_hands : Hands → Hands → Bool
 same_hands a b = same_hand a.first b.first && same_hand a.second b.second
@@ -145,7 +149,10 @@ same_hand-itself : (a : Hand) → same_hand a a ≡ true
 unfolding same_hand
 same_hand-itself a =
     let itself : (n : ℕ) → nat_eq n n ≡ true = λ n. nat_eq_same n n refl in
-    λ i. itself a.rook i && (itself a.bishop i && (itself a.gold i && (itself a.silver i && (itself a.knight i && (itself a.lance i && itself a.pawn i)))))
+    λ i.
+    itself a.rook i &&
+    (itself a.bishop i &&
+    (itself a.gold i && (itself a.silver i && (itself a.knight i && (itself a.lance i && itself a.pawn i)))))
 
 pub same_hands-same : (a b : Hands) → same_hands a b ≡ true → a ≡ b
 same_hands-same a b e =
@@ -169,7 +176,8 @@ same_shogi_position-same p q e =
 
 pub same_shogi_position-itself : (p : ShogiPosition) → same_shogi_position p p ≡ true
 unfolding same_shogi_position
-same_shogi_position-itself p = λ i. same_side-itself p.turn i && (same_hands-itself p.hands i && same_shogi_board-itself p.board i)
+same_shogi_position-itself p = λ i. same_side-itself p.turn i &&
+    (same_hands-itself p.hands i && same_shogi_board-itself p.board i)
 
 same_shogi_position-swap : (p q : ShogiPosition) → same_shogi_position p q ≡ same_shogi_position q p
 same_shogi_position-swap p q =

@@ -1,4 +1,5 @@
--- A shogi position: a board, two hands and a turn, with one king for each side and no more pieces than the set of a game has.
+-- A shogi position: a board, two hands and a turn, with one king for each side and no more pieces than the set of a
+-- game has.
 use Rattle.std.specs.Prelude.{ℕ, ◌+◌, ◌≤◌, ◌≡◌, Option, Some, None, Bool, true, false, ◌&&◌, count_by}
 use Rattle.std.specs.List.{range_with_len}
 use Rattle.std.specs.FinMap as map

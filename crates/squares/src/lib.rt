@@ -1,4 +1,5 @@
-//! The words of both games: sides and scores, squares, pieces, hands, moves and positions. No rule of a game stands here.
+//! The words of both games: sides and scores, squares, pieces, hands, moves and positions. No rule of a game stands
+//! here.
 #![tactic(auto)]
 
 pub mod draughts;

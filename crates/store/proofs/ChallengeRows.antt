@@ -1,5 +1,6 @@
 -- The rows of challenges: their types, and the challenge that is found by a member and the member's number for it.
-use Rattle.std.proofs.Common.{◌≡◌, ◌≤◌, ℕ, ℤ, pos, List, [], ◌∷◌, map, Option, Some, None, refl, ap, sym, subst, ◌∙◌, arith, inl, inr}
+use Rattle.std.proofs.Common.{◌≡◌, ◌≤◌, ℕ, ℤ, pos, List, [], ◌∷◌, map, Option, Some, None, refl, ap, sym, subst, ◌∙◌}
+use Rattle.std.proofs.Common.{arith, inl, inr}
 use Rattle.std.specs.List.{AllByRecursion}
 use Rattle.std.proofs.lemmas.Bool.{and_parts}
 use Rattle.sqlite.specs.Order.{Row}
@@ -15,7 +16,8 @@ use Rattle.club_core.proofs.PutChallenges.{under-each, under-found, under-key}
 use Rattle.club_rows.specs.ChallengeRows.{challenge_key}
 use Rattle.club_rows.specs.Club.{ClubState, IsClub, tables}
 use Rattle.club_rows.specs.Tables.{challenge_row}
-use Rattle.club_rows.proofs.ChallengeLemmas.{challenge-shown, challenge-not-shown, challenge-told, no-challenge-told, challenges-alike}
+use Rattle.club_rows.proofs.ChallengeLemmas.{challenge-shown, challenge-not-shown, challenge-told, no-challenge-told}
+use Rattle.club_rows.proofs.ChallengeLemmas.{challenges-alike}
 use Rattle.store_tables.specs.Cells.{IsChallenge, challenge_cells}
 use Rattle.store_tables.specs.Contents.{AreThose}
 use Rattle.store_tables.specs.declared.rows.ChallengeRow.{ChallengeRow}
@@ -23,13 +25,58 @@ use Rattle.store_tables.specs.declared.rows.ChallengeRow.{ChallengeRow}
 -- ---- types
 
 challenge_typed : (c : Challenge) (standing : Standing) → c.standing ≡ standing → IsChallenge (challenge_row c)
-challenge_typed c standing is = subst (λ s. IsChallenge (challenge_row (record c { standing = s }))) (sym is) (typed standing)
+challenge_typed c standing is = subst (λ s. IsChallenge (challenge_row (record c { standing = s }))) (sym is)
+    (typed standing)
   where
     typed : (s : Standing) → IsChallenge (challenge_row (record c { standing = s }))
-    typed Open = record { width = refl; member = (_, refl); number = (_, refl); event = (_, refl); other = (_, refl); first = (_, refl); state = (_, refl); game = inl refl }
-    typed Withdrawn = record { width = refl; member = (_, refl); number = (_, refl); event = (_, refl); other = (_, refl); first = (_, refl); state = (_, refl); game = inl refl }
-    typed Refused = record { width = refl; member = (_, refl); number = (_, refl); event = (_, refl); other = (_, refl); first = (_, refl); state = (_, refl); game = inl refl }
-    typed (Accepted id) = record { width = refl; member = (_, refl); number = (_, refl); event = (_, refl); other = (_, refl); first = (_, refl); state = (_, refl); game = inr (_, refl) }
+    typed Open =
+        record {
+          width = refl;
+          member = (_, refl);
+          number = (_, refl);
+          event = (_, refl);
+          other = (_, refl);
+          first =
+              (_, refl);
+          state = (_, refl);
+          game = inl refl;
+        }
+    typed Withdrawn =
+        record {
+          width = refl;
+          member = (_, refl);
+          number = (_, refl);
+          event = (_, refl);
+          other = (_, refl);
+          first =
+              (_, refl);
+          state = (_, refl);
+          game = inl refl;
+        }
+    typed Refused =
+        record {
+          width = refl;
+          member = (_, refl);
+          number = (_, refl);
+          event = (_, refl);
+          other = (_, refl);
+          first =
+              (_, refl);
+          state = (_, refl);
+          game = inl refl;
+        }
+    typed (Accepted id) =
+        record {
+          width = refl;
+          member = (_, refl);
+          number = (_, refl);
+          event = (_, refl);
+          other = (_, refl);
+          first =
+              (_, refl);
+          state = (_, refl);
+          game = inr (_, refl);
+        }
 
 pub challenges_typed : (cs : List Challenge) → AllByRecursion IsChallenge (map challenge_row cs)
 challenges_typed [] = tt
@@ -38,29 +85,38 @@ challenges_typed (c ∷ cs) = (challenge_typed c c.standing refl, challenges_typ
 -- ---- a challenge that is looked for
 
 -- the columns that are asked for, by numbers of 64 bits
-pub asked : (member own : ℤ) (m n : ℕ) → member ≡ pos m → own ≡ pos n → ◌≡◌ {A = Row} (Int member ∷ Int own ∷ []) (challenge_key m n)
+pub asked : (member own : ℤ) (m n : ℕ) → member ≡ pos m → own ≡ pos n
+    → ◌≡◌ {A = Row} (Int member ∷ Int own ∷ []) (challenge_key m n)
 asked member own m n one two = λ i. Int (one i) ∷ Int (two i) ∷ []
 
 module _ (s : ClubState) (is_club : IsClub s) (m n : ℕ) where
   -- the first of the rows that were found is that of the member's challenge
-  pub found_some : (wanted : Row) (rows : List Row) (row : ChallengeRow) (c : Challenge) → wanted ≡ challenge_key m n → AreThose (0 ∷ 1 ∷ []) wanted (tables s 6) rows → Has rows (challenge_cells row)
+  pub found_some : (wanted : Row) (rows : List Row) (row : ChallengeRow) (c : Challenge) → wanted ≡ challenge_key m n
+      → AreThose (0 ∷ 1 ∷ []) wanted (tables s 6) rows → Has rows (challenge_cells row)
       → challenge_cells row ≡ challenge_row c → Some c ≡ challenge_under s.challenges m n
   found_some wanted rows row c key those has is =
-      let shown = challenge-shown (tables s 6) rows m n row (subst (λ w. AreThose (0 ∷ 1 ∷ []) w (tables s 6) rows) key those) has in
+      let shown = challenge-shown (tables s 6) rows m n row
+      (subst (λ w. AreThose (0 ∷ 1 ∷ []) w (tables s 6) rows) key those) has in
       let (known, under, cells) = challenge-told s.challenges m n row is_club.challenge_numbers shown in
       ap Some (challenges-alike c known (sym is ∙ cells)) ∙ sym under
 
   -- where none was found there is none
-  pub found_none : (wanted : Row) (rows : List Row) → wanted ≡ challenge_key m n → AreThose (0 ∷ 1 ∷ []) wanted (tables s 6) rows → rows ≡ [] → ◌≡◌ {A = Option Challenge} None (challenge_under s.challenges m n)
+  pub found_none : (wanted : Row) (rows : List Row) → wanted ≡ challenge_key m n
+      → AreThose (0 ∷ 1 ∷ []) wanted (tables s 6) rows → rows ≡ []
+      → ◌≡◌ {A = Option Challenge} None (challenge_under s.challenges m n)
   found_none wanted rows key those none =
-      let shown = challenge-not-shown (tables s 6) m n (subst (λ l. AreThose (0 ∷ 1 ∷ []) (challenge_key m n) (tables s 6) l) none (subst (λ w. AreThose (0 ∷ 1 ∷ []) w (tables s 6) rows) key those)) in
+      let shown = challenge-not-shown (tables s 6) m n
+      (subst (λ l. AreThose (0 ∷ 1 ∷ []) (challenge_key m n) (tables s 6) l) none
+      (subst (λ w. AreThose (0 ∷ 1 ∷ []) w (tables s 6) rows) key those)) in
       sym (no-challenge-told s.challenges m n shown)
 
 -- no challenge of a legal club has a number above the greatest
-pub past_numbers : (s : ClubState) → IsClub s → (m n : ℕ) → (n ≤ 9999 → ⊥) → ◌≡◌ {A = Option Challenge} None (challenge_under s.challenges m n)
+pub past_numbers : (s : ClubState) → IsClub s → (m n : ℕ) → (n ≤ 9999 → ⊥)
+    → ◌≡◌ {A = Option Challenge} None (challenge_under s.challenges m n)
 past_numbers s is_club m n high = here (challenge_under s.challenges m n) refl
   where
-    here : (o : Option Challenge) → challenge_under s.challenges m n ≡ o → ◌≡◌ {A = Option Challenge} None (challenge_under s.challenges m n)
+    here : (o : Option Challenge) → challenge_under s.challenges m n ≡ o
+        → ◌≡◌ {A = Option Challenge} None (challenge_under s.challenges m n)
     here None is = sym is
     here (Some c) is =
         let legal = under-each (IsLegalChallenge s) s.challenges m n c is_club.challenges is in

@@ -9,7 +9,8 @@ use Rattle.store_tables.specs.Content.{Keeps}
 pub use Rattle.store_sql.proofs.Laws.{always}
 
 -- two lists of the rows of one table
-pub moved : (table : Definition) (db : Trees) (xs ys : List Row) → Keeps table db xs → Keeps table db ys → (z : Row) → Has xs z → Has ys z
+pub moved : (table : Definition) (db : Trees) (xs ys : List Row) → Keeps table db xs → Keeps table db ys → (z : Row)
+    → Has xs z → Has ys z
 moved table db xs ys one two z h = let r = one.stored z h in subst (Has ys) r.2 (two.only r.0 r.1)
 
 -- what holds of an answer tells what follows from it

@@ -1,5 +1,6 @@
 -- The row of a ply, by the rows that are found for it.
-use Rattle.std.proofs.Common.{◌≡◌, ℕ, zero, suc, ◌+◌, ◌-◌, ◌<◌, ◌≤◌, List, [], ◌∷◌, length, map, pos, Option, Some, None, true, refl, ap, sym, subst, subst₂, ◌∙◌, arith, inl, inr}
+use Rattle.std.proofs.Common.{◌≡◌, ℕ, zero, suc, ◌+◌, ◌-◌, ◌<◌, ◌≤◌, List, [], ◌∷◌, length, map, pos, Option, Some}
+use Rattle.std.proofs.Common.{None, true, refl, ap, sym, subst, subst₂, ◌∙◌, arith, inl, inr}
 use Rattle.std.specs.Prelude.{slice_get}
 use Rattle.std.specs.Option.{option_map}
 use Rattle.std.proofs.lemmas.Bool.{and_parts, and_from}
@@ -36,14 +37,18 @@ use Rattle.store.proofs.PlayedLemmas.{place_at}
 pos_same : (m n : ℕ) → pos m ≡ pos n → m ≡ n
 pos_same m n is = cc
 
-pub numbers_same : (a b : Row) (m n k j : ℕ) → column a 0 ≡ number m → column b 0 ≡ number n → column a 1 ≡ number k → column b 1 ≡ number j → same_key (0 ∷ 1 ∷ []) a b ≡ true → (m ≡ n) × (k ≡ j)
+pub numbers_same : (a b : Row) (m n k j : ℕ) → column a 0 ≡ number m → column b 0 ≡ number n → column a 1 ≡ number k
+    → column b 1 ≡ number j → same_key (0 ∷ 1 ∷ []) a b ≡ true → (m ≡ n) × (k ≡ j)
 unfolding first_key
 numbers_same a b m n k j p q r t same =
     let h = rw (p, q, r, t) at same in
-    let rest = (and_parts _ _ h).1 in
-    (pos_same m n (equal_ints (pos m) (pos n) (and_parts _ _ h).0), pos_same k j (equal_ints (pos k) (pos j) (and_parts _ _ rest).0))
+    let rest = (and_parts _ _ h).1 in (
+      pos_same m n (equal_ints (pos m) (pos n) (and_parts _ _ h).0),
+      pos_same k j (equal_ints (pos k) (pos j) (and_parts _ _ rest).0),
+    )
 
-numbers_alike : (a b : Row) (m k : ℕ) → column a 0 ≡ number m → column b 0 ≡ number m → column a 1 ≡ number k → column b 1 ≡ number k → same_key (0 ∷ 1 ∷ []) a b ≡ true
+numbers_alike : (a b : Row) (m k : ℕ) → column a 0 ≡ number m → column b 0 ≡ number m → column a 1 ≡ number k
+    → column b 1 ≡ number k → same_key (0 ∷ 1 ∷ []) a b ≡ true
 unfolding first_key
 numbers_alike a b m k p q r t =
     rw (p, q, r, t)
@@ -87,7 +92,8 @@ module _ {P M E T : Type 0} (laws : GameRules P M E T) (terms : Terms) (id : ℕ
 
 -- ---- no rows
 
-module _ {P M E T : Type 0} (laws : GameRules P M E T) (terms : Terms) (id : ℕ) (game : Game M) (rows : PlyRows) (no_at : rows.at ≡ None) (no_before : rows.before ≡ None) where
+module _ {P M E T : Type 0} (laws : GameRules P M E T) (terms : Terms) (id : ℕ) (game : Game M) (rows : PlyRows)
+    (no_at : rows.at ≡ None) (no_before : rows.before ≡ None) where
   -- there is no ply 0
   pub first_none : (ply : ℕ) → ply ≡ 0 → AreRowsAt laws terms id game ply rows
   first_none zero is = record { at = ap (option_map move_cells) no_at; before = ap (option_map move_cells) no_before }
@@ -108,7 +114,8 @@ one_at o x y one two = let e = sym one ∙ two in cc
 number_same : (m n : ℕ) → number m ≡ number n → m ≡ n
 number_same m n is = cc
 
-module _ {P M E T : Type 0} {laws : GameRules P M E T} {kind : GameKind} (k : Kind laws kind) (s : ClubState) (id : ℕ) (g : Game M) (here : place s.games id ≡ Some (k.into g)) where
+module _ {P M E T : Type 0} {laws : GameRules P M E T} {kind : GameKind} (k : Kind laws kind) (s : ClubState) (id : ℕ)
+    (g : Game M) (here : place s.games id ≡ Some (k.into g)) where
   abbrev terms : Terms
   terms = terms_at (place s.events g.event)
 
@@ -122,21 +129,26 @@ module _ {P M E T : Type 0} {laws : GameRules P M E T} {kind : GameKind} (k : Ki
       let (n, x, stands, in_rows) = gathered_had all 1 s.games z has in
       let same : 1 + n ≡ id = number_same (1 + n) id (sym (moves_had both_games s.events (1 + n) x z in_rows) ∙ is) in
       let n_is : n ≡ m = omega (arith, same, id_is) in
-      let x_is : x ≡ k.into g = one_at (slice_get s.games m) x (k.into g) (subst (λ i. slice_get s.games i ≡ Some x) n_is stands) there in
+      let x_is : x ≡ k.into g = one_at (slice_get s.games m) x (k.into g)
+      (subst (λ i. slice_get s.games i ≡ Some x) n_is stands) there in
       subst (λ l. Has l z) (k.moves s.events id g) (subst₂ (λ i y. Has (all i y) z) same x_is in_rows)
 
   -- and the game's are rows of the table
   pub in_table : (z : Row) → Has (move_rows laws terms id g) z → Has (tables s 8) z
   in_table z has =
       let (m, id_is, there) = place_at s.games id (k.into g) here in
-      gathered_has all 1 s.games m (k.into g) z there (subst (λ i. Has (all i (k.into g)) z) id_is (subst (λ l. Has l z) (sym (k.moves s.events id g)) has))
+      gathered_has all 1 s.games m (k.into g) z there
+      (subst (λ i. Has (all i (k.into g)) z) id_is (subst (λ l. Has l z) (sym (k.moves s.events id g)) has))
 
   pub id_of : (z : Row) → Has (move_rows laws terms id g) z → column z 0 ≡ number id
   id_of z has = moves_had both_games s.events id (k.into g) z (subst (λ l. Has l z) (sym (k.moves s.events id g)) has)
 
   pub tells_moves : TellsMoves laws terms id g (tables s)
   tells_moves ply [] those =
-      sym (no_row laws terms id g ply (λ z has is. those.complete z (in_table z has) (numbers_alike z (number id ∷ number ply ∷ []) id ply (id_of z has) refl is refl)))
+      sym
+      (no_row laws terms id g ply (λ z has is.
+      those.complete z (in_table z has)
+      (numbers_alike z (number id ∷ number ply ∷ []) id ply (id_of z has) refl is refl)))
   tells_moves ply (r ∷ rs) those =
       let z : Row = move_cells r in
       let here_z = those.sound z (inl refl) in
@@ -145,5 +157,6 @@ module _ {P M E T : Type 0} {laws : GameRules P M E T} {kind : GameKind} (k : Ki
       let id_is = same-numbers z (number id ∷ number ply ∷ []) (1 + n) id first refl here_z.1 in
       let has = of_game z here_z.0 (first ∙ ap number id_is) in
       let (i, at) = had_at (move_rows laws terms id g) z has in
-      let keys = numbers_same z (number id ∷ number ply ∷ []) id id (suc i) ply (id_of z has) refl (ply_is laws terms id g i z at) refl here_z.1 in
+      let keys = numbers_same z (number id ∷ number ply ∷ []) id id (suc i) ply (id_of z has) refl
+      (ply_is laws terms id g i z at) refl here_z.1 in
       sym at ∙ ap (row_at laws terms id g) keys.1

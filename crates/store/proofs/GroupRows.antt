@@ -1,5 +1,6 @@
 -- The rows of one game that were read of the tables of a club are the game's.
-use Rattle.std.proofs.Common.{◌≡◌, ℕ, ℤ, pos, ◌+◌, ◌<◌, List, [], ◌∷◌, length, map, get_or, Some, refl, ap, sym, subst, ◌∙◌, arith, Equal, Ordering}
+use Rattle.std.proofs.Common.{◌≡◌, ℕ, ℤ, pos, ◌+◌, ◌<◌, List, [], ◌∷◌, length, map, get_or, Some, refl, ap, sym, subst}
+use Rattle.std.proofs.Common.{◌∙◌, arith, Equal, Ordering}
 use Rattle.std.specs.Prelude.{slice_get}
 use Rattle.std.specs.List.Sorted.{IsSorted, IsPermutation}
 use Rattle.std.specs.Ordering.{is_lt, ordering_then}
@@ -50,33 +51,43 @@ seen_had id (shogi g) z h = seen-id id (texts_of both_games.shogi g) z h
 
 -- ---- what is stored, and what is shown
 
-pub shown_same : (table : Definition) (db : Trees) (rows : List Row) → Keeps table db rows → HaveSame (map (cells table) (db table.tree)) rows
+pub shown_same : (table : Definition) (db : Trees) (rows : List Row) → Keeps table db rows
+    → HaveSame (map (cells table) (db table.tree)) rows
 shown_same table db rows keeps = record {
-  there = λ z h. let (r, stored, is) = has_mapped (cells table) (db table.tree) z h in subst (Has rows) (sym is) (keeps.only r stored);
-  back = λ z h. let (r, stored, is) = keeps.stored z h in subst (Has (map (cells table) (db table.tree))) is (has_map (cells table) (db table.tree) r stored);
+  there = λ z h. let (r, stored, is) = has_mapped (cells table) (db table.tree) z h in
+      subst (Has rows) (sym is) (keeps.only r stored);
+  back = λ z h. let (r, stored, is) = keeps.stored z h in
+      subst (Has (map (cells table) (db table.tree))) is (has_map (cells table) (db table.tree) r stored);
 }
 
 pub turned_same : (xs ys : List Row) → IsPermutation xs ys → HaveSame xs ys
-turned_same xs ys is = record { there = λ z h. has_turned xs ys z is h; back = λ z h. has_turned ys xs z (IsPermutation-sym xs ys is) h }
+turned_same xs ys is =
+    record { there = λ z h. has_turned xs ys z is h; back = λ z h. has_turned ys xs z (IsPermutation-sym xs ys is) h }
 
 pub same_back : (xs ys : List Row) → HaveSame xs ys → HaveSame ys xs
 same_back xs ys same = record { there = same.back; back = same.there }
 
 pub same_on : (xs ys zs : List Row) → HaveSame xs ys → HaveSame ys zs → HaveSame xs zs
-same_on xs ys zs one two = record { there = λ z h. two.there z (one.there z h); back = λ z h. one.back z (two.back z h) }
+same_on xs ys zs one two =
+    record { there = λ z h. two.there z (one.there z h); back = λ z h. one.back z (two.back z h) }
 
 -- ---- rows with one number, by the rest of their key
 
 same_order : (n : ℤ) (a b : Row) → column a 0 ≡ Int n → column b 0 ≡ Int n → by a b ≡ by_others 2 a b
 same_order n a b one two =
-    let tie : value_cmp (column a 0) (column b 0) ≡ Equal = (λ i. value_cmp (one i) (two i)) ∙ tied_itself value_cmp_total (Int n) in
+    let tie : value_cmp (column a 0) (column b 0) ≡ Equal = (λ i. value_cmp (one i) (two i))
+    ∙ tied_itself value_cmp_total (Int n) in
     ap (λ o. ordering_then o (ordering_then (value_cmp (column a 1) (column b 1)) Equal)) tie
 
-by_sorted : (rows : List Row) (n : ℤ) → ((x : Row) → Has rows x → column x 0 ≡ Int n) → IsSorted (by_others 2) rows → IsSorted by rows
+by_sorted : (rows : List Row) (n : ℤ) → ((x : Row) → Has rows x → column x 0 ≡ Int n) → IsSorted (by_others 2) rows
+    → IsSorted by rows
 by_sorted rows n all sorted k d low high =
     let later : k + 1 < length rows = omega arith in
     let here : k < length rows = omega arith in
-    ap is_lt (same_order n (get_or rows (k + 1) d) (get_or rows k d) (all (get_or rows (k + 1) d) (has_index rows (k + 1) d later)) (all (get_or rows k d) (has_index rows k d here))) ∙ sorted k d low high
+    ap is_lt
+    (same_order n (get_or rows (k + 1) d) (get_or rows k d)
+    (all (get_or rows (k + 1) d) (has_index rows (k + 1) d later))
+    (all (get_or rows k d) (has_index rows k d here))) ∙ sorted k d low high
 
 module _ (s : ClubState) (club : IsClub s) (db : Database) (holds : Holds db (tables_of both_games s)) where
   sound : IsSound club_schema db.trees
@@ -95,42 +106,59 @@ module _ (s : ClubState) (club : IsClub s) (db : Database) (holds : Holds db (ta
   seen_same = shown_same (seen 12) db.trees (tables_of both_games s 12) seen_stored.rows
 
   -- no row is left when those of all games were read
-  pub none_left : (length (past (length s.games) (moves_in db.trees)) ≡ 0) × (length (past (length s.games) (seen_in db.trees)) ≡ 0)
+  pub none_left : (length (past (length s.games) (moves_in db.trees)) ≡ 0)
+      × (length (past (length s.games) (seen_in db.trees)) ≡ 0)
   none_left = (
-    table_past (rows_of_moves both_games s.events) (λ id g z h. moves_had both_games s.events id g z h) (moves_in db.trees) s.games moves_same,
+    table_past (rows_of_moves both_games s.events) (λ id g z h. moves_had both_games s.events id g z h)
+        (moves_in db.trees) s.games moves_same,
     table_past (rows_of_seen both_games) (λ id g z h. seen_had id g z h) (seen_in db.trees) s.games seen_same,
   )
 
   ints : (r : Row) → Has (db.trees 8) r → IsInt (column r 1) × IsInt (column r 2)
-  ints r h = let typed = all_has IsMove (tables_of both_games s 8) (cells (moves 8) r) (moves-typed s club) (moves_stored.rows.only r h) in (typed.game, typed.ply)
+  ints r h = let typed = all_has IsMove (tables_of both_games s 8) (cells (moves 8) r) (moves-typed s club)
+      (moves_stored.rows.only r h) in (typed.game, typed.ply)
 
-  module _ (n : ℕ) (g : ClubGame) (at : slice_get s.games n ≡ Some g) (rows : List Row) (old new : State) (here : old.now ≡ db) where
+  module _ (n : ℕ) (g : ClubGame) (at : slice_get s.games n ≡ Some g) (rows : List Row) (old new : State)
+      (here : old.now ≡ db) where
     trees_are : old.now.trees ≡ db.trees
     trees_are = ap (λ (d : Database). d.trees) here
 
     -- the rows of its moves are those of the game, in their order
-    pub own_moves : AreReadOf (moves 8) 2 (pos (1 + n)) rows old new → rows ≡ rows_of_moves both_games s.events (1 + n) g
+    pub own_moves : AreReadOf (moves 8) 2 (pos (1 + n)) rows old new
+        → rows ≡ rows_of_moves both_games s.events (1 + n) g
     own_moves read =
         let made = rows_of_moves both_games s.events (1 + n) g in
         let shown = moves_in db.trees in
-        let once : IsPermutation (beginning_with (pos (1 + n)) shown) rows = subst (λ (t : Trees). IsPermutation (beginning_with (pos (1 + n)) (moves_in t)) rows) trees_are read.once in
-        let group = table_group (rows_of_moves both_games s.events) (λ id x z h. moves_had both_games s.events id x z h) shown s.games moves_same n g at in
-        let same : HaveSame rows made = same_on rows (beginning_with (pos (1 + n)) shown) made (same_back _ _ (turned_same _ rows once)) group in
-        let sorted = by_sorted rows (pos (1 + n)) (λ x h. moves_had both_games s.events (1 + n) g x (same.there x h)) read.sorted in
+        let once : IsPermutation (beginning_with (pos (1 + n)) shown) rows =
+        subst (λ (t : Trees). IsPermutation (beginning_with (pos (1 + n)) (moves_in t)) rows) trees_are read.once in
+        let group = table_group (rows_of_moves both_games s.events) (λ id x z h. moves_had both_games s.events id x z h)
+        shown s.games moves_same n g at in
+        let same : HaveSame rows made = same_on rows (beginning_with (pos (1 + n)) shown) made
+        (same_back _ _ (turned_same _ rows once)) group in
+        let sorted = by_sorted rows (pos (1 + n)) (λ x h. moves_had both_games s.events (1 + n) g x (same.there x h))
+        read.sorted in
         let apart = pairs_turned Apart apart_back (beginning_with (pos (1 + n)) shown) rows once
-        (ascending-filter Apart (λ x. same_key (0 ∷ []) x (Int (pos (1 + n)) ∷ [])) shown (stored_apart db.trees sound moves_stored.apart ints)) in
+        (ascending-filter Apart (λ x. same_key (0 ∷ []) x (Int (pos (1 + n)) ∷ [])) shown
+        (stored_apart db.trees sound moves_stored.apart ints)) in
         one_rising rows made (rises rows sorted apart) (game_rise s.events (1 + n) g) same.there same.back
 
     -- those of its positions are the game's, each once
-    pub own_seen : AreReadOf (seen 12) 2 (pos (1 + n)) rows old new → AreEachOnce rows (rows_of_seen both_games (1 + n) g)
+    pub own_seen : AreReadOf (seen 12) 2 (pos (1 + n)) rows old new
+        → AreEachOnce rows (rows_of_seen both_games (1 + n) g)
     own_seen read =
         let made = rows_of_seen both_games (1 + n) g in
         let shown = seen_in db.trees in
-        let once : IsPermutation (beginning_with (pos (1 + n)) shown) rows = subst (λ (t : Trees). IsPermutation (beginning_with (pos (1 + n)) (seen_in t)) rows) trees_are read.once in
-        let group = table_group (rows_of_seen both_games) (λ id x z h. seen_had id x z h) shown s.games seen_same n g at in
-        let keyed = seen_key db.trees sound (λ r h. all_has IsSeen (tables_of both_games s 12) (cells (seen 12) r) (seen-typed s club) (seen_stored.rows.only r h)) in
+        let once : IsPermutation (beginning_with (pos (1 + n)) shown) rows =
+        subst (λ (t : Trees). IsPermutation (beginning_with (pos (1 + n)) (seen_in t)) rows) trees_are read.once in
+        let group = table_group (rows_of_seen both_games) (λ id x z h. seen_had id x z h) shown s.games seen_same n g at
+        in
+        let keyed =
+        seen_key db.trees sound
+        (λ r h. all_has IsSeen (tables_of both_games s 12) (cells (seen 12) r) (seen-typed s club)
+        (seen_stored.rows.only r h)) in
         record {
           same = same_on rows (beginning_with (pos (1 + n)) shown) made (same_back _ _ (turned_same _ rows once)) group;
           once = at_once rows (pairs_turned Differ differ_back (beginning_with (pos (1 + n)) shown) rows once
-              (ascending-filter Differ (λ x. same_key (0 ∷ []) x (Int (pos (1 + n)) ∷ [])) shown (stored_differ (seen 12) (1 ∷ 2 ∷ []) (db.trees 12) seen_stored.apart keyed)));
+              (ascending-filter Differ (λ x. same_key (0 ∷ []) x (Int (pos (1 + n)) ∷ [])) shown
+              (stored_differ (seen 12) (1 ∷ 2 ∷ []) (db.trees 12) seen_stored.apart keyed)));
         }

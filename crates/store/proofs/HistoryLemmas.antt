@@ -1,6 +1,8 @@
 -- What sessions of a club lead to, counted by the requests that are accepted.
 use Rattle.store_tables.specs.Tables.{club_schema, schema_after}
-use Rattle.std.proofs.Common.{◌≡◌, ◌⊎◌, ℕ, zero, suc, ◌+◌, ◌≤◌, Bool, true, false, List, [], ◌∷◌, ◌++◌, map, length, take, Option, Some, None, IsSome, IsTrue, is_none, refl, sym, ap, subst, ◌∙◌, inl, inr, arith}
+use Rattle.std.proofs.Common.{◌≡◌, ◌⊎◌, ℕ, zero, suc, ◌+◌, ◌≤◌, Bool, true, false, List, [], ◌∷◌, ◌++◌, map, length}
+use Rattle.std.proofs.Common.{take, Option, Some, None, IsSome, IsTrue, is_none, refl, sym, ap, subst, ◌∙◌, inl, inr}
+use Rattle.std.proofs.Common.{arith}
 use Rattle.std.specs.Prelude.{if◌then◌else◌}
 use Rattle.std.specs.List.{count_by}
 use Rattle.std.proofs.lemmas.List.{take-map, take_all}
@@ -22,10 +24,12 @@ use Rattle.store.specs.declared.fault.StoreFault.{StoreFault}
 use Rattle.store.specs.Steps.{club_step, club_next}
 use Rattle.store.specs.Runs.{club_fold, club_outcomes, club_accepted}
 use Rattle.store_sql.proofs.Laws.{opens_exactly, schema_once}
-use Rattle.store.specs.Histories.{Session, SessionReaches, Reaches, IsReachable, IsHistory, IsAfter, is_taken, session_of, answered_session, cut_session}
+use Rattle.store.specs.Histories.{Session, SessionReaches, Reaches, IsReachable, IsHistory, IsAfter, is_taken}
+use Rattle.store.specs.Histories.{session_of, answered_session, cut_session}
 
 -- those of the first requests are the first of those
-first_accepted : (s : ClubState) (rs : List Request) (j : ℕ) → take (length (club_accepted s (take j rs))) (club_accepted s rs) ≡ club_accepted s (take j rs)
+first_accepted : (s : ClubState) (rs : List Request) (j : ℕ)
+    → take (length (club_accepted s (take j rs))) (club_accepted s rs) ≡ club_accepted s (take j rs)
 first_accepted s [] zero = refl
 first_accepted s [] (suc j) = refl
 first_accepted s (r ∷ rs) zero = refl
@@ -37,30 +41,51 @@ first_accepted s (r ∷ rs) (suc j) = elim (cases_Bool (is_accepted (club_step s
 abbrev Counted : ClubState → List Request → ℕ → ℕ
 Counted s rs j = length (club_accepted s (take j rs))
 
-one_more : (s : ClubState) (rs : List Request) (j n : ℕ) → n ≡ j + 1 → (Counted s rs j ≤ Counted s rs n) × (Counted s rs n ≤ Counted s rs j + 1)
+one_more : (s : ClubState) (rs : List Request) (j n : ℕ) → n ≡ j + 1 → (Counted s rs j ≤ Counted s rs n)
+    × (Counted s rs n ≤ Counted s rs j + 1)
 one_more s rs j zero e = absurd (omega arith)
 one_more s [] zero (suc n) e = (omega arith, omega arith)
 one_more s [] (suc j) (suc n) e = (omega arith, omega arith)
-one_more s (r ∷ rs) zero (suc zero) e = elim (cases_Bool (is_accepted (club_step s r))) [ inl took ↦ rw took (omega arith, omega arith) | inr left ↦ rw left (omega arith, omega arith) ]
+one_more s (r ∷ rs) zero (suc zero) e = elim (cases_Bool (is_accepted (club_step s r)))
+    [ inl took ↦ rw took (omega arith, omega arith) | inr left ↦ rw left (omega arith, omega arith) ]
 one_more s (r ∷ rs) zero (suc (suc n)) e = absurd (omega arith)
 one_more s (r ∷ rs) (suc j) (suc n) e =
     let more = one_more (club_next s r) rs j n (omega arith) in
-    elim (cases_Bool (is_accepted (club_step s r))) [ inl took ↦ rw took (omega (arith, more.0), omega (arith, more.1)) | inr left ↦ rw left more ]
+    elim (cases_Bool (is_accepted (club_step s r)))
+    [ inl took ↦ rw took (omega (arith, more.0), omega (arith, more.1)) | inr left ↦ rw left more ]
 
-after : (s : ClubState) (rs : List Request) (j : ℕ) → club_fold s (take j rs) ≡ club_fold s (take (Counted s rs j) (club_accepted s rs))
+after : (s : ClubState) (rs : List Request) (j : ℕ)
+    → club_fold s (take j rs) ≡ club_fold s (take (Counted s rs j) (club_accepted s rs))
 after s rs j = sym (folds-accepted both_games s (take j rs)) ∙ ap (club_fold s) (sym (first_accepted s rs j))
 
 -- where so many were answered as accepted, the state after these, or after one more, is one that the session leads to
-leads_on : (s : ClubState) (rs : List Request) (j a : ℕ) (whole : Bool) → a ≡ Counted s rs j → SessionReaches s (record { requests = rs; returned = a; is_whole = whole }) (club_fold s (take j rs))
-leads_on s rs j a whole is = record { k = a; least = omega arith; most = omega arith; whole = λ _. refl; is = after s rs j ∙ ap (λ n. club_fold s (take n (club_accepted s rs))) (sym is) }
+leads_on : (s : ClubState) (rs : List Request) (j a : ℕ) (whole : Bool) → a ≡ Counted s rs j
+    → SessionReaches s (record { requests = rs; returned = a; is_whole = whole }) (club_fold s (take j rs))
+leads_on s rs j a whole is =
+    record {
+      k = a;
+      least = omega arith;
+      most = omega arith;
+      whole = λ _. refl;
+      is = after s rs j
+          ∙ ap (λ n. club_fold s (take n (club_accepted s rs))) (sym is);
+    }
 
-leads_further : (s : ClubState) (rs : List Request) (j a : ℕ) (whole : Bool) → whole ≡ false → a ≡ Counted s rs j → SessionReaches s (record { requests = rs; returned = a; is_whole = whole }) (club_fold s (take (j + 1) rs))
+leads_further : (s : ClubState) (rs : List Request) (j a : ℕ) (whole : Bool) → whole ≡ false → a ≡ Counted s rs j
+    → SessionReaches s (record { requests = rs; returned = a; is_whole = whole }) (club_fold s (take (j + 1) rs))
 leads_further s rs j a true stopped is = absurd (let x = stopped in cc)
 leads_further s rs j a false stopped is =
     let more = one_more s rs j (j + 1) refl in
-    record { k = Counted s rs (j + 1); least = omega (arith, more.0, is); most = omega (arith, more.1, is); whole = λ e. absurd (let x = e in cc); is = after s rs (j + 1) }
+    record {
+      k = Counted s rs (j + 1);
+      least = omega (arith, more.0, is);
+      most = omega (arith, more.1, is);
+      whole = λ e. absurd (let x = e in cc);
+      is = after s rs (j + 1);
+    }
 
-leads_then : (s t u : ClubState) (xs : List Session) (x : Session) → Reaches s xs t → SessionReaches t x u → Reaches s (xs ++ x ∷ []) u
+leads_then : (s t u : ClubState) (xs : List Session) (x : Session) → Reaches s xs t → SessionReaches t x u
+    → Reaches s (xs ++ x ∷ []) u
 leads_then s t u [] x led one = (u, subst (λ v. SessionReaches v x u) led one, refl)
 leads_then s t u (y ∷ xs) x led one = (led.0, led.1, leads_then led.0 t u xs x led.2 one)
 
@@ -78,15 +103,19 @@ count (o ∷ os) = if is_accepted o then 1 + count os else count os
 count_outcomes : (os : List given_outcome.Outcome) → count (map outcome_of os) ≡ count_by is_taken os
 count_outcomes os = is_count_by (λ xs. count (map outcome_of xs)) is_taken refl (λ o xs. refl) os
 
-count_machine : (s : ClubState) (rs : List Request) → count (map answered (club_outcomes s rs)) ≡ length (club_accepted s rs)
+count_machine : (s : ClubState) (rs : List Request)
+    → count (map answered (club_outcomes s rs)) ≡ length (club_accepted s rs)
 count_machine s [] = refl
 count_machine s (r ∷ rs) = elim (cases_Bool (is_accepted (club_step s r))) [
-  | inl took ↦ rw (told_same (club_step s r)) (rw took (let rest = count_machine (club_next s r) rs in omega (arith, rest)))
+  | inl took ↦ rw (told_same (club_step s r))
+      (rw took (let rest = count_machine (club_next s r) rs in omega (arith, rest)))
   | inr left ↦ rw (told_same (club_step s r)) (rw left (count_machine (club_next s r) rs))
 ]
 
 -- as many were answered as accepted as the machine accepts of the answered requests
-returned_is : (s : ClubState) (rs : List given_request.Request) (os : List given_outcome.Outcome) (n : ℕ) → map outcome_of os ≡ map answered (club_outcomes s (map request_of (take n rs))) → count_by is_taken os ≡ Counted s (map request_of rs) n
+returned_is : (s : ClubState) (rs : List given_request.Request) (os : List given_outcome.Outcome) (n : ℕ)
+    → map outcome_of os ≡ map answered (club_outcomes s (map request_of (take n rs)))
+    → count_by is_taken os ≡ Counted s (map request_of rs) n
 returned_is s rs os n told =
     sym (count_outcomes os)
     ∙ (ap count told
@@ -101,23 +130,32 @@ is_stopped (Some fault) failed = refl
 
 -- the outcomes of a run are those of the machine
 abbrev pub Told : ClubState → List given_request.Request → Run → Type 0
-Told s rs run = map outcome_of run.outcomes.items ≡ map answered (club_outcomes s (map request_of (take (length run.outcomes.items) rs)))
+Told s rs run = map outcome_of run.outcomes.items ≡ map answered
+    (club_outcomes s (map request_of (take (length run.outcomes.items) rs)))
 
 -- the state after the answered requests is one that the session leads to
-run_leads : (s : ClubState) (rs : List given_request.Request) (run : Run) → Told s rs run → SessionReaches s (session_of rs run) (club_fold s (map request_of (take (length run.outcomes.items) rs)))
+run_leads : (s : ClubState) (rs : List given_request.Request) (run : Run) → Told s rs run
+    → SessionReaches s (session_of rs run) (club_fold s (map request_of (take (length run.outcomes.items) rs)))
 run_leads s rs run told =
-    subst (λ xs. SessionReaches s (session_of rs run) (club_fold s xs)) (take-map request_of (length run.outcomes.items) rs)
-    (leads_on s (map request_of rs) (length run.outcomes.items) _ (is_none run.fault) (returned_is s rs run.outcomes.items (length run.outcomes.items) told))
+    subst (λ xs. SessionReaches s (session_of rs run) (club_fold s xs))
+    (take-map request_of (length run.outcomes.items) rs)
+    (leads_on s (map request_of rs) (length run.outcomes.items) _ (is_none run.fault)
+    (returned_is s rs run.outcomes.items (length run.outcomes.items) told))
 
 -- with a fault, so is the state after one more
-run_leads_further : (s : ClubState) (rs : List given_request.Request) (run : Run) → IsSome run.fault → Told s rs run → SessionReaches s (session_of rs run) (club_fold s (map request_of (take (length run.outcomes.items + 1) rs)))
+run_leads_further : (s : ClubState) (rs : List given_request.Request) (run : Run) → IsSome run.fault → Told s rs run
+    → SessionReaches s (session_of rs run) (club_fold s (map request_of (take (length run.outcomes.items + 1) rs)))
 run_leads_further s rs run failed told =
-    subst (λ xs. SessionReaches s (session_of rs run) (club_fold s xs)) (take-map request_of (length run.outcomes.items + 1) rs)
-    (leads_further s (map request_of rs) (length run.outcomes.items) _ (is_none run.fault) (is_stopped run.fault failed) (returned_is s rs run.outcomes.items (length run.outcomes.items) told))
+    subst (λ xs. SessionReaches s (session_of rs run) (club_fold s xs))
+    (take-map request_of (length run.outcomes.items + 1) rs)
+    (leads_further s (map request_of rs) (length run.outcomes.items) _ (is_none run.fault) (is_stopped run.fault failed)
+    (returned_is s rs run.outcomes.items (length run.outcomes.items) told))
 
 -- what a stop leaves is led to with this session added
-pub session_leads : (s : ClubState) (sessions : List Session) (rs : List given_request.Request) (run : Run) (db : Trees) → Reaches opening_state sessions s → Told s rs run →
-    IsAfter s rs (length run.outcomes.items) db ⊎ (IsSome run.fault × IsAfter s rs (length run.outcomes.items + 1) db) → IsReachable (sessions ++ session_of rs run ∷ []) db
+pub session_leads : (s : ClubState) (sessions : List Session) (rs : List given_request.Request) (run : Run) (db : Trees)
+    → Reaches opening_state sessions s → Told s rs run →
+    IsAfter s rs (length run.outcomes.items) db ⊎ (IsSome run.fault × IsAfter s rs (length run.outcomes.items + 1) db)
+    → IsReachable (sessions ++ session_of rs run ∷ []) db
 session_leads s sessions rs run db led told left = elim left [
   | inl here ↦ record {
     after = club_fold s (map request_of (take (length run.outcomes.items) rs));
@@ -134,27 +172,33 @@ session_leads s sessions rs run db led told left = elim left [
 ]
 
 -- without a fault, the tables are led to with this session added
-pub session_stands : (s : ClubState) (sessions : List Session) (rs : List given_request.Request) (run : Run) (now : State) → Reaches opening_state sessions s → Told s rs run → length run.outcomes.items ≡ length rs →
-    IsClub (club_fold s (map request_of rs)) → IsExactly (tables (club_fold s (map request_of rs))) now → IsHistory (sessions ++ session_of rs run ∷ []) now
+pub session_stands : (s : ClubState) (sessions : List Session) (rs : List given_request.Request) (run : Run)
+    (now : State) → Reaches opening_state sessions s → Told s rs run → length run.outcomes.items ≡ length rs →
+    IsClub (club_fold s (map request_of rs)) → IsExactly (tables (club_fold s (map request_of rs))) now
+    → IsHistory (sessions ++ session_of rs run ∷ []) now
 session_stands s sessions rs run now led told whole legal exactly = record {
   after = club_fold s (map request_of rs);
   legal = legal;
   leads = leads_then opening_state s _ sessions (session_of rs run) led
-      (subst (λ xs. SessionReaches s (session_of rs run) (club_fold s (map request_of xs))) (take_all (length run.outcomes.items) rs (omega (arith, whole))) (run_leads s rs run told));
+      (subst (λ xs. SessionReaches s (session_of rs run) (club_fold s (map request_of xs)))
+      (take_all (length run.outcomes.items) rs (omega (arith, whole))) (run_leads s rs run told));
   exactly = exactly;
 }
 
 -- ---- one request
 
-taken_told : (s : ClubState) (r : Request) (o : given_outcome.Outcome) → outcome_of o ≡ answered (club_step s r) → is_taken o ≡ is_accepted (club_step s r)
+taken_told : (s : ClubState) (r : Request) (o : given_outcome.Outcome) → outcome_of o ≡ answered (club_step s r)
+    → is_taken o ≡ is_accepted (club_step s r)
 taken_told s r o told = ap is_accepted told ∙ told_same (club_step s r)
 
 one_counted : (s : ClubState) (r : Request) → (if is_accepted (club_step s r) then 1 else 0) ≡ Counted s (r ∷ []) 1
 one_counted s r = elim (cases_Bool (is_accepted (club_step s r))) [ inl took ↦ rw took refl | inr left ↦ rw left refl ]
 
 -- a request that was answered leads, as a session of its own, to the state after it
-pub one_stands : (s : ClubState) (sessions : List Session) (r : Request) (o : given_outcome.Outcome) (now : State) → Reaches opening_state sessions s → outcome_of o ≡ answered (club_step s r)
-    → IsClub (club_next s r) → IsExactly (tables (club_next s r)) now → IsHistory (sessions ++ answered_session r o ∷ []) now
+pub one_stands : (s : ClubState) (sessions : List Session) (r : Request) (o : given_outcome.Outcome) (now : State)
+    → Reaches opening_state sessions s → outcome_of o ≡ answered (club_step s r)
+    → IsClub (club_next s r) → IsExactly (tables (club_next s r)) now
+    → IsHistory (sessions ++ answered_session r o ∷ []) now
 one_stands s sessions r o now led told legal exactly = record {
   after = club_next s r;
   legal = legal;
@@ -165,15 +209,18 @@ one_stands s sessions r o now led told legal exactly = record {
 
 -- the session of one request, as the machine takes it
 abbrev pub taken_session : ClubState → Request → Session
-taken_session s r = record { requests = r ∷ []; returned = if is_accepted (club_step s r) then 1 else 0; is_whole = true }
+taken_session s r =
+    record { requests = r ∷ []; returned = if is_accepted (club_step s r) then 1 else 0; is_whole = true }
 
 -- a request leads, as a session of its own, to the state after it
-pub one_leads : (s : ClubState) (sessions : List Session) (r : Request) → Reaches opening_state sessions s → Reaches opening_state (sessions ++ taken_session s r ∷ []) (club_next s r)
+pub one_leads : (s : ClubState) (sessions : List Session) (r : Request) → Reaches opening_state sessions s
+    → Reaches opening_state (sessions ++ taken_session s r ∷ []) (club_next s r)
 one_leads s sessions r led =
     leads_then opening_state s _ sessions (taken_session s r) led (leads_on s (r ∷ []) 1 _ true (one_counted s r))
 
 -- a request that a fault cut off leads to the state before it or to the one after
-pub one_cut : (s : ClubState) (sessions : List Session) (r : Request) (db : Trees) → Reaches opening_state sessions s → IsClub s → IsClub (club_next s r)
+pub one_cut : (s : ClubState) (sessions : List Session) (r : Request) (db : Trees) → Reaches opening_state sessions s
+    → IsClub s → IsClub (club_next s r)
     → Leaves (tables s) db ⊎ Leaves (tables (club_next s r)) db → IsReachable (sessions ++ cut_session r ∷ []) db
 one_cut s sessions r db led before after (inl kept) = record {
   after = s;
@@ -213,24 +260,45 @@ opening_led trees left = record { after = opening_state; legal = opening_legal; 
 pub opening_stands : (now : State) → IsExactly (tables opening_state) now → IsHistory [] now
 opening_stands now exactly = record { after = opening_state; legal = opening_legal; leads = refl; exactly = exactly }
 
-pub stops_led : (sessions : List Session) (now : State) → IsHistory sessions now → (trees : Trees) → now.may_leave trees → IsReachable sessions trees
-stops_led sessions now at trees left = record { after = at.after; legal = at.legal; leads = at.leads; leaves = at.exactly.may_leave trees left }
+pub stops_led : (sessions : List Session) (now : State) → IsHistory sessions now → (trees : Trees) → now.may_leave trees
+    → IsReachable sessions trees
+stops_led sessions now at trees left =
+    record { after = at.after; legal = at.legal; leads = at.leads; leaves = at.exactly.may_leave trees left }
 
-pub opens_led : (sessions : List Session) (s : State) → Opens s → IsLive s → ((db : Trees) → IsTrue s.is_open → s.may_leave db → db ≡ s.committed.trees) → IsReachable sessions s.committed.trees → IsHistory sessions s
-opens_led sessions s opens live settled led = record { after = led.after; legal = led.legal; leads = led.leads; exactly = opens_exactly club_schema (tables led.after) s opens live settled led.leaves }
+pub opens_led : (sessions : List Session) (s : State) → Opens s → IsLive s
+    → ((db : Trees) → IsTrue s.is_open → s.may_leave db → db ≡ s.committed.trees)
+    → IsReachable sessions s.committed.trees → IsHistory sessions s
+opens_led sessions s opens live settled led =
+    record {
+      after = led.after;
+      legal = led.legal;
+      leads = led.leads;
+      exactly =
+          opens_exactly club_schema (tables led.after) s opens live settled led.leaves;
+    }
 
 -- a connection that opens on trees with no table is empty
-pub opens_empty : (s : State) → Opens s → IsLive s → ((db : Trees) → IsTrue s.is_open → s.may_leave db → db ≡ s.committed.trees) → IsEmpty s.committed.trees → IsExactlyEmpty s
+pub opens_empty : (s : State) → Opens s → IsLive s
+    → ((db : Trees) → IsTrue s.is_open → s.may_leave db → db ≡ s.committed.trees) → IsEmpty s.committed.trees
+    → IsExactlyEmpty s
 opens_empty s opens live settled empty =
     let same : s.now.trees ≡ s.committed.trees = ap (λ d. d.trees) opens.clean in
     let here : IsEmpty s.now.trees = subst IsEmpty (sym same) empty in
     record {
       is_open = opens.is_open;
       idle = opens.autocommit;
-      now = record { schema_is = schema_once s.now.trees s.now.schema (schema_after 0) (live opens.is_open).0 here.sound; sound = (live opens.is_open).0; empty = tt };
+      now =
+          record {
+            schema_is = schema_once s.now.trees s.now.schema (schema_after 0) (live opens.is_open).0 here.sound;
+            sound = (live opens.is_open).0;
+            empty = tt;
+          };
       may_leave = λ db left. subst IsEmpty (sym (settled db opens.is_open left)) empty;
     }
 
 -- what keeps the tables keeps where they stand
-pub still_stands : (sessions : List Session) (old new : State) → ((content : Content) → IsExactly content old → IsExactly content new) → IsHistory sessions old → IsHistory sessions new
-still_stands sessions old new same at = record { after = at.after; legal = at.legal; leads = at.leads; exactly = same (tables at.after) at.exactly }
+pub still_stands : (sessions : List Session) (old new : State)
+    → ((content : Content) → IsExactly content old → IsExactly content new) → IsHistory sessions old
+    → IsHistory sessions new
+still_stands sessions old new same at =
+    record { after = at.after; legal = at.legal; leads = at.leads; exactly = same (tables at.after) at.exactly }

@@ -12,4 +12,5 @@ use Rattle.store.specs.Steps.{club_next}
 
 pub club_stays : (s : ClubState) (r : Request) → r.moment ≤ last_moment → IsClub s → IsClub (club_next s r)
 club_stays s r within club =
-    next-legal both_games draughts_laws shogi_laws (import-kept both_games draughts_laws shogi_laws draughts-reads_games shogi-reads_games) s r within club
+    next-legal both_games draughts_laws shogi_laws
+    (import-kept both_games draughts_laws shogi_laws draughts-reads_games shogi-reads_games) s r within club

@@ -1,5 +1,7 @@
 -- The moves of a club are read as the list that they are: by game and ply, each of them once.
-use Rattle.std.proofs.Common.{◌≡◌, ◌≢◌, ℕ, ℤ, suc, pos, ◌+◌, ◌<◌, ◌≤◌, ◌&&◌, ◌||◌, Bool, true, false, not, ltb, List, [], ◌∷◌, ◌++◌, length, map, refl, ap, sym, subst, subst₂, ◌∙◌, arith, inl, inr, Less, Equal, Greater, Ordering, true≢false, IsTrue, length-append, get_or}
+use Rattle.std.proofs.Common.{◌≡◌, ◌≢◌, ℕ, ℤ, suc, pos, ◌+◌, ◌<◌, ◌≤◌, ◌&&◌, ◌||◌, Bool, true, false, not, ltb, List}
+use Rattle.std.proofs.Common.{[], ◌∷◌, ◌++◌, length, map, refl, ap, sym, subst, subst₂, ◌∙◌, arith, inl, inr, Less}
+use Rattle.std.proofs.Common.{Equal, Greater, Ordering, true≢false, IsTrue, length-append, get_or}
 use Rattle.std.specs.Cmp.{IsTotalOrder}
 use Rattle.std.specs.List.{AllByRecursion, list_any}
 use Rattle.std.specs.List.Sorted.{IsSorted, IsPermutation}
@@ -81,7 +83,10 @@ rises [] sorted apart = tt
 rises (x ∷ []) sorted apart = (tt, tt)
 rises (x ∷ y ∷ rows) sorted apart =
     let here : Before x y = less_of x y (sorted 0 x (omega arith) (omega arith)) apart.0.0 in
-    let rest = rises (y ∷ rows) (λ k d low high. subst (λ n. is_lt (by (get_or (x ∷ y ∷ rows) n d) (get_or (y ∷ rows) k d)) ≡ false) (next k) (sorted (suc k) d (omega arith) (omega (arith, high)))) apart.1 in
+    let rest =
+    rises (y ∷ rows)
+    (λ k d low high. subst (λ n. is_lt (by (get_or (x ∷ y ∷ rows) n d) (get_or (y ∷ rows) k d)) ≡ false) (next k)
+    (sorted (suc k) d (omega arith) (omega (arith, high)))) apart.1 in
     ((here, all_weaker (Before y) (Before x) (λ z later. by_total.trans x y z here later) rows rest.0), rest)
   where
     next : (k : ℕ) → suc k + 1 ≡ suc (k + 1)
@@ -89,22 +94,27 @@ rises (x ∷ y ∷ rows) sorted apart =
 
 -- ---- two lists of the same rows that rise
 
-same_head : (x y : Row) (xs ys : List Row) → IsAscending Before (x ∷ xs) → IsAscending Before (y ∷ ys) → Has (y ∷ ys) x → Has (x ∷ xs) y → x ≡ y
+same_head : (x y : Row) (xs ys : List Row) → IsAscending Before (x ∷ xs) → IsAscending Before (y ∷ ys) → Has (y ∷ ys) x
+    → Has (x ∷ xs) y → x ≡ y
 same_head x y xs ys up over (inl same) k = same
 same_head x y xs ys up over (inr h) (inl same) = sym same
-same_head x y xs ys up over (inr h) (inr k) = absurd (never_both x y (all_has (Before x) xs y up.0 k) (all_has (Before y) ys x over.0 h))
+same_head x y xs ys up over (inr h) (inr k) =
+    absurd (never_both x y (all_has (Before x) xs y up.0 k) (all_has (Before y) ys x over.0 h))
 
 in_rest : (x y z : Row) (xs ys : List Row) → x ≡ y → IsAscending Before (x ∷ xs) → Has xs z → Has (y ∷ ys) z → Has ys z
-in_rest x y z xs ys same up h (inl e) = absurd (never_itself x (subst (Before x) (e ∙ sym same) (all_has (Before x) xs z up.0 h)))
+in_rest x y z xs ys same up h (inl e) = absurd
+    (never_itself x (subst (Before x) (e ∙ sym same) (all_has (Before x) xs z up.0 h)))
 in_rest x y z xs ys same up h (inr k) = k
 
-pub one_rising : (xs ys : List Row) → IsAscending Before xs → IsAscending Before ys → ((z : Row) → Has xs z → Has ys z) → ((z : Row) → Has ys z → Has xs z) → xs ≡ ys
+pub one_rising : (xs ys : List Row) → IsAscending Before xs → IsAscending Before ys → ((z : Row) → Has xs z → Has ys z)
+    → ((z : Row) → Has ys z → Has xs z) → xs ≡ ys
 one_rising [] [] up over to from = refl
 one_rising [] (y ∷ ys) up over to from = absurd (from y (inl refl))
 one_rising (x ∷ xs) [] up over to from = absurd (to x (inl refl))
 one_rising (x ∷ xs) (y ∷ ys) up over to from =
     let same : x ≡ y = same_head x y xs ys up over (to x (inl refl)) (from y (inl refl)) in
-    let rest : xs ≡ ys = one_rising xs ys up.1 over.1 (λ z h. in_rest x y z xs ys same up h (to z (inr h))) (λ z h. in_rest y x z ys xs (sym same) over h (from z (inr h))) in
+    let rest : xs ≡ ys = one_rising xs ys up.1 over.1 (λ z h. in_rest x y z xs ys same up h (to z (inr h)))
+    (λ z h. in_rest y x z ys xs (sym same) over h (from z (inr h))) in
     λ i. same i ∷ rest i
 
 -- ---- the rows of a club's moves rise
@@ -119,11 +129,14 @@ pub value_same : (a b : Value) (p : ℕ) → a ≡ Int (pos p) → b ≡ Int (po
 value_same a b p one two = (λ i. value_cmp (one i) (two i)) ∙ tied_itself value_cmp_total (Int (pos p))
 
 before_game : (a b : Row) (g h : ℕ) → column a 0 ≡ Int (pos g) → column b 0 ≡ Int (pos h) → g < h → Before a b
-before_game a b g h one two low = ap (λ o. ordering_then o (ordering_then (value_cmp (column a 1) (column b 1)) Equal)) (value_less (column a 0) (column b 0) g h one two low)
+before_game a b g h one two low = ap (λ o. ordering_then o (ordering_then (value_cmp (column a 1) (column b 1)) Equal))
+    (value_less (column a 0) (column b 0) g h one two low)
 
-before_ply : (a b : Row) (g p q : ℕ) → column a 0 ≡ Int (pos g) → column b 0 ≡ Int (pos g) → column a 1 ≡ Int (pos p) → column b 1 ≡ Int (pos q) → p < q → Before a b
+before_ply : (a b : Row) (g p q : ℕ) → column a 0 ≡ Int (pos g) → column b 0 ≡ Int (pos g) → column a 1 ≡ Int (pos p)
+    → column b 1 ≡ Int (pos q) → p < q → Before a b
 before_ply a b g p q one two first second low =
-    λ i. ordering_then (value_same (column a 0) (column b 0) g one two i) (ordering_then (value_less (column a 1) (column b 1) p q first second low i) Equal)
+    λ i. ordering_then (value_same (column a 0) (column b 0) g one two i)
+    (ordering_then (value_less (column a 1) (column b 1) p q first second low i) Equal)
 
 -- the row is of this game and of this ply or a later one
 record IsFrom (id n : ℕ) (row : Row) : Type 0 where
@@ -139,7 +152,8 @@ record IsLater (n : ℕ) (row : Row) : Type 0 where
   pub game_is : column row 0 ≡ Int (pos game)
 
 module _ {P M E T : Type 0} (laws : GameRules P M E T) (terms : Terms) (id : ℕ) where
-  plies_from : (n : ℕ) (game : Game M) (es : List (Entry M)) → n ≤ length game.entries + 1 → AllByRecursion (IsFrom id n) (entry_rows laws terms id game es)
+  plies_from : (n : ℕ) (game : Game M) (es : List (Entry M)) → n ≤ length game.entries + 1
+      → AllByRecursion (IsFrom id n) (entry_rows laws terms id game es)
   plies_from n game [] low = tt
   plies_from n game (e ∷ es) low = (
     record { ply = length game.entries + 1; later = low; game_is = refl; ply_is = refl },
@@ -151,8 +165,11 @@ module _ {P M E T : Type 0} (laws : GameRules P M E T) (terms : Terms) (id : ℕ
   entries_rise game (e ∷ es) =
       let here = length game.entries + 1 in (
         all_weaker (IsFrom id (here + 1)) (Before (entry_row laws terms id game e))
-            (λ row from. let later = from.later in before_ply (entry_row laws terms id game e) row id here from.ply refl from.game_is refl from.ply_is (omega (arith, later)))
-            (entry_rows laws terms id (with_entry game e) es) (plies_from (here + 1) (with_entry game e) es (omega (arith, length-append game.entries (e ∷ [])))),
+            (λ row from. let later = from.later in
+            before_ply (entry_row laws terms id game e) row id here from.ply refl from.game_is refl from.ply_is
+            (omega (arith, later)))
+            (entry_rows laws terms id (with_entry game e) es)
+            (plies_from (here + 1) (with_entry game e) es (omega (arith, length-append game.entries (e ∷ [])))),
         entries_rise (with_entry game e) es,
       )
 
@@ -161,12 +178,16 @@ module _ (events : List Event) where
   rows_of = rows_of_moves both_games events
 
   pub game_rise : (id : ℕ) (any : ClubGame) → IsAscending Before (rows_of id any)
-  game_rise id (draughts g) = entries_rise both_games.draughts (terms_at (place events g.event)) id (record g { entries = [] }) g.entries
-  game_rise id (shogi g) = entries_rise both_games.shogi (terms_at (place events g.event)) id (record g { entries = [] }) g.entries
+  game_rise id (draughts g) = entries_rise both_games.draughts (terms_at (place events g.event)) id
+      (record g { entries = [] }) g.entries
+  game_rise id (shogi g) = entries_rise both_games.shogi (terms_at (place events g.event)) id
+      (record g { entries = [] }) g.entries
 
   game_begins : (id : ℕ) (any : ClubGame) → AllByRecursion (IsFrom id 0) (rows_of id any)
-  game_begins id (draughts g) = plies_from both_games.draughts (terms_at (place events g.event)) id 0 (record g { entries = [] }) g.entries (omega arith)
-  game_begins id (shogi g) = plies_from both_games.shogi (terms_at (place events g.event)) id 0 (record g { entries = [] }) g.entries (omega arith)
+  game_begins id (draughts g) = plies_from both_games.draughts (terms_at (place events g.event)) id 0
+      (record g { entries = [] }) g.entries (omega arith)
+  game_begins id (shogi g) = plies_from both_games.shogi (terms_at (place events g.event)) id 0
+      (record g { entries = [] }) g.entries (omega arith)
 
   all_append : (Q : Row → Type 0) (a b : List Row) → AllByRecursion Q a → AllByRecursion Q b → AllByRecursion Q (a ++ b)
   all_append Q [] b one two = two
@@ -176,7 +197,8 @@ module _ (events : List Event) where
   games_begin m n [] low = tt
   games_begin m n (g ∷ gs) low =
       all_append (IsLater m) (rows_of n g) (gathered_from rows_of (suc n) gs)
-      (all_weaker (IsFrom n 0) (IsLater m) (λ row from. record { game = n; later = low; game_is = from.game_is }) (rows_of n g) (game_begins n g))
+      (all_weaker (IsFrom n 0) (IsLater m) (λ row from. record { game = n; later = low; game_is = from.game_is })
+      (rows_of n g) (game_begins n g))
       (games_begin m (suc n) gs (omega (arith, low)))
 
   games_rise : (n : ℕ) (games : List ClubGame) → IsAscending Before (gathered_from rows_of n games)
@@ -185,7 +207,9 @@ module _ (events : List Event) where
       ascending-append Before (rows_of n g) (gathered_from rows_of (suc n) gs) (game_rise n g) (games_rise (suc n) gs)
       (all_weaker (IsFrom n 0) (λ x. AllByRecursion (Before x) (gathered_from rows_of (suc n) gs))
       (λ x from.
-      all_weaker (IsLater (suc n)) (Before x) (λ y later. let above = later.later in before_game x y n later.game from.game_is later.game_is (omega (arith, above))) (gathered_from rows_of (suc n) gs)
+      all_weaker (IsLater (suc n)) (Before x) (λ y later. let above = later.later in
+      before_game x y n later.game from.game_is later.game_is (omega (arith, above)))
+      (gathered_from rows_of (suc n) gs)
       (games_begin (suc n) (suc n) gs (omega arith)))
       (rows_of n g) (game_begins n g))
 
@@ -226,13 +250,17 @@ same_of : (a b : Value) → IsInt a → IsInt b → value_cmp b a ≡ Equal → 
 same_of a b one two tie = equal_from a b (no_null a one) (no_null b two) (tied_back value_cmp_total b a tie)
 
 -- rows with the same game and ply agree in them
-agree_of : (a b : Row) → equal Binary (column a 1) (column b 1) ≡ true → equal Binary (column a 2) (column b 2) ≡ true → agree plain (1 ∷ 2 ∷ []) a (1 ∷ 2 ∷ []) b ≡ true
+agree_of : (a b : Row) → equal Binary (column a 1) (column b 1) ≡ true → equal Binary (column a 2) (column b 2) ≡ true
+    → agree plain (1 ∷ 2 ∷ []) a (1 ∷ 2 ∷ []) b ≡ true
 unfolding first_key
 agree_of a b game ply = λ i. game i && (ply i && true)
 
--- rows that a key of their own tells apart: where each is the only one with its key, those with the same key have one rowid
-module _ (key : List ℕ) (rows : List Row) (apart : AreApart rows) (unique : (r : Row) → Has rows r → clashes plain key rows r ≡ false) where
-  pub one_rowid : (r s : Row) → Has rows r → Has rows s → agree plain key s key r ≡ true → value_cmp (rowid r) (rowid s) ≡ Equal
+-- rows that a key of their own tells apart: where each is the only one with its key, those with the same key have one
+-- rowid
+module _ (key : List ℕ) (rows : List Row) (apart : AreApart rows)
+    (unique : (r : Row) → Has rows r → clashes plain key rows r ≡ false) where
+  pub one_rowid : (r s : Row) → Has rows r → Has rows s → agree plain key s key r ≡ true
+      → value_cmp (rowid r) (rowid s) ≡ Equal
   one_rowid r s h k agrees =
       let never = none_any (λ x. agree plain key x key r && differ (rowid x) (rowid r)) rows s (unique r h) k in
       let alike : differ (rowid s) (rowid r) ≡ false = and_second _ _ agrees never in
@@ -243,16 +271,22 @@ module _ (key : List ℕ) (rows : List Row) (apart : AreApart rows) (unique : (r
       subst (λ v. value_cmp (rowid r) v ≡ Equal) alike_ids (tied_itself value_cmp_total (rowid r))
 
 -- what follows of each two rows of a table follows along any of them
-pub turned : {D Q : Row → Row → Type 0} → (stored : List Row) → ((r s : Row) → Has stored r → Has stored s → D r s → Q r s) → (rows : List Row) → ((r : Row) → Has rows r → Has stored r) → IsAscending D rows → IsAscending Q rows
+pub turned : {D Q : Row → Row → Type 0} → (stored : List Row)
+    → ((r s : Row) → Has stored r → Has stored s → D r s → Q r s) → (rows : List Row)
+    → ((r : Row) → Has rows r → Has stored r) → IsAscending D rows → IsAscending Q rows
 turned stored pair [] sub up = tt
-turned {D} {Q} stored pair (x ∷ rows) sub up =
-    (all_from (Q x) rows (λ s h. pair x s (sub x (inl refl)) (sub s (inr h)) (all_has (D x) rows s up.0 h)), turned stored pair rows (λ r h. sub r (inr h)) up.1)
+turned {D} {Q} stored pair (x ∷ rows) sub up = (
+  all_from (Q x) rows (λ s h. pair x s (sub x (inl refl)) (sub s (inr h)) (all_has (D x) rows s up.0 h)),
+  turned stored pair rows (λ r h. sub r (inr h)) up.1,
+)
 
-module _ (trees : Trees) (sound : IsSound club_schema trees) (apart : AreApart (trees 8)) (ints : (r : Row) → Has (trees 8) r → IsInt (column r 1) × IsInt (column r 2)) where
+module _ (trees : Trees) (sound : IsSound club_schema trees) (apart : AreApart (trees 8))
+    (ints : (r : Row) → Has (trees 8) r → IsInt (column r 1) × IsInt (column r 2)) where
   no_clash : (r : Row) → Has (trees 8) r → clashes plain (1 ∷ 2 ∷ []) (trees 8) r ≡ false
   no_clash r h = not_true _ (and_first _ (all_has _ (trees 8) r (sound.obeys.rules Unique).1.1.1.1.0 h))
 
-  keys_apart : (r s : Row) → Has (trees 8) r → Has (trees 8) s → value_cmp (rowid r) (rowid s) ≢ Equal → Apart (cells (moves 8) r) (cells (moves 8) s)
+  keys_apart : (r s : Row) → Has (trees 8) r → Has (trees 8) s → value_cmp (rowid r) (rowid s) ≢ Equal
+      → Apart (cells (moves 8) r) (cells (moves 8) s)
   keys_apart r s h k other tie =
       let both = then_parts (value_cmp (column r 1) (column s 1)) (value_cmp (column r 2) (column s 2)) tie in
       let one = ints r h in
@@ -263,4 +297,5 @@ module _ (trees : Trees) (sound : IsSound club_schema trees) (apart : AreApart (
 
   -- no two rows that are shown have one key
   pub stored_apart : IsAscending Apart (map (cells (moves 8)) (trees 8))
-  stored_apart = ascending-map Apart (cells (moves 8)) (trees 8) (turned (trees 8) keys_apart (trees 8) (λ r h. h) apart.apart)
+  stored_apart = ascending-map Apart (cells (moves 8)) (trees 8)
+      (turned (trees 8) keys_apart (trees 8) (λ r h. h) apart.apart)

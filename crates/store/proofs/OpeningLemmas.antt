@@ -9,7 +9,13 @@ use Rattle.club_rows.specs.Club.{tables}
 use Rattle.store_tables.specs.Contents.{Content, opening}
 use Rattle.store_tables.specs.Club.{IsExactly, Leaves}
 
-nothing-else : (z a b c d e f g : Bool) (rows : List Row) → ◌≡◌ {A = List Row} (if z then rows else []) (if z then rows else (if a then [] else (if b then [] else (if c then [] else (if d then [] else (if e then [] else (if f then [] else (if g then [] else []))))))))
+nothing-else : (z a b c d e f g : Bool) (rows : List Row)
+    → ◌≡◌ {A = List Row} (if z then rows else [])
+    (if
+    z then rows else (if
+    a then [] else (if
+    b then [] else (if
+    c then [] else (if d then [] else (if e then [] else (if f then [] else (if g then [] else []))))))))
 nothing-else true a b c d e f g rows = refl
 nothing-else false true b c d e f g rows = refl
 nothing-else false false true c d e f g rows = refl

@@ -1,5 +1,6 @@
 -- Rows by the numbers that they begin with: those of each element of a list, and those of none.
-use Rattle.std.proofs.Common.{◌≡◌, ℕ, zero, suc, pos, ◌+◌, ◌<◌, ◌≤◌, Bool, true, false, not, List, [], ◌∷◌, length, Some, refl, ap, sym, subst, ◌∙◌, arith, inl, inr, ◌⊎◌, true≢false, filter}
+use Rattle.std.proofs.Common.{◌≡◌, ℕ, zero, suc, pos, ◌+◌, ◌<◌, ◌≤◌, Bool, true, false, not, List, [], ◌∷◌, length}
+use Rattle.std.proofs.Common.{Some, refl, ap, sym, subst, ◌∙◌, arith, inl, inr, ◌⊎◌, true≢false, filter}
 use Rattle.std.specs.Prelude.{slice_get}
 use Rattle.std.proofs.lemmas.Bool.{cases_Bool, and_parts}
 use Rattle.std.proofs.lemmas.List.Filters.{length-filter_both}
@@ -46,7 +47,8 @@ not_back true e = cc
 kept_later : (k n : ℕ) (rows : List Row) → k ≤ n → filter (begins (suc n)) (past k rows) ≡ filter (begins (suc n)) rows
 kept_later zero n rows low = refl
 kept_later (suc k) n rows low =
-    filter-filter (begins (suc n)) (λ x. not (begins (suc k) x)) (λ x is. other x is) (past k rows) ∙ kept_later k n rows (omega (arith, low))
+    filter-filter (begins (suc n)) (λ x. not (begins (suc k) x)) (λ x is. other x is) (past k rows)
+    ∙ kept_later k n rows (omega (arith, low))
   where
     other : (x : Row) → begins (suc n) x ≡ true → not (begins (suc k) x) ≡ true
     other x is = elim (cases_Bool (begins (suc k) x)) [
@@ -55,24 +57,28 @@ kept_later (suc k) n rows low =
     ]
 
 -- with one number more, so many fewer are left
-pub past_step : (k : ℕ) (rows : List Row) → length (past k rows) ≡ length (beginning_with (pos (suc k)) rows) + length (past (suc k) rows)
+pub past_step : (k : ℕ) (rows : List Row)
+    → length (past k rows) ≡ length (beginning_with (pos (suc k)) rows) + length (past (suc k) rows)
 past_step k rows =
     let both = length-filter_both (begins (suc k)) (λ x. not (begins (suc k) x)) (λ x. refl) (past k rows) in
     sym both ∙ ap (λ l. length l + length (past (suc k) rows)) (kept_later k k rows (omega arith))
 
 -- a row is left, or begins with one of the numbers
-found_before : (k : ℕ) (rows : List Row) (x : Row) → Has rows x → Has (past k rows) x ⊎ ((i : ℕ) × (i < k) × (begins (suc i) x ≡ true))
+found_before : (k : ℕ) (rows : List Row) (x : Row) → Has rows x → Has (past k rows) x
+    ⊎ ((i : ℕ) × (i < k) × (begins (suc i) x ≡ true))
 found_before zero rows x h = inl h
 found_before (suc k) rows x h = elim (found_before k rows x h) [
   | inl left ↦ elim (cases_Bool (begins (suc k) x)) [
     | inl is ↦ inr (k, omega arith, is)
-    | inr not_it ↦ inl (has_kept (λ z. not (begins (suc k) z)) (past k rows) x left (not_false (begins (suc k) x) not_it))
+    | inr not_it ↦
+        inl (has_kept (λ z. not (begins (suc k) z)) (past k rows) x left (not_false (begins (suc k) x) not_it))
   ]
   | inr (i, low, is) ↦ inr (i, omega (arith, low), is)
 ]
 
 -- a row that is left is one of the rows, and begins with none of the numbers
-left_of : (k : ℕ) (rows : List Row) (x : Row) → Has (past k rows) x → Has rows x × ((i : ℕ) → i < k → begins (suc i) x ≡ false)
+left_of : (k : ℕ) (rows : List Row) (x : Row) → Has (past k rows) x → Has rows x
+    × ((i : ℕ) → i < k → begins (suc i) x ≡ false)
 left_of zero rows x h = (h, λ i low. absurd (omega (arith, low)))
 left_of (suc k) rows x h =
     let (before, not_it) = has_filtered (λ z. not (begins (suc k) z)) (past k rows) x h in
@@ -80,11 +86,16 @@ left_of (suc k) rows x h =
       there,
       λ i low. elim (cases_Bool (begins (suc i) x)) [
         | inr other ↦ other
-        | inl is ↦ absurd (earlier i is (λ same. true≢false (sym is ∙ (ap (λ j. begins (suc j) x) same ∙ not_back (begins (suc k) x) not_it))) low none)
+        | inl is ↦
+            absurd
+            (earlier i is
+            (λ same. true≢false (sym is ∙ (ap (λ j. begins (suc j) x) same ∙ not_back (begins (suc k) x) not_it))) low
+            none)
       ],
     )
   where
-    earlier : (i : ℕ) → begins (suc i) x ≡ true → (i ≡ k → ⊥) → i < suc k → ((j : ℕ) → j < k → begins (suc j) x ≡ false) → ⊥
+    earlier : (i : ℕ) → begins (suc i) x ≡ true → (i ≡ k → ⊥) → i < suc k → ((j : ℕ) → j < k → begins (suc j) x ≡ false)
+        → ⊥
     earlier i is other low none = true≢false (sym is ∙ none i (omega (arith, low, other)))
 
 none_in : (rows : List Row) (x : Row) → length rows ≡ 0 → Has rows x → ⊥
@@ -103,16 +114,21 @@ there_at (x ∷ xs) (suc n) low = there_at xs n (omega (arith, low))
 suc_is : (n : ℕ) → suc n ≡ 1 + n
 suc_is n = omega arith
 
-module _ {A : Type 0} (rows_of : ℕ → A → List Row) (first : (id : ℕ) (x : A) (z : Row) → Has (rows_of id x) z → column z 0 ≡ number id) (table : List Row) (xs : List A) where
+module _ {A : Type 0} (rows_of : ℕ → A → List Row)
+    (first : (id : ℕ) (x : A) (z : Row) → Has (rows_of id x) z → column z 0 ≡ number id) (table : List Row)
+    (xs : List A) where
   -- A table whose rows each begin with the number of an element, where each element has its rows, is theirs.
-  pub table_gathered : length (past (length xs) table) ≡ 0 → ((n : ℕ) (x : A) → slice_get xs n ≡ Some x → HaveSame (beginning_with (pos (1 + n)) table) (rows_of (1 + n) x)) → HaveSame table (gathered_from rows_of 1 xs)
+  pub table_gathered : length (past (length xs) table) ≡ 0
+      → ((n : ℕ) (x : A) → slice_get xs n ≡ Some x → HaveSame (beginning_with (pos (1 + n)) table) (rows_of (1 + n) x))
+      → HaveSame table (gathered_from rows_of 1 xs)
   table_gathered none each = record {
     there = λ z h. elim (found_before (length xs) table z h) [
       | inl left ↦ absurd (none_in (past (length xs) table) z none left)
       | inr (i, low, is) ↦
           let (x, at) = there_at xs i low in
           let begun : same_key (0 ∷ []) z (number (1 + i) ∷ []) ≡ true = subst (λ k. begins k z ≡ true) (suc_is i) is in
-          gathered_has rows_of 1 xs i x z at ((each i x at).there z (has_kept (λ y. same_key (0 ∷ []) y (number (1 + i) ∷ [])) table z h begun))
+          gathered_has rows_of 1 xs i x z at
+          ((each i x at).there z (has_kept (λ y. same_key (0 ∷ []) y (number (1 + i) ∷ [])) table z h begun))
     ];
     back = λ z h.
         let (n, x, at, has) = gathered_had rows_of 1 xs z h in
@@ -129,7 +145,11 @@ module _ {A : Type 0} (rows_of : ℕ → A → List Row) (first : (id : ℕ) (x 
           let (there, none) = left_of (length xs) table x left in
           let (n, y, at, has) = gathered_had rows_of 1 xs x (same.there x there) in
           let within = slice_get_within xs n y at in
-          absurd (true≢false (sym (subst (λ k. begins k x ≡ true) (sym (suc_is n)) (ids_agree x (number (1 + n) ∷ []) (1 + n) (first (1 + n) y x has) refl)) ∙ none n within))
+          absurd
+          (true≢false
+          (sym
+          (subst (λ k. begins k x ≡ true) (sym (suc_is n))
+          (ids_agree x (number (1 + n) ∷ []) (1 + n) (first (1 + n) y x has) refl)) ∙ none n within))
     ]
       where
         cases_zero : (n : ℕ) → (n ≡ 0) ⊎ (0 < n)
@@ -137,7 +157,8 @@ module _ {A : Type 0} (rows_of : ℕ → A → List Row) (first : (id : ℕ) (x 
         cases_zero (suc n) = inr (omega arith)
 
     -- and those with the number of an element are its rows
-    pub table_group : (n : ℕ) (x : A) → slice_get xs n ≡ Some x → HaveSame (beginning_with (pos (1 + n)) table) (rows_of (1 + n) x)
+    pub table_group : (n : ℕ) (x : A) → slice_get xs n ≡ Some x
+        → HaveSame (beginning_with (pos (1 + n)) table) (rows_of (1 + n) x)
     table_group n x at = record {
       there = λ z h.
           let (in_table, is) = has_filtered (λ y. same_key (0 ∷ []) y (number (1 + n) ∷ [])) table z h in
@@ -148,5 +169,7 @@ module _ {A : Type 0} (rows_of : ℕ → A → List Row) (first : (id : ℕ) (x 
           let one : y ≡ x = cc in
           subst (λ e. Has (rows_of (1 + n) e) z) one (subst (λ k. Has (rows_of (1 + k) y) z) place has);
       back = λ z h.
-          has_kept (λ y. same_key (0 ∷ []) y (number (1 + n) ∷ [])) table z (same.back z (gathered_has rows_of 1 xs n x z at h)) (ids_agree z (number (1 + n) ∷ []) (1 + n) (first (1 + n) x z h) refl);
+          has_kept (λ y. same_key (0 ∷ []) y (number (1 + n) ∷ [])) table z
+          (same.back z (gathered_has rows_of 1 xs n x z at h))
+          (ids_agree z (number (1 + n) ∷ []) (1 + n) (first (1 + n) x z h) refl);
     }

@@ -1,5 +1,6 @@
 -- The rows of a club that are read whole, and the club that they and its games are.
-use Rattle.std.proofs.Common.{◌≡◌, true, false, true≢false, ℕ, ◌==◌, ◌≤◌, List, [], ◌∷◌, length, map, refl, ap, sym, subst, ◌∙◌, ◌⊎◌, arith, inl, inr}
+use Rattle.std.proofs.Common.{◌≡◌, true, false, true≢false, ℕ, ◌==◌, ◌≤◌, List, [], ◌∷◌, length, map, refl, ap, sym}
+use Rattle.std.proofs.Common.{subst, ◌∙◌, ◌⊎◌, arith, inl, inr}
 use Rattle.std.specs.Prelude.{if◌then◌else◌}
 use Rattle.std.proofs.lemmas.List.{take_all}
 use Rattle.sqlite_value.specs.declared.value.Value.TheVariants.{Int}
@@ -79,7 +80,8 @@ keeps_shown table db = record {
   only = λ r h. has_map (cells table) (db table.tree) r h;
 }
 
-module _ (rows : Rows) (old mid after new : State) (opened : IsOpened old) (read : AreRead rows old mid) (play : IsPlayExamined rows mid after) (scores : AreScoresExamined rows after new) (may : KeepsMay old new) where
+module _ (rows : Rows) (old mid after new : State) (opened : IsOpened old) (read : AreRead rows old mid)
+    (play : IsPlayExamined rows mid after) (scores : AreScoresExamined rows after new) (may : KeepsMay old new) where
   mid_is : mid.now ≡ old.now
   mid_is = read.meta.same.0.now_is
 
@@ -96,7 +98,42 @@ module _ (rows : Rows) (old mid after new : State) (opened : IsOpened old) (read
   holds = record {
     schema = opened.schema;
     sound = opened.sound;
-    tables = (record { rows = read.meta.keeps; apart = read.meta.apart }, (record { rows = read.members.keeps; apart = read.members.apart }, (record { rows = read.events.keeps; apart = read.events.apart }, (record { rows = read.challenges.keeps; apart = read.challenges.apart }, (record { rows = keeps_shown (moves 8) old.now.trees; apart = subst (λ (t : Trees). AreApart (t 8)) trees_are play.moves_apart }, (record { rows = read.games.keeps; apart = read.games.apart }, (record { rows = keeps_shown (seen 12) old.now.trees; apart = subst (λ (t : Trees). AreApart (t 12)) trees_are play.seen_apart }, (record { rows = subst (λ (t : Trees). Keeps (scored 14) t scores.rows_of) later_trees scores.read.keeps; apart = subst (λ (t : Trees). AreApart (t 14)) later_trees scores.read.apart }, tt))))))));
+    tables = (
+      record { rows = read.meta.keeps; apart = read.meta.apart },
+      (
+        record { rows = read.members.keeps; apart = read.members.apart },
+        (
+          record { rows = read.events.keeps; apart = read.events.apart },
+          (
+            record { rows = read.challenges.keeps; apart = read.challenges.apart },
+            (
+              record {
+                rows = keeps_shown (moves 8) old.now.trees;
+                apart =
+                    subst (λ (t : Trees). AreApart (t 8)) trees_are play.moves_apart;
+              },
+              (
+                record { rows = read.games.keeps; apart = read.games.apart },
+                (
+                  record {
+                    rows = keeps_shown (seen 12) old.now.trees;
+                    apart =
+                        subst (λ (t : Trees). AreApart (t 12)) trees_are play.seen_apart;
+                  },
+                  (
+                    record {
+                      rows = subst (λ (t : Trees). Keeps (scored 14) t scores.rows_of) later_trees scores.read.keeps;
+                      apart = subst (λ (t : Trees). AreApart (t 14)) later_trees scores.read.apart;
+                    },
+                    tt,
+                  ),
+                ),
+              ),
+            ),
+          ),
+        ),
+      ),
+    );
   }
 
   exactly : IsExactly (content_with rows scores.rows_of old.now.trees) new
@@ -108,7 +145,9 @@ module _ (rows : Rows) (old mid after new : State) (opened : IsOpened old) (read
         idle = same.mode ∙ opened.idle;
         now = subst (λ (d : Database). Holds d content) (sym same.now_is) holds;
         committed = same.committed_is ∙ opened.committed ∙ sym same.now_is;
-        may_leave = λ db left. subst (Leaves content) (sym (opened.settled db (may db left) ∙ ap (λ (d : Database). d.trees) opened.committed)) (leaves_of club_schema old.now content holds);
+        may_leave = λ db left. subst (Leaves content)
+            (sym (opened.settled db (may db left) ∙ ap (λ (d : Database). d.trees) opened.committed))
+            (leaves_of club_schema old.now content holds);
       }
 
   -- ---- the club
@@ -120,17 +159,23 @@ module _ (rows : Rows) (old mid after new : State) (opened : IsOpened old) (read
         let s = register.state in
         let people = register.people in
         let found = play.games.found s people in
-        let rows_are = ap (map game_cells) (sym (take_all (length rows.games.items) rows.games.items (omega arith))) ∙ found.rows_are in
-        let few : length found.games ≤ 5000 = let count = found.number_of in let low = register.few in omega (arith, count, low) in
+        let rows_are = ap (map game_cells) (sym (take_all (length rows.games.items) rows.games.items (omega arith)))
+        ∙ found.rows_are in
+        let few : length found.games ≤ 5000 = let count = found.number_of in let low = register.few in
+        omega (arith, count, low) in
         let t : ClubState = record s { games = found.games } in
         let are_moves : HaveSame (moves_in mid.now.trees) (tables_of both_games t 8) =
-        table_gathered (rows_of_moves both_games s.events) (λ id g z h. moves_had both_games s.events id g z h) (moves_in mid.now.trees) found.games
-        (subst (λ n. length (past n (moves_in mid.now.trees)) ≡ 0) (sym found.number_of) play.games.moves_none) found.moves_are in
+        table_gathered (rows_of_moves both_games s.events) (λ id g z h. moves_had both_games s.events id g z h)
+        (moves_in mid.now.trees) found.games
+        (subst (λ n. length (past n (moves_in mid.now.trees)) ≡ 0) (sym found.number_of) play.games.moves_none)
+        found.moves_are in
         let are_seen : HaveSame (seen_in mid.now.trees) (tables_of both_games t 12) =
         table_gathered (rows_of_seen both_games) (λ id g z h. seen_had id g z h) (seen_in mid.now.trees) found.games
-        (subst (λ n. length (past n (seen_in mid.now.trees)) ≡ 0) (sym found.number_of) play.games.seen_none) found.seen_are in
+        (subst (λ n. length (past n (seen_in mid.now.trees)) ≡ 0) (sym found.number_of) play.games.seen_none)
+        found.seen_are in
         let are_scores = scores.are t (record { few = few; rows_are = rows_are }) in
-        let are_meta : ◌≡◌ {A = List Row} (meta_cells rows.meta ∷ []) (tables_of both_games t 0) = λ i. (Int (read.id i) ∷ Int (read.schema i) ∷ Int (people.moment i) ∷ []) ∷ [] in (
+        let are_meta : ◌≡◌ {A = List Row} (meta_cells rows.meta ∷ []) (tables_of both_games t 0) = λ i.
+        (Int (read.id i) ∷ Int (read.schema i) ∷ Int (people.moment i) ∷ []) ∷ [] in (
           t,
           record {
             last = people.within;
@@ -147,25 +192,60 @@ module _ (rows : Rows) (old mid after new : State) (opened : IsOpened old) (read
             challenges = challenges-of s rows people found.games rows_are register.challenges.legal;
             challenge_numbers = register.challenges.numbers;
           },
-          exactly_same (content_with rows scores.rows_of old.now.trees) (tables t) new
-              (same_by _ _ are_meta, (same_by _ _ people.members.rows_are, (same_by _ _ people.events.rows_are, (register.challenges.rows_are.same, (subst (λ (d : Trees). HaveSame (moves_in d) (tables_of both_games t 8)) trees_are are_moves, (same_by _ _ rows_are, (subst (λ (d : Trees). HaveSame (seen_in d) (tables_of both_games t 12)) trees_are are_seen, (are_scores.same, tt)))))))) exactly,
+          exactly_same (content_with rows scores.rows_of old.now.trees) (tables t) new (
+            same_by _ _ are_meta,
+            (
+              same_by _ _ people.members.rows_are,
+              (
+                same_by _ _ people.events.rows_are,
+                (
+                  register.challenges.rows_are.same,
+                  (
+                    subst (λ (d : Trees). HaveSame (moves_in d) (tables_of both_games t 8)) trees_are are_moves,
+                    (
+                      same_by _ _ rows_are,
+                      (
+                        subst (λ (d : Trees). HaveSame (seen_in d) (tables_of both_games t 12)) trees_are are_seen,
+                        (are_scores.same, tt),
+                      ),
+                    ),
+                  ),
+                ),
+              ),
+            ),
+          ) exactly,
         )
 
 -- ---- what is blamed
 
 -- What a fault says of rows that were read, and of a database that did not change since, it says of the database.
-pub play_blamed : (rows : Rows) (old mid later : State) (fault : OpenFault) → AreRead rows old mid → IsUnchanged old later → NamesTable later.now fault ⊎ NamesPlay rows later.now fault → NamesTable old.now fault ⊎ (NamesSchema old.now fault ⊎ NamesRows old.now fault)
+pub play_blamed : (rows : Rows) (old mid later : State) (fault : OpenFault) → AreRead rows old mid
+    → IsUnchanged old later → NamesTable later.now fault ⊎ NamesPlay rows later.now fault → NamesTable old.now fault
+    ⊎ (NamesSchema old.now fault ⊎ NamesRows old.now fault)
 play_blamed rows old mid later fault read same blamed = elim (blamed_before rows old later fault same blamed) [
   | inl named ↦ inl named
-  | inr (t, is, none) ↦ inr (inr (t, is, λ s club holds. none s club (club_read s club rows old mid holds read (have_ids rows old mid read)) holds))
+  | inr (t, is, none) ↦
+      inr
+      (inr (
+        t,
+        is,
+        λ s club holds. none s club (club_read s club rows old mid holds read (have_ids rows old mid read))
+            holds,
+      ))
 ]
 
 -- rows of scores that were judged to be other ones are no club's
-pub scores_blamed : (rows : Rows) (scored_rows : List ScoreRow) (old new : State) → IsReadAs (scored 14) 3 (map score_cells scored_rows) old new
-    → ((s : ClubState) → AreGamesOf s rows.games.items → AreEachOnce (map score_cells scored_rows) (scores_in both_games s.games) → false ≡ true) → NamesPlay rows old.now (Damaged Scores)
+pub scores_blamed : (rows : Rows) (scored_rows : List ScoreRow) (old new : State)
+    → IsReadAs (scored 14) 3 (map score_cells scored_rows) old new
+    → ((s : ClubState) → AreGamesOf s rows.games.items
+    → AreEachOnce (map score_cells scored_rows) (scores_in both_games s.games) → false ≡ true)
+    → NamesPlay rows old.now (Damaged Scores)
 scores_blamed rows scored_rows old new read complete = (
   Scores,
   refl,
   λ s club register holds.
-      true≢false (sym (complete s (record { few = club.game_count; rows_are = register.games }) (scores_are s club (map score_cells scored_rows) old new holds read))),
+      true≢false
+      (sym
+      (complete s (record { few = club.game_count; rows_are = register.games })
+      (scores_are s club (map score_cells scored_rows) old new holds read))),
 )

@@ -17,19 +17,23 @@ use Rattle.store_tables.specs.Changed.{changed, put_maybe}
 use Rattle.store.specs.Steps.{HaveSame, AreSame, Puts, PutsOnly}
 use Rattle.store.proofs.NextRows.{puts_all, puts, meta_row}
 
-keeps_same : (table : Table) (db : Trees) (one other : List Row) → HaveSame one other → Keeps table db one → Keeps table db other
+keeps_same : (table : Table) (db : Trees) (one other : List Row) → HaveSame one other → Keeps table db one
+    → Keeps table db other
 keeps_same table db one other same keeps = record {
   stored = λ row h. keeps.stored row (same.back row h);
   only = λ r h. same.there _ (keeps.only r h);
 }
 
-both_all : {A : Type 0} (P Q R : A → Type 0) (xs : List A) → ((x : A) → P x → Q x → R x) → AllByRecursion P xs → AllByRecursion Q xs → AllByRecursion R xs
+both_all : {A : Type 0} (P Q R : A → Type 0) (xs : List A) → ((x : A) → P x → Q x → R x) → AllByRecursion P xs
+    → AllByRecursion Q xs → AllByRecursion R xs
 both_all P Q R [] f p q = tt
 both_all P Q R (x ∷ xs) f p q = (f x p.0 q.0, both_all P Q R xs f p.1 q.1)
 
-stored_same : (db : Trees) (one other : Content) → AreSame one other → AreStored club_schema db one → AreStored club_schema db other
+stored_same : (db : Trees) (one other : Content) → AreSame one other → AreStored club_schema db one
+    → AreStored club_schema db other
 stored_same db one other =
-    both_all (λ t. HaveSame (one t.tree) (other t.tree)) (λ t. Stores t db one) (λ t. Stores t db other) club_schema.tables (λ t same stores. record {
+    both_all (λ t. HaveSame (one t.tree) (other t.tree)) (λ t. Stores t db one) (λ t. Stores t db other)
+    club_schema.tables (λ t same stores. record {
       rows = keeps_same t db (one t.tree) (other t.tree) same stores.rows;
       apart = stores.apart;
     })
@@ -41,18 +45,27 @@ pub exactly_same : (one other : Content) (s : State) → AreSame one other → I
 exactly_same one other s same k = record {
   is_open = k.is_open;
   idle = k.idle;
-  now = record { schema = k.now.schema; sound = k.now.sound; tables = stored_same s.now.trees one other same k.now.tables };
+  now =
+      record {
+        schema = k.now.schema;
+        sound = k.now.sound;
+        tables =
+            stored_same s.now.trees one other same k.now.tables;
+      };
   committed = k.committed;
   may_leave = λ db h. leaves_same one other db same (k.may_leave db h);
 }
 
-meta_put : (o : Option MetaRow) (row : Row) (content : Content) → option_map meta_cells o ≡ Some row → put_maybe o content ≡ put_in 0 (0 ∷ []) row content
+meta_put : (o : Option MetaRow) (row : Row) (content : Content) → option_map meta_cells o ≡ Some row
+    → put_maybe o content ≡ put_in 0 (0 ∷ []) row content
 meta_put None row content is = cc
 meta_put (Some meta) row content is = let e : meta_cells meta ≡ row = cc in ap (λ r. put_in 0 (0 ∷ []) r content) e
 
 -- what rows to put make of a content
-pub all_changed : (c : Changes) (moment : ℕ) (members events challenges games moves seen scores : List Row) → Puts c moment members events challenges games moves seen scores
-    → (content : Content) → changed c content ≡ puts_all moment members events challenges games moves seen scores content
+pub all_changed : (c : Changes) (moment : ℕ) (members events challenges games moves seen scores : List Row)
+    → Puts c moment members events challenges games moves seen scores
+    → (content : Content) → changed c content ≡ puts_all moment members events challenges games moves seen scores
+    content
 all_changed c moment members events challenges games moves seen scores are content =
     meta_put c.meta (meta_row moment) _ are.meta
     ∙ (λ i. put_in 0 (0 ∷ []) (meta_row moment)
@@ -63,5 +76,8 @@ all_changed c moment members events challenges games moves seen scores are conte
     (put_each 6 (0 ∷ 1 ∷ []) (are.challenges_are i)
     (put_each 4 (0 ∷ []) (are.events_are i) (put_each 1 (0 ∷ []) (are.members_are i) content))))))))
 
-pub puts_changed : (c : Changes) (moment : ℕ) (members events games moves seen scores : List Row) → PutsOnly c moment members events games moves seen scores → (content : Content) → changed c content ≡ puts moment members events games moves seen scores content
-puts_changed c moment members events games moves seen scores are content = all_changed c moment members events [] games moves seen scores are content
+pub puts_changed : (c : Changes) (moment : ℕ) (members events games moves seen scores : List Row)
+    → PutsOnly c moment members events games moves seen scores → (content : Content)
+    → changed c content ≡ puts moment members events games moves seen scores content
+puts_changed c moment members events games moves seen scores are content =
+    all_changed c moment members events [] games moves seen scores are content

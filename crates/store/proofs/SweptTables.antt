@@ -36,7 +36,8 @@ module _ (games scores : List Row) (content : Content) where
   in_games = each_at (0 ∷ 1 ∷ 2 ∷ []) 14 scores with_games 10 ∙ each_at (0 ∷ []) 10 games content 10
 
   in_scores : with_both 14 ≡ put_rows (0 ∷ 1 ∷ 2 ∷ []) scores (content 14)
-  in_scores = each_at (0 ∷ 1 ∷ 2 ∷ []) 14 scores with_games 14 ∙ ap (put_rows (0 ∷ 1 ∷ 2 ∷ []) scores) (each_at (0 ∷ []) 10 games content 14)
+  in_scores = each_at (0 ∷ 1 ∷ 2 ∷ []) 14 scores with_games 14
+      ∙ ap (put_rows (0 ∷ 1 ∷ 2 ∷ []) scores) (each_at (0 ∷ []) 10 games content 14)
 
   in_meta : with_both 0 ≡ content 0
   in_meta = each_at (0 ∷ 1 ∷ 2 ∷ []) 14 scores with_games 0 ∙ each_at (0 ∷ []) 10 games content 0
@@ -70,7 +71,8 @@ module _ (s : ClubState) (moment : ℕ) (rows : SweptRows) (swept : IsSwept s mo
   swept_next : AreSame (puts moment [] [] games [] [] scores (tables s)) new
   swept_next =
       let others : LeavesOthers s moment = leaves_others s moment in (
-        subst (λ l. HaveSame (put_rows (0 ∷ []) (meta_row moment ∷ []) l) (meta_row moment ∷ [])) (sym (in_meta games scores (tables s))) (one_replaced (meta_row s.last) (meta_row moment) 1 refl refl),
+        subst (λ l. HaveSame (put_rows (0 ∷ []) (meta_row moment ∷ []) l) (meta_row moment ∷ []))
+            (sym (in_meta games scores (tables s))) (one_replaced (meta_row s.last) (meta_row moment) 1 refl refl),
         (
           same_by _ _ (in_members games scores (tables s) ∙ sym others.members_stay),
           (
@@ -93,13 +95,16 @@ module _ (s : ClubState) (moment : ℕ) (rows : SweptRows) (swept : IsSwept s mo
       )
 
   pub swept_decided : (c : Changes) → PutsOnly c moment [] [] games [] [] scores
-      → IsDecided s (caller_step s moment Officer sweep) (record { outcome = given_is.Accepted (answer_is.Swept rows.count); changes = Some c })
+      → IsDecided s (caller_step s moment Officer sweep)
+      (record { outcome = given_is.Accepted (answer_is.Swept rows.count); changes = Some c })
   swept_decided c are =
-      put_decided s (caller_step s moment Officer sweep) (with_swept both_games s moment) (given_is.Accepted (answer_is.Swept rows.count)) c moment [] [] games [] [] scores
+      put_decided s (caller_step s moment Officer sweep) (with_swept both_games s moment)
+      (given_is.Accepted (answer_is.Swept rows.count)) c moment [] [] games [] [] scores
       (ap (λ n. outcome_of (given_is.Accepted (answer_is.Swept n))) swept.count_is) refl are swept_next
 
 -- a sweep that a member asks for is refused
-pub member_refused : (s : ClubState) (moment : ℕ) (who : Caller) (id : ℕ) (d : Decided) → who ≡ Member id → d.outcome ≡ given_is.Refused NotAllowed → d.changes ≡ None → IsDecided s (caller_step s moment who sweep) d
+pub member_refused : (s : ClubState) (moment : ℕ) (who : Caller) (id : ℕ) (d : Decided) → who ≡ Member id
+    → d.outcome ≡ given_is.Refused NotAllowed → d.changes ≡ None → IsDecided s (caller_step s moment who sweep) d
 member_refused s moment who id d is outcome none =
     subst (λ w. IsDecided s (caller_step s moment w sweep) d) (sym is)
     (none_decided s (caller_step s moment (Member id) sweep) d (given_is.Refused NotAllowed) outcome none refl refl)

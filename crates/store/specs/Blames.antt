@@ -16,7 +16,8 @@ use Rattle.store_sql.specs.Read.{IsReadAs}
 use Rattle.store_tables.specs.Tables.{meta, members, events, challenges, games}
 use Rattle.store_tables.specs.declared.rows.Rows.{Rows}
 use Rattle.store_tables.specs.declared.names.Table.{Table}
-use Rattle.store_tables.specs.declared.names.Table.TheVariants.{Members, Events, Challenges, Moves, Games, Seen, Scores, Meta}
+use Rattle.store_tables.specs.declared.names.Table.TheVariants.{Members, Events, Challenges, Moves, Games, Seen, Scores}
+use Rattle.store_tables.specs.declared.names.Table.TheVariants.{Meta}
 use Rattle.store.specs.declared.fault.OpenFault.{OpenFault}
 use Rattle.store.specs.declared.fault.OpenFault.TheVariants.{Schema, Damaged, Store, Memory}
 
@@ -58,12 +59,19 @@ Faults table Reason fault = (fault ≡ Memory) ⊎ ((fault ≡ Damaged table) ×
 -- Only a table whose rows do not have the types of its columns is called damaged.
 abbrev pub Blames : Table → Definition → (Row → Type 0) → State → OpenFault → Type 0
 Blames table definition IsTyped old fault =
-    (fault ≡ Store) ⊎ Faults table ((rows : List Row) → Keeps definition old.now.trees rows → AreApart (old.now.trees definition.tree) → ¬ AllByRecursion IsTyped rows) fault
+    (fault ≡ Store)
+    ⊎ Faults table ((rows : List Row) → Keeps definition old.now.trees rows
+    → AreApart (old.now.trees definition.tree) → ¬ AllByRecursion IsTyped rows) fault
 
--- a call failed, or a table is named whose rows, whatever content the database holds, do not have the types of its columns
+-- a call failed, or a table is named whose rows, whatever content the database holds, do not have the types of its
+-- columns
 abbrev pub NamesTable : Database → OpenFault → Type 0
-NamesTable db fault = (fault ≡ Store) ⊎ ((fault ≡ Memory) ⊎ ((t : Table) × (fault ≡ Damaged t) × ((content : Content) → Holds db content → ¬ HasTypes t content)))
+NamesTable db fault = (fault ≡ Store)
+    ⊎
+    ((fault ≡ Memory)
+    ⊎ ((t : Table) × (fault ≡ Damaged t) × ((content : Content) → Holds db content → ¬ HasTypes t content)))
 
 -- `meta` has this number, and it is not 1
 abbrev pub NamesSchema : Database → OpenFault → Type 0
-NamesSchema db fault = (n : ℤ) × (fault ≡ Schema n) × (n ≢ pos 1) × ((content : Content) → Holds db content → (last : ℤ) × Has (content 0) (Int (pos 1) ∷ Int n ∷ Int last ∷ []))
+NamesSchema db fault = (n : ℤ) × (fault ≡ Schema n) × (n ≢ pos 1)
+    × ((content : Content) → Holds db content → (last : ℤ) × Has (content 0) (Int (pos 1) ∷ Int n ∷ Int last ∷ []))

@@ -31,8 +31,10 @@ begun_meetings events moment c Refused = []
 begun_meetings events moment c (Accepted id) = started_scores events None (pairing_for c) moment
 
 -- these rows of challenges are put, with those of the game
-pub record PutsBegun (events : List Event) (moment : ℕ) (c : Challenge) (challenges : List Row) (changes : Changes) : Type 0 where
-  pub puts : Puts changes moment [] [] challenges (begun_games events moment c c.standing) [] (begun_seen events moment c c.standing) []
+pub record PutsBegun (events : List Event) (moment : ℕ) (c : Challenge) (challenges : List Row)
+    (changes : Changes) : Type 0 where
+  pub puts : Puts changes moment [] [] challenges (begun_games events moment c c.standing) []
+      (begun_seen events moment c c.standing) []
   pub running : begun_meetings events moment c c.standing ≡ []
 
 -- how an accepted answer leaves the challenge: refused, or started with the next game

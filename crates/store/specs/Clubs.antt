@@ -9,4 +9,5 @@ pub record Kept (S : Type 0) : Type 0 where
   pub needs_reopening : Bool
 
 abbrev pub kept_code : {S : Type 0} → Coded S → Coded (Kept S)
-kept_code {S} store = code_by (Held S × Bool) (coded× (held_code store) coded_bool) (λ k. (k.connection, k.needs_reopening)) (λ p. record { connection = p.0; needs_reopening = p.1 }) (λ _. refl)
+kept_code {S} store = code_by (Held S × Bool) (coded× (held_code store) coded_bool)
+    (λ k. (k.connection, k.needs_reopening)) (λ p. record { connection = p.0; needs_reopening = p.1 }) (λ _. refl)

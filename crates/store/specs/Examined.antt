@@ -1,5 +1,6 @@
 -- The rows of a club's games in a database, and how many of its games were found there.
-use Rattle.std.specs.Prelude.{◌≡◌, ◌+◌, ℕ, zero, suc, pos, not, List, [], ◌∷◌, map, take, length, filter, Option, Some, None, slice_get}
+use Rattle.std.specs.Prelude.{◌≡◌, ◌+◌, ℕ, zero, suc, pos, not, List, [], ◌∷◌, map, take, length, filter, Option, Some}
+use Rattle.std.specs.Prelude.{None, slice_get}
 use Rattle.sqlite.specs.Order.{Row}
 use Rattle.sqlite.specs.Tree.{Trees}
 use Rattle.sqlite.specs.Effect.{Database}
@@ -36,33 +37,41 @@ abbrev pub past : ℕ → List Row → List Row
 past zero rows = rows
 past (suc k) rows = filter (λ x. not (same_key (0 ∷ []) x (number (suc k) ∷ []))) (past k rows)
 
--- the rows are those of this game of the club, which has this id: its own, and those of moves and of positions that begin as it
+-- the rows are those of this game of the club, which has this id: its own, and those of moves and of positions that
+-- begin as it
 pub record IsFoundAs (s : ClubState) (id : ℕ) (row : GameRecord) (db : Trees) (game : ClubGame) : Type 0 where
   pub legal : IsLegalIn both_games s game
   pub row_is : game_cells row ≡ row_of_game both_games s.events id game
   pub moves_are : HaveSame (beginning_with row.id (moves_in db)) (rows_of_moves both_games s.events id game)
   pub seen_are : HaveSame (beginning_with row.id (seen_in db)) (rows_of_seen both_games id game)
 
--- So many games of the club were found: these rows are theirs, and the rows of moves and of positions with their numbers.
+-- So many games of the club were found: these rows are theirs, and the rows of moves and of positions with their
+-- numbers.
 pub record WereFound (s : ClubState) (rows : List GameRecord) (db : Trees) (count : ℕ) : Type 0 where
   pub games : List ClubGame
   pub number_of : length games ≡ count
   pub legal : Each (IsLegalIn both_games s) games
   pub rows_are : map game_cells (take count rows) ≡ numbered_from (row_of_game both_games s.events) 1 games
-  pub moves_are : (n : ℕ) (g : ClubGame) → slice_get games n ≡ Some g → HaveSame (beginning_with (pos (1 + n)) (moves_in db)) (rows_of_moves both_games s.events (1 + n) g)
-  pub seen_are : (n : ℕ) (g : ClubGame) → slice_get games n ≡ Some g → HaveSame (beginning_with (pos (1 + n)) (seen_in db)) (rows_of_seen both_games (1 + n) g)
+  pub moves_are : (n : ℕ) (g : ClubGame) → slice_get games n ≡ Some g
+      → HaveSame (beginning_with (pos (1 + n)) (moves_in db)) (rows_of_moves both_games s.events (1 + n) g)
+  pub seen_are : (n : ℕ) (g : ClubGame) → slice_get games n ≡ Some g
+      → HaveSame (beginning_with (pos (1 + n)) (seen_in db)) (rows_of_seen both_games (1 + n) g)
 
 -- A table is called damaged, and no legal club whose register these rows are has the tables of the database.
 abbrev pub NamesPlay : Rows → Database → OpenFault → Type 0
-NamesPlay rows db fault = (t : Table) × (fault ≡ Damaged t) × ((s : ClubState) → IsClub s → IsRegisterOf s rows → ¬ Holds db (tables s))
+NamesPlay rows db fault = (t : Table) × (fault ≡ Damaged t)
+    × ((s : ClubState) → IsClub s → IsRegisterOf s rows → ¬ Holds db (tables s))
 
--- What was read of a game's rows tells: how many are of its moves and of its positions, and that all of them are those of a
+-- What was read of a game's rows tells: how many are of its moves and of its positions, and that all of them are those
+-- of a
 -- legal game at its place, or a wrong table.
-pub record IsGameFound (rows : Rows) (place : ℕ) (game : GameRecord) (moves seen : ℕ) (wrong : Option Table) (old new : State) : Type 0 where
+pub record IsGameFound (rows : Rows) (place : ℕ) (game : GameRecord) (moves seen : ℕ) (wrong : Option Table)
+    (old new : State) : Type 0 where
   pub same : IsUnchanged old new
   pub moves_number : moves ≡ length (beginning_with game.id (moves_in old.now.trees))
   pub seen_number : seen ≡ length (beginning_with game.id (seen_in old.now.trees))
-  pub found : wrong ≡ None → (s : ClubState) → HasPeople s rows → (g : ClubGame) × IsFoundAs s (place + 1) game old.now.trees g
+  pub found : wrong ≡ None → (s : ClubState) → HasPeople s rows → (g : ClubGame)
+      × IsFoundAs s (place + 1) game old.now.trees g
   pub blamed : (t : Table) → wrong ≡ Some t → NamesPlay rows old.now (Damaged t)
 
 -- what was read of all games tells

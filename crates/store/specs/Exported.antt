@@ -38,15 +38,18 @@ module _ {P M E T : Type 0} (rules : GameRules P M E T) where
     pub result : title.result ≡ result_of rules game
 
   module _ (IsText : Title E → List (M × ℕ) → List ℕ → Type 0) where
-    -- the record of a game with these names, what stands beside the moves and each move with the seconds that it took, was added
+    -- the record of a game with these names, what stands beside the moves and each move with the seconds that it took,
+    -- was added
     abbrev pub AddsNamed : Names → Game M → Option (List ℕ) → Option (List ℕ) → Type 0
     AddsNamed names game before now =
-        (title : Title E) × IsTitleOf names game title × AddsRecord IsText title (timed game.start game.entries) before now
+        (title : Title E) × IsTitleOf names game title
+        × AddsRecord IsText title (timed game.start game.entries) before now
 
     -- a beginning of it was
     abbrev pub BeginsNamed : Names → Game M → Option (List ℕ) → Option (List ℕ) → Type 0
     BeginsNamed names game before now =
-        (title : Title E) × IsTitleOf names game title × BeginsRecord IsText title (timed game.start game.entries) before now
+        (title : Title E) × IsTitleOf names game title
+        × BeginsRecord IsText title (timed game.start game.entries) before now
 
 -- what a connection holds is kept, unless a call on it failed; a writer that fails leaves it as it is
 abbrev pub KeepsUnlessCalled : {A : Type 0} → Result A Stopped → State → State → Type 0
@@ -86,11 +89,13 @@ BeginsGame names (shogi game) before now = BeginsNamed both_games.shogi IsCsaTex
 -- the record of the game of this number was written, or nothing where the club has none
 abbrev pub IsExported : ClubState → ℕ → Bool → Option (List ℕ) → Option (List ℕ) → Type 0
 IsExported s id true before now =
-    (game : ClubGame) × (place s.games id ≡ Some game) × (names : Names) × AreNamesOf s game names × AddsGame names game before now
+    (game : ClubGame) × (place s.games id ≡ Some game) × (names : Names) × AreNamesOf s game names
+    × AddsGame names game before now
 IsExported s id false before now = (place s.games id ≡ None) × (now ≡ before)
 
 -- wherever the writing stopped, the writer has what it held, or with it a beginning of the record of that game
 abbrev pub IsWrittenSome : ClubState → ℕ → Option (List ℕ) → Option (List ℕ) → Type 0
 IsWrittenSome s id before now =
     (now ≡ before)
-    ⊎ ((game : ClubGame) × (place s.games id ≡ Some game) × (names : Names) × AreNamesOf s game names × BeginsGame names game before now)
+    ⊎ ((game : ClubGame) × (place s.games id ≡ Some game) × (names : Names) × AreNamesOf s game names
+    × BeginsGame names game before now)

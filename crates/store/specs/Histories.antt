@@ -30,9 +30,11 @@ pub record SessionReaches (before : ClubState) (session : Session) (after : Club
 -- the sessions in turn lead from one state to another
 abbrev pub Reaches : ClubState → List Session → ClubState → Type 0
 Reaches before [] after = after ≡ before
-Reaches before (session ∷ sessions) after = (between : ClubState) × SessionReaches before session between × Reaches between sessions after
+Reaches before (session ∷ sessions) after = (between : ClubState) × SessionReaches before session between
+    × Reaches between sessions after
 
--- From the opening of the club, the sessions lead to a legal state whose tables these trees have, for any later opening.
+-- From the opening of the club, the sessions lead to a legal state whose tables these trees have, for any later
+-- opening.
 pub record IsReachable (sessions : List Session) (trees : Trees) : Type 0 where
   pub after : ClubState
   pub legal : IsClub after
@@ -69,9 +71,10 @@ abbrev pub cut_session : Request → Session
 cut_session request = record { requests = request ∷ []; returned = 0; is_whole = false }
 
 -- the state after so many of the requests is legal, and these trees have its tables
-pub record IsAfter (before : ClubState) (requests : List given_request.Request) (count : ℕ) (trees : Trees) : Type 0 where
-  pub legal : IsClub (club_fold before (map request_of (take count requests)))
-  pub leaves : Leaves (tables (club_fold before (map request_of (take count requests)))) trees
+pub record IsAfter (before : ClubState) (requests : List given_request.Request) (count : ℕ) (trees : Trees) : Type 0
+  where
+    pub legal : IsClub (club_fold before (map request_of (take count requests)))
+    pub leaves : Leaves (tables (club_fold before (map request_of (take count requests)))) trees
 
 -- what a history begins with: no session leads to the tables of a club with nothing in it
 abbrev pub BeginsAtOpening : Type 0

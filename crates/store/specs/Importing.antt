@@ -32,7 +32,8 @@ use Rattle.store.specs.Stored.{IsStoredGame}
 -- the rows of a table of moves that have its number are this game's
 abbrev pub TellsLine : {P M E T : Type 0} → GameRules P M E T → Terms → ℕ → Game M → Content → Type 0
 TellsLine laws terms id game content =
-    (found : List Row) → AreThose (0 ∷ []) (number id ∷ []) (content 8) found → HaveSame found (move_rows laws terms id game)
+    (found : List Row) → AreThose (0 ∷ []) (number id ∷ []) (content 8) found
+    → HaveSame found (move_rows laws terms id game)
 
 -- the game that stands under a key of the club
 pub record IsUnderKey (s : ClubState) (key : List ℕ) (stored : StoredGame) : Type 0 where
@@ -57,7 +58,8 @@ pub record IsKnown (s : ClubState) (key : List ℕ) (known : Known) : Type 0 whe
   pub games_are : known.games ≡ length s.games
 
 -- this is the stored game, if it is one of this kind
-abbrev pub IsOfKind : {P M E T : Type 0} → GameRules P M E T → GameKind → Content → Option (Game M) → Option StoredGame → Type 0
+abbrev pub IsOfKind : {P M E T : Type 0} → GameRules P M E T → GameKind → Content → Option (Game M) → Option StoredGame
+    → Type 0
 IsOfKind laws kind content None None = Unit {0}
 IsOfKind laws kind content (Some game) None = ⊥
 IsOfKind laws kind content None (Some stored) = stored.kind ≢ kind
@@ -69,7 +71,8 @@ IsOfKind laws kind content (Some game) (Some stored) =
 -- ---- what is decided
 
 -- the machine's outcome of an import, by what is known, and by the game under the key if it is of the event's kind
-abbrev pub imported_by : {P M E T : Type 0} → GameRules P M E T → GameRecords M → Known → Caller → Import → Option (Game M) → Outcome (Imported M)
+abbrev pub imported_by : {P M E T : Type 0} → GameRules P M E T → GameRecords M → Known → Caller → Import
+    → Option (Game M) → Outcome (Imported M)
 imported_by laws records known caller given old =
     by_officer caller
     (import_found laws records given
@@ -80,17 +83,21 @@ imported_by laws records known caller given old =
     old
     known.games)
 
--- What is put of an ended game that is added: its row, those of its moves and of its positions, and those of its players'
+-- What is put of an ended game that is added: its row, those of its moves and of its positions, and those of its
+-- players'
 -- scores, by what the table had of these.
-pub record PutsNewGame {P M E T : Type 0} (laws : GameRules P M E T) (terms : Terms) (id moment : ℕ) (table : List Row) (new : Game M) (changes : Changes) : Type 0 where
+pub record PutsNewGame {P M E T : Type 0} (laws : GameRules P M E T) (terms : Terms) (id moment : ℕ) (table : List Row)
+    (new : Game M) (changes : Changes) : Type 0 where
   pub score : Score
   pub ended : result_of laws new ≡ Some score
   pub scores : List Row
   pub scores_are : PutsScores table new.event new.first new.second score scores
-  pub puts : PutsOnly changes moment [] [] (game_row laws terms id new ∷ []) (move_rows laws terms id new) (seen_rows laws id new) scores
+  pub puts : PutsOnly changes moment [] [] (game_row laws terms id new ∷ []) (move_rows laws terms id new)
+      (seen_rows laws id new) scores
 
 -- the next game is put where an import was accepted, and nothing else
-abbrev pub PutsImport : {P M E T : Type 0} → GameRules P M E T → List Event → (key : List ℕ) → (games moment : ℕ) → List Row → Outcome (Imported M) → Option Changes → Type 0
+abbrev pub PutsImport : {P M E T : Type 0} → GameRules P M E T → List Event → (key : List ℕ) → (games moment : ℕ)
+    → List Row → Outcome (Imported M) → Option Changes → Type 0
 PutsImport laws events key games moment table (accepted i reply) (Some changes) =
     PutsNewGame laws (terms_at (place events i.pairing.event)) (games + 1) moment table
     (imported laws (Some key) i.pairing moment i.recorded) changes
@@ -101,6 +108,7 @@ PutsImport laws events key games moment table (repeated reply) (Some changes) = 
 PutsImport laws events key games moment table (refused refusal) (Some changes) = ⊥
 
 -- The outcome of an import was found: its answer, and the rows that are put over this table of scores.
-pub record IsImportedIn {P M E T : Type 0} (laws : GameRules P M E T) (events : List Event) (key : List ℕ) (games moment : ℕ) (table : List Row) (after : Outcome (Imported M)) (decided : Decided) : Type 0 where
+pub record IsImportedIn {P M E T : Type 0} (laws : GameRules P M E T) (events : List Event) (key : List ℕ)
+    (games moment : ℕ) (table : List Row) (after : Outcome (Imported M)) (decided : Decided) : Type 0 where
   pub answer : outcome_of decided.outcome ≡ answered after
   pub puts : PutsImport laws events key games moment table after decided.changes

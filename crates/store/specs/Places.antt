@@ -4,7 +4,8 @@ use Rattle.sqlite.specs.Effect.{Database}
 use Rattle.store_tables.specs.Club.{Holds}
 use Rattle.store_tables.specs.declared.rows.Rows.{Rows}
 use Rattle.store_tables.specs.declared.names.Table.{Table}
-use Rattle.store_tables.specs.declared.names.Table.TheVariants.{Members, Events, Challenges, Moves, Games, Seen, Scores, Meta}
+use Rattle.store_tables.specs.declared.names.Table.TheVariants.{Members, Events, Challenges, Moves, Games, Seen, Scores}
+use Rattle.store_tables.specs.declared.names.Table.TheVariants.{Meta}
 use Rattle.club_rows.specs.Club.{both_games, ClubState, IsClub, tables}
 use Rattle.club_rows.specs.EachOnce.{AreEachOnce}
 use Rattle.club_rows.specs.Tables.{challenge_row, event_row, member_row, numbered_from, row_of_game}
@@ -44,7 +45,8 @@ pub record IsRegisterOf (s : ClubState) (rows : Rows) : Type 0 where
 
 -- Memory was refused, or a table is called damaged, and then these rows are of no legal club.
 abbrev pub BlamesRows : Rows → OpenFault → Type 0
-BlamesRows rows fault = (fault ≡ Memory) ⊎ ((t : Table) × (fault ≡ Damaged t) × ((s : ClubState) → IsClub s → ¬ IsRegisterOf s rows))
+BlamesRows rows fault = (fault ≡ Memory)
+    ⊎ ((t : Table) × (fault ≡ Damaged t) × ((s : ClubState) → IsClub s → ¬ IsRegisterOf s rows))
 
 -- A table is called damaged, and no legal club has the tables of the database.
 abbrev pub NamesRows : Database → OpenFault → Type 0

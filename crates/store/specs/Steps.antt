@@ -1,5 +1,6 @@
 -- The club as a machine, and what is decided of a request by rows of its tables.
-use Rattle.std.specs.Prelude.{◌≡◌, ◌≢◌, ◌⊎◌, ◌≤◌, ◌+◌, ◌++◌, ℕ, List, [], ◌∷◌, length, map, Option, Some, None, IsTrue, slice_get}
+use Rattle.std.specs.Prelude.{◌≡◌, ◌≢◌, ◌⊎◌, ◌≤◌, ◌+◌, ◌++◌, ℕ, List, [], ◌∷◌, length, map, Option, Some, None, IsTrue}
+use Rattle.std.specs.Prelude.{slice_get}
 use Rattle.std.specs.Option.{option_map}
 use Rattle.sqlite.specs.Order.{Row}
 use Rattle.store_tables.specs.Changes as changes
@@ -23,7 +24,8 @@ use Rattle.club_core.specs.declared.answers.Answer.{Answer}
 use Rattle.club_core.specs.declared.answers.Answer.TheVariants as answer
 use Rattle.club_core.specs.Answer.{answered, outcome_of, move_reply_of, who_of, command_of}
 use Rattle.club_core.specs.Seats.{Pairing}
-use Rattle.club_core.specs.State.{Command, Request, place, kind_at, seated, seated_as, state_after, step, step_command, next}
+use Rattle.club_core.specs.State.{Command, Request, place, kind_at, seated, seated_as, state_after, step, step_command}
+use Rattle.club_core.specs.State.{next}
 pub use Rattle.club_rows.specs.Shown.{IsRecordOf}
 use Rattle.club_rows.specs.RowView.{row_at}
 use Rattle.club_rows.specs.Club.{ClubGame, both_games, ClubState, IsClub, tables}
@@ -33,7 +35,8 @@ use Rattle.club_rows.specs.Scores.{Meeting, meetings_in}
 use Rattle.club_rows.specs.Seen.{seen_rows, IsSeenRow, IsFound}
 use Rattle.club_rows.specs.declared.scores.ScorePair.{ScorePair}
 use Rattle.club_rows.specs.Tables.{number, game_row, move_rows, row_of_game, rows_of_seen}
-use Rattle.store_tables.specs.Cells.{meta_cells, member_cells, event_cells, challenge_cells, move_cells, game_cells, seen_cells, score_cells}
+use Rattle.store_tables.specs.Cells.{meta_cells, member_cells, event_cells, challenge_cells, move_cells, game_cells}
+use Rattle.store_tables.specs.Cells.{seen_cells, score_cells}
 use Rattle.store_tables.specs.Contents.{Content, AreThose}
 use Rattle.store_tables.specs.Tables.{club_schema}
 use Rattle.store_tables.specs.declared.rows.Changes.{Changes}
@@ -73,15 +76,16 @@ abbrev pub AreSame : Content → Content → Type 0
 AreSame = changes.AreSame club_schema
 
 -- These rows are put, with the moment as that of the last accepted command, and no other.
-pub record Puts (changes : Changes) (moment : ℕ) (members events challenges games moves seen scores : List Row) : Type 0 where
-  pub meta : option_map meta_cells changes.meta ≡ Some (number 1 ∷ number 1 ∷ number moment ∷ [])
-  pub members_are : map member_cells changes.members.items ≡ members
-  pub events_are : map event_cells changes.events.items ≡ events
-  pub challenges_are : map challenge_cells changes.challenges.items ≡ challenges
-  pub games_are : map game_cells changes.games.items ≡ games
-  pub moves_are : map move_cells changes.moves.items ≡ moves
-  pub seen_are : map seen_cells changes.seen.items ≡ seen
-  pub scores_are : map score_cells changes.scores.items ≡ scores
+pub record Puts (changes : Changes) (moment : ℕ) (members events challenges games moves seen scores : List Row) : Type 0
+  where
+    pub meta : option_map meta_cells changes.meta ≡ Some (number 1 ∷ number 1 ∷ number moment ∷ [])
+    pub members_are : map member_cells changes.members.items ≡ members
+    pub events_are : map event_cells changes.events.items ≡ events
+    pub challenges_are : map challenge_cells changes.challenges.items ≡ challenges
+    pub games_are : map game_cells changes.games.items ≡ games
+    pub moves_are : map move_cells changes.moves.items ≡ moves
+    pub seen_are : map seen_cells changes.seen.items ≡ seen
+    pub scores_are : map score_cells changes.scores.items ≡ scores
 
 -- and no challenge
 abbrev pub PutsOnly : Changes → ℕ → (members events games moves seen scores : List Row) → Type 0
@@ -131,7 +135,8 @@ first_seen_rows Shogi id key pairing moment = seen_rows both_games.shogi id (sea
 
 -- the rows of the positions of a game of one of these events that was just seated
 abbrev pub started_seen : List Event → ℕ → Option (List ℕ) → Pairing → ℕ → List Row
-started_seen events id key pairing moment = rows_of_seen both_games id (seated_as (kind_at (place events pairing.event)) key pairing moment)
+started_seen events id key pairing moment =
+    rows_of_seen both_games id (seated_as (kind_at (place events pairing.event)) key pairing moment)
 
 -- the meetings that a game of this kind that was just seated is: none, as it has not ended
 abbrev pub first_meetings : GameKind → Option (List ℕ) → Pairing → ℕ → List Meeting
@@ -142,7 +147,8 @@ started_scores events key pairing moment = first_meetings (kind_at (place events
 
 -- the row of a game of one of these events that was just seated
 abbrev pub started : List Event → ℕ → Option (List ℕ) → Pairing → ℕ → Row
-started events id key pairing moment = row_of_game both_games events id (seated_as (kind_at (place events pairing.event)) key pairing moment)
+started events id key pairing moment = row_of_game both_games events id
+    (seated_as (kind_at (place events pairing.event)) key pairing moment)
 
 -- ---- what is decided
 
@@ -177,29 +183,34 @@ left_answered (answer.ChallengeAccepted n game) = 0
 -- the rows of a table of positions tell what stood in this game
 abbrev pub TellsSeen : {P M E T : Type 0} → GameRules P M E T → ℕ → Game M → Content → Type 0
 TellsSeen laws id game content =
-    (text : List ℕ) (found : List SeenRow) → AreThose (0 ∷ 1 ∷ []) (number id ∷ Text text ∷ []) (content 12) (map seen_cells found)
+    (text : List ℕ) (found : List SeenRow) →
+    AreThose (0 ∷ 1 ∷ []) (number id ∷ Text text ∷ []) (content 12) (map seen_cells found)
     → IsFound laws id game text (slice_get found 0)
 
 -- the rows of a table of moves tell what was played in this game
 abbrev pub TellsMoves : {P M E T : Type 0} → GameRules P M E T → Terms → ℕ → Game M → Content → Type 0
 TellsMoves laws terms id game content =
-    (ply : ℕ) (found : List MoveRow) → AreThose (0 ∷ 1 ∷ []) (number id ∷ number ply ∷ []) (content 8) (map move_cells found)
+    (ply : ℕ) (found : List MoveRow) → AreThose (0 ∷ 1 ∷ []) (number id ∷ number ply ∷ []) (content 8)
+    (map move_cells found)
     → option_map move_cells (slice_get found 0) ≡ row_at laws terms id game ply
 
 -- the rows of a table of moves that have its number are this game's
 abbrev pub TellsLine : {P M E T : Type 0} → GameRules P M E T → Terms → ℕ → Game M → Content → Type 0
 TellsLine laws terms id game content =
-    (found : List Row) → AreThose (0 ∷ []) (number id ∷ []) (content 8) found → HaveSame found (move_rows laws terms id game)
+    (found : List Row) → AreThose (0 ∷ []) (number id ∷ []) (content 8) found
+    → HaveSame found (move_rows laws terms id game)
 
 -- the row of the last position of a game that a step leaves
 abbrev pub HasSeen : {P M E T : Type 0} → GameRules P M E T → ℕ → Outcome (Game M) → Option SeenRow → Type 0
 HasSeen laws id (accepted new reply) seen =
-    (row : SeenRow) × (seen ≡ Some row) × IsSeenRow laws id new (laws.write_position (last_position laws new)) (seen_cells row)
+    (row : SeenRow) × (seen ≡ Some row) × IsSeenRow laws id new (laws.write_position (last_position laws new))
+    (seen_cells row)
 HasSeen laws id (repeated reply) seen = Unit {0}
 HasSeen laws id (refused refusal) seen = Unit {0}
 
 -- the same after a decision that made a move; none where it made none
-abbrev pub IsSeenAfter : {R P M E T : Type 0} → GameRules P M E T → ℕ → Outcome (Game M) → Decision R P M E T → Option SeenRow → Type 0
+abbrev pub IsSeenAfter : {R P M E T : Type 0} → GameRules P M E T → ℕ → Outcome (Game M) → Decision R P M E T
+    → Option SeenRow → Type 0
 IsSeenAfter laws id outcome (decision.Accepted row (Some made) answer) seen = HasSeen laws id outcome seen
 IsSeenAfter laws id outcome (decision.Accepted row None answer) seen = seen ≡ None
 IsSeenAfter laws id outcome (decision.Repeated answer) seen = Unit {0}
@@ -213,13 +224,16 @@ HasTwoPlayers (decision.Refused refusal) = Unit {0}
 
 -- the rows of scores that a decision puts
 abbrev pub AreScoresAfter : {R P M E T : Type 0} → List Row → Decision R P M E T → Option ScorePair → Type 0
-AreScoresAfter table (decision.Accepted row made answer) scores = PutsScoresOf table row.event row.first row.second row.result (score_list scores)
+AreScoresAfter table (decision.Accepted row made answer) scores =
+    PutsScoresOf table row.event row.first row.second row.result (score_list scores)
 AreScoresAfter table (decision.Repeated answer) scores = Unit {0}
 AreScoresAfter table (decision.Refused refusal) scores = Unit {0}
 
--- What is put of a move that was played in a running game: the game's row, the move's, which is the last of its moves, that
+-- What is put of a move that was played in a running game: the game's row, the move's, which is the last of its moves,
+-- that
 -- of the position after it, and where the game has ended those of the scores.
-pub record PutsMove {P M E T : Type 0} (laws : GameRules P M E T) (terms : Terms) (id moment : ℕ) (table : List Row) (old new : Game M) (changes : Changes) : Type 0 where
+pub record PutsMove {P M E T : Type 0} (laws : GameRules P M E T) (terms : Terms) (id moment : ℕ) (table : List Row)
+    (old new : Game M) (changes : Changes) : Type 0 where
   pub event : new.event ≡ old.event
   pub running : result_of laws old ≡ None
   pub entry : Entry M
@@ -230,12 +244,15 @@ pub record PutsMove {P M E T : Type 0} (laws : GameRules P M E T) (terms : Terms
   pub seen_is : IsSeenRow laws id new (laws.write_position (last_position laws new)) seen
   pub scores : List Row
   pub scores_are : PutsScoresOf table new.event new.first new.second (result_of laws new) scores
-  pub puts : PutsOnly changes moment [] [] (game_row laws terms id new ∷ []) (made_row id reply moment ∷ []) (seen ∷ []) scores
+  pub puts : PutsOnly changes moment [] [] (game_row laws terms id new ∷ []) (made_row id reply moment ∷ []) (seen ∷ [])
+      scores
   pub grown : move_rows laws terms id new ≡ move_rows laws terms id old ++ made_row id reply moment ∷ []
 
--- What is put of a running game that changes where no move is played: its row, and where the game has ended those of the
+-- What is put of a running game that changes where no move is played: its row, and where the game has ended those of
+-- the
 -- scores.
-pub record PutsRow {P M E T : Type 0} (laws : GameRules P M E T) (terms : Terms) (id moment : ℕ) (table : List Row) (old new : Game M) (changes : Changes) : Type 0 where
+pub record PutsRow {P M E T : Type 0} (laws : GameRules P M E T) (terms : Terms) (id moment : ℕ) (table : List Row)
+    (old new : Game M) (changes : Changes) : Type 0 where
   pub event : new.event ≡ old.event
   pub running : result_of laws old ≡ None
   pub entries : new.entries ≡ old.entries
@@ -245,7 +262,8 @@ pub record PutsRow {P M E T : Type 0} (laws : GameRules P M E T) (terms : Terms)
   pub stays : move_rows laws terms id new ≡ move_rows laws terms id old
 
 -- nothing is put where nothing was accepted
-abbrev pub PutsGame : {P M E T : Type 0} → GameRules P M E T → Terms → ℕ → ℕ → List Row → Game M → Outcome (Game M) → Option Changes → Type 0
+abbrev pub PutsGame : {P M E T : Type 0} → GameRules P M E T → Terms → ℕ → ℕ → List Row → Game M → Outcome (Game M)
+    → Option Changes → Type 0
 PutsGame laws terms id moment table old (accepted new reply) (Some changes) =
     PutsMove laws terms id moment table old new changes ⊎ PutsRow laws terms id moment table old new changes
 PutsGame laws terms id moment table old (repeated reply) None = Unit {0}
@@ -255,7 +273,8 @@ PutsGame laws terms id moment table old (repeated reply) (Some changes) = ⊥
 PutsGame laws terms id moment table old (refused refusal) (Some changes) = ⊥
 
 -- The outcome of a step in a game was found: its answer, and the rows that are put over this table of scores.
-pub record IsDecidedIn {P M E T : Type 0} (laws : GameRules P M E T) (terms : Terms) (id moment : ℕ) (table : List Row) (old : Game M) (after : Outcome (Game M)) (decided : Decided) : Type 0 where
+pub record IsDecidedIn {P M E T : Type 0} (laws : GameRules P M E T) (terms : Terms) (id moment : ℕ) (table : List Row)
+    (old : Game M) (after : Outcome (Game M)) (decided : Decided) : Type 0 where
   pub answer : outcome_of decided.outcome ≡ answered after
   pub puts : PutsGame laws terms id moment table old after decided.changes
 

@@ -337,11 +337,14 @@ pub(crate) fn seated_rows(
 ) -> Result<Changes, CallFault>
     ensures puts { IfOk result (λ changes. Each IsLegalEvent (events_of events.now) →
         PutsOnly changes moment [] []
-        (started (events_of events.now) new.game (option_map (λ k. k.now) key.entry) (pairing_of new.pairing) moment ∷ []) []
-        (started_seen (events_of events.now) new.game (option_map (λ k. k.now) key.entry) (pairing_of new.pairing) moment)
+        (started (events_of events.now) new.game (option_map (λ k. k.now) key.entry) (pairing_of new.pairing) moment
+        ∷ []) []
+        (started_seen (events_of events.now) new.game (option_map (λ k. k.now) key.entry) (pairing_of new.pairing)
+        moment)
         []) }
     ensures running { IfOk result (λ changes.
-        started_scores (events_of events.now) (option_map (λ k. k.now) key.entry) (pairing_of new.pairing) moment ≡ []) }
+        started_scores (events_of events.now) (option_map (λ k. k.now) key.entry) (pairing_of new.pairing) moment
+        ≡ []) }
 {
     let event = event_at(events, new.pairing.event)?;
     seat_in(alloc, event.game, terms_of(event), new, key, moment)

@@ -11,6 +11,7 @@ pub maybe_int : (o : Option ℤ) → bound_value (or_null Int o) ≡ or_null Int
 maybe_int None = refl
 maybe_int (Some n) = refl
 
-pub maybe_text : {X : Type 0} (f : X → List ℕ) (o : Option X) → bound_value (or_null (λ x. Text (f x)) o) ≡ or_null (λ x. Text (f x)) o
+pub maybe_text : {X : Type 0} (f : X → List ℕ) (o : Option X)
+    → bound_value (or_null (λ x. Text (f x)) o) ≡ or_null (λ x. Text (f x)) o
 maybe_text f None = refl
 maybe_text f (Some x) = refl

@@ -1,5 +1,6 @@
 -- What the texts of a table tell of a call.
-use Rattle.std.proofs.Common.{◌≡◌, ℕ, ℤ, ◌<◌, List, [], ◌∷◌, map, length, Result, Ok, Err, refl, ap, sym, subst, subst₂, ◌∙◌, arith, inl, inr, ◌⊎◌, All, Some, slice_get}
+use Rattle.std.proofs.Common.{◌≡◌, ℕ, ℤ, ◌<◌, List, [], ◌∷◌, map, length, Result, Ok, Err, refl, ap, sym, subst, subst₂}
+use Rattle.std.proofs.Common.{◌∙◌, arith, inl, inr, ◌⊎◌, All, Some, slice_get}
 use Rattle.std.specs.Result.{OnOk}
 use Rattle.std.specs.Prelude.{IfOk, IfErr}
 use Rattle.std.proofs.lemmas.Result.{IfOk-weaker, IfErr-weaker}
@@ -18,7 +19,9 @@ use Rattle.store_tables.specs.Content.{Keeps, AreApart, cells}
 use Rattle.store_tables.specs.Contents.{Content, Stores, IsExactly, AreThose}
 use Rattle.store_tables.specs.Queries.{AreShownBy, IsSelect, Finds, by_others}
 use Rattle.store_tables.specs.Reading.{by_columns, Tells, TellsIds, IsNoInput, KeepsMay, OnlyReads}
-use Rattle.store_tables.proofs.Laws.{select_unchanged, only_reads, unchanged_exactly, tells, tells_ids, tells_first, finds, no_input, ids_of, stored_at, all_alike, in_order, one_list, places_rise, same_length, got}
+use Rattle.store_tables.proofs.Laws.{select_unchanged, only_reads, unchanged_exactly, tells, tells_ids, tells_first}
+use Rattle.store_tables.proofs.Laws.{finds, no_input, ids_of, stored_at, all_alike, in_order, one_list, places_rise}
+use Rattle.store_tables.proofs.Laws.{same_length, got}
 use Rattle.sqlite.specs.Effect.{Database}
 use Rattle.store_sql.specs.declared.fault.ReadFault.{ReadFault}
 use Rattle.store_sql.specs.declared.fault.ReadFault.TheVariants.{Mistyped, Memory}
@@ -26,7 +29,8 @@ use Rattle.store_sql.specs.Read.{BeginWithPlaces, KeepsContent, Blames}
 
 -- a connection that only read, and answered, holds what it held
 pub keeps_content : (old new : State) → IsUnchanged old new → KeepsMay old new → KeepsContent old new
-keeps_content old new same may schema content k = unchanged_exactly schema content old new k same (λ db h. k.may_leave db (may db h))
+keeps_content old new same may schema content k =
+    unchanged_exactly schema content old new k same (λ db h. k.may_leave db (may db h))
 
 pub on_ok_by : {T E : Type 0} (r : Result T E) (P : T → Type 0) (Q : Type 0) → ((x : T) → P x → Q) → IfOk r P → OnOk r Q
 on_ok_by (Ok x) P Q f h = f x h
@@ -38,10 +42,12 @@ always (Ok x) P p = p
 always (Err e) P p = tt
 
 -- an answer to a SELECT leaves what the connection holds
-pub select_keeps : {X : Type 0} (sql : List ℕ) (params : Row) (old new : State) (items : X → List Row) (r : Result X Error) → IsSelect sql → OnlyReads old new → HasCleanDisk new
+pub select_keeps : {X : Type 0} (sql : List ℕ) (params : Row) (old new : State) (items : X → List Row)
+    (r : Result X Error) → IsSelect sql → OnlyReads old new → HasCleanDisk new
     → IfOk r (λ x. Shown sql params old new (items x)) → OnOk r (KeepsContent old new)
 select_keeps sql params old new items r select only clean shown =
-    on_ok_by r (λ x. Shown sql params old new (items x)) (KeepsContent old new) (λ x h. keeps_content old new (select_unchanged sql select params old new (items x) h) (only.may clean)) shown
+    on_ok_by r (λ x. Shown sql params old new (items x)) (KeepsContent old new)
+    (λ x h. keeps_content old new (select_unchanged sql select params old new (items x) h) (only.may clean)) shown
 
 places_first : (rows : List Row) → BeginWithPlaces rows → BeginWithPlaces (map (λ r. column r 0 ∷ []) rows)
 places_first rows places k h =
@@ -49,64 +55,97 @@ places_first rows places k h =
     ap (λ r. column r 0) (got (λ (r : Row). column r 0 ∷ []) rows k [] [] within) ∙ places k within
 
 -- two lists of the rows of one table
-pub moved : (table : Table) (db : Trees) (xs ys : List Row) → Keeps table db xs → Keeps table db ys → (z : Row) → Has xs z → Has ys z
+pub moved : (table : Table) (db : Trees) (xs ys : List Row) → Keeps table db xs → Keeps table db ys → (z : Row)
+    → Has xs z → Has ys z
 moved table db xs ys one two z h = let r = one.stored z h in subst (Has ys) r.2 (two.only r.0 r.1)
 
-module _ (schema : Schema) (table : Table) (width : ℕ) (all ids group : List ℕ) (is : AreShownBy schema table width all ids group) (sql : List ℕ) (params : Row) (old new : State) where
-  pub all_told : sql ≡ all → params ≡ [] → (rows : List Row) → Shown sql params old new rows → old.now.schema ≡ schema → Tells table width rows old new
-  all_told text none rows shown has = tells schema table width all is.columns is.rows is.whole old new rows has (subst₂ (λ s p. Shown s p old new rows) text none shown)
+module _ (schema : Schema) (table : Table) (width : ℕ) (all ids group : List ℕ)
+    (is : AreShownBy schema table width all ids group) (sql : List ℕ) (params : Row) (old new : State) where
+  pub all_told : sql ≡ all → params ≡ [] → (rows : List Row) → Shown sql params old new rows → old.now.schema ≡ schema
+      → Tells table width rows old new
+  all_told text none rows shown has = tells schema table width all is.columns is.rows is.whole old new rows has
+      (subst₂ (λ s p. Shown s p old new rows) text none shown)
 
-  pub ids_told : sql ≡ ids → params ≡ [] → (rows : List Row) → Shown sql params old new rows → old.now.schema ≡ schema → TellsIds table.tree rows old new
+  pub ids_told : sql ≡ ids → params ≡ [] → (rows : List Row) → Shown sql params old new rows → old.now.schema ≡ schema
+      → TellsIds table.tree rows old new
   ids_told text none rows shown has =
-      tells_ids schema table.tree ids is.firsts is.numbers (λ r. ap (λ x. column x 0) (is.first r)) old new rows has (subst₂ (λ s p. Shown s p old new rows) text none shown)
+      tells_ids schema table.tree ids is.firsts is.numbers (λ r. ap (λ x. column x 0) (is.first r)) old new rows has
+      (subst₂ (λ s p. Shown s p old new rows) text none shown)
 
-  pub all_known : sql ≡ all → params ≡ [] → (e : Error) → FailsToQuery sql params old new e → old.now.schema ≡ schema → IsNoInput e
-  all_known text none e failed has = no_input schema all [] old new e is.rows.plain has (subst₂ (λ s p. FailsToQuery s p old new e) text none failed)
+  pub all_known : sql ≡ all → params ≡ [] → (e : Error) → FailsToQuery sql params old new e → old.now.schema ≡ schema
+      → IsNoInput e
+  all_known text none e failed has = no_input schema all [] old new e is.rows.plain has
+      (subst₂ (λ s p. FailsToQuery s p old new e) text none failed)
 
-  pub ids_known : sql ≡ ids → params ≡ [] → (e : Error) → FailsToQuery sql params old new e → old.now.schema ≡ schema → IsNoInput e
-  ids_known text none e failed has = no_input schema ids [] old new e is.numbers.plain has (subst₂ (λ s p. FailsToQuery s p old new e) text none failed)
+  pub ids_known : sql ≡ ids → params ≡ [] → (e : Error) → FailsToQuery sql params old new e → old.now.schema ≡ schema
+      → IsNoInput e
+  ids_known text none e failed has = no_input schema ids [] old new e is.numbers.plain has
+      (subst₂ (λ s p. FailsToQuery s p old new e) text none failed)
 
-  pub some_found : sql ≡ group → (n : ℤ) → params ≡ Int n ∷ [] → Survives old new (CommitsShowing sql params old) → HasCleanDisk new → (rows : List Row) → Shown sql params old new rows → (content : Content) → IsExactly schema content old
+  pub some_found : sql ≡ group → (n : ℤ) → params ≡ Int n ∷ [] → Survives old new (CommitsShowing sql params old)
+      → HasCleanDisk new → (rows : List Row) → Shown sql params old new rows → (content : Content)
+      → IsExactly schema content old
       → AreThose (0 ∷ []) (Int n ∷ []) (content table.tree) rows × IsSorted (by_others width) rows
   some_found text n given survives clean rows shown content k =
-      let it = finds schema table is.place (0 ∷ []) (Int n ∷ []) (Int n ∷ []) group (by_others width) (is.some n) old new rows
-      (subst₂ (λ s p. Survives old new (CommitsShowing s p old)) text given survives) clean (subst₂ (λ s p. Shown s p old new rows) text given shown) content k in
+      let it = finds schema table is.place (0 ∷ []) (Int n ∷ []) (Int n ∷ []) group (by_others width) (is.some n) old
+      new rows
+      (subst₂ (λ s p. Survives old new (CommitsShowing s p old)) text given survives) clean
+      (subst₂ (λ s p. Shown s p old new rows) text given shown) content k in
       (it.0, it.1)
 
   -- the rowids that are shown are as many as the rows, where these begin with their places
-  pub counted : sql ≡ ids → params ≡ [] → ((r : Row) → column (cells table r) 0 ≡ rowid r) → (rows : List Row) → Shown sql params old new rows → (content : Content) → IsExactly schema content old
+  pub counted : sql ≡ ids → params ≡ [] → ((r : Row) → column (cells table r) 0 ≡ rowid r) → (rows : List Row)
+      → Shown sql params old new rows → (content : Content) → IsExactly schema content old
       → BeginWithPlaces (content table.tree) → length rows ≡ length (content table.tree)
   counted text none id rows shown content k places =
       let here = subst₂ (λ s p. Shown s p old new rows) text none shown in
-      let stored : Stores table old.now.trees content = stored_at schema table is.place is.at old.now.trees content k.now.tables in
+      let stored : Stores table old.now.trees content =
+      stored_at schema table is.place is.at old.now.trees content k.now.tables in
       let told = ids_told text none rows shown k.now.schema in
       let firsts = map (λ (r : Row). column r 0 ∷ []) (content table.tree) in
-      let same = tells_first schema table ids is.firsts is.numbers (λ r. is.first r ∙ ap (λ v. v ∷ []) (sym (id r))) old new rows (content table.tree) k.now.schema here stored.rows in
-      let one : rows ≡ firsts = one_list rows firsts (in_order rows told.sorted (told.ids stored.apart)) (places_rise firsts (places_first (content table.tree) places)) (λ z. (same z).0) (λ z. (same z).1) in
+      let same = tells_first schema table ids is.firsts is.numbers (λ r. is.first r ∙ ap (λ v. v ∷ []) (sym (id r))) old
+      new rows (content table.tree) k.now.schema here stored.rows in
+      let one : rows ≡ firsts = one_list rows firsts (in_order rows told.sorted (told.ids stored.apart))
+      (places_rise firsts (places_first (content table.tree) places)) (λ z. (same z).0) (λ z. (same z).1) in
       ap length one ∙ same_length (λ (r : Row). column r 0 ∷ []) (content table.tree)
 
 -- where ids are places, a table is shown as the list that it is
-pub told_rows : (schema : Schema) (table : Table) (width place : ℕ) → slice_get schema.tables place ≡ Some table → width ≡ 1 → ((r : Row) → column (cells table r) 0 ≡ rowid r)
-    → (content : Content) (old new : State) (shown : List Row) → IsExactly schema content old → Tells table width shown old new → BeginWithPlaces (content table.tree) → shown ≡ content table.tree
+pub told_rows : (schema : Schema) (table : Table) (width place : ℕ) → slice_get schema.tables place ≡ Some table
+    → width ≡ 1 → ((r : Row) → column (cells table r) 0 ≡ rowid r)
+    → (content : Content) (old new : State) (shown : List Row) → IsExactly schema content old
+    → Tells table width shown old new → BeginWithPlaces (content table.tree) → shown ≡ content table.tree
 told_rows schema table width place at one_column id content old new shown k told places =
-    let stored : Stores table old.now.trees content = stored_at schema table place at old.now.trees content k.now.tables in
-    one_list shown (content table.tree) (in_order shown (subst (λ w. IsSorted (by_columns w) shown) one_column told.sorted) (ids_of table (old.now.trees table.tree) shown id told.once stored.apart))
-    (places_rise (content table.tree) places) (moved table old.now.trees shown (content table.tree) told.keeps stored.rows) (moved table old.now.trees (content table.tree) shown stored.rows told.keeps)
+    let stored : Stores table old.now.trees content =
+    stored_at schema table place at old.now.trees content k.now.tables in
+    one_list shown (content table.tree)
+    (in_order shown (subst (λ w. IsSorted (by_columns w) shown) one_column told.sorted)
+    (ids_of table (old.now.trees table.tree) shown id told.once stored.apart))
+    (places_rise (content table.tree) places)
+    (moved table old.now.trees shown (content table.tree) told.keeps stored.rows)
+    (moved table old.now.trees (content table.tree) shown stored.rows told.keeps)
 
 -- a table is shown with the rows that it has
-pub same_rows : (schema : Schema) (table : Table) (width place : ℕ) → slice_get schema.tables place ≡ Some table → (content : Content) (old new : State) (shown : List Row)
+pub same_rows : (schema : Schema) (table : Table) (width place : ℕ) → slice_get schema.tables place ≡ Some table
+    → (content : Content) (old new : State) (shown : List Row)
     → IsExactly schema content old → Tells table width shown old new → HaveSame shown (content table.tree)
 same_rows schema table width place at content old new shown k told =
-    let stored : Stores table old.now.trees content = stored_at schema table place at old.now.trees content k.now.tables in
+    let stored : Stores table old.now.trees content =
+    stored_at schema table place at old.now.trees content k.now.tables in
     record {
       there = moved table old.now.trees shown (content table.tree) told.keeps stored.rows;
       back = moved table old.now.trees (content table.tree) shown stored.rows told.keeps;
     }
 
 -- a value of another type than its column
-pub blame_types : (table : Table) (IsTyped : Row → Type 0) (old mid : State) (slice shown : List Row) (e : ReadFault) → slice ≡ shown → mid.now ≡ old.now → Keeps table mid.now.trees shown
+pub blame_types : (table : Table) (IsTyped : Row → Type 0) (old mid : State) (slice shown : List Row) (e : ReadFault)
+    → slice ≡ shown → mid.now ≡ old.now → Keeps table mid.now.trees shown
     → (e ≡ Memory) ⊎ ((e ≡ Mistyped) × (¬ All IsTyped slice)) → Blames table IsTyped old e
 blame_types table IsTyped old mid slice shown e is same keeps (inl memory) = inr (inl memory)
 blame_types table IsTyped old mid slice shown e is same keeps (inr (named, wrong)) =
     let here : Keeps table old.now.trees shown = subst (λ (d : Database). Keeps table d.trees shown) same keeps in
-    inr (inr (named, λ rows kept apart all. (rw is at wrong) (all_alike table old.now.trees IsTyped shown rows here kept all)))
+    inr
+    (inr (
+      named,
+      λ rows kept apart all. (rw is at wrong)
+          (all_alike table old.now.trees IsTyped shown rows here kept all),
+    ))

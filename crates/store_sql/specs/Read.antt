@@ -32,7 +32,8 @@ pub record AreCounted (tree count : ℕ) (old new : State) : Type 0 where
 abbrev pub beginning_with : ℤ → List Row → List Row
 beginning_with n rows = filter (λ x. same_key (0 ∷ []) x (Int n ∷ [])) rows
 
--- These are the rows of the table that begin with this number, each of them once, in the order of the rest of its key, and
+-- These are the rows of the table that begin with this number, each of them once, in the order of the rest of its key,
+-- and
 -- the connection is as it was.
 pub record AreReadOf (table : Table) (width : ℕ) (n : ℤ) (rows : List Row) (old new : State) : Type 0 where
   pub once : IsPermutation (beginning_with n (map (cells table) (old.now.trees table.tree))) rows
@@ -43,7 +44,8 @@ pub record AreReadOf (table : Table) (width : ℕ) (n : ℤ) (rows : List Row) (
 abbrev pub Blames : Table → (Row → Type 0) → State → ReadFault → Type 0
 Blames table IsTyped old fault =
     (fault ≡ Store) ⊎ ((fault ≡ Memory) ⊎ ((fault ≡ Mistyped)
-    × ((rows : List Row) → Keeps table old.now.trees rows → AreApart (old.now.trees table.tree) → ¬ AllByRecursion IsTyped rows)))
+    × ((rows : List Row) → Keeps table old.now.trees rows → AreApart (old.now.trees table.tree)
+    → ¬ AllByRecursion IsTyped rows)))
 
 -- the rows begin with their places
 abbrev pub BeginWithPlaces : List Row → Type 0
@@ -51,4 +53,5 @@ BeginWithPlaces rows = (k : ℕ) → k < length rows → column (get_or rows k [
 
 -- What the connection holds exactly, by whatever schema, it still holds exactly.
 abbrev pub KeepsContent : State → State → Type 0
-KeepsContent old new = (schema : Schema) (content : Content) → IsExactly schema content old → IsExactly schema content new
+KeepsContent old new = (schema : Schema) (content : Content) → IsExactly schema content old
+    → IsExactly schema content new

@@ -152,7 +152,8 @@ pub fn check_rowids<T: Select, S: Alter>(
     }
 }
 
-/// Tests that a table stands with all of its columns, whatever its rows: of a database that is looked at for the first time.
+/// Tests that a table stands with all of its columns, whatever its rows: of a database that is looked at for the first
+/// time.
 pub fn check_columns<T: Select, S: Alter>(conn: &mut Connection<S>) -> Result<(), ReadFault>
     ensures reads { OnlyReads (state S.Store conn.old) (state S.Store conn.new) }
     ensures same { HasCleanDisk (state S.Store conn.new) → OnOk result (
@@ -167,7 +168,8 @@ pub fn check_columns<T: Select, S: Alter>(conn: &mut Connection<S>) -> Result<()
     }
 }
 
-/// All rows of a table, in the order of its key, with its rowids tested: of a database that is looked at for the first time.
+/// All rows of a table, in the order of its key, with its rowids tested: of a database that is looked at for the first
+/// time.
 pub fn read_all<T: Select, S: Alter>(
     alloc: Global,
     conn: &mut Connection<S>,
@@ -191,7 +193,8 @@ pub fn read_all<T: Select, S: Alter>(
     typed(alloc, &shown)
 }
 
-/// The rows of a table whose first column is a given number, in the order of the rest of their key: of a database that is
+/// The rows of a table whose first column is a given number, in the order of the rest of their key: of a database that
+/// is
 /// looked at for the first time.
 pub fn read_by_first<T: Select, S: Alter>(
     alloc: Global,
@@ -233,7 +236,8 @@ pub fn list<T: Select, S: Alter>(
     }
 }
 
-/// The rows of a table whose first column is a given number, in the order of the rest of their key: by an id the one with
+/// The rows of a table whose first column is a given number, in the order of the rest of their key: by an id the one
+/// with
 /// it, if there is one.
 pub fn find_by_first<T: Select, S: Alter>(
     alloc: Global,

@@ -1,7 +1,9 @@
--- With no filter a SELECT shows a row for each row of the tree, and what holds of each two rows holds of each two that are shown.
+-- With no filter a SELECT shows a row for each row of the tree, and what holds of each two rows holds of each two that
+-- are shown.
 use Rattle.std.proofs.Common.{◌≡◌, ℕ, List, [], ◌∷◌, map, flat_map, refl, sym, ap, subst, subst₂, ◌∙◌}
 use Rattle.std.specs.List.Sorted.{IsPermutation}
-use Rattle.std.proofs.lemmas.List.Sorted.{IsPermutation-refl, IsPermutation-trans, IsPermutation-cons, IsPermutation-middle, IsPermutation-map}
+use Rattle.std.proofs.lemmas.List.Sorted.{IsPermutation-refl, IsPermutation-trans, IsPermutation-cons}
+use Rattle.std.proofs.lemmas.List.Sorted.{IsPermutation-middle, IsPermutation-map}
 use Rattle.sqlite_value.specs.declared.value.Value.TheVariants.{Null}
 use Rattle.sqlite_value.specs.declared.keys.Key.{Key}
 use Rattle.sqlite.specs.Order.{Row}
@@ -32,13 +34,18 @@ singles g [] = refl
 singles g (x ∷ xs) = ap (λ l. g x ∷ l) (singles g xs)
 
 -- with no filter, a row is shown for each row of the tree
-pub each_shown : (db : Database) (params : Row) (tree : ℕ) (project : List Term) (order : List (Term × Key)) (names : List (List ℕ)) (rows : List Row) → ((d : Trees) → overlay d [] tree ≡ d tree)
-    → Reads (Select (record { lets = []; body = selects tree [] project order }) names) db params rows → IsPermutation (map (λ r. eval_all project (params ∷ r ∷ [])) (db.trees tree)) rows
+pub each_shown : (db : Database) (params : Row) (tree : ℕ) (project : List Term) (order : List (Term × Key))
+    (names : List (List ℕ)) (rows : List Row) → ((d : Trees) → overlay d [] tree ≡ d tree)
+    → Reads (Select (record { lets = []; body = selects tree [] project order }) names) db params rows
+    → IsPermutation (map (λ r. eval_all project (params ∷ r ∷ [])) (db.trees tree)) rows
 each_shown db params tree project order names rows plain h =
     let q = selects tree [] project order in
     let a : IsAnswer q (overlay db.trees []) params rows = h.answer Null in
     let env = λ (r : Row). params ∷ r ∷ [] in
-    let staged : a.staged ≡ map env (db.trees tree) = a.grouped ∙ ap (flat_map (λ r. env r ∷ [])) (plain db.trees) ∙ singles env (db.trees tree) in
+    let staged : a.staged ≡ map env (db.trees tree) = a.grouped ∙ ap (flat_map (λ r. env r ∷ [])) (plain db.trees)
+    ∙ singles env (db.trees tree) in
     let kept : a.kept ≡ map (output q) (map env (db.trees tree)) = a.distinct ∙ ap (map (output q)) staged in
-    let shown = IsPermutation-map (λ (o : Output). o.1) (map (output q) (map env (db.trees tree))) a.ordered (subst (λ k. IsPermutation k a.ordered) kept a.same) in
-    subst₂ IsPermutation (map-map (λ (o : Output). o.1) (output q) (map env (db.trees tree)) ∙ map-map (λ e. (output q e).1) env (db.trees tree)) (sym a.shown) shown
+    let shown = IsPermutation-map (λ (o : Output). o.1) (map (output q) (map env (db.trees tree))) a.ordered
+    (subst (λ k. IsPermutation k a.ordered) kept a.same) in
+    subst₂ IsPermutation (map-map (λ (o : Output). o.1) (output q) (map env (db.trees tree))
+    ∙ map-map (λ e. (output q e).1) env (db.trees tree)) (sym a.shown) shown

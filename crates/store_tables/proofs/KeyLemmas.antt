@@ -1,5 +1,6 @@
 -- SQL's = on keys.
-use Rattle.std.proofs.Common.{◌≡◌, ℤ, Bool, true, false, cond, ◌||◌, Ordering, Less, Equal, Greater, refl, sym, ◌∙◌, true≢false, Some}
+use Rattle.std.proofs.Common.{◌≡◌, ℤ, Bool, true, false, cond, ◌||◌, Ordering, Less, Equal, Greater, refl, sym, ◌∙◌}
+use Rattle.std.proofs.Common.{true≢false, Some}
 use Rattle.std.specs.Ordering.{is_eq, is_ne}
 use Rattle.std.specs.FinMap.{int_cmp-IsAntisymmetric}
 use Rattle.sqlite_value.specs.declared.value.Value.{Value}

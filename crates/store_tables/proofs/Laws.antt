@@ -1,13 +1,20 @@
 -- What the tables offer to proofs of the crates above, which cite no other module of these proofs.
 -- A SELECT only reads, whatever the schema; what it shows of a table, and which rows it finds.
-pub use Rattle.store_tables.proofs.QueryLemmas.{select_keeps_may, select_unchanged, only_reads, reads_nothing, reads_then}
+pub use Rattle.store_tables.proofs.QueryLemmas.{select_keeps_may, select_unchanged, only_reads, reads_nothing}
+pub use Rattle.store_tables.proofs.QueryLemmas.{reads_then}
 pub use Rattle.store_tables.proofs.ReadLemmas.{survives_given, shown_given, unchanged_exactly, may_as_before}
-pub use Rattle.store_tables.proofs.TellLemmas.{tells, tells_ids, tells_first, finds, no_input, all_alike, one_shown, ids_of, apart_of, stored_at}
-pub use Rattle.store_tables.proofs.SelectMeanings.{meta_read, members_read, events_read, challenges_read, moves_read, games_read, seen_read, scores_read}
-pub use Rattle.store_tables.proofs.SelectMeanings.{members_by_name_finds, members_by_key_finds, events_by_name_finds, games_by_key_finds}
-pub use Rattle.store_tables.proofs.SelectMeanings.{challenges_by_number_finds, moves_by_ply_finds, seen_by_position_finds, scores_by_pair_finds}
-pub use Rattle.store_tables.proofs.SelectMeanings.{members_by_name_select, members_by_key_select, events_by_name_select, games_by_key_select}
-pub use Rattle.store_tables.proofs.SelectMeanings.{challenges_by_number_select, moves_by_ply_select, seen_by_position_select, scores_by_pair_select}
+pub use Rattle.store_tables.proofs.TellLemmas.{tells, tells_ids, tells_first, finds, no_input, all_alike, one_shown}
+pub use Rattle.store_tables.proofs.TellLemmas.{ids_of, apart_of, stored_at}
+pub use Rattle.store_tables.proofs.SelectMeanings.{meta_read, members_read, events_read, challenges_read, moves_read}
+pub use Rattle.store_tables.proofs.SelectMeanings.{games_read, seen_read, scores_read}
+pub use Rattle.store_tables.proofs.SelectMeanings.{members_by_name_finds, members_by_key_finds, events_by_name_finds}
+pub use Rattle.store_tables.proofs.SelectMeanings.{games_by_key_finds}
+pub use Rattle.store_tables.proofs.SelectMeanings.{challenges_by_number_finds, moves_by_ply_finds}
+pub use Rattle.store_tables.proofs.SelectMeanings.{seen_by_position_finds, scores_by_pair_finds}
+pub use Rattle.store_tables.proofs.SelectMeanings.{members_by_name_select, members_by_key_select, events_by_name_select}
+pub use Rattle.store_tables.proofs.SelectMeanings.{games_by_key_select}
+pub use Rattle.store_tables.proofs.SelectMeanings.{challenges_by_number_select, moves_by_ply_select}
+pub use Rattle.store_tables.proofs.SelectMeanings.{seen_by_position_select, scores_by_pair_select}
 -- Lists of rows in the order of their ids.
 pub use Rattle.store_tables.proofs.IdLemmas.{in_order, one_list, places_rise}
 pub use Rattle.store_tables.proofs.OrderLemmas.{same_length, got}
@@ -15,8 +22,11 @@ pub use Rattle.store_tables.proofs.ApartLemmas.{pairs_turned}
 -- When keys are the same.
 pub use Rattle.store_tables.proofs.KeyLemmas.{equal_cmp, equal_ints, equal_from, differ_ints}
 -- Rows that are put, in a transaction that is committed.
-pub use Rattle.store_tables.proofs.StepLemmas.{meta_put_of, member_put_of, event_put_of, challenge_put_of, move_put_of, game_put_of, seen_put_of, score_put_of}
+pub use Rattle.store_tables.proofs.StepLemmas.{meta_put_of, member_put_of, event_put_of, challenge_put_of, move_put_of}
+pub use Rattle.store_tables.proofs.StepLemmas.{game_put_of, seen_put_of, score_put_of}
 pub use Rattle.store_tables.proofs.StepLemmas.{steps_then, one_more, leaves_of, commits, fills}
-pub use Rattle.store_tables.proofs.AlterLemmas.{same_itself, same_by, same_then, put_had, put_kept, altered, unaltered, each_at, tables_altered}
+pub use Rattle.store_tables.proofs.AlterLemmas.{same_itself, same_by, same_then, put_had, put_kept, altered, unaltered}
+pub use Rattle.store_tables.proofs.AlterLemmas.{each_at, tables_altered}
 -- Tables that are made.
-pub use Rattle.store_tables.proofs.MakeLemmas.{makes_meta, makes_members, makes_events, makes_challenges, makes_moves, makes_games, makes_seen, makes_scores, makes_then, never_made}
+pub use Rattle.store_tables.proofs.MakeLemmas.{makes_meta, makes_members, makes_events, makes_challenges, makes_moves}
+pub use Rattle.store_tables.proofs.MakeLemmas.{makes_games, makes_seen, makes_scores, makes_then, never_made}

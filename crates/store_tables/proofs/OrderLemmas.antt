@@ -1,5 +1,6 @@
 -- In which order a SELECT with ORDER BY shows its rows.
-use Rattle.std.proofs.Common.{◌≡◌, ℕ, zero, suc, ◌+◌, ◌<◌, List, [], ◌∷◌, length, map, refl, sym, ap, subst, subst₂, ◌∙◌, arith, get_or, Ordering, inl, inr}
+use Rattle.std.proofs.Common.{◌≡◌, ℕ, zero, suc, ◌+◌, ◌<◌, List, [], ◌∷◌, length, map, refl, sym, ap, subst, subst₂}
+use Rattle.std.proofs.Common.{◌∙◌, arith, get_or, Ordering, inl, inr}
 use Rattle.std.specs.Ordering.{is_lt}
 use Rattle.std.specs.List.Sorted.{IsSorted}
 use Rattle.sqlite_value.specs.declared.value.Value.TheVariants.{Null}
@@ -15,7 +16,8 @@ use Rattle.sqlite_rules.specs.Lists.{Has}
 use Rattle.store_tables.specs.Put.{selects}
 use Rattle.store_tables.proofs.ReadLemmas.{env_of}
 
-pub got : {A B : Type 0} (f : A → B) (xs : List A) (j : ℕ) (d : B) (e : A) → j < length xs → get_or (map f xs) j d ≡ f (get_or xs j e)
+pub got : {A B : Type 0} (f : A → B) (xs : List A) (j : ℕ) (d : B) (e : A) → j < length xs
+    → get_or (map f xs) j d ≡ f (get_or xs j e)
 got f [] j d e h = absurd (omega arith)
 got f (x ∷ xs) zero d e h = refl
 got f (x ∷ xs) (suc j) d e h = got f xs j d e (omega arith)
@@ -29,7 +31,8 @@ has_index [] j e h = absurd (omega arith)
 has_index (x ∷ xs) zero e h = inl refl
 has_index (x ∷ xs) (suc j) e h = inr (has_index xs j e (omega arith))
 
-sorted_map : {A B : Type 0} (f : A → B) (R : A → A → Ordering) (S : B → B → Ordering) (xs : List A) → ((x y : A) → Has xs x → Has xs y → R x y ≡ S (f x) (f y)) → IsSorted R xs → IsSorted S (map f xs)
+sorted_map : {A B : Type 0} (f : A → B) (R : A → A → Ordering) (S : B → B → Ordering) (xs : List A)
+    → ((x y : A) → Has xs x → Has xs y → R x y ≡ S (f x) (f y)) → IsSorted R xs → IsSorted S (map f xs)
 sorted_map f R S [] same sorted k d low high = absurd (omega arith)
 sorted_map f R S (x ∷ xs) same sorted k d low high =
     let all = x ∷ xs in
@@ -38,17 +41,26 @@ sorted_map f R S (x ∷ xs) same sorted k d low high =
     let here : k < length all = omega arith in
     let one = got f all (k + 1) d x later in
     let two = got f all k d x here in
-    ap is_lt (ap (λ v. S v (get_or (map f all) k d)) one ∙ ap (S (f (get_or all (k + 1) x))) two ∙ sym (same (get_or all (k + 1) x) (get_or all k x) (has_index all (k + 1) x later) (has_index all k x here))) ∙ sorted k x low later
+    ap is_lt (ap (λ v. S v (get_or (map f all) k d)) one ∙ ap (S (f (get_or all (k + 1) x))) two
+    ∙ sym (same (get_or all (k + 1) x) (get_or all k x) (has_index all (k + 1) x later) (has_index all k x here)))
+    ∙ sorted k x low later
 
 -- The rows rise by the terms of ORDER BY, as far as these can be told from what is shown.
-pub sorted_rows : (db : Database) (params : Row) (tree : ℕ) (filter project : List Term) (order : List (Term × Key)) (names : List (List ℕ)) (rows : List Row) (cmp : Row → Row → Ordering) → ((d : Trees) → overlay d [] tree ≡ d tree)
-    → ((r s : Row) → output_cmp (selects tree filter project order) (output (selects tree filter project order) (params ∷ r ∷ [])) (output (selects tree filter project order) (params ∷ s ∷ []))
+pub sorted_rows : (db : Database) (params : Row) (tree : ℕ) (filter project : List Term) (order : List (Term × Key))
+    (names : List (List ℕ)) (rows : List Row) (cmp : Row → Row → Ordering) → ((d : Trees) → overlay d [] tree ≡ d tree)
+    →
+    ((r s : Row) → output_cmp (selects tree filter project order)
+    (output (selects tree filter project order) (params ∷ r ∷ []))
+    (output (selects tree filter project order) (params ∷ s ∷ []))
     ≡ cmp (eval_all project (params ∷ r ∷ [])) (eval_all project (params ∷ s ∷ [])))
-    → Reads (Select (record { lets = []; body = selects tree filter project order }) names) db params rows → IsSorted cmp rows
+    → Reads (Select (record { lets = []; body = selects tree filter project order }) names) db params rows
+    → IsSorted cmp rows
 sorted_rows db params tree filter project order names rows cmp plain keys h =
     let q = selects tree filter project order in
     let a : IsAnswer q (overlay db.trees []) params rows = h.answer Null in
-    let from : (o : Output) → Has a.ordered o → (r : Row) × (o ≡ output q (params ∷ r ∷ [])) = λ o there. env_of db params tree filter project order rows plain a o there in
+    let from : (o : Output) → Has a.ordered o → (r : Row)
+    × (o ≡ output q (params ∷ r ∷ [])) = λ o there.
+    env_of db params tree filter project order rows plain a o there in
     subst (IsSorted cmp) (sym a.shown) (sorted_map (λ (o : Output). o.1) (output_cmp q) cmp a.ordered (λ o p there also.
     let r = from o there in
     let s = from p also in

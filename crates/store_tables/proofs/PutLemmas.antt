@@ -1,5 +1,7 @@
 -- What a text that puts a row makes of the trees.
-use Rattle.std.proofs.Common.{◌≡◌, ◌≢◌, ◌⊎◌, ℕ, ℤ, Bool, true, false, cond, not, List, [], ◌∷◌, ◌++◌, map, flat_map, find, Some, None, Option, Ok, Equal, refl, sym, ap, subst, ◌∙◌, inl, inr, true≢false, unwrap_or}
+use Rattle.std.proofs.Common.{◌≡◌, ◌≢◌, ◌⊎◌, ℕ, ℤ, Bool, true, false, cond, not, List, [], ◌∷◌, ◌++◌, map, flat_map}
+use Rattle.std.proofs.Common.{find, Some, None, Option, Ok, Equal, refl, sym, ap, subst, ◌∙◌, inl, inr, true≢false}
+use Rattle.std.proofs.Common.{unwrap_or}
 use Rattle.std.specs.Prelude.{MatchBool}
 use Rattle.std.specs.List.{list_all}
 use Rattle.std.specs.List.Sorted.{IsPermutation}
@@ -40,7 +42,8 @@ use Rattle.sqlite_rules.specs.Edit.{id_in}
 use Rattle.sqlite_rules.proofs.ListLemmas.{all_has, has_filtered, has_kept, has_found}
 use Rattle.sqlite.specs.Table.{Table}
 use Rattle.sqlite.specs.Effect.{Answers}
-use Rattle.sqlite.specs.Rows.{Task, Written, InsertsOr, Tries, Upserts, Puts, Clears, Judged, TriesEach, nothing, count_of, rowids_for, shown}
+use Rattle.sqlite.specs.Rows.{Task, Written, InsertsOr, Tries, Upserts, Puts, Clears, Judged, TriesEach, nothing}
+use Rattle.sqlite.specs.Rows.{count_of, rowids_for, shown}
 use Rattle.sqlite.proofs.Callers.{one_step, one_permutation}
 use Rattle.store_tables.specs.Content.{cells, AreApart, same_key}
 use Rattle.store_tables.specs.Put.{picks, on_key, IsPut, HasPut}
@@ -50,24 +53,29 @@ not_from_true : (b : Bool) → not b ≡ true → b ≡ false
 not_from_true true h = absurd (true≢false (sym h))
 not_from_true false h = refl
 
-at_was : (rows : List Row) → AreApart rows → (m : ℤ) (was : Row) → Has rows was → rowid was ≡ Int m → (r : Row) → Has rows r → r ≡ row_at rows m → r ≡ was
+at_was : (rows : List Row) → AreApart rows → (m : ℤ) (was : Row) → Has rows was → rowid was ≡ Int m → (r : Row)
+    → Has rows r → r ≡ row_at rows m → r ≡ was
 at_was rows shaped m was here id r there at = go (find (has_rowid m) rows) refl at
   where
     go : (o : Option Row) → find (has_rowid m) rows ≡ o → r ≡ unwrap_or o [] → r ≡ was
     go None f e = absurd (true≢false (sym (all_has _ rows r shaped.ints there) ∙ ap (λ x. is_int (rowid x)) e))
     go (Some y) f e =
         let found = has_found (has_rowid m) rows y f in
-        e ∙ same_rowid rows y was shaped found.0 here (subst (λ v. value_cmp (rowid y) v ≡ Equal) (sym id) (tied (value_cmp (rowid y) (Int m)) found.1))
+        e ∙ same_rowid rows y was shaped found.0 here
+        (subst (λ v. value_cmp (rowid y) v ≡ Equal) (sym id) (tied (value_cmp (rowid y) (Int m)) found.1))
 
 -- what an edit does to the table, given that each row stays or goes
-turns_by : (schema : Schema) (db next : Trees) (edit : Edit) → IsAscending (λ a b. a.tree ≡ b.tree → ⊥) schema.tables → Has schema.tables edit.table → Applies schema Enforced db edit next
-    → ((r : Row) → Has (db edit.table.tree) r → Has (left_by db edit) r ⊎ Has (taken_by db edit) r) → Turns schema db next edit.table (left_by db edit) (taken_by db edit) edit.news
+turns_by : (schema : Schema) (db next : Trees) (edit : Edit) → IsAscending (λ a b. a.tree ≡ b.tree → ⊥) schema.tables
+    → Has schema.tables edit.table → Applies schema Enforced db edit next
+    → ((r : Row) → Has (db edit.table.tree) r → Has (left_by db edit) r ⊎ Has (taken_by db edit) r)
+    → Turns schema db next edit.table (left_by db edit) (taken_by db edit) edit.news
 turns_by schema db next edit apart listed it split =
     let left = left_by db edit in
     record {
       apart = apart;
       listed = listed;
-      others = λ t known. all_has (λ u. u.tree ≢ edit.table.tree → next u.tree ≡ db u.tree) schema.tables t it.tables known;
+      others = λ t known. all_has (λ u. u.tree ≢ edit.table.tree → next u.tree ≡ db u.tree) schema.tables t it.tables
+          known;
       from = λ r h. put_all_has edit.news left r (subst (λ l. Has l r) it.rows h);
       stays = λ r h. subst (λ l. Has l r) (sym it.rows) (put_all_keeps edit.news left r it.fresh h);
       added = λ r h. subst (λ l. Has l r) (sym it.rows) (put_all_adds edit.news left r it.fresh h);
@@ -79,19 +87,26 @@ never_missed : (p : Row → Bool) (rows : List Row) (r : Row) → find p rows �
 never_missed p [] r f there h = there
 never_missed p (x ∷ rows) r f there h = go (p x) refl f there (λ g later. never_missed p rows r g later h)
   where
-    go : (b : Bool) → p x ≡ b → (if b then Some x else find p rows) ≡ None → Has (x ∷ rows) r → (find p rows ≡ None → Has rows r → ⊥) → ⊥
+    go : (b : Bool) → p x ≡ b → (if b then Some x else find p rows) ≡ None → Has (x ∷ rows) r
+        → (find p rows ≡ None → Has rows r → ⊥) → ⊥
     go true e f there on = absurd (cc)
     go false e f (inl same) on = true≢false (sym h ∙ ap p same ∙ e)
     go false e f (inr later) on = on f later
 
-left_or_gone : (rows : List Row) → AreApart rows → (m : ℤ) (r : Row) → Has rows r → Has (without_rowid m rows) r ⊎ Has (row_at rows m ∷ []) r
+left_or_gone : (rows : List Row) → AreApart rows → (m : ℤ) (r : Row) → Has rows r → Has (without_rowid m rows) r
+    ⊎ Has (row_at rows m ∷ []) r
 left_or_gone rows t m r there = go (has_rowid m r) refl (find (has_rowid m) rows) refl
   where
-    go : (b : Bool) → has_rowid m r ≡ b → (o : Option Row) → find (has_rowid m) rows ≡ o → Has (without_rowid m rows) r ⊎ ((r ≡ unwrap_or o []) ⊎ ⊥)
+    go : (b : Bool) → has_rowid m r ≡ b → (o : Option Row) → find (has_rowid m) rows ≡ o → Has (without_rowid m rows) r
+        ⊎ ((r ≡ unwrap_or o []) ⊎ ⊥)
     go false h o f = inl (has_kept (λ x. not (has_rowid m x)) rows r there (ap not h))
     go true h (Some y) f =
         let found = has_found (has_rowid m) rows y f in
-        inr (inl (same_rowid rows r y t there found.0 (value_cmp_total.congr (rowid r) (Int m) (rowid y) (tied (value_cmp (rowid r) (Int m)) h) ∙ tied_back value_cmp_total (rowid y) (Int m) (tied (value_cmp (rowid y) (Int m)) found.1))))
+        inr
+        (inl
+        (same_rowid rows r y t there found.0
+        (value_cmp_total.congr (rowid r) (Int m) (rowid y) (tied (value_cmp (rowid r) (Int m)) h)
+        ∙ tied_back value_cmp_total (rowid y) (Int m) (tied (value_cmp (rowid y) (Int m)) found.1))))
     go true h None f = absurd (never_missed (has_rowid m) rows r f there h)
 
 if_false : (b : Bool) (A B : Type 0) → b ≡ false → MatchBool b A B → B
@@ -106,7 +121,8 @@ chosen : (b : Bool) (top : ℤ) → b ≡ false → cond b (Above top) Chosen �
 chosen true top p = absurd (true≢false p)
 chosen false top p = refl
 
-module _ (limit : Option ℕ) (schema : Schema) (table : Table) (params : Row) (key : List ℕ) (row : Row) (from : Source) (places : List ℕ) (base : ℕ) (project : List Term)
+module _ (limit : Option ℕ) (schema : Schema) (table : Table) (params : Row) (key : List ℕ) (row : Row) (from : Source)
+    (places : List ℕ) (base : ℕ) (project : List Term)
     (is : IsPut schema table key params row from places base project) where
   abbrev task : Task
   task = record { limit = limit; keys = Enforced; schema = schema; table = table; params = params }
@@ -123,21 +139,28 @@ module _ (limit : Option ℕ) (schema : Schema) (table : Table) (params : Row) (
     pub there : Row
     pub at : rowid there ≡ rowid was
     pub rows : List Row
-    pub answers : Answers (record { schema = schema; trees = db }) (record { lets = []; body = picks table.tree base project }) (params ++ rowid there ∷ shown table (is.stored n)) rows
+    pub answers : Answers (record { schema = schema; trees = db })
+        (record { lets = []; body = picks table.tree base project }) (params ++ rowid there ∷ shown table (is.stored n))
+        rows
     pub applies : Applies schema Enforced db (edit_of db table (ids_of rows) Given 1 rows) next
 
-  puts_in : (db : Trees) (n : ℤ) (w : Written) → Puts task (is.stored n) db (Ok w) → Applies schema Enforced db (edit_of db table [] Given 0 (is.stored n ∷ [])) w.trees
+  puts_in : (db : Trees) (n : ℤ) (w : Written) → Puts task (is.stored n) db (Ok w)
+      → Applies schema Enforced db (edit_of db table [] Given 0 (is.stored n ∷ [])) w.trees
   puts_in db n w h =
       let on = went h in
       let trees : w.trees ≡ on.0 = ap (λ (x : Written). x.trees) (same_value on.2) in
       let edit : Edit = edit_of db table [] Given 0 (is.stored n ∷ []) in
-      subst (Applies schema Enforced db edit) (sym trees) (one_step schema Enforced db on.0 edit (is.idle [] edit.news) on.1)
+      subst (Applies schema Enforced db edit) (sym trees)
+      (one_step schema Enforced db on.0 edit (is.idle [] edit.news) on.1)
 
-  clears : (db : Trees) (n : ℤ) (w : Written) (found : List Row) → Clears task Abort (is.stored n) db found (Ok w) → Puts task (is.stored n) db (Ok w)
+  clears : (db : Trees) (n : ℤ) (w : Written) (found : List Row) → Clears task Abort (is.stored n) db found (Ok w)
+      → Puts task (is.stored n) db (Ok w)
   clears db n w [] h = h
   clears db n w (x ∷ more) h = h
 
-  upserted : (db : Trees) (n : ℤ) (w : Written) → Upserts task Abort (is.stored n) db (on_key places table.tree base project) (Ok w) → PutsNew db w.trees n ⊎ Replaces db w.trees n
+  upserted : (db : Trees) (n : ℤ) (w : Written)
+      → Upserts task Abort (is.stored n) db (on_key places table.tree base project) (Ok w) → PutsNew db w.trees n
+      ⊎ Replaces db w.trees n
   upserted db n w ([], conflicts, h) = inl (record {
     free = λ r there. false_from_ne_true _ (λ same. conflicts.complete r there (is.meets r n ∙ same));
     applies = puts_in db n w (clears db n w h.0 h.2);
@@ -155,42 +178,62 @@ module _ (limit : Option ℕ) (schema : Schema) (table : Table) (params : Row) (
         at = ap rowid met.3;
         rows = on.0;
         answers = on.1;
-        applies = let edit : Edit = edit_of db table (ids_of on.0) Given 1 on.0 in subst (Applies schema Enforced db edit) (sym trees) (one_step schema Enforced db next.0 edit (is.idle (taken_by db edit) edit.news) next.1);
+        applies = let edit : Edit = edit_of db table (ids_of on.0) Given 1 on.0 in
+            subst (Applies schema Enforced db edit) (sym trees)
+            (one_step schema Enforced db next.0 edit (is.idle (taken_by db edit) edit.news) next.1);
       })
 
-  judged : (db : Trees) (n : ℤ) (w : Written) (verdict : Option Refusal) → Judged task Abort (on_key places table.tree base project) (is.stored n) db verdict (Ok w)
+  judged : (db : Trees) (n : ℤ) (w : Written) (verdict : Option Refusal)
+      → Judged task Abort (on_key places table.tree base project) (is.stored n) db verdict (Ok w)
       → Upserts task Abort (is.stored n) db (on_key places table.tree base project) (Ok w)
   judged db n w None h = h
   judged db n w (Some why) h = absurd (let e = h in cc)
 
-  tried : (db : Trees) (n : ℤ) (w : Written) → Tries task Abort (on_key places table.tree base project) (is.stored n) db (Ok w) → PutsNew db w.trees n ⊎ Replaces db w.trees n
+  tried : (db : Trees) (n : ℤ) (w : Written)
+      → Tries task Abort (on_key places table.tree base project) (is.stored n) db (Ok w) → PutsNew db w.trees n
+      ⊎ Replaces db w.trees n
   tried db n w (inl h) = absurd (let e = h.1 in cc)
   tried db n w (inr h) = upserted db n w (judged db n w h.0 h.2)
 
-  tried_each : (db : Trees) (top : ℤ) (done : Written × ℤ) → TriesEach task Abort (on_key places table.tree base project) (is.source ∷ []) top (nothing db) (Ok done)
+  tried_each : (db : Trees) (top : ℤ) (done : Written × ℤ)
+      → TriesEach task Abort (on_key places table.tree base project) (is.source ∷ []) top (nothing db) (Ok done)
       → (n : ℤ) × (PutsNew db done.0.trees n ⊎ Replaces db done.0.trees n)
   tried_each db top done h =
       let on = went h in
       let n = is.placed (db table.tree) in
-      let new : with_rowid (rowids_for table top) (db table.tree) (cast_row table is.source) ≡ is.stored n.0 = ap (λ (k : Rowids). with_rowid k (db table.tree) (cast_row table is.source)) (chosen table.is_counted top is.uncounted) ∙ n.1 in
-      let trees : done.0.trees ≡ on.0.trees = ap (λ (p : Written × ℤ). p.0.trees) (same_value on.2) in
-      (n.0, subst (λ (t : Trees). PutsNew db t n.0 ⊎ Replaces db t n.0) (sym trees) (tried db n.0 on.0 (subst (λ r. Tries task Abort (on_key places table.tree base project) r db (Ok on.0)) new on.1)))
+      let new : with_rowid (rowids_for table top) (db table.tree) (cast_row table is.source) ≡ is.stored n.0 =
+      ap (λ (k : Rowids). with_rowid k (db table.tree) (cast_row table is.source))
+      (chosen table.is_counted top is.uncounted) ∙ n.1 in
+      let trees : done.0.trees ≡ on.0.trees = ap (λ (p : Written × ℤ). p.0.trees) (same_value on.2) in (
+        n.0,
+        subst (λ (t : Trees). PutsNew db t n.0 ⊎ Replaces db t n.0) (sym trees)
+            (tried db n.0 on.0
+            (subst (λ r. Tries task Abort (on_key places table.tree base project) r db (Ok on.0)) new on.1)),
+      )
 
-  pub inserted : (db : Trees) (w : Written) → InsertsOr task Abort (on_key places table.tree base project) from db (Ok w) → (n : ℤ) × (PutsNew db w.trees n ⊎ Replaces db w.trees n)
+  pub inserted : (db : Trees) (w : Written)
+      → InsertsOr task Abort (on_key places table.tree base project) from db (Ok w) → (n : ℤ)
+      × (PutsNew db w.trees n ⊎ Replaces db w.trees n)
   inserted db w h =
       let sourced = went h in
       let counter = went sourced.2 in
       let done = went counter.2 in
       let next = went done.2 in
       let rows = is.sourced db sourced.0 sourced.1 in
-      let each = tried_each db (count_of counter.0) done.0 (subst (λ r. TriesEach task Abort (on_key places table.tree base project) r (count_of counter.0) (nothing db) (Ok done.0)) rows done.1) in
-      let last : next.0 ≡ done.0.0.trees = same_value (if_false (if table.is_counted then is_lt (int_cmp (count_of counter.0) done.0.1) else false) _ _ (uncounted table.is_counted _ is.uncounted) next.1) in
+      let each = tried_each db (count_of counter.0) done.0
+      (subst
+      (λ r. TriesEach task Abort (on_key places table.tree base project) r (count_of counter.0) (nothing db)
+      (Ok done.0)) rows done.1) in
+      let last : next.0 ≡ done.0.0.trees = same_value
+      (if_false (if table.is_counted then is_lt (int_cmp (count_of counter.0) done.0.1) else false) _ _
+      (uncounted table.is_counted _ is.uncounted) next.1) in
       let trees : w.trees ≡ done.0.0.trees = ap (λ (x : Written). x.trees) (same_value next.2) ∙ last in
       (each.0, subst (λ (t : Trees). PutsNew db t each.0 ⊎ Replaces db t each.0) (sym trees) each.1)
 
   -- ---- the row of the update
 
-  module _ (db : Trees) (ordered : AreApart (db table.tree)) (n m : ℤ) (was there : Row) (here : Has (db table.tree) was) (id : rowid was ≡ Int m) (at : rowid there ≡ rowid was) where
+  module _ (db : Trees) (ordered : AreApart (db table.tree)) (n m : ℤ) (was there : Row)
+      (here : Has (db table.tree) was) (id : rowid was ≡ Int m) (at : rowid there ≡ rowid was) where
     abbrev given : Row
     given = params ++ rowid there ∷ shown table (is.stored n)
 
@@ -205,19 +248,25 @@ module _ (limit : Option ℕ) (schema : Schema) (table : Table) (params : Row) (
 
     others : (r : Row) → Has (db table.tree) r → value_cmp (rowid r) (rowid was) ≢ Equal → picked r ≡ []
     others r known apart =
-        let no : equal Binary (rowid r) (column given base) ≡ false = false_from_ne_true _ (λ yes. apart (subst (λ v. value_cmp (rowid r) v ≡ Equal) (sought ∙ sym id) (equal_cmp _ _ yes))) in
+        let no : equal Binary (rowid r) (column given base) ≡ false =
+        false_from_ne_true _
+        (λ yes. apart (subst (λ v. value_cmp (rowid r) v ≡ Equal) (sought ∙ sym id) (equal_cmp _ _ yes))) in
         rw no
 
     itself : picked was ≡ env was ∷ []
     itself =
-        let yes : equal Binary (rowid was) (column given base) ≡ true = subst₂ (λ a b. equal Binary a b ≡ true) (sym id) (sym sought) (equal_from (Int m) (Int m) refl refl (tied_itself value_cmp_total (Int m))) in
+        let yes : equal Binary (rowid was) (column given base) ≡ true =
+        subst₂ (λ a b. equal Binary a b ≡ true) (sym id) (sym sought)
+        (equal_from (Int m) (Int m) refl refl (tied_itself value_cmp_total (Int m))) in
         rw yes
 
-    pub update_row : (rows : List Row) → Answers (record { schema = schema; trees = db }) (record { lets = []; body = picks table.tree base project }) given rows → rows ≡ (Int m ∷ is.stored m) ∷ []
+    pub update_row : (rows : List Row) → Answers (record { schema = schema; trees = db })
+        (record { lets = []; body = picks table.tree base project }) given rows → rows ≡ (Int m ∷ is.stored m) ∷ []
     update_row rows answers =
         let q = picks table.tree base project in
         let a : IsAnswer q (overlay db []) given rows = answers.answer Null in
-        let all : flat_map picked (overlay db [] table.tree) ≡ env was ∷ [] = ap (flat_map picked) (is.overlaid db) ∙ only_one picked (db table.tree) was ordered.apart here others ∙ itself in
+        let all : flat_map picked (overlay db [] table.tree) ≡ env was ∷ [] = ap (flat_map picked) (is.overlaid db)
+        ∙ only_one picked (db table.tree) was ordered.apart here others ∙ itself in
         let staged : a.staged ≡ env was ∷ [] = a.grouped ∙ all in
         let new : eval_all project (env was) ≡ Int m ∷ is.stored m = is.updated there was n m id in
         let o : Output = ([], Int m ∷ is.stored m) in
@@ -228,7 +277,8 @@ module _ (limit : Option ℕ) (schema : Schema) (table : Table) (params : Row) (
 
   -- ---- what the table has then
 
-  module _ (db next : Trees) (shaped : AreApart (db table.tree)) (apart : IsAscending (λ a b. a.tree ≡ b.tree → ⊥) schema.tables) (listed : Has schema.tables table) where
+  module _ (db next : Trees) (shaped : AreApart (db table.tree))
+      (apart : IsAscending (λ a b. a.tree ≡ b.tree → ⊥) schema.tables) (listed : Has schema.tables table) where
     new_has : (n : ℤ) → PutsNew db next n → HasPut schema table key row db next
     new_has n it =
         let edit : Edit = edit_of db table [] Given 0 (is.stored n ∷ []) in
@@ -238,15 +288,27 @@ module _ (limit : Option ℕ) (schema : Schema) (table : Table) (params : Row) (
             stored = λ x there. elim there [
               | inl same ↦ (is.stored n, turn.added (is.stored n) (inl (sym (is.recast n))), is.shows n ∙ sym same)
               | inr other ↦
-                  let was = k.stored x (has_filtered _ rows x other).0 in
-                  (was.0, elim (turn.split was.0 was.1) [ inl left ↦ turn.stays was.0 left | inr old ↦ absurd old ], was.2)
+                  let was = k.stored x (has_filtered _ rows x other).0 in (
+                    was.0,
+                    elim (turn.split was.0 was.1) [ inl left ↦ turn.stays was.0 left | inr old ↦ absurd old ],
+                    was.2,
+                  )
             ];
             only = λ r there. elim (turn.from r there) [
-              | inl new ↦ elim new [ inl same ↦ inl (ap (cells table) (same ∙ is.recast n) ∙ is.shows n) | inr none ↦ absurd none ]
-              | inr left ↦ inr (has_kept _ rows (cells table r) (k.only r (turn.was r left)) (ap not (it.free r (turn.was r left))))
+              | inl new ↦
+                  elim new [
+                    | inl same ↦ inl (ap (cells table) (same ∙ is.recast n) ∙ is.shows n)
+                    | inr none ↦
+                        absurd none
+                  ]
+              | inr left ↦
+                  inr
+                  (has_kept _ rows (cells table r) (k.only r (turn.was r left)) (ap not (it.free r (turn.was r left))))
             ];
           };
-          apart = subst AreApart (sym it.applies.rows) (apart-put_row (cast_row table (is.stored n)) (db table.tree) (not_from_true _ (and_parts _ _ it.applies.fresh).0) (and_parts _ _ it.applies.keyed).0 shaped);
+          apart = subst AreApart (sym it.applies.rows)
+              (apart-put_row (cast_row table (is.stored n)) (db table.tree)
+              (not_from_true _ (and_parts _ _ it.applies.fresh).0) (and_parts _ _ it.applies.keyed).0 shaped);
           others = it.applies.tables;
         }
 
@@ -256,7 +318,9 @@ module _ (limit : Option ℕ) (schema : Schema) (table : Table) (params : Row) (
         let id : rowid it.was ≡ Int m = int_is (rowid it.was) (all_has _ _ it.was shaped.ints it.here) in
         let row_is = update_row db shaped n m it.was it.there it.here id it.at it.rows it.answers in
         let edit : Edit = edit_of db table (m ∷ []) Given 1 ((Int m ∷ is.stored m) ∷ []) in
-        let applies : Applies schema Enforced db edit next = subst (λ (l : List Row). Applies schema Enforced db (edit_of db table (ids_of l) Given 1 l) next) row_is it.applies in
+        let applies : Applies schema Enforced db edit next =
+        subst (λ (l : List Row). Applies schema Enforced db (edit_of db table (ids_of l) Given 1 l) next) row_is
+        it.applies in
         let turn = turns_by schema db next edit apart listed applies (left_or_gone (db table.tree) shaped m) in
         let new : Has (next table.tree) (is.stored m) = turn.added (is.stored m) (inl (sym (is.recast m))) in
         let named = is.named it.was m id it.same in
@@ -266,24 +330,62 @@ module _ (limit : Option ℕ) (schema : Schema) (table : Table) (params : Row) (
               | inl same ↦ (is.stored m, new, is.shows m ∙ sym same)
               | inr other ↦
                   let both = has_filtered _ rows x other in
-                  let was = k.stored x both.0 in
-                  (was.0, elim (turn.split was.0 was.1) [ inl left ↦ turn.stays was.0 left | inr old ↦ elim old [ inl same ↦ absurd (true≢false (sym (subst (λ y. same_key key y row ≡ true) (sym (ap (cells table) (at_was (db table.tree) shaped m it.was it.here id was.0 was.1 same)) ∙ was.2) it.same) ∙ not_from_true _ both.1)) | inr none ↦ absurd none ] ], was.2)
+                  let was = k.stored x both.0 in (
+                    was.0,
+                    elim (turn.split was.0 was.1) [
+                      | inl left ↦ turn.stays was.0 left
+                      | inr old ↦
+                          elim old [
+                            | inl same ↦
+                                absurd
+                                (true≢false
+                                (sym
+                                (subst (λ y. same_key key y row ≡ true)
+                                (sym
+                                (ap (cells table)
+                                (at_was (db table.tree) shaped m it.was it.here id was.0 was.1 same))
+                                ∙ was.2) it.same) ∙ not_from_true _ both.1))
+                            | inr none ↦ absurd none
+                          ]
+                    ],
+                    was.2,
+                  )
             ];
             only = λ r there. elim (turn.from r there) [
-              | inl new ↦ elim new [ inl same ↦ inl (ap (cells table) (same ∙ is.recast m) ∙ is.shows m) | inr none ↦ absurd none ]
-              | inr left ↦ inr (has_kept _ rows (cells table r) (k.only r (turn.was r left)) (ap not (false_from_ne_true _ (λ same.
+              | inl new ↦
+                  elim new [
+                    | inl same ↦ inl (ap (cells table) (same ∙ is.recast m) ∙ is.shows m)
+                    | inr none ↦
+                        absurd none
+                  ]
+              | inr left ↦
+                  inr
+                  (has_kept _ rows (cells table r) (k.only r (turn.was r left)) (ap not (false_from_ne_true _ (λ same.
                   let kept = has_filtered _ (db table.tree) r left in
                   let int : rowid r ≡ Int (id_in (rowid r)) = int_is (rowid r) (all_has _ _ r shaped.ints kept.0) in
-                  let equal = is.distinct next r m (id_in (rowid r)) (applies.fits.rules Unique (λ e. absurd (cc))) int there new same in
-                  true≢false (sym (ap is_eq (subst (λ v. value_cmp (rowid r) v ≡ Equal) (sym equal ∙ named) (tied_itself value_cmp_total (rowid r)))) ∙ not_from_true _ kept.1)))))
+                  let equal = is.distinct next r m (id_in (rowid r)) (applies.fits.rules Unique (λ e. absurd (cc))) int
+                  there new same in
+                  true≢false
+                  (sym
+                  (ap is_eq
+                  (subst (λ v. value_cmp (rowid r) v ≡ Equal) (sym equal ∙ named)
+                  (tied_itself value_cmp_total (rowid r)))) ∙ not_from_true _ kept.1)))))
             ];
           };
-          apart = subst AreApart (sym applies.rows) (apart-put_row (cast_row table (is.stored m)) (without_rowid m (db table.tree)) (not_from_true _ (and_parts _ _ applies.fresh).0) (and_parts _ _ applies.keyed).0 (apart-filter _ (db table.tree) shaped));
+          apart = subst AreApart (sym applies.rows)
+              (apart-put_row (cast_row table (is.stored m)) (without_rowid m (db table.tree))
+              (not_from_true _ (and_parts _ _ applies.fresh).0) (and_parts _ _ applies.keyed).0
+              (apart-filter _ (db table.tree) shaped));
           others = applies.tables;
         }
 
     -- an upsert by key, whole
-    pub puts : (w : Written) → InsertsOr task Abort (on_key places table.tree base project) from db (Ok w) → w.trees ≡ next → HasPut schema table key row db next
+    pub puts : (w : Written) → InsertsOr task Abort (on_key places table.tree base project) from db (Ok w)
+        → w.trees ≡ next → HasPut schema table key row db next
     puts w h e =
         let did = inserted db w h in
-        elim did.1 [ inl new ↦ new_has did.0 (subst (λ (t : Trees). PutsNew db t did.0) e new) | inr old ↦ replaced_has did.0 (subst (λ (t : Trees). Replaces db t did.0) e old) ]
+        elim did.1 [
+          | inl new ↦ new_has did.0 (subst (λ (t : Trees). PutsNew db t did.0) e new)
+          | inr old ↦
+              replaced_has did.0 (subst (λ (t : Trees). Replaces db t did.0) e old)
+        ]

@@ -1,5 +1,6 @@
 -- The texts that put a row, each by computing.
-use Rattle.std.proofs.Common.{◌≡◌, ℕ, ℤ, Bool, true, false, cond, ◌||◌, List, [], ◌∷◌, Option, refl, sym, ap, subst, subst₂, ◌∙◌, Some, None, inl, inr, string_bytes}
+use Rattle.std.proofs.Common.{◌≡◌, ℕ, ℤ, Bool, true, false, cond, ◌||◌, List, [], ◌∷◌, Option, refl, sym, ap, subst}
+use Rattle.std.proofs.Common.{subst₂, ◌∙◌, Some, None, inl, inr, string_bytes}
 use Rattle.std.proofs.lemmas.Bool.{false_from_ne_true, not-true, and_parts, and_from, both_ways}
 use Rattle.sqlite.specs.Term.{lit, col}
 use Rattle.sqlite.specs.Values.{or_null}
@@ -23,7 +24,8 @@ use Rattle.sqlite_rules.proofs.RuleLemmas.{keeps_at}
 use Rattle.sqlite_catalog.specs.Listing.{automatic}
 use Rattle.sqlite_value.specs.Keys.{first_key}
 use Rattle.sqlite_sql.specs.Ops.{unary}
-use Rattle.store_tables.specs.Cells.{meta_cells, member_cells, event_cells, challenge_cells, move_cells, game_cells, seen_cells, score_cells}
+use Rattle.store_tables.specs.Cells.{meta_cells, member_cells, event_cells, challenge_cells, move_cells, game_cells}
+use Rattle.store_tables.specs.Cells.{seen_cells, score_cells}
 use Rattle.store_tables.specs.Content.{same_key}
 use Rattle.store_tables.specs.Put.{IsPut}
 use Rattle.store_tables.specs.Tables.{meta, members, events, challenges, moves, games, seen, scores, club_schema}
@@ -54,21 +56,31 @@ or_false true = refl
 or_false false = refl
 
 -- two rows with the key of a unique index have one rowid
-by_index : (schema : Schema) (table : Table) (index : Index) → Has schema.tables table → Has schema.indexes index → guards index table ≡ true → (next : Trees) (r s : Row) (m n : ℤ) → KeepsRule Unique schema next
-    → rowid r ≡ Int m → rowid s ≡ Int n → Has (next table.tree) r → Has (next table.tree) s → agree index.order index.columns r index.columns s ≡ true → n ≡ m
+by_index : (schema : Schema) (table : Table) (index : Index) → Has schema.tables table → Has schema.indexes index
+    → guards index table ≡ true → (next : Trees) (r s : Row) (m n : ℤ) → KeepsRule Unique schema next
+    → rowid r ≡ Int m → rowid s ≡ Int n → Has (next table.tree) r → Has (next table.tree) s
+    → agree index.order index.columns r index.columns s ≡ true → n ≡ m
 by_index schema table index listed has guard next r s m n keeps id jd there here same =
     let passes = test_has _ schema.indexes index (keeps_at Unique schema next table s keeps listed here) has in
-    sym (differ_ints m n (subst₂ (λ a b. differ a b ≡ false) id jd (false_from_ne_true _ (λ apart. both_ways _ (not-true _ passes) (and_from _ _ guard (some_from _ (next table.tree) r there (and_from _ _ same apart)))))))
+    sym
+    (differ_ints m n
+    (subst₂ (λ a b. differ a b ≡ false) id jd
+    (false_from_ne_true _
+    (λ apart. both_ways _ (not-true _ passes)
+    (and_from _ _ guard (some_from _ (next table.tree) r there (and_from _ _ same apart)))))))
 
 cast_maybe_int : (o : Option ℤ) → cast Integer (or_null Int o) ≡ or_null Int o
 cast_maybe_int None = cast_null
 cast_maybe_int (Some n) = cast_int n
 
-cast_maybe_text : {X : Type 0} (f : X → List ℕ) (o : Option X) → cast Text (or_null (λ x. Words (f x)) o) ≡ or_null (λ x. Words (f x)) o
+cast_maybe_text : {X : Type 0} (f : X → List ℕ) (o : Option X)
+    → cast Text (or_null (λ x. Words (f x)) o) ≡ or_null (λ x. Words (f x)) o
 cast_maybe_text f None = refl
 cast_maybe_text f (Some x) = refl
 
-pub move_puts : (r : MoveRow) → IsPut club_schema (moves 8) (0 ∷ 1 ∷ []) (move_cells r) (move_cells r) (Values (lit Null ∷ col 0 0 ∷ col 0 1 ∷ col 0 2 ∷ col 0 3 ∷ col 0 4 ∷ col 0 5 ∷ []) 7) (1 ∷ 2 ∷ []) 6 (col 1 0 ∷ col 1 0 ∷ col 0 8 ∷ col 0 9 ∷ col 0 10 ∷ col 0 11 ∷ col 0 12 ∷ col 0 13 ∷ [])
+pub move_puts : (r : MoveRow) → IsPut club_schema (moves 8) (0 ∷ 1 ∷ []) (move_cells r) (move_cells r)
+    (Values (lit Null ∷ col 0 0 ∷ col 0 1 ∷ col 0 2 ∷ col 0 3 ∷ col 0 4 ∷ col 0 5 ∷ []) 7) (1 ∷ 2 ∷ []) 6
+    (col 1 0 ∷ col 1 0 ∷ col 0 8 ∷ col 0 9 ∷ col 0 10 ∷ col 0 11 ∷ col 0 12 ∷ col 0 13 ∷ [])
 move_puts r = record {
   source = Null ∷ move_cells r;
   stored = λ n. Int n ∷ move_cells r;
@@ -83,10 +95,16 @@ move_puts r = record {
   based = λ there n. refl;
   updated = λ there was n m id. ap (λ v. v ∷ v ∷ move_cells r) id;
   named = λ was m id same. refl;
-  distinct = λ next s n m keeps id there here same. ap Int (by_index club_schema (moves 8) (automatic (moves 8) 0 (1 ∷ 2 ∷ []) 9) (inr (inr (inr (inr (inl refl))))) (inr (inr (inr (inr (inl refl))))) refl next s (Int n ∷ move_cells r) m n keeps id refl there here same) ∙ sym id;
+  distinct = λ next s n m keeps id there here same.
+      ap Int
+      (by_index club_schema (moves 8) (automatic (moves 8) 0 (1 ∷ 2 ∷ []) 9) (inr (inr (inr (inr (inl refl)))))
+      (inr (inr (inr (inr (inl refl))))) refl next s (Int n ∷ move_cells r) m n keeps id refl there here same) ∙ sym id;
 }
 
-pub challenge_puts : (r : ChallengeRow) → IsPut club_schema (challenges 6) (0 ∷ 1 ∷ []) (challenge_cells r) (challenge_cells r) (Values (lit Null ∷ col 0 0 ∷ col 0 1 ∷ col 0 2 ∷ col 0 3 ∷ col 0 4 ∷ col 0 5 ∷ col 0 6 ∷ []) 8) (1 ∷ 2 ∷ []) 7 (col 1 0 ∷ col 1 0 ∷ col 0 9 ∷ col 0 10 ∷ col 0 11 ∷ col 0 12 ∷ col 0 13 ∷ col 0 14 ∷ col 0 15 ∷ [])
+pub challenge_puts : (r : ChallengeRow) →
+    IsPut club_schema (challenges 6) (0 ∷ 1 ∷ []) (challenge_cells r) (challenge_cells r)
+    (Values (lit Null ∷ col 0 0 ∷ col 0 1 ∷ col 0 2 ∷ col 0 3 ∷ col 0 4 ∷ col 0 5 ∷ col 0 6 ∷ []) 8) (1 ∷ 2 ∷ []) 7
+    (col 1 0 ∷ col 1 0 ∷ col 0 9 ∷ col 0 10 ∷ col 0 11 ∷ col 0 12 ∷ col 0 13 ∷ col 0 14 ∷ col 0 15 ∷ [])
 challenge_puts r = record {
   source = Null ∷ challenge_cells r;
   stored = λ n. Int n ∷ challenge_cells r;
@@ -101,10 +119,15 @@ challenge_puts r = record {
   based = λ there n. refl;
   updated = λ there was n m id. ap (λ v. v ∷ v ∷ challenge_cells r) id;
   named = λ was m id same. refl;
-  distinct = λ next s n m keeps id there here same. ap Int (by_index club_schema (challenges 6) (automatic (challenges 6) 0 (1 ∷ 2 ∷ []) 7) (inr (inr (inr (inl refl)))) (inr (inr (inr (inl refl)))) refl next s (Int n ∷ challenge_cells r) m n keeps id refl there here same) ∙ sym id;
+  distinct = λ next s n m keeps id there here same.
+      ap Int
+      (by_index club_schema (challenges 6) (automatic (challenges 6) 0 (1 ∷ 2 ∷ []) 7) (inr (inr (inr (inl refl))))
+      (inr (inr (inr (inl refl)))) refl next s (Int n ∷ challenge_cells r) m n keeps id refl there here same) ∙ sym id;
 }
 
-pub seen_puts : (r : SeenRow) → IsPut club_schema (seen 12) (0 ∷ 1 ∷ []) (seen_cells r) (seen_cells r) (Values (lit Null ∷ col 0 0 ∷ col 0 1 ∷ col 0 2 ∷ col 0 3 ∷ []) 5) (1 ∷ 2 ∷ []) 4 (col 1 0 ∷ col 1 0 ∷ col 0 6 ∷ col 0 7 ∷ col 0 8 ∷ col 0 9 ∷ [])
+pub seen_puts : (r : SeenRow) → IsPut club_schema (seen 12) (0 ∷ 1 ∷ []) (seen_cells r) (seen_cells r)
+    (Values (lit Null ∷ col 0 0 ∷ col 0 1 ∷ col 0 2 ∷ col 0 3 ∷ []) 5) (1 ∷ 2 ∷ []) 4
+    (col 1 0 ∷ col 1 0 ∷ col 0 6 ∷ col 0 7 ∷ col 0 8 ∷ col 0 9 ∷ [])
 seen_puts r = record {
   source = Null ∷ seen_cells r;
   stored = λ n. Int n ∷ seen_cells r;
@@ -119,10 +142,16 @@ seen_puts r = record {
   based = λ there n. refl;
   updated = λ there was n m id. ap (λ v. v ∷ v ∷ seen_cells r) id;
   named = λ was m id same. refl;
-  distinct = λ next s n m keeps id there here same. ap Int (by_index club_schema (seen 12) (automatic (seen 12) 0 (1 ∷ 2 ∷ []) 13) (inr (inr (inr (inr (inr (inr (inl refl))))))) (inr (inr (inr (inr (inr (inr (inl refl))))))) refl next s (Int n ∷ seen_cells r) m n keeps id refl there here same) ∙ sym id;
+  distinct = λ next s n m keeps id there here same.
+      ap Int
+      (by_index club_schema (seen 12) (automatic (seen 12) 0 (1 ∷ 2 ∷ []) 13)
+      (inr (inr (inr (inr (inr (inr (inl refl))))))) (inr (inr (inr (inr (inr (inr (inl refl))))))) refl next s
+      (Int n ∷ seen_cells r) m n keeps id refl there here same) ∙ sym id;
 }
 
-pub score_puts : (r : ScoreRow) → IsPut club_schema (scores 14) (0 ∷ 1 ∷ 2 ∷ []) (score_cells r) (score_cells r) (Values (lit Null ∷ col 0 0 ∷ col 0 1 ∷ col 0 2 ∷ col 0 3 ∷ col 0 4 ∷ col 0 5 ∷ col 0 6 ∷ []) 8) (1 ∷ 2 ∷ 3 ∷ []) 7 (col 1 0 ∷ col 1 0 ∷ col 0 9 ∷ col 0 10 ∷ col 0 11 ∷ col 0 12 ∷ col 0 13 ∷ col 0 14 ∷ col 0 15 ∷ [])
+pub score_puts : (r : ScoreRow) → IsPut club_schema (scores 14) (0 ∷ 1 ∷ 2 ∷ []) (score_cells r) (score_cells r)
+    (Values (lit Null ∷ col 0 0 ∷ col 0 1 ∷ col 0 2 ∷ col 0 3 ∷ col 0 4 ∷ col 0 5 ∷ col 0 6 ∷ []) 8) (1 ∷ 2 ∷ 3 ∷ []) 7
+    (col 1 0 ∷ col 1 0 ∷ col 0 9 ∷ col 0 10 ∷ col 0 11 ∷ col 0 12 ∷ col 0 13 ∷ col 0 14 ∷ col 0 15 ∷ [])
 score_puts r = record {
   source = Null ∷ score_cells r;
   stored = λ n. Int n ∷ score_cells r;
@@ -137,7 +166,11 @@ score_puts r = record {
   based = λ there n. refl;
   updated = λ there was n m id. ap (λ v. v ∷ v ∷ score_cells r) id;
   named = λ was m id same. refl;
-  distinct = λ next s n m keeps id there here same. ap Int (by_index club_schema (scores 14) (automatic (scores 14) 0 (1 ∷ 2 ∷ 3 ∷ []) 15) (inr (inr (inr (inr (inr (inr (inr (inl refl)))))))) (inr (inr (inr (inr (inr (inr (inr (inl refl)))))))) refl next s (Int n ∷ score_cells r) m n keeps id refl there here same) ∙ sym id;
+  distinct = λ next s n m keeps id there here same.
+      ap Int
+      (by_index club_schema (scores 14) (automatic (scores 14) 0 (1 ∷ 2 ∷ 3 ∷ []) 15)
+      (inr (inr (inr (inr (inr (inr (inr (inl refl)))))))) (inr (inr (inr (inr (inr (inr (inr (inl refl)))))))) refl
+      next s (Int n ∷ score_cells r) m n keeps id refl there here same) ∙ sym id;
 }
 
 -- a row whose id is the rowid
@@ -145,7 +178,9 @@ by_id : (s : Row) (m id : ℤ) → rowid s ≡ Int m → same_key (0 ∷ []) (ro
 unfolding first_key
 by_id s m id is same = equal_ints m id (subst (λ v. equal Binary v (Int id) ≡ true) is (and_parts _ _ same).0)
 
-pub meta_puts : (r : MetaRow) → IsPut club_schema (meta 0) (0 ∷ []) (meta_cells r) (meta_cells r) (Values (col 0 0 ∷ lit Null ∷ col 0 1 ∷ col 0 2 ∷ []) 4) (0 ∷ []) 3 (col 1 0 ∷ col 0 5 ∷ lit Null ∷ col 0 6 ∷ col 0 7 ∷ [])
+pub meta_puts : (r : MetaRow) → IsPut club_schema (meta 0) (0 ∷ []) (meta_cells r) (meta_cells r)
+    (Values (col 0 0 ∷ lit Null ∷ col 0 1 ∷ col 0 2 ∷ []) 4) (0 ∷ []) 3
+    (col 1 0 ∷ col 0 5 ∷ lit Null ∷ col 0 6 ∷ col 0 7 ∷ [])
 meta_puts r =
     let rest = Int r.schema ∷ Int r.last ∷ [] in
     record {
@@ -165,7 +200,9 @@ meta_puts r =
       distinct = λ next s n m keeps is there here same. ap Int (sym (by_id s m r.id is same)) ∙ sym is;
     }
 
-pub member_puts : (r : MemberRow) → IsPut club_schema (members 1) (0 ∷ []) (member_cells r) (member_cells r) (Values (col 0 0 ∷ lit Null ∷ col 0 1 ∷ col 0 2 ∷ []) 4) (0 ∷ []) 3 (col 1 0 ∷ col 0 5 ∷ lit Null ∷ col 0 6 ∷ col 0 7 ∷ [])
+pub member_puts : (r : MemberRow) → IsPut club_schema (members 1) (0 ∷ []) (member_cells r) (member_cells r)
+    (Values (col 0 0 ∷ lit Null ∷ col 0 1 ∷ col 0 2 ∷ []) 4) (0 ∷ []) 3
+    (col 1 0 ∷ col 0 5 ∷ lit Null ∷ col 0 6 ∷ col 0 7 ∷ [])
 member_puts r =
     let rest = Words (string_bytes r.name) ∷ Words (string_bytes r.key) ∷ [] in
     record {
@@ -185,7 +222,9 @@ member_puts r =
       distinct = λ next s n m keeps is there here same. ap Int (sym (by_id s m r.id is same)) ∙ sym is;
     }
 
-pub event_puts : (r : EventRow) → IsPut club_schema (events 4) (0 ∷ []) (event_cells r) (event_cells r) (Values (col 0 0 ∷ lit Null ∷ col 0 1 ∷ col 0 2 ∷ col 0 3 ∷ col 0 4 ∷ []) 6) (0 ∷ []) 5 (col 1 0 ∷ col 0 7 ∷ lit Null ∷ col 0 8 ∷ col 0 9 ∷ col 0 10 ∷ col 0 11 ∷ [])
+pub event_puts : (r : EventRow) → IsPut club_schema (events 4) (0 ∷ []) (event_cells r) (event_cells r)
+    (Values (col 0 0 ∷ lit Null ∷ col 0 1 ∷ col 0 2 ∷ col 0 3 ∷ col 0 4 ∷ []) 6) (0 ∷ []) 5
+    (col 1 0 ∷ col 0 7 ∷ lit Null ∷ col 0 8 ∷ col 0 9 ∷ col 0 10 ∷ col 0 11 ∷ [])
 event_puts r =
     let rest = Words (string_bytes r.name) ∷ Int r.game ∷ Int r.budget ∷ Int r.increment ∷ [] in
     record {
@@ -205,9 +244,16 @@ event_puts r =
       distinct = λ next s n m keeps is there here same. ap Int (sym (by_id s m r.id is same)) ∙ sym is;
     }
 
-pub game_puts : (r : GameRecord) → IsPut club_schema (games 10) (0 ∷ []) (game_cells r) (game_cells r) (Values (col 0 0 ∷ lit Null ∷ col 0 1 ∷ col 0 2 ∷ col 0 3 ∷ col 0 4 ∷ col 0 5 ∷ col 0 6 ∷ col 0 7 ∷ col 0 8 ∷ col 0 9 ∷ col 0 10 ∷ col 0 11 ∷ col 0 12 ∷ col 0 13 ∷ col 0 14 ∷ col 0 15 ∷ col 0 16 ∷ []) 18) (0 ∷ []) 17 (col 1 0 ∷ col 0 19 ∷ lit Null ∷ col 0 20 ∷ col 0 21 ∷ col 0 22 ∷ col 0 23 ∷ col 0 24 ∷ col 0 25 ∷ col 0 26 ∷ col 0 27 ∷ col 0 28 ∷ col 0 29 ∷ col 0 30 ∷ col 0 31 ∷ col 0 32 ∷ col 0 33 ∷ col 0 34 ∷ col 0 35 ∷ [])
+pub game_puts : (r : GameRecord) → IsPut club_schema (games 10) (0 ∷ []) (game_cells r) (game_cells r)
+    (Values (col 0 0 ∷ lit Null ∷ col 0 1 ∷ col 0 2 ∷ col 0 3 ∷ col 0 4 ∷ col 0 5 ∷ col 0 6 ∷ col 0 7 ∷ col 0 8
+    ∷ col 0 9 ∷ col 0 10 ∷ col 0 11 ∷ col 0 12 ∷ col 0 13 ∷ col 0 14 ∷ col 0 15 ∷ col 0 16 ∷ []) 18) (0 ∷ []) 17
+    (col 1 0 ∷ col 0 19 ∷ lit Null ∷ col 0 20 ∷ col 0 21 ∷ col 0 22 ∷ col 0 23 ∷ col 0 24 ∷ col 0 25 ∷ col 0 26
+    ∷ col 0 27 ∷ col 0 28 ∷ col 0 29 ∷ col 0 30 ∷ col 0 31 ∷ col 0 32 ∷ col 0 33 ∷ col 0 34 ∷ col 0 35 ∷ [])
 game_puts r =
-    let rest = or_null (λ s. Words (string_bytes s)) r.key ∷ Int r.event ∷ Int r.first ∷ Int r.second ∷ Int r.start ∷ Int r.since ∷ Int r.plies ∷ Int r.left1 ∷ Int r.left2 ∷ or_null Int r.offer_side ∷ or_null Int r.offer_ply ∷ or_null (λ s. Words (string_bytes s)) r.end ∷ or_null (λ s. Words (string_bytes s)) r.result ∷ Words (string_bytes r.position) ∷ Int r.track_a ∷ Int r.track_b ∷ [] in
+    let rest = or_null (λ s. Words (string_bytes s)) r.key ∷ Int r.event ∷ Int r.first ∷ Int r.second ∷ Int r.start
+    ∷ Int r.since ∷ Int r.plies ∷ Int r.left1 ∷ Int r.left2 ∷ or_null Int r.offer_side ∷ or_null Int r.offer_ply
+    ∷ or_null (λ s. Words (string_bytes s)) r.end ∷ or_null (λ s. Words (string_bytes s)) r.result
+    ∷ Words (string_bytes r.position) ∷ Int r.track_a ∷ Int r.track_b ∷ [] in
     record {
       source = Int r.id ∷ Null ∷ rest;
       stored = λ n. Int r.id ∷ Null ∷ rest;

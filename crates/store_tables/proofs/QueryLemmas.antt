@@ -1,5 +1,6 @@
 -- A SELECT changes nothing, whatever the schema.
-use Rattle.std.proofs.Common.{◌≡◌, ℕ, Bool, true, false, true≢false, List, [], ◌∷◌, Ok, Err, Result, Option, None, refl, sym, ap, subst, ◌∙◌, inl, inr, ◌⊎◌, IsTrue, arith}
+use Rattle.std.proofs.Common.{◌≡◌, ℕ, Bool, true, false, true≢false, List, [], ◌∷◌, Ok, Err, Result, Option, None, refl}
+use Rattle.std.proofs.Common.{sym, ap, subst, ◌∙◌, inl, inr, ◌⊎◌, IsTrue, arith}
 use Rattle.std.specs.Prelude.{if◌then◌else◌, IfOk, IfErr, IsSome}
 use Rattle.std.proofs.lemmas.Bool.{cases_Bool}
 use Rattle.sqlite.specs.Order.{Row}
@@ -9,7 +10,8 @@ use Rattle.sqlite.specs.Command.{Command}
 use Rattle.sqlite.specs.Clock.{timed}
 use Rattle.sqlite.specs.Effect.{Database}
 use Rattle.sqlite.specs.Listing.{understood, reads_listing, is_select as is_query, if_select, listing_schema}
-use Rattle.sqlite.specs.State.{State, Shown, ShowsRows, FailsToQuery, FailsToShow, IsNotRun, IsUnchanged, IsRolledBack, Survives, CommitsShowing, HasCleanDisk}
+use Rattle.sqlite.specs.State.{State, Shown, ShowsRows, FailsToQuery, FailsToShow, IsNotRun, IsUnchanged, IsRolledBack}
+use Rattle.sqlite.specs.State.{Survives, CommitsShowing, HasCleanDisk}
 use Rattle.sqlite.specs.declared.error.Error.{Error}
 use Rattle.sqlite_ast.specs.declared.Statement.{Statement}
 use Rattle.sqlite_ast.specs.declared.Statement.TheVariants as written
@@ -35,7 +37,8 @@ module _ {A B : Type 0} where
   through (Ok a) f b h = (a, refl, h)
   through (Err e) f b h = cc
 
-meant_plain : (schema : Schema) (p : Parsed) (base : ℕ) (found : Command × Option Returning) → is_select p.statement ≡ true → meaning schema p base ≡ Ok found → found.1 ≡ None
+meant_plain : (schema : Schema) (p : Parsed) (base : ℕ) (found : Command × Option Returning)
+    → is_select p.statement ≡ true → meaning schema p base ≡ Ok found → found.1 ≡ None
 unfolding meaning
 meant_plain schema p base found select h =
     let (shown, is, rest) = through (returning schema base p.statement) _ found h in
@@ -43,21 +46,26 @@ meant_plain schema p base found select h =
     let (c, compiles, last) = through (command schema p.formats base p.statement) _ found rest in
     ap (λ (x : Command × Option Returning). x.1) (sym (same_value last)) ∙ none
 
-compiled_plain : (schema : Schema) (sql : List ℕ) (c : Compiled) → IsSelect sql → compiled schema sql ≡ Ok c → c.returning ≡ None
+compiled_plain : (schema : Schema) (sql : List ℕ) (c : Compiled) → IsSelect sql → compiled schema sql ≡ Ok c
+    → c.returning ≡ None
 unfolding compiled planned
 compiled_plain schema sql c select h =
     let (p, is, rest) = through (first sql) _ c h in
     let (plan, plans, last) = through (planned schema p) _ c rest in
     let (found, means, whole) = through (meaning schema p _) _ plan plans in
     let read : is_select p.statement ≡ true = subst (λ r. is_read_as_select r ≡ true) is select in
-    ap (λ (x : Compiled). x.returning) (sym (same_value last)) ∙ (ap (λ (x : List (List ℕ) × (Command × Option Returning)). x.1.1) (sym (same_value whole)) ∙ meant_plain schema p _ found read means)
+    ap (λ (x : Compiled). x.returning) (sym (same_value last))
+    ∙ (ap (λ (x : List (List ℕ) × (Command × Option Returning)). x.1.1) (sym (same_value whole))
+    ∙ meant_plain schema p _ found read means)
 
-listed_plain : (b : Bool) (c : Compiled) (d : Compiled) → (if b then Ok d else Err CompileError.NoSuchTable) ≡ Ok c → d ≡ c
+listed_plain : (b : Bool) (c : Compiled) (d : Compiled) → (if b then Ok d else Err CompileError.NoSuchTable) ≡ Ok c
+    → d ≡ c
 listed_plain true c d h = same_value h
 listed_plain false c d h = cc
 
 -- a SELECT has no RETURNING, whatever the schema
-pub select_plain : (schema : Schema) (sql : List ℕ) (c : Compiled) → IsSelect sql → understood schema sql ≡ Ok c → c.returning ≡ None
+pub select_plain : (schema : Schema) (sql : List ℕ) (c : Compiled) → IsSelect sql → understood schema sql ≡ Ok c
+    → c.returning ≡ None
 unfolding understood
 select_plain schema sql c select h = elim (cases_Bool (reads_listing schema sql)) [
   | inl listing ↦ by_listing (compiled listing_schema sql) refl (rw listing at h)
@@ -65,7 +73,8 @@ select_plain schema sql c select h = elim (cases_Bool (reads_listing schema sql)
 ]
   where
     by_listing : (r : Checked Compiled) → compiled listing_schema sql ≡ r → if_select r ≡ Ok c → c.returning ≡ None
-    by_listing (Ok d) is whole = compiled_plain listing_schema sql c select (is ∙ ap Ok (listed_plain (is_query d.command) c d whole))
+    by_listing (Ok d) is whole = compiled_plain listing_schema sql c select
+        (is ∙ ap Ok (listed_plain (is_query d.command) c d whole))
     by_listing (Err e) is whole = cc
 
 some_none : {X : Type 0} (o : Option X) → o ≡ None → IsSome o → ⊥
@@ -84,7 +93,8 @@ module _ (sql : List ℕ) (select : IsSelect sql) (params : Row) (old new : Stat
   pub select_unchanged : (rows : List Row) → Shown sql params old new rows → IsUnchanged old new
   unfolding Shown
   select_unchanged rows h =
-      let it = subst (ShowsRows old new sql h.0 (timed params h.0.formats h.1.now) rows) (select_plain old.now.schema sql h.0 select h.1.is) h.2 in
+      let it = subst (ShowsRows old new sql h.0 (timed params h.0.formats h.1.now) rows)
+      (select_plain old.now.schema sql h.0 select h.1.is) h.2 in
       it.3
 
   pub select_fails : (e : Error) → FailsToQuery sql params old new e → IsUnchanged old new ⊎ IsRolledBack old new
@@ -92,20 +102,26 @@ module _ (sql : List ℕ) (select : IsSelect sql) (params : Row) (old new : Stat
   select_fails e (inl (inl h)) = inl h.1
   select_fails e (inl (inr h)) = inr h.3
   select_fails e (inr h) =
-      let it = subst (FailsToShow old new sql h.0 (timed params h.0.formats h.1.now) e) (select_plain old.now.schema sql h.0 select h.1.is) h.2 in
+      let it = subst (FailsToShow old new sql h.0 (timed params h.0.formats h.1.now) e)
+      (select_plain old.now.schema sql h.0 select h.1.is) h.2 in
       inl it.3
 
-  kept_open : IsUnchanged old new ⊎ IsRolledBack old new → IsTrue new.is_open → IsTrue old.is_open × (new.committed ≡ old.committed)
+  kept_open : IsUnchanged old new ⊎ IsRolledBack old new → IsTrue new.is_open → IsTrue old.is_open
+      × (new.committed ≡ old.committed)
   kept_open (inl same) here = (same.0.was_open, same.0.committed_is)
   kept_open (inr undone) here = (undone.was_open here, (undone.undone here).1)
 
-  either_way : {X : Type 0} (items : X → List Row) (r : Result X Error) → IfOk r (λ x. Shown sql params old new (items x)) → IfErr r (FailsToQuery sql params old new) → IsUnchanged old new ⊎ IsRolledBack old new
+  either_way : {X : Type 0} (items : X → List Row) (r : Result X Error)
+      → IfOk r (λ x. Shown sql params old new (items x)) → IfErr r (FailsToQuery sql params old new)
+      → IsUnchanged old new ⊎ IsRolledBack old new
   either_way items (Ok x) h k = inl (select_unchanged (items x) h)
   either_way items (Err e) h k = select_fails e k
 
   -- a call of a query only reads
-  pub only_reads : {X : Type 0} (items : X → List Row) (r : Result X Error) → (old.in_transaction ≡ false → new.in_transaction ≡ false) → Survives old new (CommitsShowing sql params old)
-      → (HasCleanDisk new → IfOk r (λ x. Shown sql params old new (items x))) → (HasCleanDisk new → IfErr r (FailsToQuery sql params old new)) → OnlyReads old new
+  pub only_reads : {X : Type 0} (items : X → List Row) (r : Result X Error)
+      → (old.in_transaction ≡ false → new.in_transaction ≡ false) → Survives old new (CommitsShowing sql params old)
+      → (HasCleanDisk new → IfOk r (λ x. Shown sql params old new (items x)))
+      → (HasCleanDisk new → IfErr r (FailsToQuery sql params old new)) → OnlyReads old new
   only_reads items r mode survives ok err = record {
     idle = mode;
     clean = survives.clean;
@@ -117,7 +133,15 @@ module _ (sql : List ℕ) (select : IsSelect sql) (params : Row) (old new : Stat
 -- ---- one call after another
 
 pub reads_nothing : (s : State) → OnlyReads s s
-reads_nothing s = record { idle = λ h. h; clean = omega arith; may = λ clean db h. h; was_open = λ clean h. h; committed = λ clean h. refl }
+reads_nothing s =
+    record {
+      idle = λ h. h;
+      clean = omega arith;
+      may = λ clean db h. h;
+      was_open = λ clean h. h;
+      committed =
+          λ clean h. refl;
+    }
 
 pub reads_then : (a b c : State) → OnlyReads a b → OnlyReads b c → OnlyReads a c
 reads_then a b c one two =

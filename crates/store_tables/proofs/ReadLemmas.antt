@@ -1,5 +1,6 @@
 -- What a SELECT from one table shows.
-use Rattle.std.proofs.Common.{◌≡◌, ℕ, Bool, true, false, List, [], ◌∷◌, map, flat_map, refl, sym, ap, subst, ◌∙◌, inl, inr}
+use Rattle.std.proofs.Common.{◌≡◌, ℕ, Bool, true, false, List, [], ◌∷◌, map, flat_map, refl, sym, ap, subst, ◌∙◌, inl}
+use Rattle.std.proofs.Common.{inr}
 use Rattle.std.specs.Prelude.{if◌then◌else◌}
 use Rattle.std.specs.List.{list_all}
 use Rattle.std.specs.List.Sorted.{IsPermutation}
@@ -35,14 +36,16 @@ has_map f [] x h = absurd h
 has_map f (y ∷ xs) x (inl e) = inl (ap f e)
 has_map f (y ∷ xs) x (inr h) = inr (has_map f xs x h)
 
-has_flat : {A B : Type 0} (f : A → List B) (xs : List A) (y : B) → Has (flat_map f xs) y → (x : A) × Has xs x × Has (f x) y
+has_flat : {A B : Type 0} (f : A → List B) (xs : List A) (y : B) → Has (flat_map f xs) y → (x : A) × Has xs x
+    × Has (f x) y
 has_flat f [] y h = absurd h
 has_flat f (x ∷ xs) y h = elim (has_either (f x) (flat_map f xs) y h) [
   | inl here ↦ (x, inl refl, here)
   | inr later ↦ let it = has_flat f xs y later in (it.0, inr it.1, it.2)
 ]
 
-has_in_flat : {A B : Type 0} (f : A → List B) (xs : List A) (x : A) (y : B) → Has xs x → Has (f x) y → Has (flat_map f xs) y
+has_in_flat : {A B : Type 0} (f : A → List B) (xs : List A) (x : A) (y : B) → Has xs x → Has (f x) y
+    → Has (flat_map f xs) y
 has_in_flat f [] x y h k = absurd h
 has_in_flat f (z ∷ xs) x y (inl e) k = has_left (f z) (flat_map f xs) y (subst (λ v. Has (f v) y) e k)
 has_in_flat f (z ∷ xs) x y (inr h) k = has_right (f z) (flat_map f xs) y (has_in_flat f xs x y h k)
@@ -52,52 +55,66 @@ has_turned xs ys x p h = has_contained ys x (Contains-permutation xs ys x p (con
 
 -- what is shown, of the rows that pass
 pub record AreShown (db : Trees) (params : Row) (tree : ℕ) (filter project : List Term) (rows : List Row) : Type 0 where
-  pub sound : (x : Row) → Has rows x → (r : Row) × Has (db tree) r × (list_all (holds (params ∷ r ∷ [])) filter ≡ true) × (x ≡ eval_all project (params ∷ r ∷ []))
-  pub complete : (r : Row) → Has (db tree) r → list_all (holds (params ∷ r ∷ [])) filter ≡ true → Has rows (eval_all project (params ∷ r ∷ []))
+  pub sound : (x : Row) → Has rows x → (r : Row) × Has (db tree) r × (list_all (holds (params ∷ r ∷ [])) filter ≡ true)
+      × (x ≡ eval_all project (params ∷ r ∷ []))
+  pub complete : (r : Row) → Has (db tree) r → list_all (holds (params ∷ r ∷ [])) filter ≡ true
+      → Has rows (eval_all project (params ∷ r ∷ []))
 
 one_of : {A : Type 0} (b : Bool) (x y : A) → Has (if b then x ∷ [] else []) y → (b ≡ true) × (y ≡ x)
 one_of true x y (inl e) = (refl, e)
 one_of true x y (inr h) = absurd h
 one_of false x y h = absurd h
 
-pub shown_rows : (db : Database) (params : Row) (tree : ℕ) (filter project : List Term) (order : List (Term × Key)) (names : List (List ℕ)) (rows : List Row) → ((d : Trees) → overlay d [] tree ≡ d tree)
-    → Reads (Select (record { lets = []; body = selects tree filter project order }) names) db params rows → AreShown db.trees params tree filter project rows
+pub shown_rows : (db : Database) (params : Row) (tree : ℕ) (filter project : List Term) (order : List (Term × Key))
+    (names : List (List ℕ)) (rows : List Row) → ((d : Trees) → overlay d [] tree ≡ d tree)
+    → Reads (Select (record { lets = []; body = selects tree filter project order }) names) db params rows
+    → AreShown db.trees params tree filter project rows
 shown_rows db params tree filter project order names rows plain h =
     let q = selects tree filter project order in
     let a : IsAnswer q (overlay db.trees []) params rows = h.answer Null in
     let f = λ (r : Row). if list_all (holds (params ∷ r ∷ [])) filter then (params ∷ r ∷ []) ∷ [] else [] in
     let staged : a.staged ≡ flat_map f (db.trees tree) = a.grouped ∙ ap (flat_map f) (plain db.trees) in
     let kept : a.kept ≡ map (output q) (flat_map f (db.trees tree)) = a.distinct ∙ ap (map (output q)) staged in
-    let same : IsPermutation (map (output q) (flat_map f (db.trees tree))) a.ordered = subst (λ k. IsPermutation k a.ordered) kept a.same in
+    let same : IsPermutation (map (output q) (flat_map f (db.trees tree))) a.ordered =
+    subst (λ k. IsPermutation k a.ordered) kept a.same in
     record {
       sound = λ x there.
           let o = has_mapped (λ (p : Output). p.1) a.ordered x (subst (λ l. Has l x) a.shown there) in
-          let e = has_mapped (output q) (flat_map f (db.trees tree)) o.0 (has_turned _ _ o.0 (IsPermutation-sym _ _ same) o.1) in
+          let e = has_mapped (output q) (flat_map f (db.trees tree)) o.0
+          (has_turned _ _ o.0 (IsPermutation-sym _ _ same) o.1) in
           let r = has_flat f (db.trees tree) e.0 e.1 in
           let is = one_of (list_all (holds (params ∷ r.0 ∷ [])) filter) (params ∷ r.0 ∷ []) e.0 r.2 in
           (r.0, r.1, is.0, o.2 ∙ ap (λ (p : Output). p.1) (e.2 ∙ ap (output q) is.1));
       complete = λ r there passes.
           let env = params ∷ r ∷ [] in
-          let staged : Has (flat_map f (db.trees tree)) env = has_in_flat f (db.trees tree) r env there (subst (λ b. Has (if b then env ∷ [] else []) env) (sym passes) (inl refl)) in
+          let staged : Has (flat_map f (db.trees tree)) env =
+          has_in_flat f (db.trees tree) r env there
+          (subst (λ b. Has (if b then env ∷ [] else []) env) (sym passes) (inl refl)) in
           let ordered = has_turned _ _ (output q env) same (has_map (output q) _ env staged) in
-          subst (λ l. Has l (eval_all project env)) (sym a.shown) (has_map (λ (p : Output). p.1) a.ordered (output q env) ordered);
+          subst (λ l. Has l (eval_all project env)) (sym a.shown)
+          (has_map (λ (p : Output). p.1) a.ordered (output q env) ordered);
     }
 
 -- each row that is shown comes from one of the table
-pub env_of : (db : Database) (params : Row) (tree : ℕ) (filter project : List Term) (order : List (Term × Key)) (rows : List Row) → ((d : Trees) → overlay d [] tree ≡ d tree)
-    → (a : IsAnswer (selects tree filter project order) (overlay db.trees []) params rows) (o : Output) → Has a.ordered o → (r : Row) × (o ≡ output (selects tree filter project order) (params ∷ r ∷ []))
+pub env_of : (db : Database) (params : Row) (tree : ℕ) (filter project : List Term) (order : List (Term × Key))
+    (rows : List Row) → ((d : Trees) → overlay d [] tree ≡ d tree)
+    → (a : IsAnswer (selects tree filter project order) (overlay db.trees []) params rows) (o : Output)
+    → Has a.ordered o → (r : Row) × (o ≡ output (selects tree filter project order) (params ∷ r ∷ []))
 env_of db params tree filter project order rows plain a o there =
     let q = selects tree filter project order in
     let f = λ (r : Row). if list_all (holds (params ∷ r ∷ [])) filter then (params ∷ r ∷ []) ∷ [] else [] in
     let staged : a.staged ≡ flat_map f (db.trees tree) = a.grouped ∙ ap (flat_map f) (plain db.trees) in
     let kept : a.kept ≡ map (output q) (flat_map f (db.trees tree)) = a.distinct ∙ ap (map (output q)) staged in
-    let same : IsPermutation (map (output q) (flat_map f (db.trees tree))) a.ordered = subst (λ k. IsPermutation k a.ordered) kept a.same in
-    let e = has_mapped (output q) (flat_map f (db.trees tree)) o (has_turned _ _ o (IsPermutation-sym _ _ same) there) in
+    let same : IsPermutation (map (output q) (flat_map f (db.trees tree))) a.ordered =
+    subst (λ k. IsPermutation k a.ordered) kept a.same in
+    let e = has_mapped (output q) (flat_map f (db.trees tree)) o (has_turned _ _ o (IsPermutation-sym _ _ same) there)
+    in
     let r = has_flat f (db.trees tree) e.0 e.1 in
     let is = one_of (list_all (holds (params ∷ r.0 ∷ [])) filter) (params ∷ r.0 ∷ []) e.0 r.2 in
     (r.0, e.2 ∙ ap (output q) is.1)
 
-pub shown_unchanged : (sql : List ℕ) (params : Row) (old new : State) (rows : List Row) → IsPlain (understood old.now.schema sql) → Shown sql params old new rows → IsUnchanged old new
+pub shown_unchanged : (sql : List ℕ) (params : Row) (old new : State) (rows : List Row)
+    → IsPlain (understood old.now.schema sql) → Shown sql params old new rows → IsUnchanged old new
 unfolding Shown
 shown_unchanged sql params old new rows plain h =
     let none = (subst IsPlain h.1.is plain).0 in
@@ -105,14 +122,17 @@ shown_unchanged sql params old new rows plain h =
     it.3
 
 -- a call that reads leaves nothing else, whatever it answers
-pub may_as_before : (schema : Schema) (sql : List ℕ) (params : Row) (old new : State) → IsPlain (understood schema sql) → Survives old new (CommitsShowing sql params old) → HasCleanDisk new
+pub may_as_before : (schema : Schema) (sql : List ℕ) (params : Row) (old new : State) → IsPlain (understood schema sql)
+    → Survives old new (CommitsShowing sql params old) → HasCleanDisk new
     → (content : Content) → IsExactly schema content old → (db : Trees) → new.may_leave db → Leaves schema content db
 may_as_before schema sql params old new plain s clean content k db left = elim (s.crash clean db left) [
   | inl was ↦ k.may_leave db was
-  | inr wrote ↦ absurd (never_commits sql params old db (subst (λ d. IsPlain (understood d sql)) (sym k.now.schema) plain) wrote)
+  | inr wrote ↦
+      absurd (never_commits sql params old db (subst (λ d. IsPlain (understood d sql)) (sym k.now.schema) plain) wrote)
 ]
 
-pub unchanged_exactly : (schema : Schema) (content : Content) (old new : State) → IsExactly schema content old → IsUnchanged old new → ((db : Trees) → new.may_leave db → Leaves schema content db) → IsExactly schema content new
+pub unchanged_exactly : (schema : Schema) (content : Content) (old new : State) → IsExactly schema content old
+    → IsUnchanged old new → ((db : Trees) → new.may_leave db → Leaves schema content db) → IsExactly schema content new
 unchanged_exactly schema content old new k same may = record {
   is_open = same.0.is_open;
   idle = same.0.mode ∙ k.idle;
@@ -122,15 +142,21 @@ unchanged_exactly schema content old new k same may = record {
 }
 
 -- the parameters of a call, as they are known
-pub survives_given : (sql : List ℕ) (params wanted : Row) (old new : State) → params ≡ wanted → Survives old new (CommitsShowing sql params old) → Survives old new (CommitsShowing sql wanted old)
+pub survives_given : (sql : List ℕ) (params wanted : Row) (old new : State) → params ≡ wanted
+    → Survives old new (CommitsShowing sql params old) → Survives old new (CommitsShowing sql wanted old)
 survives_given sql params wanted old new same = subst (λ p. Survives old new (CommitsShowing sql p old)) same
 
-pub shown_given : (sql : List ℕ) (params wanted : Row) (old new : State) (rows : List Row) → params ≡ wanted → Shown sql params old new rows → Shown sql wanted old new rows
+pub shown_given : (sql : List ℕ) (params wanted : Row) (old new : State) (rows : List Row) → params ≡ wanted
+    → Shown sql params old new rows → Shown sql wanted old new rows
 shown_given sql params wanted old new rows same = subst (λ p. Shown sql p old new rows) same
 
 -- What a SELECT of every column shows is the content, of whatever database.
-pub found_rows : (table : Table) (project : List Term) (order : List (Term × Key)) (names : List (List ℕ)) → ((d : Trees) → overlay d [] table.tree ≡ d table.tree) → ((r : Row) → eval_all project ([] ∷ r ∷ []) ≡ cells table r)
-    → (db : Database) (rows : List Row) → Reads (Select (record { lets = []; body = selects table.tree [] project order }) names) db [] rows → Keeps table db.trees rows
+pub found_rows : (table : Table) (project : List Term) (order : List (Term × Key)) (names : List (List ℕ))
+    → ((d : Trees) → overlay d [] table.tree ≡ d table.tree)
+    → ((r : Row) → eval_all project ([] ∷ r ∷ []) ≡ cells table r)
+    → (db : Database) (rows : List Row) → Reads
+    (Select (record { lets = []; body = selects table.tree [] project order }) names) db [] rows
+    → Keeps table db.trees rows
 found_rows table project order names overlaid shows db rows h =
     let are = shown_rows db [] table.tree [] project order names rows overlaid h in
     record {

@@ -108,7 +108,8 @@ members_ids_is = record {
   by = λ r s. refl;
 }
 
-members_some : (n : ℤ) → Finds club_schema (members 1) 1 (0 ∷ []) (Int n ∷ []) (Int n ∷ []) t.members_by_first (by_others 1)
+members_some : (n : ℤ) → Finds club_schema (members 1) 1 (0 ∷ []) (Int n ∷ []) (Int n ∷ []) t.members_by_first
+    (by_others 1)
 unfolding understood everything first_key
 members_some n = record {
   at = refl;
@@ -174,7 +175,8 @@ events_ids_is = record {
   by = λ r s. refl;
 }
 
-events_some : (n : ℤ) → Finds club_schema (events 4) 2 (0 ∷ []) (Int n ∷ []) (Int n ∷ []) t.events_by_first (by_others 1)
+events_some : (n : ℤ) → Finds club_schema (events 4) 2 (0 ∷ []) (Int n ∷ []) (Int n ∷ []) t.events_by_first
+    (by_others 1)
 unfolding understood everything first_key
 events_some n = record {
   at = refl;
@@ -220,7 +222,8 @@ challenges_all_is : Selects club_schema 6 2 t.challenges_all challenges_columns
 unfolding understood everything
 challenges_all_is = record {
   order = (col 1 1, ascending Binary) ∷ (col 1 2, ascending Binary) ∷ [];
-  names = codes "member" ∷ codes "number" ∷ codes "event" ∷ codes "other" ∷ codes "first" ∷ codes "state" ∷ codes "game" ∷ [];
+  names = codes "member" ∷ codes "number" ∷ codes "event" ∷ codes "other" ∷ codes "first" ∷ codes "state" ∷ codes "game"
+      ∷ [];
   command = refl;
   plain = (refl, refl);
   unlisted = refl;
@@ -240,14 +243,16 @@ challenges_ids_is = record {
   by = λ r s. refl;
 }
 
-challenges_some : (n : ℤ) → Finds club_schema (challenges 6) 3 (0 ∷ []) (Int n ∷ []) (Int n ∷ []) t.challenges_by_first (by_others 2)
+challenges_some : (n : ℤ) → Finds club_schema (challenges 6) 3 (0 ∷ []) (Int n ∷ []) (Int n ∷ []) t.challenges_by_first
+    (by_others 2)
 unfolding understood everything first_key
 challenges_some n = record {
   at = refl;
   filter = op2 (Compare Eq Binary) (col 1 1) (col 0 0) ∷ [];
   project = challenges_columns;
   order = (col 1 2, ascending Binary) ∷ [];
-  names = codes "member" ∷ codes "number" ∷ codes "event" ∷ codes "other" ∷ codes "first" ∷ codes "state" ∷ codes "game" ∷ [];
+  names = codes "member" ∷ codes "number" ∷ codes "event" ∷ codes "other" ∷ codes "first" ∷ codes "state" ∷ codes "game"
+      ∷ [];
   command = refl;
   plain = (refl, refl);
   unlisted = refl;
@@ -346,13 +351,16 @@ moves_read = record {
 -- ---- games
 
 abbrev games_columns : List Term
-games_columns = col 1 0 ∷ col 1 2 ∷ col 1 3 ∷ col 1 4 ∷ col 1 5 ∷ col 1 6 ∷ col 1 7 ∷ col 1 8 ∷ col 1 9 ∷ col 1 10 ∷ col 1 11 ∷ col 1 12 ∷ col 1 13 ∷ col 1 14 ∷ col 1 15 ∷ col 1 16 ∷ col 1 17 ∷ []
+games_columns = col 1 0 ∷ col 1 2 ∷ col 1 3 ∷ col 1 4 ∷ col 1 5 ∷ col 1 6 ∷ col 1 7 ∷ col 1 8 ∷ col 1 9 ∷ col 1 10
+    ∷ col 1 11 ∷ col 1 12 ∷ col 1 13 ∷ col 1 14 ∷ col 1 15 ∷ col 1 16 ∷ col 1 17 ∷ []
 
 games_all_is : Selects club_schema 10 1 t.games_all games_columns
 unfolding understood everything
 games_all_is = record {
   order = (col 1 0, ascending Binary) ∷ [];
-  names = codes "id" ∷ codes "key" ∷ codes "event" ∷ codes "first" ∷ codes "second" ∷ codes "start" ∷ codes "since" ∷ codes "plies" ∷ codes "left1" ∷ codes "left2" ∷ codes "offer_side" ∷ codes "offer_ply" ∷ codes "end" ∷ codes "result" ∷ codes "position" ∷ codes "track_a" ∷ codes "track_b" ∷ [];
+  names = codes "id" ∷ codes "key" ∷ codes "event" ∷ codes "first" ∷ codes "second" ∷ codes "start" ∷ codes "since"
+      ∷ codes "plies" ∷ codes "left1" ∷ codes "left2" ∷ codes "offer_side" ∷ codes "offer_ply" ∷ codes "end"
+      ∷ codes "result" ∷ codes "position" ∷ codes "track_a" ∷ codes "track_b" ∷ [];
   command = refl;
   plain = (refl, refl);
   unlisted = refl;
@@ -379,7 +387,9 @@ games_some n = record {
   filter = op2 (Compare Eq Binary) (col 1 0) (col 0 0) ∷ [];
   project = games_columns;
   order = [];
-  names = codes "id" ∷ codes "key" ∷ codes "event" ∷ codes "first" ∷ codes "second" ∷ codes "start" ∷ codes "since" ∷ codes "plies" ∷ codes "left1" ∷ codes "left2" ∷ codes "offer_side" ∷ codes "offer_ply" ∷ codes "end" ∷ codes "result" ∷ codes "position" ∷ codes "track_a" ∷ codes "track_b" ∷ [];
+  names = codes "id" ∷ codes "key" ∷ codes "event" ∷ codes "first" ∷ codes "second" ∷ codes "start" ∷ codes "since"
+      ∷ codes "plies" ∷ codes "left1" ∷ codes "left2" ∷ codes "offer_side" ∷ codes "offer_ply" ∷ codes "end"
+      ∷ codes "result" ∷ codes "position" ∷ codes "track_a" ∷ codes "track_b" ∷ [];
   command = refl;
   plain = (refl, refl);
   unlisted = refl;
@@ -484,7 +494,8 @@ scores_all_is : Selects club_schema 14 3 t.scores_all scores_columns
 unfolding understood everything
 scores_all_is = record {
   order = (col 1 1, ascending Binary) ∷ (col 1 2, ascending Binary) ∷ (col 1 3, ascending Binary) ∷ [];
-  names = codes "event" ∷ codes "member" ∷ codes "opponent" ∷ codes "points" ∷ codes "wins" ∷ codes "draws" ∷ codes "losses" ∷ [];
+  names = codes "event" ∷ codes "member" ∷ codes "opponent" ∷ codes "points" ∷ codes "wins" ∷ codes "draws"
+      ∷ codes "losses" ∷ [];
   command = refl;
   plain = (refl, refl);
   unlisted = refl;
@@ -504,14 +515,16 @@ scores_ids_is = record {
   by = λ r s. refl;
 }
 
-scores_some : (n : ℤ) → Finds club_schema (scores 14) 7 (0 ∷ []) (Int n ∷ []) (Int n ∷ []) t.scores_by_first (by_others 3)
+scores_some : (n : ℤ) → Finds club_schema (scores 14) 7 (0 ∷ []) (Int n ∷ []) (Int n ∷ []) t.scores_by_first
+    (by_others 3)
 unfolding understood everything first_key
 scores_some n = record {
   at = refl;
   filter = op2 (Compare Eq Binary) (col 1 1) (col 0 0) ∷ [];
   project = scores_columns;
   order = (col 1 2, ascending Binary) ∷ (col 1 3, ascending Binary) ∷ [];
-  names = codes "event" ∷ codes "member" ∷ codes "opponent" ∷ codes "points" ∷ codes "wins" ∷ codes "draws" ∷ codes "losses" ∷ [];
+  names = codes "event" ∷ codes "member" ∷ codes "opponent" ∷ codes "points" ∷ codes "wins" ∷ codes "draws"
+      ∷ codes "losses" ∷ [];
   command = refl;
   plain = (refl, refl);
   unlisted = refl;
@@ -543,7 +556,8 @@ scores_read = record {
 
 -- ---- by a whole key, or by a column that is UNIQUE
 
-pub members_by_name_finds : (a : List ℕ) → Finds club_schema (members 1) 1 (1 ∷ []) (Null ∷ Text a ∷ []) (Text a ∷ []) t.members_by_name (λ x y. Equal)
+pub members_by_name_finds : (a : List ℕ)
+    → Finds club_schema (members 1) 1 (1 ∷ []) (Null ∷ Text a ∷ []) (Text a ∷ []) t.members_by_name (λ x y. Equal)
 unfolding understood everything first_key
 members_by_name_finds a = record {
   at = refl;
@@ -564,7 +578,8 @@ pub members_by_name_select : IsSelect t.members_by_name
 unfolding understood everything
 members_by_name_select = refl
 
-pub members_by_key_finds : (a : List ℕ) → Finds club_schema (members 1) 1 (2 ∷ []) (Null ∷ Null ∷ Text a ∷ []) (Text a ∷ []) t.members_by_key (λ x y. Equal)
+pub members_by_key_finds : (a : List ℕ) →
+    Finds club_schema (members 1) 1 (2 ∷ []) (Null ∷ Null ∷ Text a ∷ []) (Text a ∷ []) t.members_by_key (λ x y. Equal)
 unfolding understood everything first_key
 members_by_key_finds a = record {
   at = refl;
@@ -585,7 +600,8 @@ pub members_by_key_select : IsSelect t.members_by_key
 unfolding understood everything
 members_by_key_select = refl
 
-pub events_by_name_finds : (a : List ℕ) → Finds club_schema (events 4) 2 (1 ∷ []) (Null ∷ Text a ∷ []) (Text a ∷ []) t.events_by_name (λ x y. Equal)
+pub events_by_name_finds : (a : List ℕ) →
+    Finds club_schema (events 4) 2 (1 ∷ []) (Null ∷ Text a ∷ []) (Text a ∷ []) t.events_by_name (λ x y. Equal)
 unfolding understood everything first_key
 events_by_name_finds a = record {
   at = refl;
@@ -606,14 +622,17 @@ pub events_by_name_select : IsSelect t.events_by_name
 unfolding understood everything
 events_by_name_select = refl
 
-pub games_by_key_finds : (a : List ℕ) → Finds club_schema (games 10) 5 (1 ∷ []) (Null ∷ Text a ∷ []) (Text a ∷ []) t.games_by_key (λ x y. Equal)
+pub games_by_key_finds : (a : List ℕ) → Finds club_schema (games 10) 5 (1 ∷ []) (Null ∷ Text a ∷ []) (Text a ∷ [])
+    t.games_by_key (λ x y. Equal)
 unfolding understood everything first_key
 games_by_key_finds a = record {
   at = refl;
   filter = op2 (Compare Eq Binary) (col 1 2) (col 0 0) ∷ [];
   project = games_columns;
   order = [];
-  names = codes "id" ∷ codes "key" ∷ codes "event" ∷ codes "first" ∷ codes "second" ∷ codes "start" ∷ codes "since" ∷ codes "plies" ∷ codes "left1" ∷ codes "left2" ∷ codes "offer_side" ∷ codes "offer_ply" ∷ codes "end" ∷ codes "result" ∷ codes "position" ∷ codes "track_a" ∷ codes "track_b" ∷ [];
+  names = codes "id" ∷ codes "key" ∷ codes "event" ∷ codes "first" ∷ codes "second" ∷ codes "start" ∷ codes "since"
+      ∷ codes "plies" ∷ codes "left1" ∷ codes "left2" ∷ codes "offer_side" ∷ codes "offer_ply" ∷ codes "end"
+      ∷ codes "result" ∷ codes "position" ∷ codes "track_a" ∷ codes "track_b" ∷ [];
   command = refl;
   plain = (refl, refl);
   unlisted = refl;
@@ -627,14 +646,17 @@ pub games_by_key_select : IsSelect t.games_by_key
 unfolding understood everything
 games_by_key_select = refl
 
-pub challenges_by_number_finds : (a : ℤ) (b : ℤ) → Finds club_schema (challenges 6) 3 (0 ∷ 1 ∷ []) (Int a ∷ Int b ∷ []) (Int a ∷ Int b ∷ []) t.challenges_by_number (λ x y. Equal)
+pub challenges_by_number_finds : (a : ℤ) (b : ℤ)
+    → Finds club_schema (challenges 6) 3 (0 ∷ 1 ∷ []) (Int a ∷ Int b ∷ []) (Int a ∷ Int b ∷ []) t.challenges_by_number
+    (λ x y. Equal)
 unfolding understood everything first_key
 challenges_by_number_finds a b = record {
   at = refl;
   filter = op2 (Compare Eq Binary) (col 1 1) (col 0 0) ∷ op2 (Compare Eq Binary) (col 1 2) (col 0 1) ∷ [];
   project = challenges_columns;
   order = [];
-  names = codes "member" ∷ codes "number" ∷ codes "event" ∷ codes "other" ∷ codes "first" ∷ codes "state" ∷ codes "game" ∷ [];
+  names = codes "member" ∷ codes "number" ∷ codes "event" ∷ codes "other" ∷ codes "first" ∷ codes "state" ∷ codes "game"
+      ∷ [];
   command = refl;
   plain = (refl, refl);
   unlisted = refl;
@@ -648,7 +670,8 @@ pub challenges_by_number_select : IsSelect t.challenges_by_number
 unfolding understood everything
 challenges_by_number_select = refl
 
-pub moves_by_ply_finds : (a : ℤ) (b : ℤ) → Finds club_schema (moves 8) 4 (0 ∷ 1 ∷ []) (Int a ∷ Int b ∷ []) (Int a ∷ Int b ∷ []) t.moves_by_ply (λ x y. Equal)
+pub moves_by_ply_finds : (a : ℤ) (b : ℤ)
+    → Finds club_schema (moves 8) 4 (0 ∷ 1 ∷ []) (Int a ∷ Int b ∷ []) (Int a ∷ Int b ∷ []) t.moves_by_ply (λ x y. Equal)
 unfolding understood everything first_key
 moves_by_ply_finds a b = record {
   at = refl;
@@ -669,7 +692,9 @@ pub moves_by_ply_select : IsSelect t.moves_by_ply
 unfolding understood everything
 moves_by_ply_select = refl
 
-pub seen_by_position_finds : (a : ℤ) (b : List ℕ) → Finds club_schema (seen 12) 6 (0 ∷ 1 ∷ []) (Int a ∷ Text b ∷ []) (Int a ∷ Text b ∷ []) t.seen_by_position (λ x y. Equal)
+pub seen_by_position_finds : (a : ℤ) (b : List ℕ)
+    → Finds club_schema (seen 12) 6 (0 ∷ 1 ∷ []) (Int a ∷ Text b ∷ []) (Int a ∷ Text b ∷ []) t.seen_by_position
+    (λ x y. Equal)
 unfolding understood everything first_key
 seen_by_position_finds a b = record {
   at = refl;
@@ -690,14 +715,18 @@ pub seen_by_position_select : IsSelect t.seen_by_position
 unfolding understood everything
 seen_by_position_select = refl
 
-pub scores_by_pair_finds : (a : ℤ) (b : ℤ) (c : ℤ) → Finds club_schema (scores 14) 7 (0 ∷ 1 ∷ 2 ∷ []) (Int a ∷ Int b ∷ Int c ∷ []) (Int a ∷ Int b ∷ Int c ∷ []) t.scores_by_pair (λ x y. Equal)
+pub scores_by_pair_finds : (a : ℤ) (b : ℤ) (c : ℤ)
+    → Finds club_schema (scores 14) 7 (0 ∷ 1 ∷ 2 ∷ []) (Int a ∷ Int b ∷ Int c ∷ []) (Int a ∷ Int b ∷ Int c ∷ [])
+    t.scores_by_pair (λ x y. Equal)
 unfolding understood everything first_key
 scores_by_pair_finds a b c = record {
   at = refl;
-  filter = op2 (Compare Eq Binary) (col 1 1) (col 0 0) ∷ op2 (Compare Eq Binary) (col 1 2) (col 0 1) ∷ op2 (Compare Eq Binary) (col 1 3) (col 0 2) ∷ [];
+  filter = op2 (Compare Eq Binary) (col 1 1) (col 0 0) ∷ op2 (Compare Eq Binary) (col 1 2) (col 0 1)
+      ∷ op2 (Compare Eq Binary) (col 1 3) (col 0 2) ∷ [];
   project = scores_columns;
   order = [];
-  names = codes "event" ∷ codes "member" ∷ codes "opponent" ∷ codes "points" ∷ codes "wins" ∷ codes "draws" ∷ codes "losses" ∷ [];
+  names = codes "event" ∷ codes "member" ∷ codes "opponent" ∷ codes "points" ∷ codes "wins" ∷ codes "draws"
+      ∷ codes "losses" ∷ [];
   command = refl;
   plain = (refl, refl);
   unlisted = refl;

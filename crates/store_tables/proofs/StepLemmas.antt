@@ -1,5 +1,6 @@
 -- What each statement that puts a row does inside a transaction, and what a commit makes of it.
-use Rattle.std.proofs.Common.{◌≡◌, ℕ, List, [], ◌∷◌, ◌++◌, Ok, refl, sym, subst, subst₂, ◌∙◌, ap, IsTrue, false, Some, slice_get}
+use Rattle.std.proofs.Common.{◌≡◌, ℕ, List, [], ◌∷◌, ◌++◌, Ok, refl, sym, subst, subst₂, ◌∙◌, ap, IsTrue, false, Some}
+use Rattle.std.proofs.Common.{slice_get}
 use Rattle.sqlite.specs.Order.{Row}
 use Rattle.sqlite.specs.Tree.{Trees}
 use Rattle.sqlite.specs.Table.{Table}
@@ -14,8 +15,10 @@ use Rattle.sqlite_schema.specs.declared.command.Source.{Source}
 use Rattle.sqlite_schema.specs.declared.command.Conflict.TheVariants.{Abort}
 use Rattle.sqlite_sql.specs.Term.{Term}
 use Rattle.sqlite_rules.proofs.ListLemmas.{all_has, has_got}
-use Rattle.store_tables.specs.Cells.{meta_cells, member_cells, event_cells, challenge_cells, move_cells, game_cells, seen_cells, score_cells}
-use Rattle.store_tables.specs.Contents.{Content, put_in, put_each, nothing, first_meta, Stores, Holds, Steps, Leaves, IsExactly, Makes, Fills}
+use Rattle.store_tables.specs.Cells.{meta_cells, member_cells, event_cells, challenge_cells, move_cells, game_cells}
+use Rattle.store_tables.specs.Cells.{seen_cells, score_cells}
+use Rattle.store_tables.specs.Contents.{Content, put_in, put_each, nothing, first_meta, Stores, Holds, Steps, Leaves}
+use Rattle.store_tables.specs.Contents.{IsExactly, Makes, Fills}
 use Rattle.store_tables.specs.Put.{IsPut, on_key}
 use Rattle.store_tables.specs.Tables.{meta, members, events, challenges, moves, games, seen, scores, club_schema}
 use Rattle.store_tables.specs.Texts as t
@@ -29,78 +32,133 @@ use Rattle.store_tables.specs.declared.rows.SeenRow.{SeenRow}
 use Rattle.store_tables.specs.declared.rows.ScoreRow.{ScoreRow}
 use Rattle.store_tables.proofs.ContentLemmas.{club_apart, put_by, turn_by}
 use Rattle.store_tables.proofs.MakeLemmas.{holds_nothing}
-use Rattle.store_tables.proofs.Meanings.{meta_put_is, meta_put_plain, members_put_is, members_put_plain, events_put_is, events_put_plain, challenges_put_is, challenges_put_plain, moves_put_is, moves_put_plain, games_put_is, games_put_plain, seen_put_is, seen_put_plain, scores_put_is, scores_put_plain}
-use Rattle.store_tables.proofs.PutMeanings.{meta_puts, member_puts, event_puts, challenge_puts, move_puts, game_puts, seen_puts, score_puts}
+use Rattle.store_tables.proofs.Meanings.{meta_put_is, meta_put_plain, members_put_is, members_put_plain, events_put_is}
+use Rattle.store_tables.proofs.Meanings.{events_put_plain, challenges_put_is, challenges_put_plain, moves_put_is}
+use Rattle.store_tables.proofs.Meanings.{moves_put_plain, games_put_is, games_put_plain, seen_put_is, seen_put_plain}
+use Rattle.store_tables.proofs.Meanings.{scores_put_is, scores_put_plain}
+use Rattle.store_tables.proofs.PutMeanings.{meta_puts, member_puts, event_puts, challenge_puts, move_puts, game_puts}
+use Rattle.store_tables.proofs.PutMeanings.{seen_puts, score_puts}
 
-module _ (table : Table) (params row : Row) (key : List ℕ) (from : Source) (places : List ℕ) (base : ℕ) (project : List Term) (is : IsPut club_schema table key params row from places base project)
-    (sql : List ℕ) (at : ℕ) (command : command_of (understood club_schema sql) ≡ InsertOr at Abort from (on_key places table.tree base project)) (plain : IsPlain (understood club_schema sql))
+module _ (table : Table) (params row : Row) (key : List ℕ) (from : Source) (places : List ℕ) (base : ℕ)
+    (project : List Term) (is : IsPut club_schema table key params row from places base project)
+    (sql : List ℕ) (at : ℕ) (command : command_of (understood club_schema sql)
+    ≡ InsertOr at Abort from (on_key places table.tree base project)) (plain : IsPlain (understood club_schema sql))
     (place : slice_get club_schema.tables at ≡ Some table) where
-  put_inside : (old new : State) (count : ℕ) → ExecutesInside 0 sql params old new (Ok count) → Steps club_schema (put_in table.tree key row) old new
+  put_inside : (old new : State) (count : ℕ) → ExecutesInside 0 sql params old new (Ok count)
+      → Steps club_schema (put_in table.tree key row) old new
   put_inside old new count h = record {
     holds = λ content k.
-        let stored : Stores table old.now.trees content = all_has (λ t. Stores t old.now.trees content) club_schema.tables table k.tables (has_got club_schema.tables at table place) in
-        let did = put_by club_schema club_apart table params row key from places base project is sql at command plain place old new count k.schema stored.apart h.0 in
-        record { schema = did.0; sound = did.2; tables = turn_by club_schema club_apart table params row key from places base project is sql at command plain place old.now.trees new.now.trees content did.1 k.tables };
+        let stored : Stores table old.now.trees content =
+        all_has (λ t. Stores t old.now.trees content) club_schema.tables table k.tables
+        (has_got club_schema.tables at table place) in
+        let did = put_by club_schema club_apart table params row key from places base project is sql at command plain
+        place old new count k.schema stored.apart h.0 in
+        record {
+          schema = did.0;
+          sound = did.2;
+          tables =
+              turn_by club_schema club_apart table params row key from places base project is sql at command plain place
+              old.now.trees new.now.trees content did.1 k.tables;
+        };
     committed = h.1.committed_is;
     inside = h.1.mode;
   }
 
-pub meta_put_of : (r : MetaRow) (sql : List ℕ) (params : Row) (old new : State) (count : ℕ) → sql ≡ t.meta_put → params ≡ meta_cells r → ExecutesInside 0 sql params old new (Ok count) → Steps club_schema (put_in 0 (0 ∷ []) (meta_cells r)) old new
+pub meta_put_of : (r : MetaRow) (sql : List ℕ) (params : Row) (old new : State) (count : ℕ) → sql ≡ t.meta_put
+    → params ≡ meta_cells r → ExecutesInside 0 sql params old new (Ok count)
+    → Steps club_schema (put_in 0 (0 ∷ []) (meta_cells r)) old new
 meta_put_of r sql params old new count text given h =
-    put_inside (meta 0) (meta_cells r) (meta_cells r) (0 ∷ []) _ (0 ∷ []) 3 _ (meta_puts r) t.meta_put 0 meta_put_is meta_put_plain refl old new count (subst₂ (λ s p. ExecutesInside 0 s p old new (Ok count)) text given h)
+    put_inside (meta 0) (meta_cells r) (meta_cells r) (0 ∷ []) _ (0 ∷ []) 3 _ (meta_puts r) t.meta_put 0 meta_put_is
+    meta_put_plain refl old new count (subst₂ (λ s p. ExecutesInside 0 s p old new (Ok count)) text given h)
 
-pub member_put_of : (r : MemberRow) (sql : List ℕ) (params : Row) (old new : State) (count : ℕ) → sql ≡ t.members_put → params ≡ member_cells r → ExecutesInside 0 sql params old new (Ok count) → Steps club_schema (put_in 1 (0 ∷ []) (member_cells r)) old new
+pub member_put_of : (r : MemberRow) (sql : List ℕ) (params : Row) (old new : State) (count : ℕ) → sql ≡ t.members_put
+    → params ≡ member_cells r → ExecutesInside 0 sql params old new (Ok count)
+    → Steps club_schema (put_in 1 (0 ∷ []) (member_cells r)) old new
 member_put_of r sql params old new count text given h =
-    put_inside (members 1) (member_cells r) (member_cells r) (0 ∷ []) _ (0 ∷ []) 3 _ (member_puts r) t.members_put 1 members_put_is members_put_plain refl old new count (subst₂ (λ s p. ExecutesInside 0 s p old new (Ok count)) text given h)
+    put_inside (members 1) (member_cells r) (member_cells r) (0 ∷ []) _ (0 ∷ []) 3 _ (member_puts r) t.members_put 1
+    members_put_is members_put_plain refl old new count
+    (subst₂ (λ s p. ExecutesInside 0 s p old new (Ok count)) text given h)
 
-pub event_put_of : (r : EventRow) (sql : List ℕ) (params : Row) (old new : State) (count : ℕ) → sql ≡ t.events_put → params ≡ event_cells r → ExecutesInside 0 sql params old new (Ok count) → Steps club_schema (put_in 4 (0 ∷ []) (event_cells r)) old new
+pub event_put_of : (r : EventRow) (sql : List ℕ) (params : Row) (old new : State) (count : ℕ) → sql ≡ t.events_put
+    → params ≡ event_cells r → ExecutesInside 0 sql params old new (Ok count)
+    → Steps club_schema (put_in 4 (0 ∷ []) (event_cells r)) old new
 event_put_of r sql params old new count text given h =
-    put_inside (events 4) (event_cells r) (event_cells r) (0 ∷ []) _ (0 ∷ []) 5 _ (event_puts r) t.events_put 2 events_put_is events_put_plain refl old new count (subst₂ (λ s p. ExecutesInside 0 s p old new (Ok count)) text given h)
+    put_inside (events 4) (event_cells r) (event_cells r) (0 ∷ []) _ (0 ∷ []) 5 _ (event_puts r) t.events_put 2
+    events_put_is events_put_plain refl old new count
+    (subst₂ (λ s p. ExecutesInside 0 s p old new (Ok count)) text given h)
 
-pub move_put_of : (r : MoveRow) (sql : List ℕ) (params : Row) (old new : State) (count : ℕ) → sql ≡ t.moves_put → params ≡ move_cells r → ExecutesInside 0 sql params old new (Ok count) → Steps club_schema (put_in 8 (0 ∷ 1 ∷ []) (move_cells r)) old new
+pub move_put_of : (r : MoveRow) (sql : List ℕ) (params : Row) (old new : State) (count : ℕ) → sql ≡ t.moves_put
+    → params ≡ move_cells r → ExecutesInside 0 sql params old new (Ok count)
+    → Steps club_schema (put_in 8 (0 ∷ 1 ∷ []) (move_cells r)) old new
 move_put_of r sql params old new count text given h =
-    put_inside (moves 8) (move_cells r) (move_cells r) (0 ∷ 1 ∷ []) _ (1 ∷ 2 ∷ []) 6 _ (move_puts r) t.moves_put 4 moves_put_is moves_put_plain refl old new count (subst₂ (λ s p. ExecutesInside 0 s p old new (Ok count)) text given h)
+    put_inside (moves 8) (move_cells r) (move_cells r) (0 ∷ 1 ∷ []) _ (1 ∷ 2 ∷ []) 6 _ (move_puts r) t.moves_put 4
+    moves_put_is moves_put_plain refl old new count
+    (subst₂ (λ s p. ExecutesInside 0 s p old new (Ok count)) text given h)
 
-pub challenge_put_of : (r : ChallengeRow) (sql : List ℕ) (params : Row) (old new : State) (count : ℕ) → sql ≡ t.challenges_put → params ≡ challenge_cells r → ExecutesInside 0 sql params old new (Ok count) → Steps club_schema (put_in 6 (0 ∷ 1 ∷ []) (challenge_cells r)) old new
+pub challenge_put_of : (r : ChallengeRow) (sql : List ℕ) (params : Row) (old new : State) (count : ℕ)
+    → sql ≡ t.challenges_put → params ≡ challenge_cells r → ExecutesInside 0 sql params old new (Ok count)
+    → Steps club_schema (put_in 6 (0 ∷ 1 ∷ []) (challenge_cells r)) old new
 challenge_put_of r sql params old new count text given h =
-    put_inside (challenges 6) (challenge_cells r) (challenge_cells r) (0 ∷ 1 ∷ []) _ (1 ∷ 2 ∷ []) 7 _ (challenge_puts r) t.challenges_put 3 challenges_put_is challenges_put_plain refl old new count (subst₂ (λ s p. ExecutesInside 0 s p old new (Ok count)) text given h)
+    put_inside (challenges 6) (challenge_cells r) (challenge_cells r) (0 ∷ 1 ∷ []) _ (1 ∷ 2 ∷ []) 7 _ (challenge_puts r)
+    t.challenges_put 3 challenges_put_is challenges_put_plain refl old new count
+    (subst₂ (λ s p. ExecutesInside 0 s p old new (Ok count)) text given h)
 
-pub seen_put_of : (r : SeenRow) (sql : List ℕ) (params : Row) (old new : State) (count : ℕ) → sql ≡ t.seen_put → params ≡ seen_cells r → ExecutesInside 0 sql params old new (Ok count) → Steps club_schema (put_in 12 (0 ∷ 1 ∷ []) (seen_cells r)) old new
+pub seen_put_of : (r : SeenRow) (sql : List ℕ) (params : Row) (old new : State) (count : ℕ) → sql ≡ t.seen_put
+    → params ≡ seen_cells r → ExecutesInside 0 sql params old new (Ok count)
+    → Steps club_schema (put_in 12 (0 ∷ 1 ∷ []) (seen_cells r)) old new
 seen_put_of r sql params old new count text given h =
-    put_inside (seen 12) (seen_cells r) (seen_cells r) (0 ∷ 1 ∷ []) _ (1 ∷ 2 ∷ []) 4 _ (seen_puts r) t.seen_put 6 seen_put_is seen_put_plain refl old new count (subst₂ (λ s p. ExecutesInside 0 s p old new (Ok count)) text given h)
+    put_inside (seen 12) (seen_cells r) (seen_cells r) (0 ∷ 1 ∷ []) _ (1 ∷ 2 ∷ []) 4 _ (seen_puts r) t.seen_put 6
+    seen_put_is seen_put_plain refl old new count
+    (subst₂ (λ s p. ExecutesInside 0 s p old new (Ok count)) text given h)
 
-pub score_put_of : (r : ScoreRow) (sql : List ℕ) (params : Row) (old new : State) (count : ℕ) → sql ≡ t.scores_put → params ≡ score_cells r → ExecutesInside 0 sql params old new (Ok count) → Steps club_schema (put_in 14 (0 ∷ 1 ∷ 2 ∷ []) (score_cells r)) old new
+pub score_put_of : (r : ScoreRow) (sql : List ℕ) (params : Row) (old new : State) (count : ℕ) → sql ≡ t.scores_put
+    → params ≡ score_cells r → ExecutesInside 0 sql params old new (Ok count)
+    → Steps club_schema (put_in 14 (0 ∷ 1 ∷ 2 ∷ []) (score_cells r)) old new
 score_put_of r sql params old new count text given h =
-    put_inside (scores 14) (score_cells r) (score_cells r) (0 ∷ 1 ∷ 2 ∷ []) _ (1 ∷ 2 ∷ 3 ∷ []) 7 _ (score_puts r) t.scores_put 7 scores_put_is scores_put_plain refl old new count (subst₂ (λ s p. ExecutesInside 0 s p old new (Ok count)) text given h)
+    put_inside (scores 14) (score_cells r) (score_cells r) (0 ∷ 1 ∷ 2 ∷ []) _ (1 ∷ 2 ∷ 3 ∷ []) 7 _ (score_puts r)
+    t.scores_put 7 scores_put_is scores_put_plain refl old new count
+    (subst₂ (λ s p. ExecutesInside 0 s p old new (Ok count)) text given h)
 
-pub game_put_of : (r : GameRecord) (sql : List ℕ) (params : Row) (old new : State) (count : ℕ) → sql ≡ t.games_put → params ≡ game_cells r → ExecutesInside 0 sql params old new (Ok count) → Steps club_schema (put_in 10 (0 ∷ []) (game_cells r)) old new
+pub game_put_of : (r : GameRecord) (sql : List ℕ) (params : Row) (old new : State) (count : ℕ) → sql ≡ t.games_put
+    → params ≡ game_cells r → ExecutesInside 0 sql params old new (Ok count)
+    → Steps club_schema (put_in 10 (0 ∷ []) (game_cells r)) old new
 game_put_of r sql params old new count text given h =
-    put_inside (games 10) (game_cells r) (game_cells r) (0 ∷ []) _ (0 ∷ []) 17 _ (game_puts r) t.games_put 5 games_put_is games_put_plain refl old new count (subst₂ (λ s p. ExecutesInside 0 s p old new (Ok count)) text given h)
+    put_inside (games 10) (game_cells r) (game_cells r) (0 ∷ []) _ (0 ∷ []) 17 _ (game_puts r) t.games_put 5
+    games_put_is games_put_plain refl old new count
+    (subst₂ (λ s p. ExecutesInside 0 s p old new (Ok count)) text given h)
 
-pub steps_then : (schema : Schema) (f g : Content → Content) (a b c : State) → Steps schema f a b → Steps schema g b c → Steps schema (λ content. g (f content)) a c
+pub steps_then : (schema : Schema) (f g : Content → Content) (a b c : State) → Steps schema f a b → Steps schema g b c
+    → Steps schema (λ content. g (f content)) a c
 steps_then schema f g a b c one two = record {
   holds = λ content k. two.holds (f content) (one.holds content k);
   committed = two.committed ∙ one.committed;
   inside = two.inside;
 }
 
-put_each-push : (tree : ℕ) (key : List ℕ) (rows : List Row) (row : Row) (content : Content) → put_each tree key (rows ++ row ∷ []) content ≡ put_in tree key row (put_each tree key rows content)
+put_each-push : (tree : ℕ) (key : List ℕ) (rows : List Row) (row : Row) (content : Content)
+    → put_each tree key (rows ++ row ∷ []) content ≡ put_in tree key row (put_each tree key rows content)
 put_each-push tree key [] row content = refl
 put_each-push tree key (r ∷ rows) row content = put_each-push tree key rows row (put_in tree key r content)
 
 -- one more row of the list
-pub one_more : (schema : Schema) (tree : ℕ) (key : List ℕ) (rows : List Row) (row : Row) (a b c : State) → Steps schema (put_each tree key rows) a b → Steps schema (put_in tree key row) b c → Steps schema (put_each tree key (rows ++ row ∷ [])) a c
+pub one_more : (schema : Schema) (tree : ℕ) (key : List ℕ) (rows : List Row) (row : Row) (a b c : State)
+    → Steps schema (put_each tree key rows) a b → Steps schema (put_in tree key row) b c
+    → Steps schema (put_each tree key (rows ++ row ∷ [])) a c
 one_more schema tree key rows row a b c one two = record {
-  holds = λ content k. subst (Holds schema c.now) (sym (put_each-push tree key rows row content)) (two.holds _ (one.holds content k));
+  holds = λ content k. subst (Holds schema c.now) (sym (put_each-push tree key rows row content))
+      (two.holds _ (one.holds content k));
   committed = two.committed ∙ one.committed;
   inside = two.inside;
 }
 
-pub leaves_of : (schema : Schema) (db : Database) (content : Content) → Holds schema db content → Leaves schema content db.trees
+pub leaves_of : (schema : Schema) (db : Database) (content : Content) → Holds schema db content
+    → Leaves schema content db.trees
 leaves_of schema db content h = record { sound = subst (λ s. IsSound s db.trees) h.schema h.sound; tables = h.tables }
 
 -- The commit makes the rows of the transaction the content, and all that a crash may leave.
-pub commits : (schema : Schema) (content : Content) (last new : State) → Holds schema last.now content → Shows last new last.now last.now false → ((db : Trees) → IsTrue new.is_open → new.may_leave db → db ≡ new.committed.trees) → IsExactly schema content new
+pub commits : (schema : Schema) (content : Content) (last new : State) → Holds schema last.now content
+    → Shows last new last.now last.now false
+    → ((db : Trees) → IsTrue new.is_open → new.may_leave db → db ≡ new.committed.trees) → IsExactly schema content new
 commits schema content last new h shown settled =
     let now : Holds schema new.now content = subst (λ d. Holds schema d content) (sym shown.now_is) h in
     let same : new.committed ≡ new.now = shown.committed_is ∙ sym shown.now_is in
@@ -109,7 +167,9 @@ commits schema content last new h shown settled =
       idle = shown.mode;
       now = now;
       committed = same;
-      may_leave = λ db left. subst (Leaves schema content) (sym (settled db shown.is_open left ∙ ap (λ (d : Database). d.trees) same)) (leaves_of schema new.now content now);
+      may_leave = λ db left. subst (Leaves schema content)
+          (sym (settled db shown.is_open left ∙ ap (λ (d : Database). d.trees) same))
+          (leaves_of schema new.now content now);
     }
 
 pub fills : (a b c : State) → Makes 0 8 a b → Steps club_schema (put_in 0 (0 ∷ []) first_meta) b c → Fills a c

@@ -1,5 +1,6 @@
 -- What a SELECT of all rows tells of whatever database, and what a SELECT by a key tells of a content.
-use Rattle.std.proofs.Common.{◌≡◌, ◌≢◌, ℕ, true, false, List, [], ◌∷◌, map, Ok, Err, Result, refl, sym, ap, subst, subst₂, ◌∙◌, inl, inr, IsTrue, Equal, Option, Some, slice_get, All, get_or}
+use Rattle.std.proofs.Common.{◌≡◌, ◌≢◌, ℕ, true, false, List, [], ◌∷◌, map, Ok, Err, Result, refl, sym, ap, subst}
+use Rattle.std.proofs.Common.{subst₂, ◌∙◌, inl, inr, IsTrue, Equal, Option, Some, slice_get, All, get_or}
 use Rattle.std.specs.List.{AllByRecursion, list_all}
 use Rattle.std.specs.List.Sorted.{IsSorted, IsPermutation}
 use Rattle.std.specs.Cmp.{tied_back, tied_itself}
@@ -16,14 +17,16 @@ use Rattle.sqlite.specs.Command.TheVariants.{Select, Rows}
 use Rattle.sqlite.specs.Clock.{timed}
 use Rattle.sqlite.specs.Effect.{Database, Reads, RefusesToRead}
 use Rattle.sqlite.specs.Listing.{understood, reads_listing}
-use Rattle.sqlite.specs.State.{State, Shown, FailsToQuery, FailsToShow, IsNotRun, IsNoStatement, store_error, Survives, HasCleanDisk, CommitsShowing, IsUnchanged}
+use Rattle.sqlite.specs.State.{State, Shown, FailsToQuery, FailsToShow, IsNotRun, IsNoStatement, store_error, Survives}
+use Rattle.sqlite.specs.State.{HasCleanDisk, CommitsShowing, IsUnchanged}
 use Rattle.sqlite.specs.declared.error.Error.{Error}
 use Rattle.sqlite.proofs.Callers.{IsPlain, command_of, reads_as, never_commits}
 use Rattle.sqlite_trees.specs.Tree.{rowid}
 use Rattle.sqlite_trees.specs.View.{is_int}
 use Rattle.sqlite_trees.specs.declared.error.StoreError.{StoreError}
 use Rattle.sqlite_trees.specs.declared.error.StoreError.TheVariants as failure
-use Rattle.sqlite_trees.proofs.ListLemmas.{all-permutation, ascending_from_map, all_from_map, ascending-map, all-map, ascending_weaker, all_weaker}
+use Rattle.sqlite_trees.proofs.ListLemmas.{all-permutation, ascending_from_map, all_from_map, ascending-map, all-map}
+use Rattle.sqlite_trees.proofs.ListLemmas.{ascending_weaker, all_weaker}
 use Rattle.sqlite_resolve.specs.declared.compiled.Compiled.{Compiled}
 use Rattle.sqlite_resolve.specs.declared.error.CompileError.{CompileError}
 use Rattle.sqlite_sql.specs.Term.{Term, eval_all, holds}
@@ -39,17 +42,24 @@ use Rattle.store_tables.specs.Queries.{Selects, Finds}
 use Rattle.sqlite.specs.Schema.{Schema}
 use Rattle.store_tables.proofs.ApartLemmas.{pairs_turned, each_shown}
 use Rattle.store_tables.proofs.OrderLemmas.{sorted_rows, has_index}
-use Rattle.store_tables.proofs.ReadLemmas.{found_rows, shown_rows, has_map, has_mapped, shown_unchanged, may_as_before, unchanged_exactly}
+use Rattle.store_tables.proofs.ReadLemmas.{found_rows, shown_rows, has_map, has_mapped, shown_unchanged, may_as_before}
+use Rattle.store_tables.proofs.ReadLemmas.{unchanged_exactly}
 
-module _ (schema : Schema) (tree count : ℕ) (sql : List ℕ) (project : List Term) (is : Selects schema tree count sql project) where
-  read_by : (old new : State) (rows : List Row) → old.now.schema ≡ schema → Shown sql [] old new rows → Reads (Select (record { lets = []; body = selects tree [] project is.order }) is.names) old.now [] rows
+module _ (schema : Schema) (tree count : ℕ) (sql : List ℕ) (project : List Term)
+    (is : Selects schema tree count sql project) where
+  read_by : (old new : State) (rows : List Row) → old.now.schema ≡ schema → Shown sql [] old new rows
+      → Reads (Select (record { lets = []; body = selects tree [] project is.order }) is.names) old.now [] rows
   read_by old new rows has h = reads_as sql [] old new schema has _ is.command is.plain is.unlisted rows h
 
-  kept_by : (old new : State) (rows : List Row) → old.now.schema ≡ schema → Shown sql [] old new rows → IsUnchanged old new
-  kept_by old new rows has h = shown_unchanged sql [] old new rows (subst (λ s. IsPlain (understood s sql)) (sym has) is.plain) h
+  kept_by : (old new : State) (rows : List Row) → old.now.schema ≡ schema → Shown sql [] old new rows
+      → IsUnchanged old new
+  kept_by old new rows has h = shown_unchanged sql [] old new rows
+      (subst (λ s. IsPlain (understood s sql)) (sym has) is.plain) h
 
-  sorted_by : (old new : State) (rows : List Row) → old.now.schema ≡ schema → Shown sql [] old new rows → IsSorted (by_columns count) rows
-  sorted_by old new rows has h = sorted_rows old.now [] tree [] project is.order is.names rows (by_columns count) is.overlaid is.by (read_by old new rows has h)
+  sorted_by : (old new : State) (rows : List Row) → old.now.schema ≡ schema → Shown sql [] old new rows
+      → IsSorted (by_columns count) rows
+  sorted_by old new rows has h = sorted_rows old.now [] tree [] project is.order is.names rows (by_columns count)
+      is.overlaid is.by (read_by old new rows has h)
 
   abbrev Apart : Row → Row → Type 0
   Apart a b = value_cmp (column a 0) (column b 0) ≢ Equal
@@ -65,78 +75,113 @@ maps-same f g same [] = refl
 maps-same f g same (x ∷ xs) = λ i. same x i ∷ maps-same f g same xs i
 
 -- where every column is selected, in the order of the key
-pub tells : (schema : Schema) (table : Table) (count : ℕ) (sql : List ℕ) (project : List Term) → Selects schema table.tree count sql project → ((r : Row) → eval_all project ([] ∷ r ∷ []) ≡ cells table r)
-    → (old new : State) (rows : List Row) → old.now.schema ≡ schema → Shown sql [] old new rows → Tells table count rows old new
+pub tells : (schema : Schema) (table : Table) (count : ℕ) (sql : List ℕ) (project : List Term)
+    → Selects schema table.tree count sql project → ((r : Row) → eval_all project ([] ∷ r ∷ []) ≡ cells table r)
+    → (old new : State) (rows : List Row) → old.now.schema ≡ schema → Shown sql [] old new rows
+    → Tells table count rows old new
 tells schema table count sql project is shows old new rows has h = record {
-  keeps = found_rows table project is.order is.names is.overlaid shows old.now rows (read_by schema table.tree count sql project is old new rows has h);
-  once = subst (λ shown. IsPermutation shown rows) (maps-same (λ r. eval_all project ([] ∷ r ∷ [])) (cells table) shows (old.now.trees table.tree))
-      (each_shown old.now [] table.tree project is.order is.names rows is.overlaid (read_by schema table.tree count sql project is old new rows has h));
+  keeps = found_rows table project is.order is.names is.overlaid shows old.now rows
+      (read_by schema table.tree count sql project is old new rows has h);
+  once = subst (λ shown. IsPermutation shown rows)
+      (maps-same (λ r. eval_all project ([] ∷ r ∷ [])) (cells table) shows (old.now.trees table.tree))
+      (each_shown old.now [] table.tree project is.order is.names rows is.overlaid
+      (read_by schema table.tree count sql project is old new rows has h));
   sorted = sorted_by schema table.tree count sql project is old new rows has h;
   same = kept_by schema table.tree count sql project is old new rows has h;
 }
 
 -- where the rowid is selected first, and orders the rows
-pub tells_ids : (schema : Schema) (tree : ℕ) (sql : List ℕ) (project : List Term) → Selects schema tree 1 sql project → ((r : Row) → column (eval_all project ([] ∷ r ∷ [])) 0 ≡ rowid r)
-    → (old new : State) (rows : List Row) → old.now.schema ≡ schema → Shown sql [] old new rows → TellsIds tree rows old new
+pub tells_ids : (schema : Schema) (tree : ℕ) (sql : List ℕ) (project : List Term) → Selects schema tree 1 sql project
+    → ((r : Row) → column (eval_all project ([] ∷ r ∷ [])) 0 ≡ rowid r)
+    → (old new : State) (rows : List Row) → old.now.schema ≡ schema → Shown sql [] old new rows
+    → TellsIds tree rows old new
 tells_ids schema tree sql project is first old new rows has h =
     let stored = old.now.trees tree in
-    let one = each_shown old.now [] tree project is.order is.names rows is.overlaid (read_by schema tree 1 sql project is old new rows has h) in
+    let one = each_shown old.now [] tree project is.order is.names rows is.overlaid
+    (read_by schema tree 1 sql project is old new rows has h) in
     let differ = Apart schema tree 1 sql project is in
     let shown = show schema tree 1 sql project is in
     let turned = turn schema tree 1 sql project is in
     record {
       apart = λ ids. record {
-        apart = ascending_weaker (λ r s. differ (shown r) (shown s)) (λ r s. value_cmp (rowid r) (rowid s) ≢ Equal) (λ r s other same. other (subst₂ (λ x y. value_cmp x y ≡ Equal) (sym (first r)) (sym (first s)) same)) stored
-            (ascending_from_map differ shown stored (pairs_turned differ turned rows (map shown stored) (IsPermutation-sym _ _ one) ids.apart));
-        ints = all_weaker (λ r. IsTrue (is_int (column (shown r) 0))) (λ r. IsTrue (is_int (rowid r))) (λ r int. subst (λ v. IsTrue (is_int v)) (first r) int) stored
-            (all_from_map (λ x. IsTrue (is_int (column x 0))) shown stored (all-permutation (λ x. IsTrue (is_int (column x 0))) rows (map shown stored) (IsPermutation-sym _ _ one) ids.ints));
+        apart = ascending_weaker (λ r s. differ (shown r) (shown s)) (λ r s. value_cmp (rowid r) (rowid s) ≢ Equal)
+            (λ r s other same. other (subst₂ (λ x y. value_cmp x y ≡ Equal) (sym (first r)) (sym (first s)) same))
+            stored
+            (ascending_from_map differ shown stored
+            (pairs_turned differ turned rows (map shown stored) (IsPermutation-sym _ _ one) ids.apart));
+        ints = all_weaker (λ r. IsTrue (is_int (column (shown r) 0))) (λ r. IsTrue (is_int (rowid r)))
+            (λ r int. subst (λ v. IsTrue (is_int v)) (first r) int) stored
+            (all_from_map (λ x. IsTrue (is_int (column x 0))) shown stored
+            (all-permutation (λ x. IsTrue (is_int (column x 0))) rows (map shown stored) (IsPermutation-sym _ _ one)
+            ids.ints));
       };
       ids = λ are. record {
         apart = pairs_turned differ turned (map shown stored) rows one (ascending-map differ shown stored
-            (ascending_weaker (λ r s. value_cmp (rowid r) (rowid s) ≢ Equal) (λ r s. differ (shown r) (shown s)) (λ r s other same. other (subst₂ (λ x y. value_cmp x y ≡ Equal) (first r) (first s) same)) stored are.apart));
-        ints = all-permutation (λ x. IsTrue (is_int (column x 0))) (map shown stored) rows one (all-map (λ x. IsTrue (is_int (column x 0))) shown stored
-            (all_weaker (λ r. IsTrue (is_int (rowid r))) (λ r. IsTrue (is_int (column (shown r) 0))) (λ r int. subst (λ v. IsTrue (is_int v)) (sym (first r)) int) stored are.ints));
+            (ascending_weaker (λ r s. value_cmp (rowid r) (rowid s) ≢ Equal) (λ r s. differ (shown r) (shown s))
+            (λ r s other same. other (subst₂ (λ x y. value_cmp x y ≡ Equal) (first r) (first s) same)) stored
+            are.apart));
+        ints = all-permutation (λ x. IsTrue (is_int (column x 0))) (map shown stored) rows one
+            (all-map (λ x. IsTrue (is_int (column x 0))) shown stored
+            (all_weaker (λ r. IsTrue (is_int (rowid r))) (λ r. IsTrue (is_int (column (shown r) 0)))
+            (λ r int. subst (λ v. IsTrue (is_int v)) (sym (first r)) int) stored are.ints));
       };
       sorted = sorted_by schema tree 1 sql project is old new rows has h;
       same = kept_by schema tree 1 sql project is old new rows has h;
     }
 
 -- where the first column of each row is selected
-pub tells_first : (schema : Schema) (table : Table) (sql : List ℕ) (project : List Term) → Selects schema table.tree 1 sql project → ((r : Row) → eval_all project ([] ∷ r ∷ []) ≡ column (cells table r) 0 ∷ [])
-    → (old new : State) (rows wanted : List Row) → old.now.schema ≡ schema → Shown sql [] old new rows → Keeps table old.now.trees wanted → (z : Row) → (Has rows z → Has (map (λ r. column r 0 ∷ []) wanted) z) × (Has (map (λ r. column r 0 ∷ []) wanted) z → Has rows z)
+pub tells_first : (schema : Schema) (table : Table) (sql : List ℕ) (project : List Term)
+    → Selects schema table.tree 1 sql project
+    → ((r : Row) → eval_all project ([] ∷ r ∷ []) ≡ column (cells table r) 0 ∷ [])
+    → (old new : State) (rows wanted : List Row) → old.now.schema ≡ schema → Shown sql [] old new rows
+    → Keeps table old.now.trees wanted → (z : Row) → (Has rows z → Has (map (λ r. column r 0 ∷ []) wanted) z)
+    × (Has (map (λ r. column r 0 ∷ []) wanted) z → Has rows z)
 tells_first schema table sql project is shows old new rows wanted has h keeps z =
     let first : Row → Row = λ r. column r 0 ∷ [] in
-    let are = shown_rows old.now [] table.tree [] project is.order is.names rows is.overlaid (read_by schema table.tree 1 sql project is old new rows has h) in (
+    let are = shown_rows old.now [] table.tree [] project is.order is.names rows is.overlaid
+    (read_by schema table.tree 1 sql project is old new rows has h) in (
       λ there.
           let it = are.sound z there in
-          subst (Has (map first wanted)) (sym (it.3 ∙ shows it.0)) (has_map first wanted (cells table it.0) (keeps.only it.0 it.1)),
+          subst (Has (map first wanted)) (sym (it.3 ∙ shows it.0))
+          (has_map first wanted (cells table it.0) (keeps.only it.0 it.1)),
       λ there.
           let y = has_mapped first wanted z there in
           let it = keeps.stored y.0 y.1 in
           subst (Has rows) (shows it.0 ∙ ap first it.2 ∙ sym y.2) (are.complete it.0 it.1 refl),
     )
 
-pub finds : (schema : Schema) (table : Table) (place : ℕ) (key : List ℕ) (wanted params : Row) (sql : List ℕ) (cmp : Row → Row → Ordering) → Finds schema table place key wanted params sql cmp
-    → (old new : State) (rows : List Row) → Survives old new (CommitsShowing sql params old) → HasCleanDisk new → Shown sql params old new rows
-    → (content : Content) → IsExactly schema content old → AreThose key wanted (content table.tree) rows × IsSorted cmp rows × IsExactly schema content new
+pub finds : (schema : Schema) (table : Table) (place : ℕ) (key : List ℕ) (wanted params : Row) (sql : List ℕ)
+    (cmp : Row → Row → Ordering) → Finds schema table place key wanted params sql cmp
+    → (old new : State) (rows : List Row) → Survives old new (CommitsShowing sql params old) → HasCleanDisk new
+    → Shown sql params old new rows
+    → (content : Content) → IsExactly schema content old → AreThose key wanted (content table.tree) rows
+    × IsSorted cmp rows × IsExactly schema content new
 finds schema table place key wanted params sql cmp is old new rows s clean h content k =
     let reads = reads_as sql params old new schema k.now.schema _ is.command is.plain is.unlisted rows h in
     let are = shown_rows old.now params table.tree is.filter is.project is.order is.names rows is.overlaid reads in
-    let kept : Stores table old.now.trees content = all_has (λ t. Stores t old.now.trees content) schema.tables table k.now.tables (has_got schema.tables place table is.at) in (
+    let kept : Stores table old.now.trees content =
+    all_has (λ t. Stores t old.now.trees content) schema.tables table k.now.tables
+    (has_got schema.tables place table is.at) in (
       record {
         sound = λ x there.
             let it = are.sound x there in
-            let same : cells table it.0 ≡ x = sym (it.3 ∙ is.shows it.0) in
-            (subst (λ y. Has (content table.tree) y) same (kept.rows.only it.0 it.1), subst (λ y. same_key key y wanted ≡ true) same (sym (is.picks it.0) ∙ it.2));
+            let same : cells table it.0 ≡ x = sym (it.3 ∙ is.shows it.0) in (
+              subst (λ y. Has (content table.tree) y) same (kept.rows.only it.0 it.1),
+              subst (λ y. same_key key y wanted ≡ true) same (sym (is.picks it.0) ∙ it.2),
+            );
         complete = λ x there same.
             let it = kept.rows.stored x there in
-            subst (λ y. Has rows y) (is.shows it.0 ∙ it.2) (are.complete it.0 it.1 (is.picks it.0 ∙ subst (λ y. same_key key y wanted ≡ true) (sym it.2) same));
+            subst (λ y. Has rows y) (is.shows it.0 ∙ it.2)
+            (are.complete it.0 it.1 (is.picks it.0 ∙ subst (λ y. same_key key y wanted ≡ true) (sym it.2) same));
       },
       sorted_rows old.now params table.tree is.filter is.project is.order is.names rows cmp is.overlaid is.by reads,
-      unchanged_exactly schema content old new k (shown_unchanged sql params old new rows (subst (λ d. IsPlain (understood d sql)) (sym k.now.schema) is.plain) h) (may_as_before schema sql params old new is.plain s clean content k),
+      unchanged_exactly schema content old new k
+          (shown_unchanged sql params old new rows (subst (λ d. IsPlain (understood d sql)) (sym k.now.schema) is.plain)
+          h) (may_as_before schema sql params old new is.plain s clean content k),
     )
 
-pub keeps_may : (schema : Schema) (sql : List ℕ) (params : Row) (old new : State) → IsPlain (understood schema sql) → old.now.schema ≡ schema → Survives old new (CommitsShowing sql params old) → HasCleanDisk new → KeepsMay old new
+pub keeps_may : (schema : Schema) (sql : List ℕ) (params : Row) (old new : State) → IsPlain (understood schema sql)
+    → old.now.schema ≡ schema → Survives old new (CommitsShowing sql params old) → HasCleanDisk new → KeepsMay old new
 keeps_may schema sql params old new plain has s clean db left = elim (s.crash clean db left) [
   | inl was ↦ was
   | inr made ↦ absurd (never_commits sql params old db (subst (λ x. IsPlain (understood x sql)) (sym has) plain) made)
@@ -156,14 +201,16 @@ no_err : (r : Result Compiled CompileError) (fault : CompileError) → IsPlain r
 no_err (Ok c) fault plain e = let x = e in cc
 no_err (Err why) fault plain e = plain
 
-no_read : (limit : Option ℕ) (command : Command) (db : Database) (params : Row) (e : Error) → RefusesToRead limit command db params e → IsNoInput e
+no_read : (limit : Option ℕ) (command : Command) (db : Database) (params : Row) (e : Error)
+    → RefusesToRead limit command db params e → IsNoInput e
 no_read limit (Select q names) db params e (inl h) why is = let x = sym h.0 ∙ is in cc
 no_read limit (Select q names) db params e (inr (inl h)) why is = let x = sym h.0 ∙ is in cc
 no_read limit (Select q names) db params e (inr (inr h)) why is = let x = sym h.0 ∙ is in cc
 no_read limit (Rows values width names) db params e h why is = let x = sym h.0 ∙ is in cc
 no_read limit _ db params e h why is = let x = sym h ∙ is in cc
 
-no_statement : (s : State) (sql : List ℕ) (params : Row) (e : Error) → IsPlain (understood s.now.schema sql) → IsNoStatement s sql params e → IsNoInput e
+no_statement : (s : State) (sql : List ℕ) (params : Row) (e : Error) → IsPlain (understood s.now.schema sql)
+    → IsNoStatement s sql params e → IsNoInput e
 no_statement s sql params e plain (inl h) why is = absurd (no_err _ h.0 plain h.1)
 no_statement s sql params e plain (inr h) why is = elim h.2 [
   | inl many ↦ (let x = sym many.1 ∙ is in cc)
@@ -172,9 +219,11 @@ no_statement s sql params e plain (inr h) why is = elim h.2 [
 ]
 
 -- A query whose text is understood fails for another reason.
-pub no_input : (schema : Schema) (sql : List ℕ) (params : Row) (old new : State) (e : Error) → IsPlain (understood schema sql) → old.now.schema ≡ schema → FailsToQuery sql params old new e → IsNoInput e
+pub no_input : (schema : Schema) (sql : List ℕ) (params : Row) (old new : State) (e : Error)
+    → IsPlain (understood schema sql) → old.now.schema ≡ schema → FailsToQuery sql params old new e → IsNoInput e
 unfolding FailsToQuery IsNotRun
-no_input schema sql params old new e plain has (inl (inl h)) = no_statement old sql params e (subst (λ s. IsPlain (understood s sql)) (sym has) plain) h.0
+no_input schema sql params old new e plain has (inl (inl h)) =
+    no_statement old sql params e (subst (λ s. IsPlain (understood s sql)) (sym has) plain) h.0
 no_input schema sql params old new e plain has (inl (inr h)) = λ why is. no_store h.0 why (sym h.1 ∙ is)
 no_input schema sql params old new e plain has (inr h) =
     let bare = subst (λ s. IsPlain (understood s sql)) (sym has) plain in
@@ -185,16 +234,20 @@ no_input schema sql params old new e plain has (inr h) =
 -- ---- two lists of the rows of one table
 
 -- what holds of each row of the one list holds of each of the other
-pub all_alike : (table : Table) (db : Trees) (P : Row → Type 0) (shown rows : List Row) → Keeps table db shown → Keeps table db rows → AllByRecursion P rows → All P shown
+pub all_alike : (table : Table) (db : Trees) (P : Row → Type 0) (shown rows : List Row) → Keeps table db shown
+    → Keeps table db rows → AllByRecursion P rows → All P shown
 all_alike table db P shown rows one two all i d within =
     let there = one.stored (get_or shown i d) (has_index shown i d within) in
     subst P there.2 (all_has P rows (cells table there.0) all (two.only there.0 there.1))
 
-only_row : (table : Table) (db : Trees) (shown : List Row) (x : Row) → Keeps table db shown → Keeps table db (x ∷ []) → (y : Row) → Has shown y → y ≡ x
-only_row table db shown x one two y there = let r = one.stored y there in elim (two.only r.0 r.1) [ inl same ↦ sym r.2 ∙ same | inr none ↦ absurd none ]
+only_row : (table : Table) (db : Trees) (shown : List Row) (x : Row) → Keeps table db shown → Keeps table db (x ∷ [])
+    → (y : Row) → Has shown y → y ≡ x
+only_row table db shown x one two y there = let r = one.stored y there in
+    elim (two.only r.0 r.1) [ inl same ↦ sym r.2 ∙ same | inr none ↦ absurd none ]
 
 -- where the table has one row, one is shown
-pub one_shown : (table : Table) (db : Trees) (shown : List Row) (x : Row) → Keeps table db shown → Keeps table db (x ∷ []) → AreIds shown → shown ≡ x ∷ []
+pub one_shown : (table : Table) (db : Trees) (shown : List Row) (x : Row) → Keeps table db shown
+    → Keeps table db (x ∷ []) → AreIds shown → shown ≡ x ∷ []
 one_shown table db [] x one two ids = let it = two.stored x (inl refl) in absurd (one.only it.0 it.1)
 one_shown table db (y ∷ []) x one two ids = ap (λ r. r ∷ []) (only_row table db (y ∷ []) x one two y (inl refl))
 one_shown table db (y ∷ z ∷ rest) x one two ids =
@@ -203,12 +256,16 @@ one_shown table db (y ∷ z ∷ rest) x one two ids =
     absurd (ids.apart.0.0 (rw (a, b) (tied_itself value_cmp_total (column x 0))))
 
 -- the rows that are shown begin with the rowids, where these are shown first
-pub ids_of : (table : Table) (stored rows : List Row) → ((r : Row) → column (cells table r) 0 ≡ rowid r) → IsPermutation (map (cells table) stored) rows → AreApart stored → AreIds rows
+pub ids_of : (table : Table) (stored rows : List Row) → ((r : Row) → column (cells table r) 0 ≡ rowid r)
+    → IsPermutation (map (cells table) stored) rows → AreApart stored → AreIds rows
 ids_of table stored rows first once are = record {
   apart = pairs_turned differ turned (map (cells table) stored) rows once (ascending-map differ (cells table) stored
-      (ascending_weaker (λ r s. value_cmp (rowid r) (rowid s) ≢ Equal) (λ r s. differ (cells table r) (cells table s)) (λ r s other same. other (subst₂ (λ x y. value_cmp x y ≡ Equal) (first r) (first s) same)) stored are.apart));
-  ints = all-permutation (λ x. IsTrue (is_int (column x 0))) (map (cells table) stored) rows once (all-map (λ x. IsTrue (is_int (column x 0))) (cells table) stored
-      (all_weaker (λ r. IsTrue (is_int (rowid r))) (λ r. IsTrue (is_int (column (cells table r) 0))) (λ r int. subst (λ v. IsTrue (is_int v)) (sym (first r)) int) stored are.ints));
+      (ascending_weaker (λ r s. value_cmp (rowid r) (rowid s) ≢ Equal) (λ r s. differ (cells table r) (cells table s))
+      (λ r s other same. other (subst₂ (λ x y. value_cmp x y ≡ Equal) (first r) (first s) same)) stored are.apart));
+  ints = all-permutation (λ x. IsTrue (is_int (column x 0))) (map (cells table) stored) rows once
+      (all-map (λ x. IsTrue (is_int (column x 0))) (cells table) stored
+      (all_weaker (λ r. IsTrue (is_int (rowid r))) (λ r. IsTrue (is_int (column (cells table r) 0)))
+      (λ r int. subst (λ v. IsTrue (is_int v)) (sym (first r)) int) stored are.ints));
 }
   where
     differ : Row → Row → Type 0
@@ -217,12 +274,19 @@ ids_of table stored rows first once are = record {
     turned : (a b : Row) → differ a b → differ b a
     turned a b other same = other (tied_back value_cmp_total (column b 0) (column a 0) same)
 
-pub apart_of : (table : Table) (stored rows : List Row) → ((r : Row) → column (cells table r) 0 ≡ rowid r) → IsPermutation (map (cells table) stored) rows → AreIds rows → AreApart stored
+pub apart_of : (table : Table) (stored rows : List Row) → ((r : Row) → column (cells table r) 0 ≡ rowid r)
+    → IsPermutation (map (cells table) stored) rows → AreIds rows → AreApart stored
 apart_of table stored rows first once ids = record {
-  apart = ascending_weaker (λ r s. differ (cells table r) (cells table s)) (λ r s. value_cmp (rowid r) (rowid s) ≢ Equal) (λ r s other same. other (subst₂ (λ x y. value_cmp x y ≡ Equal) (sym (first r)) (sym (first s)) same)) stored
-      (ascending_from_map differ (cells table) stored (pairs_turned differ turned rows (map (cells table) stored) (IsPermutation-sym _ _ once) ids.apart));
-  ints = all_weaker (λ r. IsTrue (is_int (column (cells table r) 0))) (λ r. IsTrue (is_int (rowid r))) (λ r int. subst (λ v. IsTrue (is_int v)) (first r) int) stored
-      (all_from_map (λ x. IsTrue (is_int (column x 0))) (cells table) stored (all-permutation (λ x. IsTrue (is_int (column x 0))) rows (map (cells table) stored) (IsPermutation-sym _ _ once) ids.ints));
+  apart = ascending_weaker (λ r s. differ (cells table r) (cells table s))
+      (λ r s. value_cmp (rowid r) (rowid s) ≢ Equal)
+      (λ r s other same. other (subst₂ (λ x y. value_cmp x y ≡ Equal) (sym (first r)) (sym (first s)) same)) stored
+      (ascending_from_map differ (cells table) stored
+      (pairs_turned differ turned rows (map (cells table) stored) (IsPermutation-sym _ _ once) ids.apart));
+  ints = all_weaker (λ r. IsTrue (is_int (column (cells table r) 0))) (λ r. IsTrue (is_int (rowid r)))
+      (λ r int. subst (λ v. IsTrue (is_int v)) (first r) int) stored
+      (all_from_map (λ x. IsTrue (is_int (column x 0))) (cells table) stored
+      (all-permutation (λ x. IsTrue (is_int (column x 0))) rows (map (cells table) stored)
+      (IsPermutation-sym _ _ once) ids.ints));
 }
   where
     differ : Row → Row → Type 0
@@ -232,5 +296,7 @@ apart_of table stored rows first once ids = record {
     turned a b other same = other (tied_back value_cmp_total (column b 0) (column a 0) same)
 
 -- the table at a place of the schema is stored
-pub stored_at : (schema : Schema) (table : Table) (place : ℕ) → slice_get schema.tables place ≡ Some table → (db : Trees) (content : Content) → AreStored schema db content → Stores table db content
-stored_at schema table place at db content all = all_has (λ t. Stores t db content) schema.tables table all (has_got schema.tables place table at)
+pub stored_at : (schema : Schema) (table : Table) (place : ℕ) → slice_get schema.tables place ≡ Some table
+    → (db : Trees) (content : Content) → AreStored schema db content → Stores table db content
+stored_at schema table place at db content all =
+    all_has (λ t. Stores t db content) schema.tables table all (has_got schema.tables place table at)

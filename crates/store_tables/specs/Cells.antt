@@ -25,21 +25,27 @@ abbrev pub event_cells : EventRow → Row
 event_cells r = Int r.id ∷ Text (string_bytes r.name) ∷ Int r.game ∷ Int r.budget ∷ Int r.increment ∷ []
 
 abbrev pub challenge_cells : ChallengeRow → Row
-challenge_cells r = Int r.member ∷ Int r.number ∷ Int r.event ∷ Int r.other ∷ Int r.first ∷ Int r.state ∷ or_null Int r.game ∷ []
+challenge_cells r = Int r.member ∷ Int r.number ∷ Int r.event ∷ Int r.other ∷ Int r.first ∷ Int r.state
+    ∷ or_null Int r.game ∷ []
 
 abbrev pub move_cells : MoveRow → Row
-move_cells r = Int r.game ∷ Int r.ply ∷ Text (string_bytes r.text) ∷ Int r.moment ∷ Int r.left ∷ Text (string_bytes r.position) ∷ []
+move_cells r = Int r.game ∷ Int r.ply ∷ Text (string_bytes r.text) ∷ Int r.moment ∷ Int r.left
+    ∷ Text (string_bytes r.position) ∷ []
 
 abbrev pub game_cells : GameRecord → Row
 game_cells r =
-    Int r.id ∷ or_null (λ s. Text (string_bytes s)) r.key ∷ Int r.event ∷ Int r.first ∷ Int r.second ∷ Int r.start ∷ Int r.since ∷ Int r.plies ∷ Int r.left1 ∷ Int r.left2
-    ∷ or_null Int r.offer_side ∷ or_null Int r.offer_ply ∷ or_null (λ s. Text (string_bytes s)) r.end ∷ or_null (λ s. Text (string_bytes s)) r.result ∷ Text (string_bytes r.position) ∷ Int r.track_a ∷ Int r.track_b ∷ []
+    Int r.id ∷ or_null (λ s. Text (string_bytes s)) r.key ∷ Int r.event ∷ Int r.first ∷ Int r.second ∷ Int r.start
+    ∷ Int r.since ∷ Int r.plies ∷ Int r.left1 ∷ Int r.left2
+    ∷ or_null Int r.offer_side ∷ or_null Int r.offer_ply ∷ or_null (λ s. Text (string_bytes s)) r.end
+    ∷ or_null (λ s. Text (string_bytes s)) r.result ∷ Text (string_bytes r.position) ∷ Int r.track_a ∷ Int r.track_b
+    ∷ []
 
 abbrev pub seen_cells : SeenRow → Row
 seen_cells r = Int r.game ∷ Text (string_bytes r.position) ∷ Int r.count ∷ Int r.first_ply ∷ []
 
 abbrev pub score_cells : ScoreRow → Row
-score_cells r = Int r.event ∷ Int r.member ∷ Int r.opponent ∷ Int r.points ∷ Int r.wins ∷ Int r.draws ∷ Int r.losses ∷ []
+score_cells r = Int r.event ∷ Int r.member ∷ Int r.opponent ∷ Int r.points ∷ Int r.wins ∷ Int r.draws ∷ Int r.losses
+    ∷ []
 
 -- ---- of the types that the columns name
 

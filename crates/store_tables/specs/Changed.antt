@@ -2,20 +2,25 @@
 use Rattle.std.specs.Prelude.{List, [], ◌∷◌, map, Option, Some, None}
 use Rattle.sqlite.specs.Order.{Row}
 use Rattle.store_tables.specs.Changes.{Alters}
-use Rattle.store_tables.specs.Cells.{meta_cells, member_cells, event_cells, challenge_cells, move_cells, game_cells, seen_cells, score_cells}
+use Rattle.store_tables.specs.Cells.{meta_cells, member_cells, event_cells, challenge_cells, move_cells, game_cells}
+use Rattle.store_tables.specs.Cells.{seen_cells, score_cells}
 use Rattle.store_tables.specs.Contents.{Content, put_in, put_each}
 use Rattle.store_tables.specs.declared.rows.MetaRow.{MetaRow}
 use Rattle.store_tables.specs.declared.rows.Changes.{Changes}
 
 abbrev pub people_put : Changes → Content → Content
 people_put c content =
-    put_each 6 (0 ∷ 1 ∷ []) (map challenge_cells c.challenges.items) (put_each 4 (0 ∷ []) (map event_cells c.events.items) (put_each 1 (0 ∷ []) (map member_cells c.members.items) content))
+    put_each 6 (0 ∷ 1 ∷ []) (map challenge_cells c.challenges.items)
+    (put_each 4 (0 ∷ []) (map event_cells c.events.items)
+    (put_each 1 (0 ∷ []) (map member_cells c.members.items) content))
 
 abbrev pub play_put : Changes → Content → Content
-play_put c content = put_each 8 (0 ∷ 1 ∷ []) (map move_cells c.moves.items) (put_each 10 (0 ∷ []) (map game_cells c.games.items) content)
+play_put c content = put_each 8 (0 ∷ 1 ∷ []) (map move_cells c.moves.items)
+    (put_each 10 (0 ∷ []) (map game_cells c.games.items) content)
 
 abbrev pub counts_put : Changes → Content → Content
-counts_put c content = put_each 14 (0 ∷ 1 ∷ 2 ∷ []) (map score_cells c.scores.items) (put_each 12 (0 ∷ 1 ∷ []) (map seen_cells c.seen.items) content)
+counts_put c content = put_each 14 (0 ∷ 1 ∷ 2 ∷ []) (map score_cells c.scores.items)
+    (put_each 12 (0 ∷ 1 ∷ []) (map seen_cells c.seen.items) content)
 
 abbrev pub put_maybe : Option MetaRow → Content → Content
 put_maybe None content = content

@@ -1,7 +1,8 @@
 -- The names of the tables.
 use Rattle.std.specs.Prelude.{ℕ, List, codes}
 use Rattle.store_tables.specs.declared.names.Table.{Table}
-use Rattle.store_tables.specs.declared.names.Table.TheVariants.{Members, Events, Challenges, Moves, Games, Seen, Scores, Meta}
+use Rattle.store_tables.specs.declared.names.Table.TheVariants.{Members, Events, Challenges, Moves, Games, Seen, Scores}
+use Rattle.store_tables.specs.declared.names.Table.TheVariants.{Meta}
 
 abbrev pub table_name : Table → List ℕ
 table_name Members = codes "members"

@@ -44,25 +44,33 @@ picks tree base project = record {
 }
 
 abbrev pub on_key : List ℕ → ℕ → ℕ → List Term → List Upsert
-on_key places tree base project = record { target = Some places; update = Some (record { lets = []; body = picks tree base project }) } ∷ []
+on_key places tree base project =
+    record { target = Some places; update = Some (record { lets = []; body = picks tree base project }) } ∷ []
 
 -- With these parameters the text puts this row in place of the one with its key. Each field is found by computing.
-pub record IsPut (schema : Schema) (table : Table) (key : List ℕ) (params row : Row) (from : Source) (places : List ℕ) (base : ℕ) (project : List Term) : Type 0 where
+pub record IsPut (schema : Schema) (table : Table) (key : List ℕ) (params row : Row) (from : Source) (places : List ℕ)
+    (base : ℕ) (project : List Term) : Type 0 where
   pub source : Row
   -- the row as the table keeps it under a rowid
   pub stored : ℤ → Row
-  pub sourced : (db : Trees) (rows : List Row) → IsSource (record { schema = schema; trees = db }) (stamped table params) from rows → rows ≡ source ∷ []
+  pub sourced : (db : Trees) (rows : List Row)
+      → IsSource (record { schema = schema; trees = db }) (stamped table params) from rows → rows ≡ source ∷ []
   pub uncounted : table.is_counted ≡ false
   pub idle : (olds news : List Row) → works schema Enforced 0 table.tree olds news ≡ []
   pub overlaid : (db : Trees) → overlay db [] table.tree ≡ db table.tree
   pub placed : (rows : List Row) → (n : ℤ) × (with_rowid Chosen rows (cast_row table source) ≡ stored n)
   pub recast : (n : ℤ) → cast_row table (stored n) ≡ stored n
   pub shows : (n : ℤ) → cells table (stored n) ≡ row
-  pub meets : (r : Row) (n : ℤ) → conflicts (Some places) schema.indexes table (stored n) r ≡ same_key key (cells table r) row
+  pub meets : (r : Row) (n : ℤ) → conflicts (Some places) schema.indexes table (stored n) r
+      ≡ same_key key (cells table r) row
   pub based : (there : Row) (n : ℤ) → column (params ++ rowid there ∷ shown table (stored n)) base ≡ rowid there
-  pub updated : (there was : Row) (n m : ℤ) → rowid was ≡ Int m → eval_all project ((params ++ rowid there ∷ shown table (stored n)) ∷ was ∷ []) ≡ Int m ∷ stored m
-  pub named : (was : Row) (m : ℤ) → rowid was ≡ Int m → same_key key (cells table was) row ≡ true → rowid (stored m) ≡ Int m
-  pub distinct : (next : Trees) (r : Row) (n m : ℤ) → KeepsRule Unique schema next → rowid r ≡ Int m → Has (next table.tree) r → Has (next table.tree) (stored n) → same_key key (cells table r) row ≡ true → rowid (stored n) ≡ rowid r
+  pub updated : (there was : Row) (n m : ℤ) → rowid was ≡ Int m
+      → eval_all project ((params ++ rowid there ∷ shown table (stored n)) ∷ was ∷ []) ≡ Int m ∷ stored m
+  pub named : (was : Row) (m : ℤ) → rowid was ≡ Int m → same_key key (cells table was) row ≡ true
+      → rowid (stored m) ≡ Int m
+  pub distinct : (next : Trees) (r : Row) (n m : ℤ) → KeepsRule Unique schema next → rowid r ≡ Int m
+      → Has (next table.tree) r → Has (next table.tree) (stored n) → same_key key (cells table r) row ≡ true
+      → rowid (stored n) ≡ rowid r
 
 -- The table has the row in place of the one with its key, and each other table is as it was.
 pub record HasPut (schema : Schema) (table : Table) (key : List ℕ) (row : Row) (db next : Trees) : Type 0 where

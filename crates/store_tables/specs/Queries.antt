@@ -44,26 +44,34 @@ IsSelect sql = is_read_as_select (first sql) ≡ true
 pub record Selects (schema : Schema) (tree : ℕ) (count : ℕ) (sql : List ℕ) (project : List Term) : Type 0 where
   pub order : List (Term × Key)
   pub names : List (List ℕ)
-  pub command : command_of (understood schema sql) ≡ Select (record { lets = []; body = selects tree [] project order }) names
+  pub command : command_of (understood schema sql) ≡ Select (record { lets = []; body = selects tree [] project order })
+      names
   pub plain : IsPlain (understood schema sql)
   pub unlisted : reads_listing schema sql ≡ false
   pub overlaid : (d : Trees) → overlay d [] tree ≡ d tree
-  pub by : (r s : Row) → output_cmp (selects tree [] project order) (output (selects tree [] project order) ([] ∷ r ∷ [])) (output (selects tree [] project order) ([] ∷ s ∷ [])) ≡ by_columns count (eval_all project ([] ∷ r ∷ [])) (eval_all project ([] ∷ s ∷ []))
+  pub by : (r s : Row) → output_cmp (selects tree [] project order)
+      (output (selects tree [] project order) ([] ∷ r ∷ [])) (output (selects tree [] project order) ([] ∷ s ∷ []))
+      ≡ by_columns count (eval_all project ([] ∷ r ∷ [])) (eval_all project ([] ∷ s ∷ []))
 
 -- The text selects every column of the rows of one table whose columns have given values, in some order.
-pub record Finds (schema : Schema) (table : Table) (place : ℕ) (key : List ℕ) (wanted params : Row) (sql : List ℕ) (cmp : Row → Row → Ordering) : Type 0 where
+pub record Finds (schema : Schema) (table : Table) (place : ℕ) (key : List ℕ) (wanted params : Row) (sql : List ℕ)
+    (cmp : Row → Row → Ordering) : Type 0 where
   pub at : slice_get schema.tables place ≡ Some table
   pub filter : List Term
   pub project : List Term
   pub order : List (Term × Key)
   pub names : List (List ℕ)
-  pub command : command_of (understood schema sql) ≡ Select (record { lets = []; body = selects table.tree filter project order }) names
+  pub command : command_of (understood schema sql)
+      ≡ Select (record { lets = []; body = selects table.tree filter project order }) names
   pub plain : IsPlain (understood schema sql)
   pub unlisted : reads_listing schema sql ≡ false
   pub overlaid : (d : Trees) → overlay d [] table.tree ≡ d table.tree
   pub shows : (r : Row) → eval_all project (params ∷ r ∷ []) ≡ cells table r
   pub picks : (r : Row) → list_all (holds (params ∷ r ∷ [])) filter ≡ same_key key (cells table r) wanted
-  pub by : (r s : Row) → output_cmp (selects table.tree filter project order) (output (selects table.tree filter project order) (params ∷ r ∷ [])) (output (selects table.tree filter project order) (params ∷ s ∷ [])) ≡ cmp (eval_all project (params ∷ r ∷ [])) (eval_all project (params ∷ s ∷ []))
+  pub by : (r s : Row) → output_cmp (selects table.tree filter project order)
+      (output (selects table.tree filter project order) (params ∷ r ∷ []))
+      (output (selects table.tree filter project order) (params ∷ s ∷ []))
+      ≡ cmp (eval_all project (params ∷ r ∷ [])) (eval_all project (params ∷ s ∷ []))
 
 -- the order of a key of so many columns, among rows whose first column is the same
 abbrev pub by_others : ℕ → Row → Row → Ordering

@@ -1,4 +1,5 @@
--- The eight tables of schema 1, as SQL understands their CREATE texts. Each UNIQUE key, and each key of several columns, has a tree of its own after that of its table.
+-- The eight tables of schema 1, as SQL understands their CREATE texts. Each UNIQUE key, and each key of several
+-- columns, has a tree of its own after that of its table.
 use Rattle.std.specs.Prelude.{ℕ, ◌+◌, Bool, true, false, List, [], ◌∷◌, ◌++◌, map, codes, Option, Some, None, take}
 use Rattle.sqlite.specs.Collation.TheVariants.{Binary}
 use Rattle.sqlite.specs.declared.types.Value.TheVariants.{Null}
@@ -12,7 +13,8 @@ use Rattle.sqlite.specs.Kind.TheVariants.{Integer, Text}
 use Rattle.sqlite_catalog.specs.Change.{automatics}
 
 abbrev pub column_of : List ℕ → Kind → Bool → Column
-column_of name kind required = record { name = name; kind = kind; is_strict = true; not_null = required; default = Null; collation = Binary }
+column_of name kind required =
+    record { name = name; kind = kind; is_strict = true; not_null = required; default = Null; collation = Binary }
 
 abbrev pub table_of : List ℕ → ℕ → List Column → Option ℕ → List ℕ → List (List ℕ) → Table
 table_of name tree columns key primary uniques = record {
@@ -31,37 +33,61 @@ table_of name tree columns key primary uniques = record {
 }
 
 abbrev pub meta : ℕ → Table
-meta tree = table_of (codes "meta") tree (column_of (codes "id") Integer false ∷ column_of (codes "schema") Integer true ∷ column_of (codes "last") Integer true ∷ []) (Some 0) (0 ∷ []) []
+meta tree = table_of (codes "meta") tree
+    (column_of (codes "id") Integer false ∷ column_of (codes "schema") Integer true
+    ∷ column_of (codes "last") Integer true ∷ []) (Some 0) (0 ∷ []) []
 
 abbrev pub members : ℕ → Table
-members tree = table_of (codes "members") tree (column_of (codes "id") Integer false ∷ column_of (codes "name") Text true ∷ column_of (codes "key") Text true ∷ []) (Some 0) (0 ∷ []) ((2 ∷ []) ∷ (3 ∷ []) ∷ [])
+members tree = table_of (codes "members") tree
+    (column_of (codes "id") Integer false ∷ column_of (codes "name") Text true ∷ column_of (codes "key") Text true ∷ [])
+    (Some 0) (0 ∷ []) ((2 ∷ []) ∷ (3 ∷ []) ∷ [])
 
 abbrev pub moves : ℕ → Table
 moves tree = table_of (codes "moves") tree
-    (column_of (codes "game") Integer true ∷ column_of (codes "ply") Integer true ∷ column_of (codes "text") Text true ∷ column_of (codes "moment") Integer true ∷ column_of (codes "left") Integer true ∷ column_of (codes "position") Text true ∷ [])
+    (column_of (codes "game") Integer true ∷ column_of (codes "ply") Integer true ∷ column_of (codes "text") Text true
+    ∷ column_of (codes "moment") Integer true ∷ column_of (codes "left") Integer true
+    ∷ column_of (codes "position") Text true ∷ [])
     None (1 ∷ 2 ∷ []) ((1 ∷ 2 ∷ []) ∷ [])
 
 abbrev pub events : ℕ → Table
-events tree = table_of (codes "events") tree (column_of (codes "id") Integer false ∷ column_of (codes "name") Text true ∷ column_of (codes "game") Integer true ∷ column_of (codes "budget") Integer true ∷ column_of (codes "increment") Integer true ∷ []) (Some 0) (0 ∷ []) ((2 ∷ []) ∷ [])
+events tree = table_of (codes "events") tree
+    (column_of (codes "id") Integer false ∷ column_of (codes "name") Text true ∷ column_of (codes "game") Integer true
+    ∷ column_of (codes "budget") Integer true ∷ column_of (codes "increment") Integer true ∷ []) (Some 0) (0 ∷ [])
+    ((2 ∷ []) ∷ [])
 
 abbrev pub challenges : ℕ → Table
 challenges tree = table_of (codes "challenges") tree
-    (column_of (codes "member") Integer true ∷ column_of (codes "number") Integer true ∷ column_of (codes "event") Integer true ∷ column_of (codes "other") Integer true ∷ column_of (codes "first") Integer true ∷ column_of (codes "state") Integer true ∷ column_of (codes "game") Integer false ∷ [])
+    (column_of (codes "member") Integer true ∷ column_of (codes "number") Integer true
+    ∷ column_of (codes "event") Integer true ∷ column_of (codes "other") Integer true
+    ∷ column_of (codes "first") Integer true ∷ column_of (codes "state") Integer true
+    ∷ column_of (codes "game") Integer false ∷ [])
     None (1 ∷ 2 ∷ []) ((1 ∷ 2 ∷ []) ∷ [])
 
 abbrev pub games : ℕ → Table
 games tree = table_of (codes "games") tree
-    (column_of (codes "id") Integer false ∷ column_of (codes "key") Text false ∷ column_of (codes "event") Integer true ∷ column_of (codes "first") Integer true ∷ column_of (codes "second") Integer true ∷ column_of (codes "start") Integer true
-    ∷ column_of (codes "since") Integer true ∷ column_of (codes "plies") Integer true ∷ column_of (codes "left1") Integer true ∷ column_of (codes "left2") Integer true ∷ column_of (codes "offer_side") Integer false ∷ column_of (codes "offer_ply") Integer false
-    ∷ column_of (codes "end") Text false ∷ column_of (codes "result") Text false ∷ column_of (codes "position") Text true ∷ column_of (codes "track_a") Integer true ∷ column_of (codes "track_b") Integer true ∷ [])
+    (column_of (codes "id") Integer false ∷ column_of (codes "key") Text false ∷ column_of (codes "event") Integer true
+    ∷ column_of (codes "first") Integer true ∷ column_of (codes "second") Integer true
+    ∷ column_of (codes "start") Integer true
+    ∷ column_of (codes "since") Integer true ∷ column_of (codes "plies") Integer true
+    ∷ column_of (codes "left1") Integer true ∷ column_of (codes "left2") Integer true
+    ∷ column_of (codes "offer_side") Integer false ∷ column_of (codes "offer_ply") Integer false
+    ∷ column_of (codes "end") Text false ∷ column_of (codes "result") Text false
+    ∷ column_of (codes "position") Text true ∷ column_of (codes "track_a") Integer true
+    ∷ column_of (codes "track_b") Integer true ∷ [])
     (Some 0) (0 ∷ []) ((2 ∷ []) ∷ [])
 
 abbrev pub seen : ℕ → Table
-seen tree = table_of (codes "seen") tree (column_of (codes "game") Integer true ∷ column_of (codes "position") Text true ∷ column_of (codes "count") Integer true ∷ column_of (codes "first_ply") Integer true ∷ []) None (1 ∷ 2 ∷ []) ((1 ∷ 2 ∷ []) ∷ [])
+seen tree = table_of (codes "seen") tree
+    (column_of (codes "game") Integer true ∷ column_of (codes "position") Text true
+    ∷ column_of (codes "count") Integer true ∷ column_of (codes "first_ply") Integer true ∷ []) None (1 ∷ 2 ∷ [])
+    ((1 ∷ 2 ∷ []) ∷ [])
 
 abbrev pub scores : ℕ → Table
 scores tree = table_of (codes "scores") tree
-    (column_of (codes "event") Integer true ∷ column_of (codes "member") Integer true ∷ column_of (codes "opponent") Integer true ∷ column_of (codes "points") Integer true ∷ column_of (codes "wins") Integer true ∷ column_of (codes "draws") Integer true ∷ column_of (codes "losses") Integer true ∷ [])
+    (column_of (codes "event") Integer true ∷ column_of (codes "member") Integer true
+    ∷ column_of (codes "opponent") Integer true ∷ column_of (codes "points") Integer true
+    ∷ column_of (codes "wins") Integer true ∷ column_of (codes "draws") Integer true
+    ∷ column_of (codes "losses") Integer true ∷ [])
     None (1 ∷ 2 ∷ 3 ∷ []) ((1 ∷ 2 ∷ 3 ∷ []) ∷ [])
 
 abbrev pub tables : List Table

@@ -5,8 +5,10 @@ ghost use Rattle.sqlite_value.specs.declared.value.Value.TheVariants.{Int, Text}
 ghost use Rattle.sqlite.specs.Values.{IsInt, or_null};
 ghost use Rattle.sqlite.specs.Order.{Row as Cells, column};
 ghost use Rattle.store_tables.specs.declared.parse.Unread.TheVariants.{Mistyped};
-ghost use Rattle.store_tables.specs.Cells.{meta_cells, member_cells, event_cells, challenge_cells, move_cells, game_cells, seen_cells, score_cells};
-ghost use Rattle.store_tables.specs.Cells.{IsText, OrNull, IsMeta, IsMember, IsEvent, IsChallenge, IsMove, IsGame, IsSeen, IsScore};
+ghost use Rattle.store_tables.specs.Cells.{meta_cells, member_cells, event_cells, challenge_cells, move_cells};
+ghost use Rattle.store_tables.specs.Cells.{game_cells, seen_cells, score_cells};
+ghost use Rattle.store_tables.specs.Cells.{IsText, OrNull, IsMeta, IsMember, IsEvent, IsChallenge, IsMove, IsGame};
+ghost use Rattle.store_tables.specs.Cells.{IsSeen, IsScore};
 
 use crate::rows::{
     ChallengeRow, EventRow, GameRecord, MemberRow, MetaRow, MoveRow, ScoreRow, SeenRow,

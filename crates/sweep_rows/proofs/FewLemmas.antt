@@ -1,5 +1,6 @@
 -- How few the ids and the ended games of a legal club are.
-use Rattle.std.proofs.Common.{◌≡◌, ℕ, zero, suc, ◌+◌, ◌*◌, ◌≤◌, List, [], ◌∷◌, length, take, drop, pos, Option, Some, None, refl, ap, arith, length-append}
+use Rattle.std.proofs.Common.{◌≡◌, ℕ, zero, suc, ◌+◌, ◌*◌, ◌≤◌, List, [], ◌∷◌, length, take, drop, pos, Option, Some}
+use Rattle.std.proofs.Common.{None, refl, ap, arith, length-append}
 use Rattle.std.specs.Prelude.{ℤ, is_some, IsSome}
 use Rattle.std.specs.List.{flat_map}
 use Rattle.squares.specs.declared.sides.Score.{Score}
@@ -20,7 +21,8 @@ place_few [] (suc n) is = cc
 place_few (x ∷ xs) (suc zero) is = omega arith
 place_few (x ∷ xs) (suc (suc n)) is = let rest = place_few xs (suc n) is in omega (arith, rest)
 
-game_short : {P M E T : Type 0} (laws : GameRules P M E T) (kind : GameKind) (s : ClubState) → IsClub s → (game : Game M) → IsGameOf laws kind s game → AreShort game.event game.first game.second
+game_short : {P M E T : Type 0} (laws : GameRules P M E T) (kind : GameKind) (s : ClubState) → IsClub s
+    → (game : Game M) → IsGameOf laws kind s game → AreShort game.event game.first game.second
 game_short laws kind s is_club game legal =
     let events : length s.events ≤ 50 = is_club.event_count in
     let members : length s.members ≤ 200 = is_club.member_count in
@@ -33,7 +35,8 @@ game_short laws kind s is_club game legal =
       second_fits = omega (arith, members, second);
     }
 
-pub players_short : (s : ClubState) → IsClub s → (g : ClubGame) → IsLegalIn both_games s g → AreShort (pairing_of g).event (pairing_of g).first (pairing_of g).second
+pub players_short : (s : ClubState) → IsClub s → (g : ClubGame) → IsLegalIn both_games s g
+    → AreShort (pairing_of g).event (pairing_of g).first (pairing_of g).second
 players_short s is_club (draughts game) legal = game_short _ _ s is_club game legal
 players_short s is_club (shogi game) legal = game_short _ _ s is_club game legal
 

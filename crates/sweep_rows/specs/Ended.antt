@@ -12,5 +12,7 @@ use Rattle.store_tables.specs.declared.rows.GameRecord.{GameRecord}
 -- the cells of the row, with the end by time and this score
 abbrev pub cells_lost : GameRecord → Score → Row
 cells_lost r score =
-    Int r.id ∷ or_null (λ s. Text (string_bytes s)) r.key ∷ Int r.event ∷ Int r.first ∷ Int r.second ∷ Int r.start ∷ Int r.since ∷ Int r.plies ∷ Int r.left1 ∷ Int r.left2
-    ∷ or_null Int r.offer_side ∷ or_null Int r.offer_ply ∷ Text (outside_text Time) ∷ Text (score_text score) ∷ Text (string_bytes r.position) ∷ Int r.track_a ∷ Int r.track_b ∷ []
+    Int r.id ∷ or_null (λ s. Text (string_bytes s)) r.key ∷ Int r.event ∷ Int r.first ∷ Int r.second ∷ Int r.start
+    ∷ Int r.since ∷ Int r.plies ∷ Int r.left1 ∷ Int r.left2
+    ∷ or_null Int r.offer_side ∷ or_null Int r.offer_ply ∷ Text (outside_text Time) ∷ Text (score_text score)
+    ∷ Text (string_bytes r.position) ∷ Int r.track_a ∷ Int r.track_b ∷ []

@@ -14,4 +14,5 @@ pub record HasClocks (row : GameRecord) (plies : ℕ) (clocks : Clocks) : Type 0
 -- the side to move, where it has used more seconds than it had left in a game that is not over
 abbrev pub late_side : Bool → ℕ → Clocks → ℕ → Option Side
 late_side over plies clocks moment =
-    if not over && nat_lt (left_of (side_after plies) clocks) (moment - clocks.since) then Some (side_after plies) else None
+    if not over && nat_lt (left_of (side_after plies) clocks) (moment - clocks.since) then Some
+    (side_after plies) else None

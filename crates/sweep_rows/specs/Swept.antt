@@ -6,12 +6,15 @@ use Rattle.club_core.specs.State.{is_late_any, with_swept}
 use Rattle.club_rows.specs.Club.{ClubState, both_games, tables}
 use Rattle.sweep_rows.specs.declared.swept.SweptRows.{SweptRows}
 
--- So many games end by time at that moment; the rows, put in their order, make of the tables of games and of scores those of
+-- So many games end by time at that moment; the rows, put in their order, make of the tables of games and of scores
+-- those of
 -- the club in which these games have ended.
 pub record IsSwept (s : ClubState) (moment : ℕ) (rows : SweptRows) : Type 0 where
   pub count_is : rows.count ≡ count_by (is_late_any both_games s moment) s.games
-  pub games_are : HaveSame (put_rows (0 ∷ []) (map game_cells rows.games.items) (tables s 10)) (tables (with_swept both_games s moment) 10)
-  pub scores_are : HaveSame (put_rows (0 ∷ 1 ∷ 2 ∷ []) (map score_cells rows.scores.items) (tables s 14)) (tables (with_swept both_games s moment) 14)
+  pub games_are : HaveSame (put_rows (0 ∷ []) (map game_cells rows.games.items) (tables s 10))
+      (tables (with_swept both_games s moment) 10)
+  pub scores_are : HaveSame (put_rows (0 ∷ 1 ∷ 2 ∷ []) (map score_cells rows.scores.items) (tables s 14))
+      (tables (with_swept both_games s moment) 14)
 
 -- A sweep changes no other table but that of the last moment.
 pub record LeavesOthers (s : ClubState) (moment : ℕ) : Type 0 where

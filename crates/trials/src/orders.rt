@@ -47,7 +47,8 @@ fn done(
     })
 }
 
-// Does the order of a line, `SECONDS WORDS = STATUS TEXT`, where `|` stands between the lines of the text, with that record
+// Does the order of a line, `SECONDS WORDS = STATUS TEXT`, where `|` stands between the lines of the text, with that
+// record
 // as what standard input holds, and compares what is printed.
 fn says<R: Abort + AllocGlobal>(
     rt: &R,

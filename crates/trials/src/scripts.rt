@@ -1,4 +1,5 @@
-//! Requests as lines of text, `SECONDS WHO COMMAND`, where WHO is `officer` or a member's key; in a script each line ends
+//! Requests as lines of text, `SECONDS WHO COMMAND`, where WHO is `officer` or a member's key; in a script each line
+//! ends
 //! with what the request must come to, as `1000 officer move 1 1 32-28 = accepted`.
 
 use clocks::Moment;
@@ -131,7 +132,8 @@ fn told_answer(alloc: Global, word: &str, answer: &Answer) -> Result<String, Fai
     })
 }
 
-/// The outcome in a word, a sweep with the number of games that it ended, a challenge with its number and what became of
+/// The outcome in a word, a sweep with the number of games that it ended, a challenge with its number and what became
+/// of
 /// it, a refusal with its number and name.
 pub(crate) fn told(alloc: Global, outcome: &Outcome) -> Result<String, Fail> {
     match outcome {

@@ -211,7 +211,8 @@ fn make_wanted(alloc: Global, trial: Trial<'_>, before: &Image) -> Result<Wanted
     })
 }
 
-/// Whole before the request, which is then accepted, or whole after it, which is then repeated; what was answered stands.
+/// Whole before the request, which is then accepted, or whole after it, which is then repeated; what was answered
+/// stands.
 /// A sweep is not repeated: after it there is nothing more to end.
 fn is_whole(wanted: &Wanted, answered: bool, found: &Tables, outcome: &Outcome) -> bool {
     match outcome {

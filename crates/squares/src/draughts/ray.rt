@@ -32,7 +32,8 @@ impl Dsq {
     }
 }
 
-// The lines from the fifty squares, each as the bits of its squares: fifty for each direction, after one that stands for no
+// The lines from the fifty squares, each as the bits of its squares: fifty for each direction, after one that stands
+// for no
 // square.
 static LINES: [u64; 201] = [
     0,

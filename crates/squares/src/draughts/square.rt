@@ -118,7 +118,8 @@ impl Dsq {
     }
 }
 
-// The next squares of the fifty squares, 0 where there is none: fifty numbers for each direction, after one that stands for no
+// The next squares of the fifty squares, 0 where there is none: fifty numbers for each direction, after one that stands
+// for no
 // square.
 static NEIGHBORS: [u8; 201] = [
     0, //

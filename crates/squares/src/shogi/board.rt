@@ -15,7 +15,8 @@ use masks::Word81;
 use std::cmp::Ordering;
 use std::marker::Model;
 
-/// A shogi board. Contracts see it as a finite map from squares to pieces. Beside the cells it keeps the squares of each side
+/// A shogi board. Contracts see it as a finite map from squares to pieces. Beside the cells it keeps the squares of
+/// each side
 /// and of each role as words of bits.
 #[derive(Drop)]
 pub struct SBoard {

@@ -76,7 +76,8 @@ fn opening_cell(square: Ssq) -> Option<SPiece>
 // Puts on a free square what stands there when a game begins.
 fn set_up(board: &mut SBoard, square: Ssq)
     requires { finite_map.get board.old square ≡ None }
-    ensures { (q : ℕ) → finite_map.get board.new q ≡ (if nat_eq q square then opening_cell square else finite_map.get board.old q) }
+    ensures { (q : ℕ) → finite_map.get board.new q ≡
+        (if nat_eq q square then opening_cell square else finite_map.get board.old q) }
 {
     match opening_cell(square) {
         None => {}

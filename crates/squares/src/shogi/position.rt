@@ -3,7 +3,8 @@
 ghost use Rattle.std.specs.Prelude.{◌≡◌, ◌↔◌, ◌≤◌, ◌+◌, ℕ, None, IsTrue, IsSome, IfSome};
 ghost use Rattle.std.specs.FinMap as map;
 ghost use Rattle.squares.specs.ShogiOpening.{opening};
-ghost use Rattle.squares.specs.ShogiSets.{IsShogiPosition, KeepsSets, HasKings, holds_king, holds_kind, in_play, set_size};
+ghost use Rattle.squares.specs.ShogiSets.{IsShogiPosition, KeepsSets, HasKings, holds_king, holds_kind, in_play};
+ghost use Rattle.squares.specs.ShogiSets.{set_size};
 
 use crate::shogi::board::SBoard;
 use crate::shogi::hand::Hands;
@@ -13,8 +14,10 @@ use crate::sides::Side;
 use std::cmp::Ordering;
 use std::marker::Model;
 
-/// A board, the hands and the side to move. Each side has one king, and the board and the hands together hold at most 18
-/// pawns, 4 each of lances, knights, silvers and golds, 2 bishops and 2 rooks. Two positions with the same pieces on the same
+/// A board, the hands and the side to move. Each side has one king, and the board and the hands together hold at most
+/// 18
+/// pawns, 4 each of lances, knights, silvers and golds, 2 bishops and 2 rooks. Two positions with the same pieces on
+/// the same
 /// squares, the same hands and the same turn are one position.
 #[derive(Drop)]
 pub struct SPos {
@@ -37,7 +40,9 @@ impl Model for SPos {
 
     ghost Value = { ShogiPosition };
 
-    ghost coded = { code_by (ShogiBoard × (Hands × Side)) (coded× (finite_map.code coded_ℕ piece_type.the_row.coded) (coded× hands_type.the_row.coded side_type.the_row.coded))
+    ghost coded = { code_by (ShogiBoard × (Hands × Side))
+        (coded× (finite_map.code coded_ℕ piece_type.the_row.coded)
+        (coded× hands_type.the_row.coded side_type.the_row.coded))
         (λ p. (p.board, (p.hands, p.turn))) (λ q. record { board = q.0; hands = q.1.0; turn = q.1.1 }) (λ _. refl) };
 
     ghost view = { λ p. record { board = p.board; hands = p.hands; turn = p.turn } };
@@ -46,7 +51,8 @@ impl Model for SPos {
 }
 
 impl SPos {
-    /// The position in which a game begins: each side has a king, two golds, silvers, knights and lances on its back rank, a
+    /// The position in which a game begins: each side has a king, two golds, silvers, knights and lances on its back
+    /// rank, a
     /// rook and a bishop before its knights, and nine pawns on its third rank; the hands are empty, and First moves.
     pub fn opening() -> SPos
         ensures { result ≡ opening }
@@ -120,7 +126,8 @@ impl SPos {
     ghost use Rattle.std.specs.Prelude.{Some, true};
     ghost use Rattle.masks.specs.Words.{has_bit};
 
-    /// The word of a piece: bit `9 * (file - 1) + (rank - 1)` is set exactly for the squares on which that piece stands.
+    /// The word of a piece: bit `9 * (file - 1) + (rank - 1)` is set exactly for the squares on which that piece
+    /// stands.
     pub fn word(&self, piece: SPiece) -> u128
         ensures { (n : ℕ) → (has_bit result n ≡ true) ↔ (map.get self.now.board n ≡ Some piece) }
     {

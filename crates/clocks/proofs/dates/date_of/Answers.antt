@@ -12,7 +12,8 @@ unreachable-requires-in-Err-checked_add c =
     let small : c.args.days < 2 ^ 63 = omega (arith, c.requires) in
     let only = rw (to_z_pos w64 c.args.days small) at c.days.ensures in
     let can = can_add-days c.in-Ok.epoch (pos c.args.days) c.days.result only in
-    let day : IsEpochDay (epoch_day c.in-Ok.epoch +ℤ pos c.args.days) = rw zero (omega (arith, ints, c.requires), omega (arith, ints, c.requires)) in
+    let day : IsEpochDay (epoch_day c.in-Ok.epoch +ℤ pos c.args.days) =
+    rw zero (omega (arith, ints, c.requires), omega (arith, ints, c.requires)) in
     let impossible = c.in-Err-checked_add.ensures.succeeds.1 (can.1 day) in
     cc
 
@@ -21,5 +22,6 @@ returns c =
     let zero : epoch_day c.in-Ok.epoch ≡ pos 0 = epoch_day-1970 c.in-Ok.epoch c.in-Ok.ensures.value in
     let small : c.args.days < 2 ^ 63 = omega (arith, c.requires) in
     let only = rw (to_z_pos w64 c.args.days small) at c.days.ensures in
-    let added : epoch_day c.in-Ok-checked_add.date ≡ epoch_day c.in-Ok.epoch +ℤ pos c.args.days = c.in-Ok-checked_add.ensures.value ∙ date_add-days c.in-Ok.epoch (pos c.args.days) c.days.result only in
+    let added : epoch_day c.in-Ok-checked_add.date ≡ epoch_day c.in-Ok.epoch +ℤ pos c.args.days =
+    c.in-Ok-checked_add.ensures.value ∙ date_add-days c.in-Ok.epoch (pos c.args.days) c.days.result only in
     omega (arith, ints, zero, added)

@@ -11,4 +11,5 @@ returns-clause-led g c clean sessions led left may found finds =
     let here = c.in-Ok.ensures.found before in
     ∥∥₁_elim (led _ (record { holds = here.holds; reads = here.reads })) squash₁ (λ was.
     let on = c.serve_stretch-fault.ensures.led after opened.0 opened.1 sessions was in
-    ∥∥₁_map (c.close.ensures.member clean left may found finds.holds) (λ now. record { turns = on.turns; are_turns = on.are_turns; led = on.led found now }))
+    ∥∥₁_map (c.close.ensures.member clean left may found finds.holds)
+    (λ now. record { turns = on.turns; are_turns = on.are_turns; led = on.led found now }))

@@ -12,19 +12,22 @@ use Rattle.club_audit.proofs.audit.wrong_by_game.Goals as goal
 
 pub returns-in-None-clause-complete : goal.returns-in-None-clause-complete
 returns-in-None-clause-complete c = λ s people low g is.
-    let (event, first, second, e, named) = any-names s c.args.rows.now people c.args.place c.args.game.now c.args.moves.now g is in
+    let (event, first, second, e, named) = any-names s c.args.rows.now people c.args.place c.args.game.now
+    c.args.moves.now g is in
     absurd (c.event_of.ensures.none c.in-None.is event first second e named)
 
 pub returns-in-None-terms_of-clause-complete : goal.returns-in-None-terms_of-clause-complete
 returns-in-None-terms_of-clause-complete c = λ s people low g is.
     let (event, first, second, named) = c.in-Some.ensures.some in
-    let (budget, increment, gives) = any-gives s c.args.rows.now people c.args.place c.args.game.now c.args.moves.now event first second c.in-Some.event.now named g is in
+    let (budget, increment, gives) = any-gives s c.args.rows.now people c.args.place c.args.game.now c.args.moves.now
+    event first second c.in-Some.event.now named g is in
     absurd (c.terms_of.ensures.none c.in-None-terms_of.is budget increment gives)
 
 pub returns-in-None-kind_of-clause-complete : goal.returns-in-None-kind_of-clause-complete
 returns-in-None-kind_of-clause-complete c = λ s people low g is.
     let (event, first, second, named) = c.in-Some.ensures.some in
-    let (kind, has_kind) = any-kind s c.args.rows.now people c.args.place c.args.game.now c.args.moves.now event first second c.in-Some.event.now named g is in
+    let (kind, has_kind) = any-kind s c.args.rows.now people c.args.place c.args.game.now c.args.moves.now event first
+    second c.in-Some.event.now named g is in
     absurd (c.kind_of.ensures.none c.in-None-kind_of.is kind (search (rules, has_kind)))
 
 pub returns-in-Some-Draughts-clause-sound : goal.returns-in-Some-Draughts-clause-sound
@@ -37,8 +40,11 @@ returns-in-Some-Draughts-clause-sound c =
     let at = c.is_place.ensures.sound c.if-not-is_place.false in
     let id : c.args.game.now.id ≡ pos (c.args.place + 1) = omega (arith, ints) in
     let last = same-pos _ _ (sym c.requires.last ∙ people.moment) in
-    game-shown s c.args.rows.now people c.args.place c.args.game.now c.args.moves.now in_draughts event first second c.in-Some.event.now terms.budget terms.increment named gives has_kind id
-    (subst (λ n. HaveGame both_games.draughts (terms_with terms.budget terms.increment) n c.args.game.now c.args.moves.now) last (sound none))) c.wrong_by_rules.ensures.sound
+    game-shown s c.args.rows.now people c.args.place c.args.game.now c.args.moves.now in_draughts event first second
+    c.in-Some.event.now terms.budget terms.increment named gives has_kind id
+    (subst
+    (λ n. HaveGame both_games.draughts (terms_with terms.budget terms.increment) n c.args.game.now c.args.moves.now)
+    last (sound none))) c.wrong_by_rules.ensures.sound
 
 pub returns-in-Some-Draughts-clause-complete : goal.returns-in-Some-Draughts-clause-complete
 returns-in-Some-Draughts-clause-complete c =
@@ -47,9 +53,12 @@ returns-in-Some-Draughts-clause-complete c =
     let (event, first, second, named) = c.in-Some.ensures.some in
     let gives : GivesTerms c.in-Some.event.now terms.budget terms.increment = c.in-Some-terms_of.ensures.some in
     let has_kind : HasKind c.in-Some.event.now Draughts = search rules in
-    let (game, are, ends) = rows-in s c.args.rows.now people c.args.place c.args.game.now c.args.moves.now event first second c.in-Some.event.now named in_draughts g is terms.budget terms.increment gives has_kind low in
+    let (game, are, ends) = rows-in s c.args.rows.now people c.args.place c.args.game.now c.args.moves.now event first
+    second c.in-Some.event.now named in_draughts g is terms.budget terms.increment gives has_kind low in
     let last = same-pos _ _ (sym people.moment ∙ c.requires.last) in
-    complete (c.args.place + 1) game are (subst (λ n. EndsBy both_games.draughts (terms_with terms.budget terms.increment) n game) last ends)) c.wrong_by_rules.ensures.complete
+    complete (c.args.place + 1) game are
+    (subst (λ n. EndsBy both_games.draughts (terms_with terms.budget terms.increment) n game) last ends))
+    c.wrong_by_rules.ensures.complete
 
 pub returns-in-Some-Shogi-clause-sound : goal.returns-in-Some-Shogi-clause-sound
 returns-in-Some-Shogi-clause-sound c =
@@ -61,8 +70,10 @@ returns-in-Some-Shogi-clause-sound c =
     let at = c.is_place.ensures.sound c.if-not-is_place.false in
     let id : c.args.game.now.id ≡ pos (c.args.place + 1) = omega (arith, ints) in
     let last = same-pos _ _ (sym c.requires.last ∙ people.moment) in
-    game-shown s c.args.rows.now people c.args.place c.args.game.now c.args.moves.now in_shogi event first second c.in-Some.event.now terms.budget terms.increment named gives has_kind id
-    (subst (λ n. HaveGame both_games.shogi (terms_with terms.budget terms.increment) n c.args.game.now c.args.moves.now) last (sound none))) c.wrong_by_rules-in-Some-Shogi.ensures.sound
+    game-shown s c.args.rows.now people c.args.place c.args.game.now c.args.moves.now in_shogi event first second
+    c.in-Some.event.now terms.budget terms.increment named gives has_kind id
+    (subst (λ n. HaveGame both_games.shogi (terms_with terms.budget terms.increment) n c.args.game.now c.args.moves.now)
+    last (sound none))) c.wrong_by_rules-in-Some-Shogi.ensures.sound
 
 pub returns-in-Some-Shogi-clause-complete : goal.returns-in-Some-Shogi-clause-complete
 returns-in-Some-Shogi-clause-complete c =
@@ -71,6 +82,9 @@ returns-in-Some-Shogi-clause-complete c =
     let (event, first, second, named) = c.in-Some.ensures.some in
     let gives : GivesTerms c.in-Some.event.now terms.budget terms.increment = c.in-Some-terms_of.ensures.some in
     let has_kind : HasKind c.in-Some.event.now Shogi = search rules in
-    let (game, are, ends) = rows-in s c.args.rows.now people c.args.place c.args.game.now c.args.moves.now event first second c.in-Some.event.now named in_shogi g is terms.budget terms.increment gives has_kind low in
+    let (game, are, ends) = rows-in s c.args.rows.now people c.args.place c.args.game.now c.args.moves.now event first
+    second c.in-Some.event.now named in_shogi g is terms.budget terms.increment gives has_kind low in
     let last = same-pos _ _ (sym people.moment ∙ c.requires.last) in
-    complete (c.args.place + 1) game are (subst (λ n. EndsBy both_games.shogi (terms_with terms.budget terms.increment) n game) last ends)) c.wrong_by_rules-in-Some-Shogi.ensures.complete
+    complete (c.args.place + 1) game are
+    (subst (λ n. EndsBy both_games.shogi (terms_with terms.budget terms.increment) n game) last ends))
+    c.wrong_by_rules-in-Some-Shogi.ensures.complete

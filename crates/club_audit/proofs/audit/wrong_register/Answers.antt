@@ -34,7 +34,8 @@ returns-then-not-branch-clause-complete c = λ register.
     let rows = c.args.rows.now in
     let members = members-count register.state.members rows.members.items register.people.members in
     let events = events-count register.state.events rows.events.items register.people.events in
-    let yes = c.in_ok-are_challenges.ensures.complete members events register.few register.state.challenges register.challenges in
+    let yes = c.in_ok-are_challenges.ensures.complete members events register.few register.state.challenges
+    register.challenges in
     let no = c.if-not-branch.true in
     absurd cc
 
@@ -51,4 +52,6 @@ returns-then-not-branch-clause-blamed c = λ _ few cs are.
 
 pub returns-then-branch-clause-complete : goal.returns-then-branch-clause-complete
 returns-then-branch-clause-complete c = λ register.
-    absurd (c.in_ok-share_key.ensures.shared c.if-branch.true (subst (AreApartIfAny key_in) (sym c.deref-3.ensures.value) register.keys))
+    absurd
+    (c.in_ok-share_key.ensures.shared c.if-branch.true
+    (subst (AreApartIfAny key_in) (sym c.deref-3.ensures.value) register.keys))

@@ -17,7 +17,9 @@ returns-then-not-is_challenge_row-clause-complete c = λ each.
 pub loop-row-preserved : goal.loop-row-preserved
 loop-row-preserved c =
     let at = got-at c.args.challenges.now c.loop-row.row-index _ c.loop-row-test.true in
-    below-more (λ k r. IsChallengeOf c.args.rows.now r) c.loop-row.row-index c.args.challenges.now _ at c.loop-row.invariant (c.is_challenge_row.ensures.sound c.if-not-is_challenge_row.false)
+    below-more (λ k r. IsChallengeOf c.args.rows.now r) c.loop-row.row-index c.args.challenges.now _ at
+    c.loop-row.invariant (c.is_challenge_row.ensures.sound c.if-not-is_challenge_row.false)
 
 pub returns-clause-sound : goal.returns-clause-sound
-returns-clause-sound c = λ _. below-all (λ k r. IsChallengeOf c.args.rows.now r) c.loop-row.row-index c.args.challenges.now (omega (arith, c.loop-row-test.false)) c.loop-row.invariant
+returns-clause-sound c = λ _. below-all (λ k r. IsChallengeOf c.args.rows.now r) c.loop-row.row-index
+    c.args.challenges.now (omega (arith, c.loop-row-test.false)) c.loop-row.invariant

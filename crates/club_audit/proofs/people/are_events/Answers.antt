@@ -18,7 +18,9 @@ pub returns-then-not-is_event-clause-complete : goal.returns-then-not-is_event-c
 returns-then-not-is_event-clause-complete c = λ xs are.
     let rows = c.args.events.now in
     let k = c.loop-place.place in
-    let at : slice_get rows k ≡ Some c.index-events-place.result = slice_get_read rows (length rows) k c.index-events-place.result refl c.loop-place-test.true c.index-events-place.is in
+    let at : slice_get rows k ≡ Some c.index-events-place.result =
+    slice_get_read rows (length rows) k c.index-events-place.result refl c.loop-place-test.true
+    c.index-events-place.is in
     let yes = c.is_event.ensures.complete (events-at xs rows are k c.index-events-place.result at) in
     let no = c.if-not-is_event.true in
     absurd cc
@@ -27,9 +29,14 @@ pub loop-place-preserved : goal.loop-place-preserved
 loop-place-preserved c =
     let rows = c.args.events.now in
     let k = c.loop-place.place in
-    let at : slice_get rows k ≡ Some c.index-events-place.result = slice_get_read rows (length rows) k c.index-events-place.result refl c.loop-place-test.true c.index-events-place.is in
-    below-more (λ k r. IsEventAt c.args.events.now k r) k rows c.index-events-place.result at c.loop-place.invariant (c.is_event.ensures.sound c.if-not-is_event.false)
+    let at : slice_get rows k ≡ Some c.index-events-place.result =
+    slice_get_read rows (length rows) k c.index-events-place.result refl c.loop-place-test.true
+    c.index-events-place.is in
+    below-more (λ k r. IsEventAt c.args.events.now k r) k rows c.index-events-place.result at c.loop-place.invariant
+    (c.is_event.ensures.sound c.if-not-is_event.false)
 
 pub returns-clause-sound : goal.returns-clause-sound
 returns-clause-sound c = λ _.
-    events-from c.args.events.now (omega (arith, c.if-events-gt-MOST_EVENTS.false)) (below-all (λ k r. IsEventAt c.args.events.now k r) c.loop-place.place c.args.events.now (omega (arith, c.loop-place-test.false)) c.loop-place.invariant)
+    events-from c.args.events.now (omega (arith, c.if-events-gt-MOST_EVENTS.false))
+    (below-all (λ k r. IsEventAt c.args.events.now k r) c.loop-place.place c.args.events.now
+    (omega (arith, c.loop-place-test.false)) c.loop-place.invariant)

@@ -13,14 +13,18 @@ returns-in-Some-terms_of-clause-sound c = λ free.
     let row = c.args.event.now in
     let at = c.is_place.ensures.sound c.if-not-is_place.false in
     let id : row.id ≡ pos (c.args.place + 1) = omega (arith, ints) in
-    let name : is_name (string_bytes row.name) ≡ true = sym (ap is_name c.as_str.ensures.value) ∙ (sym c.is_name.ensures ∙ c.if-not-is_name.false) in
+    let name : is_name (string_bytes row.name) ≡ true = sym (ap is_name c.as_str.ensures.value)
+    ∙ (sym c.is_name.ensures ∙ c.if-not-is_name.false) in
     let kind = c.in-Some.field-0 in
     let game : row.game ≡ pos (kind_number kind) = search rules in
     let given = c.in-Some-terms_of.field-0 in
-    let terms : GivesTerms row given.budget given.increment = subst (λ o. IfSome o (λ t. GivesTerms row t.budget t.increment)) c.in-Some-terms_of.is c.terms_of.ensures.some in
+    let terms : GivesTerms row given.budget given.increment =
+    subst (λ o. IfSome o (λ t. GivesTerms row t.budget t.increment)) c.in-Some-terms_of.is c.terms_of.ensures.some
+    in
     record {
       event = event_told row kind given.budget given.increment;
-      cells = event-cells (c.args.place + 1) given.budget given.increment kind row id game terms.budget_is terms.increment_is;
+      cells = event-cells (c.args.place + 1) given.budget given.increment kind row id game terms.budget_is
+          terms.increment_is;
       legal = record { name = name; budget = terms.has_budget; increment = terms.has_increment };
       others = c.is_used.ensures.free (not-true c.is_used.result free);
     }

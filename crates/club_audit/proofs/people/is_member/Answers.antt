@@ -11,8 +11,10 @@ returns-clause-sound c = λ free.
     let row = c.args.member.now in
     let at = c.is_place.ensures.sound c.if-not-is_place.false in
     let id : row.id ≡ pos (c.args.place + 1) = omega (arith, ints) in
-    let name : is_name (string_bytes row.name) ≡ true = sym (ap is_name c.as_str.ensures.value) ∙ (sym c.is_name.ensures ∙ c.if-not-is_name.false) in
-    let key : is_member_key (string_bytes row.key) ≡ true = sym (ap is_member_key c.as_str-2.ensures.value) ∙ (sym c.is_member_key.ensures ∙ c.if-not-is_member_key.false) in
+    let name : is_name (string_bytes row.name) ≡ true = sym (ap is_name c.as_str.ensures.value)
+    ∙ (sym c.is_name.ensures ∙ c.if-not-is_name.false) in
+    let key : is_member_key (string_bytes row.key) ≡ true = sym (ap is_member_key c.as_str-2.ensures.value)
+    ∙ (sym c.is_member_key.ensures ∙ c.if-not-is_member_key.false) in
     record {
       member = record { name = string_bytes row.name; key = string_bytes row.key };
       cells = member-cells (c.args.place + 1) row id;

@@ -12,7 +12,8 @@ pub returns-then-not-is_other_member-clause-taken : goal.returns-then-not-is_oth
 returns-then-not-is_other_member-clause-taken c = λ _ each.
     let rows = c.args.members.now in
     let k = c.loop-other.other-index in
-    let at : slice_get rows k ≡ Some c.other-item.result = slice_get_read rows (length rows) k c.other-item.result refl c.loop-other-test.true c.other-item.is in
+    let at : slice_get rows k ≡ Some c.other-item.result =
+    slice_get_read rows (length rows) k c.other-item.result refl c.loop-other-test.true c.other-item.is in
     let yes = c.is_other_member.ensures.complete (each k c.other-item.result at) in
     let no = c.if-not-is_other_member.true in
     absurd cc
@@ -21,8 +22,11 @@ pub loop-other-preserved : goal.loop-other-preserved
 loop-other-preserved c =
     let rows = c.args.members.now in
     let k = c.loop-other.other-index in
-    let at : slice_get rows k ≡ Some c.other-item.result = slice_get_read rows (length rows) k c.other-item.result refl c.loop-other-test.true c.other-item.is in
-    below-more (λ k r. IsOtherMember c.args.member.now r) k rows c.other-item.result at c.loop-other.invariant (c.is_other_member.ensures.sound c.if-not-is_other_member.false)
+    let at : slice_get rows k ≡ Some c.other-item.result =
+    slice_get_read rows (length rows) k c.other-item.result refl c.loop-other-test.true c.other-item.is in
+    below-more (λ k r. IsOtherMember c.args.member.now r) k rows c.other-item.result at c.loop-other.invariant
+    (c.is_other_member.ensures.sound c.if-not-is_other_member.false)
 
 pub returns-clause-free : goal.returns-clause-free
-returns-clause-free c = λ _. below-all (λ k r. IsOtherMember c.args.member.now r) c.loop-other.other-index c.args.members.now (omega (arith, c.loop-other-test.false)) c.loop-other.invariant
+returns-clause-free c = λ _. below-all (λ k r. IsOtherMember c.args.member.now r) c.loop-other.other-index
+    c.args.members.now (omega (arith, c.loop-other-test.false)) c.loop-other.invariant

@@ -11,7 +11,9 @@ use Rattle.club_audit.proofs.seen_audit.counted.Goals as goal
 
 pub loop-index-init : goal.loop-index-init
 loop-index-init c = λ few.
-    c.in_ok-count.ensures [] (counted-start (found_in c.new-counts.result) (λ q. ap (lookup (λ k. bytes_eq q k.now)) c.new-counts.ensures.empty)) refl (omega arith)
+    c.in_ok-count.ensures []
+    (counted-start (found_in c.new-counts.result)
+    (λ q. ap (lookup (λ k. bytes_eq q k.now)) c.new-counts.ensures.empty)) refl (omega arith)
 
 pub loop-index-preserved : goal.loop-index-preserved
 loop-index-preserved c = λ few.
@@ -19,10 +21,12 @@ loop-index-preserved c = λ few.
     let start = c.args.start.now in
     let k = c.loop-index.index in
     let row = c.index-moves-index.result in
-    let at : slice_get moves k ≡ Some row = slice_get_read moves (length moves) k row refl c.loop-index-test.true c.index-moves-index.is in
+    let at : slice_get moves k ≡ Some row = slice_get_read moves (length moves) k row refl c.loop-index-test.true
+    c.index-moves-index.is in
     let text = c.as_str.ensures.value in
     let long = texts-length start moves k (omega (arith, c.loop-index-test.true)) in
-    let more = c.in_ok-count-2.ensures (texts_in start (take k moves)) (c.loop-index.invariant few) long (omega (arith, few, c.loop-index-test.true)) in
+    let more = c.in_ok-count-2.ensures (texts_in start (take k moves)) (c.loop-index.invariant few) long
+    (omega (arith, few, c.loop-index-test.true)) in
     subst (λ ts. AreCounted ts (found_in c.count-in-loop-index.new.counts))
     (ap (λ t. texts_in start (take k moves) ++ t ∷ []) text ∙ sym (texts-step start moves k row at))
     more

@@ -16,4 +16,5 @@ pub returns-clause-complete : goal.returns-clause-complete
 returns-clause-complete c = λ s are all.
     let ms = flat_map (meetings_in both_games) s.games in
     let sums = c.in_ok-standings.ensures ms (club-told s c.args.games.now are) (club-few s c.args.games.now are) in
-    c.are_those.ensures.complete (clears_alike _ _ (λ p. sym (sums p)) c.args.rows.now (clearing ms c.args.rows.now all))
+    c.are_those.ensures.complete
+    (clears_alike _ _ (λ p. sym (sums p)) c.args.rows.now (clearing ms c.args.rows.now all))

@@ -11,8 +11,11 @@ pub loop-game-preserved : goal.loop-game-preserved
 loop-game-preserved c =
     let games = c.args.games.now in
     let k = c.loop-game.game-index in
-    let at : slice_get games k ≡ Some c.game-item.result = slice_get_read games (length games) k c.game-item.result refl c.loop-game-test.true c.game-item.is in
-    λ ms told low. counted_next _ _ games k c.game-item.result ms at low c.in_ok-add_game.ensures (c.loop-game.invariant ms told low)
+    let at : slice_get games k ≡ Some c.game-item.result =
+    slice_get_read games (length games) k c.game-item.result refl c.loop-game-test.true c.game-item.is in
+    λ ms told low. counted_next _ _ games k c.game-item.result ms at low c.in_ok-add_game.ensures
+    (c.loop-game.invariant ms told low)
 
 pub returns : goal.returns
-returns c = λ ms told low. counted_all _ c.args.games.now c.loop-game.game-index ms (omega (arith, c.loop-game-test.false)) (c.loop-game.invariant ms told low)
+returns c = λ ms told low. counted_all _ c.args.games.now c.loop-game.game-index ms
+    (omega (arith, c.loop-game-test.false)) (c.loop-game.invariant ms told low)

@@ -10,5 +10,8 @@ use Rattle.club_core.proofs.events.find_event.Goals as goal
 pub returns : goal.returns
 returns c =
     c.id_at.ensures
-    ∙ (ap (option_map suc) (position_from_yields_List (λ m. is_event (added_event c.args.command.now) (event_of m)) _ _ _ c.position.ensures.ran (YieldsList-from_slice c.args.events.now cc) (λ x b q k. search (rules, tests)))
+    ∙
+    (ap (option_map suc)
+    (position_from_yields_List (λ m. is_event (added_event c.args.command.now) (event_of m)) _ _ _
+    c.position.ensures.ran (YieldsList-from_slice c.args.events.now cc) (λ x b q k. search (rules, tests)))
     ∙ sym (find_id-map (is_event (added_event c.args.command.now)) _ c.args.events.now))

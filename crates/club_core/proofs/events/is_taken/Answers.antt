@@ -8,5 +8,6 @@ use Rattle.club_core.proofs.events.is_taken.Goals as goal
 
 pub returns : goal.returns
 returns c =
-    any_from_yields_List (λ m. has_event_name c.args.name.now (event_of m)) _ _ _ c.any.ensures.ran (YieldsList-from_slice c.args.events.now cc) (λ x b q k. search (rules, tests))
+    any_from_yields_List (λ m. has_event_name c.args.name.now (event_of m)) _ _ _ c.any.ensures.ran
+    (YieldsList-from_slice c.args.events.now cc) (λ x b q k. search (rules, tests))
     ∙ sym (list_any-map (has_event_name c.args.name.now) _ c.args.events.now)

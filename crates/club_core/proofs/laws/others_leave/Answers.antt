@@ -4,4 +4,5 @@ use Rattle.club_core.proofs.Folds.{unmoved}
 use Rattle.club_core.proofs.laws.others_leave.Goals as goal
 
 pub returns : goal.returns
-returns g c = λ s r kept. unmoved s (step (both g.D.Rules.rules g.S.Rules.rules g.D.Records.records g.S.Records.records) s r) kept
+returns g c =
+    λ s r kept. unmoved s (step (both g.D.Rules.rules g.S.Rules.rules g.D.Records.records g.S.Records.records) s r) kept

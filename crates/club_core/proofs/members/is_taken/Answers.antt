@@ -8,5 +8,6 @@ use Rattle.club_core.proofs.members.is_taken.Goals as goal
 
 pub returns : goal.returns
 returns c =
-    any_from_yields_List (λ m. has_name_or_key c.args.name.now c.args.key.now (member_of m)) _ _ _ c.any.ensures.ran (YieldsList-from_slice c.args.members.now cc) (λ x b q k. search (rules, tests))
+    any_from_yields_List (λ m. has_name_or_key c.args.name.now c.args.key.now (member_of m)) _ _ _ c.any.ensures.ran
+    (YieldsList-from_slice c.args.members.now cc) (λ x b q k. search (rules, tests))
     ∙ sym (list_any-map (has_name_or_key c.args.name.now c.args.key.now) _ c.args.members.now)

@@ -3,11 +3,13 @@ use Rattle.std.specs.Prelude.{slice_get}
 use Rattle.std.specs.Option.{option_map}
 use Rattle.club_rules.specs.Line.{IsPlayedLine}
 use Rattle.club_core.specs.declared.rows.GameEnd.TheVariants.{Rule}
-use Rattle.club_core.specs.Game.{moves_of, clocks_of, left_of, last_position, turn_of, end_of, rule_end, result_of, score_with, spend}
+use Rattle.club_core.specs.Game.{moves_of, clocks_of, left_of, last_position, turn_of, end_of, rule_end, result_of}
+use Rattle.club_core.specs.Game.{score_with, spend}
 use Rattle.club_core.specs.Step.{played}
 use Rattle.club_core.specs.View.{IsSound, IsMade, CanPlay, clocks_in, terms_of, track_of_game}
 use Rattle.club_core.proofs.Legals.{no-rule-end}
-use Rattle.club_core.proofs.Played.{last-played, rule_end-played, end-played, made-played, clocks-played, reply-played, moved-same, score-none}
+use Rattle.club_core.proofs.Played.{last-played, rule_end-played, end-played, made-played, clocks-played, reply-played}
+use Rattle.club_core.proofs.Played.{moved-same, score-none}
 use Rattle.club_core.proofs.Tracked.{line-played, next-track, moves-count, rule_in-Rule, tracked-end}
 use Rattle.club_core.proofs.moves.accept_move.Goals as goal
 
@@ -23,7 +25,8 @@ track_next-track-requires-clause-second g c =
 
 pub returns : goal.returns
 returns g c = λ game shows legal.
-    let can : CanPlay g.R.Rules.rules c.args.view.now c.args.turn c.args.made c.args.left c.args.moment = assumption c in
+    let can : CanPlay g.R.Rules.rules c.args.view.now c.args.turn c.args.made c.args.left c.args.moment =
+    assumption c in
     let laws = g.R.Rules.rules in
     let passes = g.met.R.Rules.turn_passes in
     let starts = g.met.R.Rules.first_starts in
@@ -39,7 +42,9 @@ returns g c = λ game shows legal.
     let position : c.play-position.result ≡ last_position laws new =
     c.play-position.ensures ∙ (ap (λ p. laws.play p m) shows.position ∙ sym (last-played laws game m moment)) in
     let line : IsPlayedLine laws laws.start (moves_of new) =
-    line-played laws game m moment legal.line (no-rule-end (rule_end laws game) game.outside (score-none laws (end_of laws game) (turn_of laws game) running)) ok in
+    line-played laws game m moment legal.line
+    (no-rule-end (rule_end laws game) game.outside (score-none laws (end_of laws game) (turn_of laws game) running))
+    ok in
     let track : c.track_next-track.result ≡ track_of_game laws new =
     c.track_next-track.ensures ∙ next-track laws game m moment _ _ _ shows.track shows.position position in
     let numbers : row.track ≡ laws.track_numbers (track_of_game laws new) =
@@ -51,19 +56,30 @@ returns g c = λ game shows legal.
     ∙ sym (clocks-played laws passes starts game legal.line.legal m moment terms))) in
     let plies : row.plies ≡ length game.entries + 1 =
     ap (λ r. r.plies) others ∙ ap (λ n. n + 1) shows.row.plies in
-    let text : string_bytes c.in_ok-text.text ≡ laws.write_move (last_position laws game) m = c.in_ok-text.ensures ∙ ap (λ p. laws.write_move p m) shows.position in
+    let text : string_bytes c.in_ok-text.text ≡ laws.write_move (last_position laws game) m = c.in_ok-text.ensures
+    ∙ ap (λ p. laws.write_move p m) shows.position in
     let left : c.args.left ≡ left_of (turn_of laws game) (clocks_of new terms) =
-    sym c.in_ok-row.ensures.left ∙ (ap (λ side. left_of side (clocks_in row)) to_move ∙ ap (left_of (turn_of laws game)) clocks) in
-    let written : string_bytes c.in_ok-written.written ≡ laws.write_position (last_position laws new) = c.in_ok-written.ensures ∙ ap laws.write_position position in
-    let shown : string_bytes c.in_ok-shown.shown ≡ laws.write_position (last_position laws new) = c.in_ok-shown.ensures.cases ∙ written in
-    let made : IsMade laws new (slice_get (moves_of new) (length game.entries)) (Some (record { made = m; position = c.play-position.result })) =
+    sym c.in_ok-row.ensures.left
+    ∙ (ap (λ side. left_of side (clocks_in row)) to_move ∙ ap (left_of (turn_of laws game)) clocks) in
+    let written : string_bytes c.in_ok-written.written ≡ laws.write_position (last_position laws new) =
+    c.in_ok-written.ensures ∙ ap laws.write_position position in
+    let shown : string_bytes c.in_ok-shown.shown ≡ laws.write_position (last_position laws new) =
+    c.in_ok-shown.ensures.cases ∙ written in
+    let made : IsMade laws new (slice_get (moves_of new) (length game.entries))
+    (Some (record { made = m; position = c.play-position.result })) =
     rw (made-played laws game m moment) (refl, position) in (
       made,
       λ times first stood.
-          let judged : laws.track_end (laws.track_of row.track.0 row.track.1) c.play-position.result row.plies times first ≡ rule_end laws new =
-          tracked-end laws g.met.R.Rules.tracks_tell_ends g.met.R.Rules.numbers_give_tracks (moves_of new) row.track c.play-position.result row.plies times first line stood.1 numbers position (plies ∙ sym (moves-count game m moment)) stood.0 in
-          let end : option_map Rule (laws.track_end (laws.track_of row.track.0 row.track.1) c.play-position.result row.plies times first) ≡ end_of laws new =
-          ap (option_map Rule) (judged ∙ rule_end-played laws game m moment) ∙ sym (end-played laws game m moment running) in (
+          let judged : laws.track_end (laws.track_of row.track.0 row.track.1) c.play-position.result row.plies times
+          first ≡ rule_end laws new =
+          tracked-end laws g.met.R.Rules.tracks_tell_ends g.met.R.Rules.numbers_give_tracks (moves_of new) row.track
+          c.play-position.result row.plies times first line stood.1 numbers position
+          (plies ∙ sym (moves-count game m moment)) stood.0 in
+          let end : option_map Rule
+          (laws.track_end (laws.track_of row.track.0 row.track.1) c.play-position.result row.plies times first)
+          ≡ end_of laws new =
+          ap (option_map Rule) (judged ∙ rule_end-played laws game m moment)
+          ∙ sym (end-played laws game m moment running) in (
             record {
               key = c.in_ok-row.ensures.key ∙ shows.row.key;
               event = ap (λ r. r.event) others ∙ shows.row.event;
@@ -75,10 +91,16 @@ returns g c = λ game shows legal.
               plies = simp length-append plies;
               offer = ap (λ r. r.offer) others;
               end = end;
-              result = ap (score_with laws (option_map Rule (laws.track_end (laws.track_of row.track.0 row.track.1) c.play-position.result row.plies times first))) (ap laws.turn position) ∙ ap (λ e. score_with laws e (turn_of laws new)) end;
+              result =
+                  ap
+                  (score_with laws
+                  (option_map Rule
+                  (laws.track_end (laws.track_of row.track.0 row.track.1) c.play-position.result row.plies times
+                  first))) (ap laws.turn position) ∙ ap (λ e. score_with laws e (turn_of laws new)) end;
               position = ap (λ r. string_bytes r.position) others ∙ written;
             },
             made,
-            moved-same _ _ plies text left shown (ap (option_map laws.end_name) (rule_in-Rule _ ∙ judged)) ∙ sym (reply-played laws passes starts game legal.line.legal m moment terms),
+            moved-same _ _ plies text left shown (ap (option_map laws.end_name) (rule_in-Rule _ ∙ judged))
+                ∙ sym (reply-played laws passes starts game legal.line.legal m moment terms),
           ),
     )

@@ -10,5 +10,8 @@ use Rattle.club_core.proofs.seats.find_member.Goals as goal
 pub returns : goal.returns
 returns c =
     c.id_at.ensures
-    ∙ (ap (option_map suc) (position_from_yields_List (λ m. has_member_name c.args.name.now (member_of m)) _ _ _ c.position.ensures.ran (YieldsList-from_slice c.args.members.now cc) (λ x b q k. search (rules, tests)))
+    ∙
+    (ap (option_map suc)
+    (position_from_yields_List (λ m. has_member_name c.args.name.now (member_of m)) _ _ _ c.position.ensures.ran
+    (YieldsList-from_slice c.args.members.now cc) (λ x b q k. search (rules, tests)))
     ∙ sym (find_id-map (has_member_name c.args.name.now) _ c.args.members.now))

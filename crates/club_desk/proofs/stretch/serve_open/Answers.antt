@@ -4,21 +4,26 @@ use Rattle.club_desk.proofs.TurnLemmas.{stands_first, stands_led, turn_led, turn
 use Rattle.club_desk.proofs.stretch.serve_open.Goals as goal
 
 pub loop-init : goal.loop-init
-loop-init g c = record { ready = c.requires; clean = λ is. is; stands = λ clean sessions at. stands_first sessions _ at }
+loop-init g c =
+    record { ready = c.requires; clean = λ is. is; stands = λ clean sessions at. stands_first sessions _ at }
 
 pub returns-then-not-serve_next-clause-led : goal.returns-then-not-serve_next-clause-led
 returns-then-not-serve_next-clause-led g c clean sessions at =
     let before = c.loop.invariant in
-    turn_led c.requests_keep_clubs.ensures sessions c.loop.club.club.needs_reopening (state g.S.Store c.loop.club.club.connection) before.ready
+    turn_led c.requests_keep_clubs.ensures sessions c.loop.club.club.needs_reopening
+    (state g.S.Store c.loop.club.club.connection) before.ready
     (before.stands (c.serve_next.ensures.clean clean) sessions at)
-    c.serve_next.new.club.club.needs_reopening (state g.S.Store c.serve_next.new.club.club.connection) (c.serve_next.ensures.acts clean)
+    c.serve_next.new.club.club.needs_reopening (state g.S.Store c.serve_next.new.club.club.connection)
+    (c.serve_next.ensures.acts clean)
 
 pub returns-then-needs_reopening-clause-led : goal.returns-then-needs_reopening-clause-led
 returns-then-needs_reopening-clause-led g c clean sessions at =
     let before = c.loop.invariant in
-    turn_led c.requests_keep_clubs.ensures sessions c.loop.club.club.needs_reopening (state g.S.Store c.loop.club.club.connection) before.ready
+    turn_led c.requests_keep_clubs.ensures sessions c.loop.club.club.needs_reopening
+    (state g.S.Store c.loop.club.club.connection) before.ready
     (before.stands (c.serve_next.ensures.clean clean) sessions at)
-    c.serve_next.new.club.club.needs_reopening (state g.S.Store c.serve_next.new.club.club.connection) (c.serve_next.ensures.acts clean)
+    c.serve_next.new.club.club.needs_reopening (state g.S.Store c.serve_next.new.club.club.connection)
+    (c.serve_next.ensures.acts clean)
 
 pub loop-preserved : goal.loop-preserved
 loop-preserved g c =
@@ -28,9 +33,11 @@ loop-preserved g c =
       ready = is_open;
       clean = λ is. before.clean (c.serve_next.ensures.clean is);
       stands = λ clean sessions at.
-          turn_stands c.requests_keep_clubs.ensures sessions c.loop.club.club.needs_reopening (state g.S.Store c.loop.club.club.connection) before.ready
+          turn_stands c.requests_keep_clubs.ensures sessions c.loop.club.club.needs_reopening
+          (state g.S.Store c.loop.club.club.connection) before.ready
           (before.stands (c.serve_next.ensures.clean clean) sessions at)
-          c.serve_next.new.club.club.needs_reopening (state g.S.Store c.serve_next.new.club.club.connection) is_open (c.serve_next.ensures.acts clean);
+          c.serve_next.new.club.club.needs_reopening (state g.S.Store c.serve_next.new.club.club.connection) is_open
+          (c.serve_next.ensures.acts clean);
     }
 
 pub returns-clause-led : goal.returns-clause-led

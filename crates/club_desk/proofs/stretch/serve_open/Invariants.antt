@@ -8,6 +8,9 @@ use Rattle.club_desk.proofs.stretch.serve_open.Given as goal
 abbrev pub invariant-loop : goal.invariant-loop
 invariant-loop g l = record {
   ready : l.club.club.needs_reopening ≡ false;
-  clean : HasCleanDisk (state g.S.Store l.club.club.connection) → HasCleanDisk (state g.S.Store l.fn.club.club.connection);
-  stands : HasCleanDisk (state g.S.Store l.club.club.connection) → (sessions : List Session) → IsHistory sessions (state g.S.Store l.fn.club.club.connection) → IsHistoryOn sessions (state g.S.Store l.club.club.connection);
+  clean : HasCleanDisk (state g.S.Store l.club.club.connection)
+      → HasCleanDisk (state g.S.Store l.fn.club.club.connection);
+  stands : HasCleanDisk (state g.S.Store l.club.club.connection) → (sessions : List Session)
+      → IsHistory sessions (state g.S.Store l.fn.club.club.connection)
+      → IsHistoryOn sessions (state g.S.Store l.club.club.connection);
 }

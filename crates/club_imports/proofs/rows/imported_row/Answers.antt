@@ -13,18 +13,40 @@ use Rattle.club_imports.proofs.rows.imported_row.Goals as goal
 
 pub standing_after-standing-requires-clause-few : goal.standing_after-standing-requires-clause-few
 standing_after-standing-requires-clause-few g c =
-    let are : AreRules g.R.Rules.rules = record { first_starts = g.met.R.Rules.first_starts; turn_passes = g.met.R.Rules.turn_passes; same_is = g.met.R.Rules.same_is; ends_at_limit = g.met.R.Rules.ends_at_limit } in
-    subst (λ ms. length ms ≤ most_plies) (sym c.as_slice-moves.ensures.value) (within-limit g.R.Rules.rules are c.args.recorded.now.moves.items c.requires.by_rules.line)
+    let are : AreRules g.R.Rules.rules = record {
+      first_starts = g.met.R.Rules.first_starts;
+      turn_passes = g.met.R.Rules.turn_passes;
+      same_is = g.met.R.Rules.same_is;
+      ends_at_limit =
+          g.met.R.Rules.ends_at_limit;
+    } in
+    subst (λ ms. length ms ≤ most_plies) (sym c.as_slice-moves.ensures.value)
+    (within-limit g.R.Rules.rules are c.args.recorded.now.moves.items c.requires.by_rules.line)
 
 pub left_after-left-requires-clause-few : goal.left_after-left-requires-clause-few
 left_after-left-requires-clause-few g c =
-    let are : AreRules g.R.Rules.rules = record { first_starts = g.met.R.Rules.first_starts; turn_passes = g.met.R.Rules.turn_passes; same_is = g.met.R.Rules.same_is; ends_at_limit = g.met.R.Rules.ends_at_limit } in
-    subst (λ ms. length ms ≤ most_plies) (sym c.as_slice-moves.ensures.value) (within-limit g.R.Rules.rules are c.args.recorded.now.moves.items c.requires.by_rules.line)
+    let are : AreRules g.R.Rules.rules = record {
+      first_starts = g.met.R.Rules.first_starts;
+      turn_passes = g.met.R.Rules.turn_passes;
+      same_is = g.met.R.Rules.same_is;
+      ends_at_limit =
+          g.met.R.Rules.ends_at_limit;
+    } in
+    subst (λ ms. length ms ≤ most_plies) (sym c.as_slice-moves.ensures.value)
+    (within-limit g.R.Rules.rules are c.args.recorded.now.moves.items c.requires.by_rules.line)
 
 pub overflow_cast-result : goal.overflow_cast-result
 overflow_cast-result g c =
-    let are : AreRules g.R.Rules.rules = record { first_starts = g.met.R.Rules.first_starts; turn_passes = g.met.R.Rules.turn_passes; same_is = g.met.R.Rules.same_is; ends_at_limit = g.met.R.Rules.ends_at_limit } in
-    let few : length c.as_slice-moves.result.now ≤ most_plies = subst (λ ms. length ms ≤ most_plies) (sym c.as_slice-moves.ensures.value) (within-limit g.R.Rules.rules are c.args.recorded.now.moves.items c.requires.by_rules.line) in
+    let are : AreRules g.R.Rules.rules = record {
+      first_starts = g.met.R.Rules.first_starts;
+      turn_passes = g.met.R.Rules.turn_passes;
+      same_is = g.met.R.Rules.same_is;
+      ends_at_limit =
+          g.met.R.Rules.ends_at_limit;
+    } in
+    let few : length c.as_slice-moves.result.now ≤ most_plies =
+    subst (λ ms. length ms ≤ most_plies) (sym c.as_slice-moves.ensures.value)
+    (within-limit g.R.Rules.rules are c.args.recorded.now.moves.items c.requires.by_rules.line) in
     omega (arith, few)
 
 pub returns : goal.returns
@@ -38,7 +60,10 @@ returns g c =
     let position = standing.position ∙ ap (position_after laws laws.start) value in
     let track = standing.track ∙ ap (line_track laws laws.start) value in
     let end = c.in_ok-end.ensures ∙ (λ i. laws.judge (c.start-opening.ensures i) (value i)) in
-    let left = c.left_after-left.ensures c.args.start ∙ ap (λ ms. spend_all c.args.increment First (at_moment c.args.start (length ms)) (clocks_with c.args.budget c.args.budget c.args.start)) value in
+    let left = c.left_after-left.ensures c.args.start
+    ∙ ap
+    (λ ms. spend_all c.args.increment First (at_moment c.args.start (length ms))
+    (clocks_with c.args.budget c.args.budget c.args.start)) value in
     record {
       key = ap Some c.in_ok-key.ensures.ok;
       event = refl;
@@ -46,10 +71,14 @@ returns g c =
       second = refl;
       start = refl;
       plies = ap length value ∙ row-plies laws key pairing c.args.start r;
-      clocks = row-clocks laws key pairing c.args.start r (record { budget = c.args.budget; increment = c.args.increment }) c.left_after-left.result.first c.left_after-left.result.second left;
-      track = c.track_numbers.ensures ∙ ap laws.track_numbers (row-track laws key pairing c.args.start r c.standing_after-standing.result.track track);
+      clocks = row-clocks laws key pairing c.args.start r
+          (record { budget = c.args.budget; increment = c.args.increment }) c.left_after-left.result.first
+          c.left_after-left.result.second left;
+      track = c.track_numbers.ensures ∙ ap laws.track_numbers
+          (row-track laws key pairing c.args.start r c.standing_after-standing.result.track track);
       offer = refl;
       end = c.end_of_record.ensures ∙ row-end laws key pairing c.args.start r c.in_ok-end.end end;
       result = row-result laws key pairing c.args.start r c.requires.by_rules;
-      position = c.in_ok-position.ensures ∙ ap laws.write_position (row-position laws key pairing c.args.start r c.standing_after-standing.result.position position);
+      position = c.in_ok-position.ensures ∙ ap laws.write_position
+          (row-position laws key pairing c.args.start r c.standing_after-standing.result.position position);
     }

@@ -8,7 +8,8 @@ abbrev pub invariant-loop-ply : goal.invariant-loop-ply
 invariant-loop-ply l =
     record {
       side : l.side ≡ turns l.ply First;
-      clocks : (moment : ℕ) → clocks_with l.left.first l.left.second moment ≡ spend_all l.increment First (at_moment moment l.ply) (clocks_with l.budget l.budget moment);
+      clocks : (moment : ℕ) → clocks_with l.left.first l.left.second moment
+          ≡ spend_all l.increment First (at_moment moment l.ply) (clocks_with l.budget l.budget moment);
       first : l.left.first ≤ 31536000 + l.ply * 2592000;
       second : l.left.second ≤ 31536000 + l.ply * 2592000;
     }

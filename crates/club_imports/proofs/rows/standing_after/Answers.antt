@@ -12,10 +12,13 @@ loop-i-preserved g c =
     record {
       position =
           c.play-next.ensures
-          ∙ next-position g.R.Rules.rules c.args.moves.now c.loop-i.i c.index-moves-i.result c.loop-i-test.true c.index-moves-i.is
+          ∙ next-position g.R.Rules.rules c.args.moves.now c.loop-i.i c.index-moves-i.result c.loop-i-test.true
+          c.index-moves-i.is
           c.loop-i.position c.loop-i.invariant.position;
       track =
           c.track_next-track.ensures
-          ∙ next-track g.R.Rules.rules c.args.moves.now c.loop-i.i c.index-moves-i.result c.loop-i-test.true c.index-moves-i.is
-          c.loop-i.track c.loop-i.position c.play-next.result c.loop-i.invariant.track c.loop-i.invariant.position c.play-next.ensures;
+          ∙ next-track g.R.Rules.rules c.args.moves.now c.loop-i.i c.index-moves-i.result c.loop-i-test.true
+          c.index-moves-i.is
+          c.loop-i.track c.loop-i.position c.play-next.result c.loop-i.invariant.track c.loop-i.invariant.position
+          c.play-next.ensures;
     }

@@ -10,10 +10,12 @@ returns-clause-safe g c = λ increment.
     let laws = g.R.Rules.rules in
     let made = c.in_ok-stood.ensures in
     let none = c.new-tally.ensures c.in_ok-text.text in
-    let told = tally-start laws g.met.R.Rules.same_position_is g.met.R.Rules.texts_tell_positions c.add.new.self c.in_ok-text.text c.in_ok-stood.stood
+    let told = tally-start laws g.met.R.Rules.same_position_is g.met.R.Rules.texts_tell_positions c.add.new.self
+    c.in_ok-text.text c.in_ok-stood.stood
     (c.in_ok-text.ensures ∙ ap laws.write_position c.start-position.ensures)
     (seen-none _ _ 0 none made.stood)
-    (λ other. made.adds other ∙ ap (cond (same_text c.in_ok-text.text other) (Some c.in_ok-stood.stood)) (c.new-tally.ensures other))
+    (λ other. made.adds other ∙ ap (cond (same_text c.in_ok-text.text other) (Some c.in_ok-stood.stood))
+    (c.new-tally.ensures other))
     in
     start-replayed laws increment _ c.new.ensures.items c.start-position.ensures
     (c.track_start.ensures ∙ ap laws.track_start c.start-position.ensures) told.0 told.1 c.requires c.requires

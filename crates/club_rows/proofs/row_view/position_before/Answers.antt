@@ -13,12 +13,28 @@ use Rattle.club_rows.proofs.row_view.position_before.Goals as goal
 pub returns-in_ok-found-in-Some : goal.returns-in_ok-found-in-Some
 returns-in_ok-found-in-Some g c = λ terms id game legal rows some.
     let rules = g.R.Rules.rules in
-    let are : AreRules rules = record { first_starts = g.met.R.Rules.first_starts; turn_passes = g.met.R.Rules.turn_passes; same_is = g.met.R.Rules.same_is; ends_at_limit = g.met.R.Rules.ends_at_limit } in
-    before-some rules are terms id game legal g.R.Rules.StandsFor g.met.R.Rules.writes_positions g.met.R.Rules.stands_for_one c.args.ply (omega arith) c.in-Some.row (ap (option_map move_cells) (sym c.in-Some.is) ∙ rows.before)
+    let are : AreRules rules = record {
+      first_starts = g.met.R.Rules.first_starts;
+      turn_passes = g.met.R.Rules.turn_passes;
+      same_is = g.met.R.Rules.same_is;
+      ends_at_limit =
+          g.met.R.Rules.ends_at_limit;
+    } in
+    before-some rules are terms id game legal g.R.Rules.StandsFor g.met.R.Rules.writes_positions
+    g.met.R.Rules.stands_for_one c.args.ply (omega arith) c.in-Some.row
+    (ap (option_map move_cells) (sym c.in-Some.is) ∙ rows.before)
     c.as_str.result.now c.as_str.ensures.value c.in_ok-found-in-Some.found c.in_ok-found-in-Some.ensures
 
 pub returns-in-None : goal.returns-in-None
 returns-in-None g c = λ terms id game legal rows some.
     let rules = g.R.Rules.rules in
-    let are : AreRules rules = record { first_starts = g.met.R.Rules.first_starts; turn_passes = g.met.R.Rules.turn_passes; same_is = g.met.R.Rules.same_is; ends_at_limit = g.met.R.Rules.ends_at_limit } in
-    absurd (before-none rules are terms id game legal c.args.ply (omega arith) c.args.rows.now.before rows.before c.in-None.is some)
+    let are : AreRules rules = record {
+      first_starts = g.met.R.Rules.first_starts;
+      turn_passes = g.met.R.Rules.turn_passes;
+      same_is = g.met.R.Rules.same_is;
+      ends_at_limit =
+          g.met.R.Rules.ends_at_limit;
+    } in
+    absurd
+    (before-none rules are terms id game legal c.args.ply (omega arith) c.args.rows.now.before rows.before
+    c.in-None.is some)

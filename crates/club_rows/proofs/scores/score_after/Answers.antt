@@ -6,12 +6,14 @@ use Rattle.club_rows.proofs.scores.score_after.Goals as goal
 
 pub returns-in_err-first_row-clause-none : goal.returns-in_err-first_row-clause-none
 returns-in_err-first_row-clause-none c =
-    λ none ms found. unfit_many ms (pair_of c.args.event c.args.first c.args.second) (own_first c.args.score) _ found.of_first
+    λ none ms found. unfit_many ms (pair_of c.args.event c.args.first c.args.second) (own_first c.args.score) _
+    found.of_first
     (rw c.of_first.ensures at (c.in_err-first_row.ensures.none refl))
 
 pub returns-in_err-second_row-clause-none : goal.returns-in_err-second_row-clause-none
 returns-in_err-second_row-clause-none c =
-    λ none ms found. unfit_many ms (pair_of c.args.event c.args.second c.args.first) (own_second c.args.score) _ found.of_second
+    λ none ms found. unfit_many ms (pair_of c.args.event c.args.second c.args.first) (own_second c.args.score) _
+    found.of_second
     (rw c.of_second.ensures at (c.in_err-second_row.ensures.none refl))
 
 pub returns-clause-some : goal.returns-clause-some

@@ -21,10 +21,17 @@ returns-clause-record_of g c clean opens live s is_club left =
     let same = c.into_connection-conn.ensures.same in
     let after = subst (λ h. HasCleanDisk (state g.S.Store h)) same clean in
     let ready = c.in-Ok.ensures.ready in
-    let taken : HasCleanDisk (state g.S.Store c.in-Ok.club.connection) = omega (arith, (c.export-written.ensures.reads ready).clean, after) in
+    let taken : HasCleanDisk (state g.S.Store c.in-Ok.club.connection) =
+    omega (arith, (c.export-written.ensures.reads ready).clean, after) in
     let here = c.in-Ok.ensures.same taken (tables s) (c.holds_exactly.ensures opens live _ _ left) in
-    subst (λ r. WritesRecord s c.args.game (g.W.Write.contents c.args.out.now) (g.W.Write.contents c.export-written.new.writer) r) (sym c.exported.ensures)
-    (writes_record s c.args.game (g.W.Write.contents c.args.out.now) (g.W.Write.contents c.export-written.new.writer) c.export-written.result (IfOk-weaker c.export-written.result _ _ (λ found told. told s is_club here) (c.export-written.ensures.written after)) (c.export-written.ensures.begun after s is_club here) (IfErr-weaker c.export-written.result _ _ (λ fault told. told ready) c.export-written.ensures.named))
+    subst
+    (λ r. WritesRecord s c.args.game (g.W.Write.contents c.args.out.now)
+    (g.W.Write.contents c.export-written.new.writer) r) (sym c.exported.ensures)
+    (writes_record s c.args.game (g.W.Write.contents c.args.out.now) (g.W.Write.contents c.export-written.new.writer)
+    c.export-written.result
+    (IfOk-weaker c.export-written.result _ _ (λ found told. told s is_club here)
+    (c.export-written.ensures.written after)) (c.export-written.ensures.begun after s is_club here)
+    (IfErr-weaker c.export-written.result _ _ (λ fault told. told ready) c.export-written.ensures.named))
 
 pub returns-clause-led : goal.returns-clause-led
 returns-clause-led g c clean opens live sessions led db left =
@@ -34,4 +41,5 @@ returns-clause-led g c clean opens live sessions led db left =
     let taken : HasCleanDisk (state g.S.Store c.in-Ok.club.connection) = omega (arith, reads.clean, after) in
     let at = c.holds_what_sessions_left.ensures opens live sessions led in
     let before = reads.may after db (subst (λ h. (state g.S.Store h).may_leave db) same left) in
-    c.leaves_what_sessions_left.ensures sessions at db ((c.in-Ok.ensures.unchanged taken at.exactly.now.schema).1 db before)
+    c.leaves_what_sessions_left.ensures sessions at db
+    ((c.in-Ok.ensures.unchanged taken at.exactly.now.schema).1 db before)

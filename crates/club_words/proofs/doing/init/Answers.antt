@@ -7,7 +7,8 @@ use Rattle.club_words.proofs.doing.init.Goals as goal
 pub returns-in-Ok-clause-begun : goal.returns-in-Ok-clause-begun
 returns-in-Ok-clause-begun g c clean opens live empty db left =
     let same = c.into_connection-conn.ensures.same in
-    let made = c.in-Ok.ensures.begins (subst (λ h. HasCleanDisk (state g.S.Store h)) same clean) (c.holds_nothing.ensures opens live empty) in
+    let made = c.in-Ok.ensures.begins (subst (λ h. HasCleanDisk (state g.S.Store h)) same clean)
+    (c.holds_nothing.ensures opens live empty) in
     c.leaves_what_sessions_left-in-Ok.ensures [] (subst (λ h. IsHistory [] (state g.S.Store h)) (sym same) made) db left
 
 pub returns-in-Ok-clause-led : goal.returns-in-Ok-clause-led

@@ -20,17 +20,23 @@ pub returns-in-Ok-legal_rows-clause-moves : goal.returns-in-Ok-legal_rows-clause
 returns-in-Ok-legal_rows-clause-moves g c clean opens live s is_club left =
     let same = c.into_connection-conn.ensures.same in
     let after = subst (λ h. HasCleanDisk (state g.S.Store h)) same clean in
-    let taken : HasCleanDisk (state g.S.Store c.in-Ok.club.connection) = omega (arith, (c.legal_rows.ensures.reads c.in-Ok.ensures.ready).clean, after) in
-    c.listed.ensures s c.args.game (c.in-Ok-legal_rows.ensures.rows after s is_club (c.in-Ok.ensures.same taken (tables s) (c.holds_exactly.ensures opens live _ _ left)))
+    let taken : HasCleanDisk (state g.S.Store c.in-Ok.club.connection) =
+    omega (arith, (c.legal_rows.ensures.reads c.in-Ok.ensures.ready).clean, after) in
+    c.listed.ensures s c.args.game
+    (c.in-Ok-legal_rows.ensures.rows after s is_club
+    (c.in-Ok.ensures.same taken (tables s) (c.holds_exactly.ensures opens live _ _ left)))
 
 pub returns-in-Ok-legal_rows-clause-led : goal.returns-in-Ok-legal_rows-clause-led
 returns-in-Ok-legal_rows-clause-led g c clean opens live sessions led db left =
     let same = c.into_connection-conn.ensures.same in
     let after = subst (λ h. HasCleanDisk (state g.S.Store h)) same clean in
-    let taken : HasCleanDisk (state g.S.Store c.in-Ok.club.connection) = omega (arith, (c.legal_rows.ensures.reads c.in-Ok.ensures.ready).clean, after) in
-    let at = stands_still sessions _ _ (c.in-Ok.ensures.same taken) (c.holds_what_sessions_left.ensures opens live sessions led) in
+    let taken : HasCleanDisk (state g.S.Store c.in-Ok.club.connection) =
+    omega (arith, (c.legal_rows.ensures.reads c.in-Ok.ensures.ready).clean, after) in
+    let at = stands_still sessions _ _ (c.in-Ok.ensures.same taken)
+    (c.holds_what_sessions_left.ensures opens live sessions led) in
     let more = stands_still sessions _ _ (c.in-Ok-legal_rows.ensures.kept after club_schema) at in
-    c.leaves_what_sessions_left-in-Ok-legal_rows.ensures sessions (subst (λ h. IsHistory sessions (state g.S.Store h)) (sym same) more) db left
+    c.leaves_what_sessions_left-in-Ok-legal_rows.ensures sessions
+    (subst (λ h. IsHistory sessions (state g.S.Store h)) (sym same) more) db left
 
 pub returns-in-Err-legal_rows-clause-led : goal.returns-in-Err-legal_rows-clause-led
 returns-in-Err-legal_rows-clause-led g c clean opens live sessions led db left =
@@ -40,4 +46,5 @@ returns-in-Err-legal_rows-clause-led g c clean opens live sessions led db left =
     let taken : HasCleanDisk (state g.S.Store c.in-Ok.club.connection) = omega (arith, reads.clean, after) in
     let at = c.holds_what_sessions_left.ensures opens live sessions led in
     let before = reads.may after db (subst (λ h. (state g.S.Store h).may_leave db) same left) in
-    c.leaves_what_sessions_left.ensures sessions at db ((c.in-Ok.ensures.unchanged taken at.exactly.now.schema).1 db before)
+    c.leaves_what_sessions_left.ensures sessions at db
+    ((c.in-Ok.ensures.unchanged taken at.exactly.now.schema).1 db before)

@@ -15,28 +15,38 @@ returns-in-Err-clause-answer g c clean opens live s is_club left =
 pub returns-in-Err-clause-led : goal.returns-in-Err-clause-led
 returns-in-Err-clause-led g c clean opens live sessions led db left =
     let at = c.holds_what_sessions_left.ensures opens live sessions led in
-    led_still sessions db (c.leaves_what_sessions_left.ensures sessions at db (c.in-Err.ensures.reads.may clean db left))
+    led_still sessions db
+    (c.leaves_what_sessions_left.ensures sessions at db (c.in-Err.ensures.reads.may clean db left))
 
 pub returns-in-Ok-apply-clause-answer : goal.returns-in-Ok-apply-clause-answer
 returns-in-Ok-apply-clause-answer g c clean opens live s is_club left =
     let same = c.into_connection-conn.ensures.same in
     let after = subst (λ h. HasCleanDisk (state g.S.Store h)) same clean in
     let taken : HasCleanDisk (state g.S.Store c.in-Ok.club.connection) = omega (arith, c.apply.ensures.clean, after) in
-    c.in-Ok-apply.ensures.answer after s is_club (c.in-Ok.ensures.same taken (tables s) (c.holds_exactly.ensures opens live _ _ left))
+    c.in-Ok-apply.ensures.answer after s is_club
+    (c.in-Ok.ensures.same taken (tables s) (c.holds_exactly.ensures opens live _ _ left))
 
 pub returns-in-Ok-apply-clause-led : goal.returns-in-Ok-apply-clause-led
 returns-in-Ok-apply-clause-led g c clean opens live sessions led db left =
     let same = c.into_connection-conn.ensures.same in
     let after = subst (λ h. HasCleanDisk (state g.S.Store h)) same clean in
     let taken : HasCleanDisk (state g.S.Store c.in-Ok.club.connection) = omega (arith, c.apply.ensures.clean, after) in
-    let at = stands_still sessions _ _ (c.in-Ok.ensures.same taken) (c.holds_what_sessions_left.ensures opens live sessions led) in
+    let at = stands_still sessions _ _ (c.in-Ok.ensures.same taken)
+    (c.holds_what_sessions_left.ensures opens live sessions led) in
     let more = c.in-Ok-apply.ensures.stands after sessions at in
-    c.leaves_what_sessions_left-in-Ok-apply.ensures _ (subst (λ h. IsHistory (sessions ++ request_sessions (given c.args.command.now c.args.moment) (Answered c.in-Ok-apply.outcome)) (state g.S.Store h)) (sym same) more) db left
+    c.leaves_what_sessions_left-in-Ok-apply.ensures _
+    (subst
+    (λ h.
+    IsHistory
+    (sessions ++ request_sessions (given c.args.command.now c.args.moment) (Answered c.in-Ok-apply.outcome))
+    (state g.S.Store h)) (sym same) more) db left
 
 pub returns-in-Err-apply-clause-led : goal.returns-in-Err-apply-clause-led
 returns-in-Err-apply-clause-led g c clean opens live sessions led db left =
     let same = c.into_connection.ensures.same in
     let after = subst (λ h. HasCleanDisk (state g.S.Store h)) same clean in
     let taken : HasCleanDisk (state g.S.Store c.in-Ok.club.connection) = omega (arith, c.apply.ensures.clean, after) in
-    let at = stands_still sessions _ _ (c.in-Ok.ensures.same taken) (c.holds_what_sessions_left.ensures opens live sessions led) in
-    c.in-Err-apply.ensures.cut_off after c.in-Ok.ensures.ready sessions at db (subst (λ h. (state g.S.Store h).may_leave db) same left)
+    let at = stands_still sessions _ _ (c.in-Ok.ensures.same taken)
+    (c.holds_what_sessions_left.ensures opens live sessions led) in
+    c.in-Err-apply.ensures.cut_off after c.in-Ok.ensures.ready sessions at db
+    (subst (λ h. (state g.S.Store h).may_leave db) same left)

@@ -18,8 +18,10 @@ pub returns-in-Ok-clause-led : goal.returns-in-Ok-clause-led
 returns-in-Ok-clause-led g c clean opens live sessions led db left =
     let same = c.into_connection-conn.ensures.same in
     let taken = subst (λ h. HasCleanDisk (state g.S.Store h)) same clean in
-    let at = stands_still sessions _ _ (c.in-Ok.ensures.same taken) (c.holds_what_sessions_left.ensures opens live sessions led) in
-    c.leaves_what_sessions_left-in-Ok.ensures sessions (subst (λ h. IsHistory sessions (state g.S.Store h)) (sym same) at) db left
+    let at = stands_still sessions _ _ (c.in-Ok.ensures.same taken)
+    (c.holds_what_sessions_left.ensures opens live sessions led) in
+    c.leaves_what_sessions_left-in-Ok.ensures sessions
+    (subst (λ h. IsHistory sessions (state g.S.Store h)) (sym same) at) db left
 
 pub returns-in-Err-clause-passes : goal.returns-in-Err-clause-passes
 returns-in-Err-clause-passes g c clean opens live s is_club left =

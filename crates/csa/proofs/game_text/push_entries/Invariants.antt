@@ -13,4 +13,5 @@ abbrev pub invariant-loop-i : goal.invariant-loop-i
 invariant-loop-i l =
     Written
     (l.position ≡ last_position opening (take l.i (map (λ e. e.0) l.entries)))
-    (string_bytes l.text ++ entries_text l.position (drop l.i l.entries) ≡ string_bytes l.initial.text ++ entries_text opening l.entries)
+    (string_bytes l.text ++ entries_text l.position (drop l.i l.entries) ≡ string_bytes l.initial.text
+    ++ entries_text opening l.entries)

@@ -17,5 +17,6 @@ returns c =
       at = c.civil.result;
       shown = c.civil.ensures;
       written = joined _ _ _ _ (lines_text head c.civil.result) (entries_text opening c.args.entries.now) _
-          c.new-text.ensures.bytes c.in_ok-push_head.ensures c.in_ok-turn.ensures.written (c.in_ok-push_end.ensures ∙ ap (λ t. string_bytes c.push_entries.new.text ++ end_text head.end t) turn);
+          c.new-text.ensures.bytes c.in_ok-push_head.ensures c.in_ok-turn.ensures.written
+          (c.in_ok-push_end.ensures ∙ ap (λ t. string_bytes c.push_entries.new.text ++ end_text head.end t) turn);
     }

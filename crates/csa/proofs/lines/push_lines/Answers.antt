@@ -11,4 +11,5 @@ loop-i-preserved c =
     let same : length parts ≡ length c.args.parts.now = length-map c.args.parts.now (λ x. x.now) in
     let i : ℕ = c.loop-i.i in
     let old : List Placed = c.loop-i.placed.items in
-    lines-grow parts i old _ _ (omega (arith, same)) (c.in_ok-push_line.ensures ∙ ap (λ l. old ++ statements_on (i + 1) l) c.line_at.ensures) c.loop-i.invariant
+    lines-grow parts i old _ _ (omega (arith, same))
+    (c.in_ok-push_line.ensures ∙ ap (λ l. old ++ statements_on (i + 1) l) c.line_at.ensures) c.loop-i.invariant

@@ -9,6 +9,8 @@ pub returns : goal.returns
 unfolding text_statements
 returns c =
     let found : List (List ℕ) = map (λ x. x.now) c.deref.result.now in
-    let parts : found ≡ slice_split (λ b. eqb b 10) c.args.text.now = ap (map (λ x. x.now)) c.deref.ensures.value ∙ c.in_ok-parts.ensures in
+    let parts : found ≡ slice_split (λ b. eqb b 10) c.args.text.now = ap (map (λ x. x.now)) c.deref.ensures.value
+    ∙ c.in_ok-parts.ensures in
     let bare : c.new-placed.result.items ≡ [] = c.new-placed.ensures.items in
-    c.in_ok-push_lines.ensures ∙ ap (λ (l : List Placed). l ++ statements_from 1 (lines_of_parts found)) bare ∙ ap (λ ps. statements_from 1 (lines_of_parts ps)) parts
+    c.in_ok-push_lines.ensures ∙ ap (λ (l : List Placed). l ++ statements_from 1 (lines_of_parts found)) bare
+    ∙ ap (λ ps. statements_from 1 (lines_of_parts ps)) parts

@@ -7,11 +7,13 @@ use Rattle.csa.specs.Moves.{StepsAs, Means}
 use Rattle.csa.proofs.moves.move_in.Goals as goal
 
 -- nothing is meant by a step that no piece on its square can have made
-no-step : (p : ShogiPosition) (w : WrittenMove) (from : ℕ) → w.from ≡ Some from → ((promote : Bool) → StepsAs p from promote w.role → ⊥) → (m : SMove) → Means p w m → ⊥
+no-step : (p : ShogiPosition) (w : WrittenMove) (from : ℕ) → w.from ≡ Some from
+    → ((promote : Bool) → StepsAs p from promote w.role → ⊥) → (m : SMove) → Means p w m → ⊥
 no-step p w from here none (Step other to promote) (side, there, comes, steps) =
     let same : other ≡ from = let both : Some other ≡ Some from = sym comes ∙ here in cc in
     none promote (subst (λ n. StepsAs p n promote w.role) same steps)
-no-step p w from here none (Drop kind to) (side, there, comes, role) = let never : None ≡ Some from = sym comes ∙ here in absurd (cc)
+no-step p w from here none (Drop kind to) (side, there, comes, role) = let never : None ≡ Some from = sym comes
+    ∙ here in absurd (cc)
 
 pub returns-in-None-step_promotes-clause-none : goal.returns-in-None-step_promotes-clause-none
 returns-in-None-step_promotes-clause-none c =

@@ -11,8 +11,13 @@ returns-then-has_statement-clause-records c =
     let parts : List (List Placed) = map (λ x. x.now) given in
     let same : length parts ≡ length given = length-map given (λ x. x.now) in
     let last : ℕ = length given - 1 in
-    let is : get_or parts last [] ≡ c.index-parts-count.result.now = get_or-map (λ x. x.now) given last c.index-parts-count.result [] (omega arith) ∙ ap (λ x. x.now) (sym c.index-parts-count.is) in
-    take_all (length given) parts (omega (arith, same)) ∙ sym (whole-parts parts last (omega (arith, same)) (ap has_statement is ∙ sym c.has_statement.ensures ∙ c.if-has_statement.true))
+    let is : get_or parts last [] ≡ c.index-parts-count.result.now =
+    get_or-map (λ x. x.now) given last c.index-parts-count.result [] (omega arith)
+    ∙ ap (λ x. x.now) (sym c.index-parts-count.is) in
+    take_all (length given) parts (omega (arith, same))
+    ∙ sym
+    (whole-parts parts last (omega (arith, same))
+    (ap has_statement is ∙ sym c.has_statement.ensures ∙ c.if-has_statement.true))
 
 pub returns-clause-records : goal.returns-clause-records
 returns-clause-records c =
@@ -20,5 +25,9 @@ returns-clause-records c =
     let parts : List (List Placed) = map (λ x. x.now) given in
     let same : length parts ≡ length given = length-map given (λ x. x.now) in
     let last : ℕ = length given - 1 in
-    let is : get_or parts last [] ≡ c.index-parts-count.result.now = get_or-map (λ x. x.now) given last c.index-parts-count.result [] (omega arith) ∙ ap (λ x. x.now) (sym c.index-parts-count.is) in
-    sym (parts-but-last parts last (omega (arith, same)) (ap has_statement is ∙ sym c.has_statement.ensures ∙ c.if-has_statement.false))
+    let is : get_or parts last [] ≡ c.index-parts-count.result.now =
+    get_or-map (λ x. x.now) given last c.index-parts-count.result [] (omega arith)
+    ∙ ap (λ x. x.now) (sym c.index-parts-count.is) in
+    sym
+    (parts-but-last parts last (omega (arith, same))
+    (ap has_statement is ∙ sym c.has_statement.ensures ∙ c.if-has_statement.false))

@@ -15,7 +15,8 @@ returns-in-Err-clause-fault c =
     let end = c.end-end.result in
     let turn = ap (λ (p : ShogiPosition). p.turn) (sym c.requires.stands.position) in
     let score : score_in placed ms end ≡ Err c.in-Err.fault =
-    ap (λ t. ending (end_in placed) t end) (turn ∙ sym c.turn.ensures) ∙ ap (λ w. ending w c.turn.result end) (sym c.end_in.ensures) ∙ sym c.ending.ensures ∙ c.in-Err.is in
+    ap (λ t. ending (end_in placed) t end) (turn ∙ sym c.turn.ensures)
+    ∙ ap (λ w. ending w c.turn.result end) (sym c.end_in.ensures) ∙ sym c.ending.ensures ∙ c.in-Err.is in
     end-fails placed ms end c.in-Err.fault
     (record {
       even = c.requires.even;

@@ -12,7 +12,8 @@ use Rattle.csa.specs.Replaying.{RefusesMade, RefusesWritten}
 use Rattle.csa.proofs.replay.push.Goals as goal
 
 -- what refuses a move refuses the written move that means it
-refuses-written : (ms : List SMove) (w : WrittenMove) (m : SMove) (f : CsaFault) → Means (last_position opening ms) w m → RefusesMade ms m f → RefusesWritten ms w f
+refuses-written : (ms : List SMove) (w : WrittenMove) (m : SMove) (f : CsaFault) → Means (last_position opening ms) w m
+    → RefusesMade ms m f → RefusesWritten ms w f
 refuses-written ms w m fault.Memory means h = inl refl
 refuses-written ms w m (fault.AfterEnd ply) means h = inr h
 refuses-written ms w m (fault.Illegal ply cause) means h = inr (h.0, h.1, inl (m, means, h.2))
@@ -22,7 +23,8 @@ refuses-written ms w m fault.OtherOpening means h = absurd h
 refuses-written ms w m fault.Unfinished means h = absurd h
 refuses-written ms w m fault.ResultDiffers means h = absurd h
 
-either : {A : Type 0} (ms : List SMove) (w : WrittenMove) (m : SMove) (r : Result A CsaFault) → Means (last_position opening ms) w m → IfErr r (RefusesMade ms m) → IfErr r (RefusesWritten ms w)
+either : {A : Type 0} (ms : List SMove) (w : WrittenMove) (m : SMove) (r : Result A CsaFault)
+    → Means (last_position opening ms) w m → IfErr r (RefusesMade ms m) → IfErr r (RefusesWritten ms w)
 either ms w m (Ok v) means h = tt
 either ms w m (Err f) means h = refuses-written ms w m f means h
 
@@ -31,4 +33,5 @@ returns-in-Some-clause-fault c =
     let ms : List SMove = c.args.replay.now.moves.items in
     let w : WrittenMove = c.args.written.now in
     either ms w c.in-Some.played c.push_move.result
-    (subst (λ (p : ShogiPosition). Means p w c.in-Some.played) c.requires.position c.in-Some.ensures.some) c.push_move.ensures.fault
+    (subst (λ (p : ShogiPosition). Means p w c.in-Some.played) c.requires.position c.in-Some.ensures.some)
+    c.push_move.ensures.fault

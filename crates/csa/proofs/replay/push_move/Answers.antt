@@ -13,22 +13,26 @@ pub returns-in-Err-clause-fault : goal.returns-in-Err-clause-fault
 returns-in-Err-clause-fault c =
     let ms : List SMove = c.args.replay.now.moves.items in
     subst (λ f. RefusesMade ms c.args.played f) (sym c.fault_of.ensures)
-    (made-fault c.check_is.ensures c.each_line_has_one_end.ensures.one ms c.args.played c.in-Err.fault c.requires.follows.played (c.in-Err.ensures.fault opening ms c.requires.follows))
+    (made-fault c.check_is.ensures c.each_line_has_one_end.ensures.one ms c.args.played c.in-Err.fault
+    c.requires.follows.played (c.in-Err.ensures.fault opening ms c.requires.follows))
 
 pub play-next-requires : goal.play-next-requires
 play-next-requires c =
     let ms : List SMove = c.args.replay.now.moves.items in
     let m : SMove = c.args.played in
-    let grown : Follows opening (ms ++ m ∷ []) c.push.new.self = c.in-Ok.ensures.follows opening ms c.requires.follows in
+    let grown : Follows opening (ms ++ m ∷ []) c.push.new.self =
+    c.in-Ok.ensures.follows opening ms c.requires.follows in
     subst (λ p. Legal p m) (sym c.requires.position) (last-legal opening ms m grown.played)
 
 pub returns-clause-stands : goal.returns-clause-stands
 returns-clause-stands c =
     let ms : List SMove = c.args.replay.now.moves.items in
     let m : SMove = c.args.played in
-    let grown : Follows opening (ms ++ m ∷ []) c.push.new.self = c.in-Ok.ensures.follows opening ms c.requires.follows in
+    let grown : Follows opening (ms ++ m ∷ []) c.push.new.self =
+    c.in-Ok.ensures.follows opening ms c.requires.follows in
     let items : c.push-2.new.self.items ≡ ms ++ m ∷ [] = c.in_ok-push.ensures.items in
     record {
       follows = subst (λ l. Follows opening l c.push.new.self) (sym items) grown;
-      position = c.play-next.ensures ∙ ap (λ (p : ShogiPosition). play p m) c.requires.position ∙ sym (last_position-more opening ms m) ∙ ap (λ l. last_position opening l) (sym items);
+      position = c.play-next.ensures ∙ ap (λ (p : ShogiPosition). play p m) c.requires.position
+          ∙ sym (last_position-more opening ms m) ∙ ap (λ l. last_position opening l) (sym items);
     }

@@ -12,6 +12,9 @@ returns c = λ n.
     let d = c.args.toward in
     let s = c.args.squares in
     let each : (m : ℕ) → set.contains c.intersection-near.result m ≡ (set.contains s m && next_in c.args.empty d m) =
-    λ m. ap (λ (t : Squares). set.contains t m) c.intersection-near.ensures ∙ set.contains-intersection nat_cmp_total s c.beside-before.result m ∙ ap (λ b. set.contains s m && b) (c.beside-before.ensures m) in
+    λ m. ap (λ (t : Squares). set.contains t m) c.intersection-near.ensures
+    ∙ set.contains-intersection nat_cmp_total s c.beside-before.result m
+    ∙ ap (λ b. set.contains s m && b) (c.beside-before.ensures m) in
     c.beside.ensures n
-    ∙ elim (step d n) as (λ o. option_map_or (set.contains c.intersection-near.result) o false ≡ option_map_or (λ m. set.contains s m && next_in c.args.empty d m) o false) [ None ↦ refl | Some m ↦ each m ]
+    ∙ elim (step d n) as (λ o. option_map_or (set.contains c.intersection-near.result) o false
+    ≡ option_map_or (λ m. set.contains s m && next_in c.args.empty d m) o false) [ None ↦ refl | Some m ↦ each m ]

@@ -14,8 +14,10 @@ returns-then-not-is_empty c =
     let x = c.args.square in
     let q = c.in-Some.piece in
     let goes = steps (map.get p.board) q x in
-    let some = steps-some c.steps_from.result goes c.steps_from.ensures (λ e. let f = c.is_empty.ensures.1 e in let g = c.if-not-is_empty.true in cc) in
-    sym (can_move-own p x q (sym c.own_at.ensures ∙ c.in-Some.is) ∙ ap (λ b. b || nat_lt 0 (length (jumps (without p.board x) q set.empty x))) some)
+    let some = steps-some c.steps_from.result goes c.steps_from.ensures (λ e. let f = c.is_empty.ensures.1 e in
+    let g = c.if-not-is_empty.true in cc) in
+    sym (can_move-own p x q (sym c.own_at.ensures ∙ c.in-Some.is)
+    ∙ ap (λ b. b || nat_lt 0 (length (jumps (without p.board x) q set.empty x))) some)
 
 pub returns-else-not-is_empty : goal.returns-else-not-is_empty
 returns-else-not-is_empty c =
@@ -23,7 +25,9 @@ returns-else-not-is_empty c =
     let x = c.args.square in
     let q = c.in-Some.piece in
     let goes = steps (map.get p.board) q x in
-    let none = steps-none c.steps_from.result goes c.steps_from.ensures (c.is_empty.ensures.0 c.if-not-is_empty.false) in
+    let none = steps-none c.steps_from.result goes c.steps_from.ensures (c.is_empty.ensures.0 c.if-not-is_empty.false)
+    in
     let rest = nat_lt 0 (length (jumps (without p.board x) q set.empty x)) in
-    c.can_jump.ensures ∙ ap (λ (d : Mover). nat_lt 0 (length (jumps (without p.board d.origin) d.piece d.taken d.at))) c.new.ensures
+    c.can_jump.ensures ∙ ap (λ (d : Mover). nat_lt 0 (length (jumps (without p.board d.origin) d.piece d.taken d.at)))
+    c.new.ensures
     ∙ sym (can_move-own p x q (sym c.own_at.ensures ∙ c.in-Some.is) ∙ ap (λ b. b || rest) none)

@@ -18,7 +18,8 @@ pub returns-then-most-gt0 : goal.returns-then-most-gt0
 returns-then-most-gt0 c =
     let p = c.args.position.now in
     let m = c.args.played.now in
-    answer-must p m (is_step-sound p m.from m.to (sym c.is_step.ensures ∙ c.if-not-is_step.false), c.requires) (HasCapture-most p c.most.result c.most.ensures.most c.if-most-gt0.true)
+    answer-must p m (is_step-sound p m.from m.to (sym c.is_step.ensures ∙ c.if-not-is_step.false), c.requires)
+    (HasCapture-most p c.most.result c.most.ensures.most c.if-most-gt0.true)
 
 pub returns : goal.returns
 returns c =

@@ -14,8 +14,10 @@ found_here : (c : goal.Then-can_move) → has_move c.args.position.now ≡ true
 found_here c =
     let p = c.args.position.now in
     let w = c.loop-square in
-    let test : can_move p c.square-item.result ≡ true = ap (can_move p) c.square-item.is ∙ sym c.can_move.ensures ∙ c.if-can_move.true in
-    let found = list_any-here (can_move p) c.all.result w.square-index c.square-item.result (omega (arith, ap length c.all.ensures)) c.square-item.is w.invariant test in
+    let test : can_move p c.square-item.result ≡ true = ap (can_move p) c.square-item.is ∙ sym c.can_move.ensures
+    ∙ c.if-can_move.true in
+    let found = list_any-here (can_move p) c.all.result w.square-index c.square-item.result
+    (omega (arith, ap length c.all.ensures)) c.square-item.is w.invariant test in
     sym (has_move-is p) ∙ ap (list_any (can_move p)) (sym c.all.ensures) ∙ found
 
 pub returns-then-can_move-clause-legal : goal.returns-then-can_move-clause-legal
@@ -28,7 +30,8 @@ pub loop-square-preserved : goal.loop-square-preserved
 loop-square-preserved c =
     let p = c.args.position.now in
     let w = c.loop-square in
-    list_any-past (can_move p) c.all.result w.square-index c.square-item.result (omega (arith, ap length c.all.ensures)) c.square-item.is w.invariant
+    list_any-past (can_move p) c.all.result w.square-index c.square-item.result (omega (arith, ap length c.all.ensures))
+    c.square-item.is w.invariant
     (ap (can_move p) c.square-item.is ∙ sym c.can_move.ensures ∙ c.if-can_move.false)
 
 nothing_found : (c : goal.After-loop-square) → has_move c.args.position.now ≡ false
@@ -40,7 +43,11 @@ nothing_found c =
     sym (ap (list_any (can_move p)) c.all.ensures ∙ has_move-is p) ∙ none
 
 pub returns-clause-legal : goal.returns-clause-legal
-returns-clause-legal c = (λ e. cc, λ h. let is = nothing_found c in let found = has_move-complete c.args.position.now h in cc)
+returns-clause-legal c = (
+  λ e. cc,
+  λ h. let is = nothing_found c in
+      let found = has_move-complete c.args.position.now h in cc,
+)
 
 pub returns-clause-value : goal.returns-clause-value
 returns-clause-value c = sym (nothing_found c)

@@ -4,4 +4,5 @@ use Rattle.draughts_moves.specs.Search.{can_move}
 use Rattle.draughts_moves.proofs.checking.has_move.Given as goal
 
 abbrev pub invariant-loop-square : goal.invariant-loop-square
-invariant-loop-square l = list_any (can_move l.position) (drop l.square-index l.square-items) ≡ list_any (can_move l.position) l.square-items
+invariant-loop-square l = list_any (can_move l.position) (drop l.square-index l.square-items)
+    ≡ list_any (can_move l.position) l.square-items

@@ -18,9 +18,12 @@ returns-in-Some c =
     let q = c.in-Some.piece in
     let own = sym c.own_at.ensures ∙ c.in-Some.is in
     let start : Mover = record { piece = q; origin = m.from; at = m.from; taken = set.empty } in
-    let P : ℕ → Mover → Type 0 = λ k mover. Reaches (without p.board mover.origin) mover.piece k mover.taken mover.at m.taken m.to in (
+    let P : ℕ → Mover → Type 0 = λ k mover. Reaches (without p.board mover.origin) mover.piece k mover.taken mover.at
+    m.taken m.to in (
       λ found. Reaches-IsCapture p m q own (is_positive m.taken c.requires)
-          (subst (λ k. P k start) c.len-size.ensures (subst (P c.len-size.result) c.new.ensures (c.reaches.ensures.0 found))),
+          (subst (λ k. P k start) c.len-size.ensures
+          (subst (P c.len-size.result) c.new.ensures (c.reaches.ensures.0 found))),
       λ k. c.reaches.ensures.1
-          (subst (P c.len-size.result) (sym c.new.ensures) (subst (λ n. P n start) (sym c.len-size.ensures) (IsCapture-Reaches p m k q own))),
+          (subst (P c.len-size.result) (sym c.new.ensures)
+          (subst (λ n. P n start) (sym c.len-size.ensures) (IsCapture-Reaches p m k q own))),
     )

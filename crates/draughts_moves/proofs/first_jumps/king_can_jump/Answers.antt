@@ -8,9 +8,14 @@ pub returns-in-Some : goal.returns-in-Some
 returns-in-Some c =
     let m = c.args.mover.now in
     c.takes.ensures
-    ∙ sym (king-takes (without c.args.position.now.board m.origin) m.piece m.taken c.args.toward c.others-pieces.result c.others-pieces.ensures m.at c.in-Some.over (sym c.first_on.ensures ∙ c.in-Some.is))
+    ∙ sym
+    (king-takes (without c.args.position.now.board m.origin) m.piece m.taken c.args.toward c.others-pieces.result
+    c.others-pieces.ensures m.at c.in-Some.over (sym c.first_on.ensures ∙ c.in-Some.is))
 
 pub returns-in-None : goal.returns-in-None
 returns-in-None c =
     let m = c.args.mover.now in
-    sym (ap any (king-none (without c.args.position.now.board m.origin) m.piece m.taken c.args.toward c.others-pieces.result c.others-pieces.ensures m.at (sym c.first_on.ensures ∙ c.in-None.is)))
+    sym
+    (ap any
+    (king-none (without c.args.position.now.board m.origin) m.piece m.taken c.args.toward c.others-pieces.result
+    c.others-pieces.ensures m.at (sym c.first_on.ensures ∙ c.in-None.is)))

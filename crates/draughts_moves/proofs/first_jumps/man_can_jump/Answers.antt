@@ -6,9 +6,14 @@ use Rattle.draughts_moves.proofs.first_jumps.man_can_jump.Goals as goal
 pub returns-in-Some : goal.returns-in-Some
 returns-in-Some c =
     let m = c.args.mover.now in
-    c.takes.ensures ∙ sym (man-takes (without c.args.position.now.board m.origin) m.piece m.taken c.args.toward m.at c.in-Some.over (sym c.step.ensures ∙ c.in-Some.is))
+    c.takes.ensures
+    ∙ sym
+    (man-takes (without c.args.position.now.board m.origin) m.piece m.taken c.args.toward m.at c.in-Some.over
+    (sym c.step.ensures ∙ c.in-Some.is))
 
 pub returns-in-None : goal.returns-in-None
 returns-in-None c =
     let m = c.args.mover.now in
-    sym (man-none (without c.args.position.now.board m.origin) m.piece m.taken c.args.toward m.at (sym c.step.ensures ∙ c.in-None.is))
+    sym
+    (man-none (without c.args.position.now.board m.origin) m.piece m.taken c.args.toward m.at
+    (sym c.step.ensures ∙ c.in-None.is))

@@ -11,18 +11,23 @@ returns-in-None-clause-added c =
     let m = c.args.mover.now in
     let b = without c.args.position.now.board m.origin in
     nothing_added c.args.jumps.now (king_jumps b m.piece m.taken (ray c.args.toward m.at))
-    (king-none b m.piece m.taken c.args.toward c.others-pieces.result c.others-pieces.ensures m.at (sym c.first_on.ensures ∙ c.in-None.is))
+    (king-none b m.piece m.taken c.args.toward c.others-pieces.result c.others-pieces.ensures m.at
+    (sym c.first_on.ensures ∙ c.in-None.is))
 
 pub returns-then-is_prey-clause-added : goal.returns-then-is_prey-clause-added
 returns-then-is_prey-clause-added c =
     let m = c.args.mover.now in
     let b = without c.args.position.now.board m.origin in
     c.landings.ensures.added
-    ∙ sym (ap (λ js. c.args.jumps.now ++ js) (king-prey b m.piece m.taken c.args.toward c.others-pieces.result c.others-pieces.ensures m.at c.in-Some.over (sym c.first_on.ensures ∙ c.in-Some.is) (sym c.is_prey.ensures ∙ c.if-is_prey.true)))
+    ∙ sym
+    (ap (λ js. c.args.jumps.now ++ js)
+    (king-prey b m.piece m.taken c.args.toward c.others-pieces.result c.others-pieces.ensures m.at c.in-Some.over
+    (sym c.first_on.ensures ∙ c.in-Some.is) (sym c.is_prey.ensures ∙ c.if-is_prey.true)))
 
 pub returns-else-is_prey-clause-added : goal.returns-else-is_prey-clause-added
 returns-else-is_prey-clause-added c =
     let m = c.args.mover.now in
     let b = without c.args.position.now.board m.origin in
     nothing_added c.args.jumps.now (king_jumps b m.piece m.taken (ray c.args.toward m.at))
-    (king-no_prey b m.piece m.taken c.args.toward c.others-pieces.result c.others-pieces.ensures m.at c.in-Some.over (sym c.first_on.ensures ∙ c.in-Some.is) (sym c.is_prey.ensures ∙ c.if-is_prey.false))
+    (king-no_prey b m.piece m.taken c.args.toward c.others-pieces.result c.others-pieces.ensures m.at c.in-Some.over
+    (sym c.first_on.ensures ∙ c.in-Some.is) (sym c.is_prey.ensures ∙ c.if-is_prey.false))

@@ -9,7 +9,10 @@ use Rattle.draughts_moves.proofs.most.may_take.Goals as goal
 pub returns : goal.returns
 returns c =
     let p = c.args.position.now in
-    takes_nothing p c.squares_of-own.result c.squares_of-enemies.result c.empty_squares.result c.all_beside-near.result c.kings.result c.intersection.result
+    takes_nothing p c.squares_of-own.result c.squares_of-enemies.result c.empty_squares.result c.all_beside-near.result
+    c.kings.result c.intersection.result
     (λ n. c.squares_of-own.ensures n ∙ ap (λ side. is_of side (map.get p.board n)) c.turn.ensures)
-    (λ n. c.squares_of-enemies.ensures n ∙ ap (λ side. is_of side (map.get p.board n)) (c.other.ensures ∙ ap other c.turn-2.ensures))
-    c.empty_squares.ensures.empty c.all_beside-near.ensures c.kings.ensures (c.intersection.ensures ∙ ap (set.intersection c.squares_of-own.result) c.union-able.ensures)
+    (λ n. c.squares_of-enemies.ensures n ∙ ap (λ side. is_of side (map.get p.board n))
+    (c.other.ensures ∙ ap other c.turn-2.ensures))
+    c.empty_squares.ensures.empty c.all_beside-near.ensures c.kings.ensures
+    (c.intersection.ensures ∙ ap (set.intersection c.squares_of-own.result) c.union-able.ensures)

@@ -22,7 +22,8 @@ loop-square-preserved c =
     let value : c.greatest_at.result ≡ greatest_at p n = c.greatest_at.ensures.value in
     let few : c.greatest_at.result ≤ 50 = c.greatest_at.ensures.few in
     record {
-      most_is = popped_most (greatest_at p) w.able c.pop.new.self n w.most c.max-most.result (most p) c.in-Some.ensures.0 w.invariant.most_is (step ∙ ap (max w.most) value);
+      most_is = popped_most (greatest_at p) w.able c.pop.new.self n w.most c.max-most.result (most p)
+          c.in-Some.ensures.0 w.invariant.most_is (step ∙ ap (max w.most) value);
       few = omega (arith, step, few, w.invariant.few);
     }
 
@@ -30,4 +31,6 @@ pub returns-clause-most : goal.returns-clause-most
 returns-clause-most c =
     let p = c.args.position.now in
     let w = c.loop-square in
-    subst (IsMost p) (sym (popped_end (greatest_at p) w.able w.most (most p) c.in_default.ensures.1 w.invariant.most_is)) (IsMost-most p)
+    subst (IsMost p)
+    (sym (popped_end (greatest_at p) w.able w.most (most p) c.in_default.ensures.1 w.invariant.most_is))
+    (IsMost-most p)

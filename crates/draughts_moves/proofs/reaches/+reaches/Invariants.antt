@@ -9,7 +9,8 @@ abbrev pub invariant-loop-over : goal.invariant-loop-over
 invariant-loop-over l =
     let b = without l.position.board l.mover.origin in
     record {
-      none : (j : ℕ × ℕ) → In j (take l.over-index l.over-items) → Reaches b l.mover.piece (l.left - 1) (set.insert l.mover.taken j.0) j.1 l.played.taken l.played.to → ⊥;
+      none : (j : ℕ × ℕ) → In j (take l.over-index l.over-items)
+          → Reaches b l.mover.piece (l.left - 1) (set.insert l.mover.taken j.0) j.1 l.played.taken l.played.to → ⊥;
       items_are : l.over-items ≡ jumps b l.mover.piece l.mover.taken l.fn.mover.at;
     }
 

@@ -13,7 +13,12 @@ invariant-loop-over l =
     let b = without l.position.board l.mover.origin in
     record {
       so_far : lists_in l.routes.items
-          ≡ put_all route_cmp (flat_map (λ j. map (λ ls. l.fn.path.items ++ (j.1 ∷ ls)) (landings_of b l.mover.piece l.played.taken l.played.to (l.left - 1) (set.insert l.mover.taken j.0) j.1)) (take l.over-index l.over-items)) (lists_in l.fn.routes.items);
+          ≡
+          put_all route_cmp
+          (flat_map
+          (λ j. map (λ ls. l.fn.path.items ++ (j.1 ∷ ls))
+          (landings_of b l.mover.piece l.played.taken l.played.to (l.left - 1) (set.insert l.mover.taken j.0) j.1))
+          (take l.over-index l.over-items)) (lists_in l.fn.routes.items);
       items_are : l.over-items ≡ jumps b l.mover.piece l.mover.taken l.fn.mover.at;
       path_is : l.path.items ≡ l.fn.path.items;
     }

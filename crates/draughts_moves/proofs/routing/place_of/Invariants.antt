@@ -4,4 +4,5 @@ use Rattle.draughts_moves.specs.Routes.{route_cmp, lists_in}
 use Rattle.draughts_moves.proofs.routing.place_of.Given as goal
 
 abbrev pub invariant-loop-i : goal.invariant-loop-i
-invariant-loop-i l = take l.i (lists_in l.routes) ++ put route_cmp l.route (drop l.i (lists_in l.routes)) ≡ put route_cmp l.route (lists_in l.routes)
+invariant-loop-i l = take l.i (lists_in l.routes) ++ put route_cmp l.route (drop l.i (lists_in l.routes))
+    ≡ put route_cmp l.route (lists_in l.routes)

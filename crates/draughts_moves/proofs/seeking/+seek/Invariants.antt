@@ -16,9 +16,12 @@ invariant-loop-over l =
     let b = without l.position.board m.origin in
     let most = max l.fn.found.size (set.len m.taken + greatest b m.piece m.taken m.at) in
     record {
-      most_is : fold (λ k j. max k (set.len m.taken + greatest_by b m j)) l.found.size (drop l.over-index l.over-items) ≡ most;
-      listed : put_all move_cmp (flat_map (ends_by b m most) (drop l.over-index l.over-items)) (kept l.found.size most l.found.moves.items)
-          ≡ put_all move_cmp (flat_map (ends_by b m most) l.over-items) (kept l.fn.found.size most l.fn.found.moves.items);
+      most_is : fold (λ k j. max k (set.len m.taken + greatest_by b m j)) l.found.size (drop l.over-index l.over-items)
+          ≡ most;
+      listed : put_all move_cmp (flat_map (ends_by b m most) (drop l.over-index l.over-items))
+          (kept l.found.size most l.found.moves.items)
+          ≡ put_all move_cmp (flat_map (ends_by b m most) l.over-items)
+          (kept l.fn.found.size most l.fn.found.moves.items);
       sorted : IsStrictlySortedBy move_cmp l.found.moves.items;
       items_are : l.over-items ≡ jumps b m.piece m.taken m.at;
       mover_is : l.mover ≡ m;

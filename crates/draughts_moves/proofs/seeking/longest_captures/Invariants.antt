@@ -14,7 +14,8 @@ invariant-loop-square l =
     let p = l.position in
     record {
       most_is : fold (λ m x. max m (greatest_at p x)) l.found.size (ascending l.able) ≡ most p;
-      listed : put_all move_cmp (flat_map (captured p (most p)) (ascending l.able)) (kept l.found.size (most p) l.found.moves.items) ≡ put_all move_cmp (all_captured p) [];
+      listed : put_all move_cmp (flat_map (captured p (most p)) (ascending l.able))
+          (kept l.found.size (most p) l.found.moves.items) ≡ put_all move_cmp (all_captured p) [];
       sorted : IsStrictlySortedBy move_cmp l.found.moves.items;
     }
 

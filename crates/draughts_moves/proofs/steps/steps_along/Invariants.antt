@@ -10,4 +10,6 @@ abbrev pub invariant-loop : goal.invariant-loop
 invariant-loop l =
     let b = get l.position.board in
     let far = reach l.fn.piece l.toward in
-    (n : ℕ) → (set.contains l.squares n || list_any (λ m. m == n) (clear_front b (line (far - l.counter) l.toward l.at))) ≡ list_any (λ m. m == n) (clear_front b (line far l.toward l.fn.from))
+    (n : ℕ)
+    → (set.contains l.squares n || list_any (λ m. m == n) (clear_front b (line (far - l.counter) l.toward l.at)))
+    ≡ list_any (λ m. m == n) (clear_front b (line far l.toward l.fn.from))

@@ -4,4 +4,5 @@ use Rattle.http_desk.specs.ShownViews.{texts_view}
 use Rattle.http_desk.proofs.bodies.lined.Given as goal
 
 abbrev pub invariant-loop-line : goal.invariant-loop-line
-invariant-loop-line l = string_bytes l.text ++ lined (texts_view (drop l.line-index l.lines)) ≡ lined (texts_view l.lines)
+invariant-loop-line l = string_bytes l.text ++ lined (texts_view (drop l.line-index l.lines))
+    ≡ lined (texts_view l.lines)

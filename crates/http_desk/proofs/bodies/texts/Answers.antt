@@ -6,4 +6,6 @@ use Rattle.http_desk.proofs.BodyLemmas.{texts_are, view_list}
 use Rattle.http_desk.proofs.bodies.texts.Goals as goal
 
 pub returns : goal.returns
-returns c = view_list c.in_ok-values.values ∙ ap (λ (vs : List Value). array (items_of (map view vs))) c.in_ok-values.ensures ∙ ap array (texts_are c.args.rows.items)
+returns c = view_list c.in_ok-values.values
+    ∙ ap (λ (vs : List Value). array (items_of (map view vs))) c.in_ok-values.ensures
+    ∙ ap array (texts_are c.args.rows.items)

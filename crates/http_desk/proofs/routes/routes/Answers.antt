@@ -1,7 +1,8 @@
 use Rattle.std.proofs.Common.{◌∙◌, ap, codes}
 use Rattle.matchit.specs.Route.{parse_route}
 use Rattle.http_desk.specs.Routes.{routes, with_route}
-use Rattle.http_desk.specs.declared.routes.Page.TheVariants.{GameView, LegalMoves, CrossTable, MakeMove, OfferDraw, AcceptDraw, Resign, ClaimTime, Challenge, Withdraw, Answer}
+use Rattle.http_desk.specs.declared.routes.Page.TheVariants.{GameView, LegalMoves, CrossTable, MakeMove, OfferDraw}
+use Rattle.http_desk.specs.declared.routes.Page.TheVariants.{AcceptDraw, Resign, ClaimTime, Challenge, Withdraw, Answer}
 use Rattle.http_desk.proofs.RouteLemmas.{inserted}
 use Rattle.http_desk.proofs.routes.routes.Goals as goal
 
@@ -12,11 +13,24 @@ returns c =
     let put_2 = inserted (parse_route (codes "/games/{id}/legal")) LegalMoves _ _ tt c.in_ok-insert-2.ensures in
     let put_3 = inserted (parse_route (codes "/events/{name}/table")) CrossTable _ _ tt c.in_ok-insert-3.ensures in
     let put_4 = inserted (parse_route (codes "/games/{id}/moves/{ply}")) MakeMove _ _ tt c.in_ok-insert-4.ensures in
-    let put_5 = inserted (parse_route (codes "/games/{id}/draw/{ply}/offer")) OfferDraw _ _ tt c.in_ok-insert-5.ensures in
-    let put_6 = inserted (parse_route (codes "/games/{id}/draw/{ply}/accept")) AcceptDraw _ _ tt c.in_ok-insert-6.ensures in
+    let put_5 = inserted (parse_route (codes "/games/{id}/draw/{ply}/offer")) OfferDraw _ _ tt c.in_ok-insert-5.ensures
+    in
+    let put_6 = inserted (parse_route (codes "/games/{id}/draw/{ply}/accept")) AcceptDraw _ _ tt
+    c.in_ok-insert-6.ensures in
     let put_7 = inserted (parse_route (codes "/games/{id}/resign")) Resign _ _ tt c.in_ok-insert-7.ensures in
     let put_8 = inserted (parse_route (codes "/games/{id}/claim-time")) ClaimTime _ _ tt c.in_ok-insert-8.ensures in
     let put_9 = inserted (parse_route (codes "/challenges/{number}")) Challenge _ _ tt c.in_ok-insert-9.ensures in
-    let put_10 = inserted (parse_route (codes "/challenges/{number}/withdraw")) Withdraw _ _ tt c.in_ok-insert-10.ensures in
+    let put_10 = inserted (parse_route (codes "/challenges/{number}/withdraw")) Withdraw _ _ tt
+    c.in_ok-insert-10.ensures in
     let put_11 = inserted (parse_route (codes "/answers/{member}/{number}")) Answer _ _ tt c.in_ok-insert-11.ensures in
-    put_11 ∙ ap (with_route (parse_route (codes "/answers/{member}/{number}")) Answer) (put_10 ∙ ap (with_route (parse_route (codes "/challenges/{number}/withdraw")) Withdraw) (put_9 ∙ ap (with_route (parse_route (codes "/challenges/{number}")) Challenge) (put_8 ∙ ap (with_route (parse_route (codes "/games/{id}/claim-time")) ClaimTime) (put_7 ∙ ap (with_route (parse_route (codes "/games/{id}/resign")) Resign) (put_6 ∙ ap (with_route (parse_route (codes "/games/{id}/draw/{ply}/accept")) AcceptDraw) (put_5 ∙ ap (with_route (parse_route (codes "/games/{id}/draw/{ply}/offer")) OfferDraw) (put_4 ∙ ap (with_route (parse_route (codes "/games/{id}/moves/{ply}")) MakeMove) (put_3 ∙ ap (with_route (parse_route (codes "/events/{name}/table")) CrossTable) (put_2 ∙ ap (with_route (parse_route (codes "/games/{id}/legal")) LegalMoves) (put_1 ∙ ap (with_route (parse_route (codes "/games/{id}")) GameView) (c.new-router.ensures)))))))))))
+    put_11 ∙ ap (with_route (parse_route (codes "/answers/{member}/{number}")) Answer)
+    (put_10 ∙ ap (with_route (parse_route (codes "/challenges/{number}/withdraw")) Withdraw)
+    (put_9 ∙ ap (with_route (parse_route (codes "/challenges/{number}")) Challenge)
+    (put_8 ∙ ap (with_route (parse_route (codes "/games/{id}/claim-time")) ClaimTime)
+    (put_7 ∙ ap (with_route (parse_route (codes "/games/{id}/resign")) Resign)
+    (put_6 ∙ ap (with_route (parse_route (codes "/games/{id}/draw/{ply}/accept")) AcceptDraw)
+    (put_5 ∙ ap (with_route (parse_route (codes "/games/{id}/draw/{ply}/offer")) OfferDraw)
+    (put_4 ∙ ap (with_route (parse_route (codes "/games/{id}/moves/{ply}")) MakeMove)
+    (put_3 ∙ ap (with_route (parse_route (codes "/events/{name}/table")) CrossTable)
+    (put_2 ∙ ap (with_route (parse_route (codes "/games/{id}/legal")) LegalMoves)
+    (put_1 ∙ ap (with_route (parse_route (codes "/games/{id}")) GameView) (c.new-router.ensures)))))))))))

@@ -5,14 +5,18 @@ use Rattle.http_head.proofs.head.read_head.Goals as goal
 pub returns-then-found-head : goal.returns-then-found-head
 returns-then-found-head c =
     let at = rw c.in-Ok-Complete.field-0-is at c.in-Ok-Complete.ensures.complete in
-    taken c.args.lines c.args.head.now at.0 _ (omega arith) (whole c.args.head.now _ c.in-Ok-Complete.found at.0 at.1 c.if-found-head.true) (c.outline_from.ensures ∙ shown c.args.head.now _ c.in-Ok-Complete.found at.0 at.1)
+    taken c.args.lines c.args.head.now at.0 _ (omega arith)
+    (whole c.args.head.now _ c.in-Ok-Complete.found at.0 at.1 c.if-found-head.true)
+    (c.outline_from.ensures ∙ shown c.args.head.now _ c.in-Ok-Complete.found at.0 at.1)
 
 pub returns-else-found-head : goal.returns-else-found-head
 returns-else-found-head c =
     let at = rw c.in-Ok-Complete.field-0-is at c.in-Ok-Complete.ensures.complete in
     let within = rw c.in-Ok-Complete.field-0-is at c.in-Ok-Complete.ensures.within in
-    refused c.args.lines c.args.head.now (omega arith) (ends_early c.args.head.now _ c.in-Ok-Complete.found at.0 at.1 within.section.len_fits c.if-found-head.false)
+    refused c.args.lines c.args.head.now (omega arith)
+    (ends_early c.args.head.now _ c.in-Ok-Complete.found at.0 at.1 within.section.len_fits c.if-found-head.false)
 
 pub returns-in-Err : goal.returns-in-Err
 returns-in-Err c =
-    refused c.args.lines c.args.head.now (omega arith) (overflows c.args.head.now c.args.lines (omega arith) c.requires c.in-Err.ensures.no_room)
+    refused c.args.lines c.args.head.now (omega arith)
+    (overflows c.args.head.now c.args.lines (omega arith) c.requires c.in-Err.ensures.no_room)

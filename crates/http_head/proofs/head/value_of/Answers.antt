@@ -17,7 +17,9 @@ pub loop-byte-preserved : goal.loop-byte-preserved
 loop-byte-preserved c =
     let digit = next_digit c.args.text.now c.loop-byte.byte-index c.loop-byte-test.true c.loop-byte.invariant.digits in
     record {
-      value = one_more_value c.args.text.now c.loop-byte.byte-index c.loop-byte.n c.from.result _ c.loop-byte-test.true digit.0 digit.1 c.from.ensures c.loop-byte.invariant.value;
+      value = one_more_value c.args.text.now c.loop-byte.byte-index c.loop-byte.n c.from.result _ c.loop-byte-test.true
+          digit.0 digit.1 c.from.ensures c.loop-byte.invariant.value;
       digits = digit.2;
-      small = one_digit_more c.loop-byte.n c.loop-byte.byte-index c.from.result c.loop-byte.invariant.small (omega (arith, digit));
+      small = one_digit_more c.loop-byte.n c.loop-byte.byte-index c.from.result c.loop-byte.invariant.small
+          (omega (arith, digit));
     }

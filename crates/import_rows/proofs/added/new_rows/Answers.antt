@@ -17,13 +17,26 @@ use Rattle.import_rows.proofs.added.new_rows.Goals as goal
 
 pub move_rows-requires-clause-few : goal.move_rows-requires-clause-few
 move_rows-requires-clause-few g c =
-    let are : AreRules g.R.Rules.rules = record { first_starts = g.met.R.Rules.first_starts; turn_passes = g.met.R.Rules.turn_passes; same_is = g.met.R.Rules.same_is; ends_at_limit = g.met.R.Rules.ends_at_limit } in
-    subst (λ ms. length ms ≤ most_plies) (sym c.as_slice-moves.ensures.value) (within-limit g.R.Rules.rules are c.args.new.now.recorded.moves.items c.requires.by_rules.line)
+    let are : AreRules g.R.Rules.rules = record {
+      first_starts = g.met.R.Rules.first_starts;
+      turn_passes = g.met.R.Rules.turn_passes;
+      same_is = g.met.R.Rules.same_is;
+      ends_at_limit =
+          g.met.R.Rules.ends_at_limit;
+    } in
+    subst (λ ms. length ms ≤ most_plies) (sym c.as_slice-moves.ensures.value)
+    (within-limit g.R.Rules.rules are c.args.new.now.recorded.moves.items c.requires.by_rules.line)
 
 pub returns : goal.returns
 returns g c =
     let laws = g.R.Rules.rules in
-    let are : AreRules laws = record { first_starts = g.met.R.Rules.first_starts; turn_passes = g.met.R.Rules.turn_passes; same_is = g.met.R.Rules.same_is; ends_at_limit = g.met.R.Rules.ends_at_limit } in
+    let are : AreRules laws = record {
+      first_starts = g.met.R.Rules.first_starts;
+      turn_passes = g.met.R.Rules.turn_passes;
+      same_is = g.met.R.Rules.same_is;
+      ends_at_limit =
+          g.met.R.Rules.ends_at_limit;
+    } in
     let r = recorded_of c.args.new.now.recorded in
     let key = Some c.args.key.now in
     let pairing = pairing_of c.args.new.now.pairing in
@@ -38,9 +51,13 @@ returns g c =
     let count : length game.entries ≡ length r.moves = length-map r.moves (λ m. record { made = m; moment = moment }) in
     let room = room_for game terms c.requires.budget c.requires.increment (omega (arith, limit, count)) in
     let first : row.left_first < 2 ^ 63 = let same = ap (λ k. k.left_first) is.clocks in omega (arith, same, room.0) in
-    let second : row.left_second < 2 ^ 63 = let same = ap (λ k. k.left_second) is.clocks in omega (arith, same, room.1) in
+    let second : row.left_second < 2 ^ 63 = let same = ap (λ k. k.left_second) is.clocks in
+    omega (arith, same, room.1) in
     record {
       game_is = c.in_ok-game.ensures first second terms game is;
-      moves_are = c.in_ok-made.ensures ∙ ap (rows_at_once laws terms id moment) value ∙ game-moves laws terms id key pairing moment r;
-      seen_are = c.in_ok-seen.ensures ∙ ap (λ ms. rows_of_texts id (map laws.write_position (positions laws laws.start ms))) value ∙ game-seen laws terms id key pairing moment r;
+      moves_are = c.in_ok-made.ensures ∙ ap (rows_at_once laws terms id moment) value
+          ∙ game-moves laws terms id key pairing moment r;
+      seen_are = c.in_ok-seen.ensures
+          ∙ ap (λ ms. rows_of_texts id (map laws.write_position (positions laws laws.start ms))) value
+          ∙ game-seen laws terms id key pairing moment r;
     }

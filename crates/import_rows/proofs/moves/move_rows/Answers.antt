@@ -12,11 +12,13 @@ use Rattle.import_rows.proofs.moves.move_rows.Goals as goal
 
 pub play-after-requires : goal.play-after-requires
 play-after-requires g c =
-    move-legal g.R.Rules.rules c.args.moves.now c.loop-i.i c.index-moves-i.result c.loop-i-test.true c.index-moves-i.is c.requires.line c.loop-i.position c.loop-i.invariant.position
+    move-legal g.R.Rules.rules c.args.moves.now c.loop-i.i c.index-moves-i.result c.loop-i-test.true c.index-moves-i.is
+    c.requires.line c.loop-i.position c.loop-i.invariant.position
 
 pub ply_row-requires-clause-legal : goal.ply_row-requires-clause-legal
 ply_row-requires-clause-legal g c =
-    move-legal g.R.Rules.rules c.args.moves.now c.loop-i.i c.index-moves-i.result c.loop-i-test.true c.index-moves-i.is c.requires.line c.loop-i.position c.loop-i.invariant.position
+    move-legal g.R.Rules.rules c.args.moves.now c.loop-i.i c.index-moves-i.result c.loop-i-test.true c.index-moves-i.is
+    c.requires.line c.loop-i.position c.loop-i.invariant.position
 
 pub ply_row-requires-clause-left : goal.ply_row-requires-clause-left
 ply_row-requires-clause-left g c =
@@ -33,14 +35,22 @@ ply_row-requires-clause-left g c =
     let within = c.loop-i-test.true in
     let few = c.requires.few in
     let most : ℕ = 31536000 + 601 * 2592000 in
-    let left = side_most c.turn-turn.result c.with-left.result.first c.with-left.result.second 0 most (omega (arith, low, first, more_first, was_first, within, few)) (omega (arith, low, second, more_second, was_second, within, few)) in
+    let left = side_most c.turn-turn.result c.with-left.result.first c.with-left.result.second 0 most
+    (omega (arith, low, first, more_first, was_first, within, few))
+    (omega (arith, low, second, more_second, was_second, within, few)) in
     let is = c.of.ensures 0 in
     omega (arith, left, is)
 
 pub loop-i-preserved : goal.loop-i-preserved
 loop-i-preserved g c =
     let laws = g.R.Rules.rules in
-    let are : AreRules laws = record { first_starts = g.met.R.Rules.first_starts; turn_passes = g.met.R.Rules.turn_passes; same_is = g.met.R.Rules.same_is; ends_at_limit = g.met.R.Rules.ends_at_limit } in
+    let are : AreRules laws = record {
+      first_starts = g.met.R.Rules.first_starts;
+      turn_passes = g.met.R.Rules.turn_passes;
+      same_is = g.met.R.Rules.same_is;
+      ends_at_limit =
+          g.met.R.Rules.ends_at_limit;
+    } in
     let now = c.loop-i.invariant in
     let ms = c.args.moves.now in
     let i = c.loop-i.i in
@@ -58,8 +68,10 @@ loop-i-preserved g c =
     let x : ℕ = c.with-left.result.first in
     let y : ℕ = c.with-left.result.second in
     let spent = c.with-left.ensures moment in
-    let row = c.in_ok-ply_row.ensures ∙ row-is laws ms i m within is are line terms c.args.game moment p q turn a b x y c.of.result now.position c.play-after.ensures c.turn-turn.ensures now.clocks spent (c.of.ensures moment) in
-    let pushed = ap (map move_cells) c.in_ok-push.ensures.items ∙ map-append move_cells c.loop-i.rows.items (c.in_ok-ply_row.field-0 ∷ []) in
+    let row = c.in_ok-ply_row.ensures ∙ row-is laws ms i m within is are line terms c.args.game moment p q turn a b x y
+    c.of.result now.position c.play-after.ensures c.turn-turn.ensures now.clocks spent (c.of.ensures moment) in
+    let pushed = ap (map move_cells) c.in_ok-push.ensures.items
+    ∙ map-append move_cells c.loop-i.rows.items (c.in_ok-ply_row.field-0 ∷ []) in
     let increment : ℕ = c.args.terms.increment in
     let low : increment ≤ 2592000 = let given = c.requires.increment in grind (arith, nat_tests, given) in
     let first = ap (λ k. k.left_first) (c.with-left.ensures 0) in
@@ -70,9 +82,11 @@ loop-i-preserved g c =
     let was_first = now.first in
     let was_second = now.second in
     record {
-      rows = rows-next laws ms i m within is are line terms c.args.game moment (map move_cells c.loop-i.rows.items) (map move_cells c.push.new.self.items) (move_cells c.in_ok-ply_row.field-0) now.rows pushed row;
+      rows = rows-next laws ms i m within is are line terms c.args.game moment (map move_cells c.loop-i.rows.items)
+          (map move_cells c.push.new.self.items) (move_cells c.in_ok-ply_row.field-0) now.rows pushed row;
       position = position-next laws ms i m within is p q now.position c.play-after.ensures;
-      clocks = clocks-next laws ms i m within is are line terms c.args.game moment p turn a b x y now.position c.turn-turn.ensures now.clocks spent;
+      clocks = clocks-next laws ms i m within is are line terms c.args.game moment p turn a b x y now.position
+          c.turn-turn.ensures now.clocks spent;
       first = omega (arith, low, first, more_first, was_first);
       second = omega (arith, low, second, more_second, was_second);
     }

@@ -10,9 +10,11 @@ use Rattle.import_rows.proofs.moves.move_rows.Given as goal
 abbrev pub invariant-loop-i : goal.invariant-loop-i
 invariant-loop-i g l =
     record {
-      rows : map move_cells l.rows.items ≡ rows_at_once g.R.Rules.rules (terms_given l.terms) l.game l.moment (take l.i l.moves);
+      rows : map move_cells l.rows.items ≡ rows_at_once g.R.Rules.rules (terms_given l.terms) l.game l.moment
+          (take l.i l.moves);
       position : l.position ≡ position_after g.R.Rules.rules g.R.Rules.rules.start (take l.i l.moves);
-      clocks : clocks_with l.left.first l.left.second l.moment ≡ clocks_of (game_from l.moment (entries_at_once l.moment (take l.i l.moves))) (terms_given l.terms);
+      clocks : clocks_with l.left.first l.left.second l.moment ≡ clocks_of
+          (game_from l.moment (entries_at_once l.moment (take l.i l.moves))) (terms_given l.terms);
       first : l.left.first ≤ 31536000 + l.i * 2592000;
       second : l.left.second ≤ 31536000 + l.i * 2592000;
     }

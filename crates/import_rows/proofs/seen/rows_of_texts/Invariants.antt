@@ -6,4 +6,5 @@ use Rattle.import_rows.proofs.seen.rows_of_texts.Given as goal
 
 abbrev pub invariant-loop-ply : goal.invariant-loop-ply
 invariant-loop-ply l =
-    map seen_cells l.rows.items ++ rows_from l.game (bytes_of l.texts) l.ply (drop l.ply (bytes_of l.texts)) ≡ rows_of_texts l.game (bytes_of l.texts)
+    map seen_cells l.rows.items ++ rows_from l.game (bytes_of l.texts) l.ply (drop l.ply (bytes_of l.texts))
+    ≡ rows_of_texts l.game (bytes_of l.texts)

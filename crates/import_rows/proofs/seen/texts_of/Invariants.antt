@@ -6,6 +6,7 @@ use Rattle.import_rows.proofs.seen.texts_of.Given as goal
 abbrev pub invariant-loop-i : goal.invariant-loop-i
 invariant-loop-i g l =
     record {
-      texts : bytes_of l.texts.items ≡ map g.R.Rules.rules.write_position (positions g.R.Rules.rules g.R.Rules.rules.start (take l.i l.moves));
+      texts : bytes_of l.texts.items ≡ map g.R.Rules.rules.write_position
+          (positions g.R.Rules.rules g.R.Rules.rules.start (take l.i l.moves));
       position : l.position ≡ position_after g.R.Rules.rules g.R.Rules.rules.start (take l.i l.moves);
     }

@@ -12,7 +12,9 @@ returns-in-Some-2 g c game of same =
     let from = c.in-Some.start in
     let rows = c.args.moves.now in
     let replayed = c.in-Some-2.game in
-    let was : WasReplayed laws terms id from rows (length rows) replayed = subst (λ o. IfSome o (λ x. WasReplayed laws terms id from rows (length rows) x)) c.in-Some-2.is c.in_ok-game.ensures.some in
+    let was : WasReplayed laws terms id from rows (length rows) replayed =
+    subst (λ o. IfSome o (λ x. WasReplayed laws terms id from rows (length rows) x)) c.in-Some-2.is
+    c.in_ok-game.ensures.some in
     let start = start-same laws terms id c.args.row.now game of.row from c.in-Some.ensures in
     let cells = rows-are laws terms id from rows replayed game was same in
     let played = is-played laws terms id from rows c.args.row.now game of start cells in

@@ -18,29 +18,36 @@ loop-square-preserved c =
     let n : ℕ = get_or c.all.result k c.square-item.result in
     let same : c.all.result ≡ all_squares = c.all.ensures in
     let within : k < length all_squares = c.loop-square-test.true in
-    let at : get_or all_squares k 0 ≡ n = get_or_default all_squares k 0 c.square-item.result within ∙ ap (λ s. get_or s k c.square-item.result) (sym same) in
+    let at : get_or all_squares k 0 ≡ n = get_or_default all_squares k 0 c.square-item.result within
+    ∙ ap (λ s. get_or s k c.square-item.result) (sym same) in
     elim c.match-own_piece.branch [
       | in-Some+in_ok-push_next-in-Some w ↦ record {
         written =
             ap string_bytes w.text-is
-            ∙ written-some side board all_squares k n at within _ _ _ c.own_piece.result c.own_piece.ensures c.loop-square.invariant.written c.loop-square.invariant.is_first
+            ∙ written-some side board all_squares k n at within _ _ _ c.own_piece.result c.own_piece.ensures
+            c.loop-square.invariant.written c.loop-square.invariant.is_first
             w.in-Some.piece _ w.in-Some.is w.in_ok-push_next-in-Some.ensures;
         is_first =
             w.is_first-is
-            ∙ first-some side board all_squares k n at within _ _ _ c.own_piece.result c.own_piece.ensures c.loop-square.invariant.written c.loop-square.invariant.is_first w.in-Some.piece w.in-Some.is;
+            ∙ first-some side board all_squares k n at within _ _ _ c.own_piece.result c.own_piece.ensures
+            c.loop-square.invariant.written c.loop-square.invariant.is_first w.in-Some.piece w.in-Some.is;
       }
       | in-None w ↦ record {
         written =
             ap string_bytes w.text-is
-            ∙ written-none side board all_squares k n at within _ _ _ c.own_piece.result c.own_piece.ensures c.loop-square.invariant.written c.loop-square.invariant.is_first w.in-None.is;
+            ∙ written-none side board all_squares k n at within _ _ _ c.own_piece.result c.own_piece.ensures
+            c.loop-square.invariant.written c.loop-square.invariant.is_first w.in-None.is;
         is_first =
             w.is_first-is
-            ∙ first-none side board all_squares k n at within _ _ _ c.own_piece.result c.own_piece.ensures c.loop-square.invariant.written c.loop-square.invariant.is_first w.in-None.is;
+            ∙ first-none side board all_squares k n at within _ _ _ c.own_piece.result c.own_piece.ensures
+            c.loop-square.invariant.written c.loop-square.invariant.is_first w.in-None.is;
       }
     ]
 
 pub returns : goal.returns
 unfolding all_squares
 returns c =
-    let whole : take c.loop-square.square-index all_squares ≡ all_squares = take_all c.loop-square.square-index all_squares c.loop-square-test.false in
-    c.loop-square.invariant.written ∙ ap (λ s. string_bytes c.args.text.now ++ pieces_on c.args.side c.args.position.now.board s) whole
+    let whole : take c.loop-square.square-index all_squares ≡ all_squares =
+    take_all c.loop-square.square-index all_squares c.loop-square-test.false in
+    c.loop-square.invariant.written
+    ∙ ap (λ s. string_bytes c.args.text.now ++ pieces_on c.args.side c.args.position.now.board s) whole

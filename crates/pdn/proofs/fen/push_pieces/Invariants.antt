@@ -10,5 +10,6 @@ pub record Written (text first : Type 0) : Type 0 where
 abbrev pub invariant-loop-square : goal.invariant-loop-square
 invariant-loop-square l =
     Written
-    (string_bytes l.text ≡ string_bytes l.initial.text ++ pieces_on l.side l.position.board (take l.square-index all_squares))
+    (string_bytes l.text ≡ string_bytes l.initial.text ++ pieces_on l.side l.position.board
+    (take l.square-index all_squares))
     (l.is_first ≡ has_none l.side l.position.board (take l.square-index all_squares))

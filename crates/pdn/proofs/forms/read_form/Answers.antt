@@ -11,23 +11,32 @@ returns-in-Err-clause-fault c = read_form-bad c.args.text.now c.in-Err.bytes c.i
 pub returns-in-Some-clause-form : goal.returns-in-Some-clause-form
 returns-in-Some-clause-form c =
     subst (λ (r : FormReading). IfOk c.read_quiet.result (λ form. r ≡ Ok (form_of form)))
-    (sym (read_form-quiet c.args.text.now c.in-Ok.front.square c.in-Ok.front.rest.now c.in-Ok.ensures.front c.in-Some.rest.now c.in-Some.ensures)) c.read_quiet.ensures.form
+    (sym
+    (read_form-quiet c.args.text.now c.in-Ok.front.square c.in-Ok.front.rest.now c.in-Ok.ensures.front
+    c.in-Some.rest.now c.in-Some.ensures)) c.read_quiet.ensures.form
 
 pub returns-in-Some-clause-fault : goal.returns-in-Some-clause-fault
 returns-in-Some-clause-fault c =
     subst (λ (r : FormReading). IfErr c.read_quiet.result (λ fault. IsBadForm r fault))
-    (sym (read_form-quiet c.args.text.now c.in-Ok.front.square c.in-Ok.front.rest.now c.in-Ok.ensures.front c.in-Some.rest.now c.in-Some.ensures)) c.read_quiet.ensures.fault
+    (sym
+    (read_form-quiet c.args.text.now c.in-Ok.front.square c.in-Ok.front.rest.now c.in-Ok.ensures.front
+    c.in-Some.rest.now c.in-Some.ensures)) c.read_quiet.ensures.fault
 
 pub returns-in-Some-past_cross-clause-form : goal.returns-in-Some-past_cross-clause-form
 returns-in-Some-past_cross-clause-form c =
     subst (λ (r : FormReading). IfOk c.read_capture.result (λ form. r ≡ Ok (form_of form)))
-    (sym (read_form-capture c.args.text.now c.in-Ok.front.square c.in-Ok.front.rest.now c.in-Ok.ensures.front c.in-Some-past_cross.rest.now c.in-None.ensures c.in-Some-past_cross.ensures)) c.read_capture.ensures.form
+    (sym
+    (read_form-capture c.args.text.now c.in-Ok.front.square c.in-Ok.front.rest.now c.in-Ok.ensures.front
+    c.in-Some-past_cross.rest.now c.in-None.ensures c.in-Some-past_cross.ensures)) c.read_capture.ensures.form
 
 pub returns-in-Some-past_cross-clause-fault : goal.returns-in-Some-past_cross-clause-fault
 returns-in-Some-past_cross-clause-fault c =
     subst (λ (r : FormReading). IfErr c.read_capture.result (λ fault. IsBadForm r fault))
-    (sym (read_form-capture c.args.text.now c.in-Ok.front.square c.in-Ok.front.rest.now c.in-Ok.ensures.front c.in-Some-past_cross.rest.now c.in-None.ensures c.in-Some-past_cross.ensures)) c.read_capture.ensures.fault
+    (sym
+    (read_form-capture c.args.text.now c.in-Ok.front.square c.in-Ok.front.rest.now c.in-Ok.ensures.front
+    c.in-Some-past_cross.rest.now c.in-None.ensures c.in-Some-past_cross.ensures)) c.read_capture.ensures.fault
 
 pub returns-in-None-past_cross-clause-fault : goal.returns-in-None-past_cross-clause-fault
 returns-in-None-past_cross-clause-fault c =
-    read_form-stops c.args.text.now c.in-Ok.front.square c.in-Ok.front.rest.now c.in-Ok.ensures.front c.in-None.ensures c.in-None-past_cross.ensures
+    read_form-stops c.args.text.now c.in-Ok.front.square c.in-Ok.front.rest.now c.in-Ok.ensures.front c.in-None.ensures
+    c.in-None-past_cross.ensures

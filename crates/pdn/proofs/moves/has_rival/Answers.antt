@@ -10,4 +10,5 @@ returns c =
     let p = c.args.position.now in
     let m = c.args.played.now in
     let is = c.has_like.ensures ∙ ap (list_any (is_like m)) c.as_slice.ensures.value in
-    subst (λ b. IsTrue b ↔ HasRival p m) (sym is) (list_any-rival p m c.in_ok-moves.moves.items c.in_ok-moves.ensures.members)
+    subst (λ b. IsTrue b ↔ HasRival p m) (sym is)
+    (list_any-rival p m c.in_ok-moves.moves.items c.in_ok-moves.ensures.members)

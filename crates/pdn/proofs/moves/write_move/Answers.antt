@@ -17,7 +17,8 @@ unreachable-requires c =
 
 pub returns : goal.returns
 returns c =
-    let first = first-is c.args.position.now c.args.played.now c.in_ok-found.found.items c.in_ok-found.ensures.members c.in_ok-found.ensures.in_order c.in-Some.landings.now
+    let first = first-is c.args.position.now c.args.played.now c.in_ok-found.found.items c.in_ok-found.ensures.members
+    c.in_ok-found.ensures.in_order c.in-Some.landings.now
     (ap (λ vs. slice_get vs 0) (sym c.as_slice.ensures.value) ∙ sym c.in-Some.ensures.value) in
     long (takes c.is_empty.result _ c.is_empty.ensures c.if-is_empty.false)
     (c.in_ok-has_rival.ensures.0 c.if-not-branch.false) c.in-Some.landings.now.items first

@@ -22,20 +22,31 @@ returns-then-ends_here t c =
     let b = without c.args.position.now.board c.args.mover.now.origin in
     let item = c.loop-over-item.result in
     let items = c.items-over-items.result.now in
-    let among : In item items = subst (λ x. In x items) (sym c.loop-over-item.is) (In-get_or items c.loop-over.over-index item c.loop-over-test.true) in
-    let jump : In item (jumps b c.args.mover.now.piece c.args.mover.now.taken c.args.mover.now.at) = subst (λ js. In item js) c.loop-over.invariant.items_are among in
-    (λ _. GoesTo-by b c.args.mover.now.piece c.args.mover.now.taken c.args.mover.now.at c.args.middle.now c.args.to item jump (inl (c.ends_here.ensures.0 c.if-ends_here.true)), λ _. refl)
+    let among : In item items = subst (λ x. In x items) (sym c.loop-over-item.is)
+    (In-get_or items c.loop-over.over-index item c.loop-over-test.true) in
+    let jump : In item (jumps b c.args.mover.now.piece c.args.mover.now.taken c.args.mover.now.at) =
+    subst (λ js. In item js) c.loop-over.invariant.items_are among in (
+      λ _. GoesTo-by b c.args.mover.now.piece c.args.mover.now.taken c.args.mover.now.at c.args.middle.now c.args.to
+          item
+          jump (inl (c.ends_here.ensures.0 c.if-ends_here.true)),
+      λ _. refl,
+    )
 
 pub goes_to-requires : goal.goes_to-requires
 goes_to-requires t c =
     let b = without c.args.position.now.board c.args.mover.now.origin in
     let item = c.loop-over-item.result in
     let items = c.items-over-items.result.now in
-    let among : In item items = subst (λ x. In x items) (sym c.loop-over-item.is) (In-get_or items c.loop-over.over-index item c.loop-over-test.true) in
-    let jump = jumps-sound b c.args.mover.now.piece c.args.mover.now.taken c.args.mover.now.at item.0 item.1 (subst (λ js. In item js) c.loop-over.invariant.items_are among) in
-    let falls = prey_left-falls b c.args.mover.now.piece c.args.mover.now.taken c.args.mover.now.at item.0 item.1 jump in
-    let left_by : Mover → ℕ = λ mover. prey_left (without c.args.position.now.board mover.origin) mover.piece mover.taken in
-    let less : left_by c.jumped-next.result ≡ prey_left b c.args.mover.now.piece (set.insert c.args.mover.now.taken item.0) = ap left_by c.jumped-next.ensures in
+    let among : In item items = subst (λ x. In x items) (sym c.loop-over-item.is)
+    (In-get_or items c.loop-over.over-index item c.loop-over-test.true) in
+    let jump = jumps-sound b c.args.mover.now.piece c.args.mover.now.taken c.args.mover.now.at item.0 item.1
+    (subst (λ js. In item js) c.loop-over.invariant.items_are among) in
+    let falls = prey_left-falls b c.args.mover.now.piece c.args.mover.now.taken c.args.mover.now.at item.0 item.1 jump
+    in
+    let left_by : Mover → ℕ = λ mover. prey_left (without c.args.position.now.board mover.origin) mover.piece
+    mover.taken in
+    let less : left_by c.jumped-next.result ≡ prey_left b c.args.mover.now.piece
+    (set.insert c.args.mover.now.taken item.0) = ap left_by c.jumped-next.ensures in
     let at_most : prey_left b c.args.mover.now.piece c.args.mover.now.taken ≡ t = c.decreases in
     let smaller : left_by c.jumped-next.result < t = omega (arith, falls, less, at_most) in
     (smaller, tt)
@@ -46,11 +57,20 @@ returns-then-goes_to t c =
     let b = without c.args.position.now.board c.args.mover.now.origin in
     let item = c.loop-over-item.result in
     let items = c.items-over-items.result.now in
-    let among : In item items = subst (λ x. In x items) (sym c.loop-over-item.is) (In-get_or items c.loop-over.over-index item c.loop-over-test.true) in
-    let jump : In item (jumps b c.args.mover.now.piece c.args.mover.now.taken c.args.mover.now.at) = subst (λ js. In item js) c.loop-over.invariant.items_are among in
-    let there : Goes c.args.position.now c.jumped-next.result c.past.result.now c.args.to = c.goes_to.ensures.0 c.if-goes_to.true in
-    let next = subst (λ (mover : Mover). Goes c.args.position.now mover (past c.args.middle.now item.1) c.args.to) c.jumped-next.ensures (subst (λ xs. Goes c.args.position.now c.jumped-next.result xs c.args.to) c.past.ensures there) in
-    (λ _. GoesTo-by b c.args.mover.now.piece c.args.mover.now.taken c.args.mover.now.at c.args.middle.now c.args.to item jump (inr next), λ _. refl)
+    let among : In item items = subst (λ x. In x items) (sym c.loop-over-item.is)
+    (In-get_or items c.loop-over.over-index item c.loop-over-test.true) in
+    let jump : In item (jumps b c.args.mover.now.piece c.args.mover.now.taken c.args.mover.now.at) =
+    subst (λ js. In item js) c.loop-over.invariant.items_are among in
+    let there : Goes c.args.position.now c.jumped-next.result c.past.result.now c.args.to =
+    c.goes_to.ensures.0 c.if-goes_to.true in
+    let next = subst (λ (mover : Mover). Goes c.args.position.now mover (past c.args.middle.now item.1) c.args.to)
+    c.jumped-next.ensures
+    (subst (λ xs. Goes c.args.position.now c.jumped-next.result xs c.args.to) c.past.ensures there) in (
+      λ _. GoesTo-by b c.args.mover.now.piece c.args.mover.now.taken c.args.mover.now.at c.args.middle.now c.args.to
+          item
+          jump (inr next),
+      λ _. refl,
+    )
 
 pub loop-over-preserved : goal.loop-over-preserved
 unfolding Goes
@@ -65,13 +85,21 @@ loop-over-preserved t c =
             | inr this ↦
                 let same : j ≡ item = sym this ∙ sym c.loop-over-item.is in
                 let here : StepsTo b c.args.mover.now.piece c.args.mover.now.taken item c.args.middle.now c.args.to =
-                subst (λ (k : ℕ × ℕ). StepsTo b c.args.mover.now.piece c.args.mover.now.taken k c.args.middle.now c.args.to) same r in
+                subst
+                (λ (k : ℕ × ℕ). StepsTo b c.args.mover.now.piece c.args.mover.now.taken k c.args.middle.now
+                c.args.to) same r in
                 elim here [
                   | inl ends ↦ let found = c.ends_here.ensures.1 ends in let not_found = c.if-ends_here.false in cc
                   | inr goes ↦
-                      let next : Goes c.args.position.now c.jumped-next.result (past c.args.middle.now item.1) c.args.to =
-                      subst (λ (mover : Mover). Goes c.args.position.now mover (past c.args.middle.now item.1) c.args.to) (sym c.jumped-next.ensures) goes in
-                      let found = c.goes_to.ensures.1 (subst (λ xs. Goes c.args.position.now c.jumped-next.result xs c.args.to) (sym c.past.ensures) next) in
+                      let next : Goes c.args.position.now c.jumped-next.result (past c.args.middle.now item.1)
+                      c.args.to =
+                      subst
+                      (λ (mover : Mover). Goes c.args.position.now mover (past c.args.middle.now item.1) c.args.to)
+                      (sym c.jumped-next.ensures) goes in
+                      let found =
+                      c.goes_to.ensures.1
+                      (subst (λ xs. Goes c.args.position.now c.jumped-next.result xs c.args.to) (sym c.past.ensures)
+                      next) in
                       let not_found = c.if-goes_to.false in
                       cc
                 ]
@@ -85,8 +113,10 @@ returns t c =
     let items = c.items-over-items.result.now in (
       λ e. cc,
       λ r.
-          let w = GoesTo-first b c.args.mover.now.piece c.args.mover.now.taken c.args.mover.now.at c.args.middle.now c.args.to r in
-          let all_items : take c.loop-over.over-index items ≡ jumps b c.args.mover.now.piece c.args.mover.now.taken c.args.mover.now.at =
+          let w = GoesTo-first b c.args.mover.now.piece c.args.mover.now.taken c.args.mover.now.at c.args.middle.now
+          c.args.to r in
+          let all_items : take c.loop-over.over-index items ≡ jumps b c.args.mover.now.piece c.args.mover.now.taken
+          c.args.mover.now.at =
           take_all c.loop-over.over-index items c.loop-over-test.false ∙ c.loop-over.invariant.items_are in
           absurd (c.loop-over.invariant.none w.0 (subst (λ js. In w.0 js) (sym all_items) w.1) w.2),
     )

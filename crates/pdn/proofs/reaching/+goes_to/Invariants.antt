@@ -9,7 +9,8 @@ abbrev pub invariant-loop-over : goal.invariant-loop-over
 invariant-loop-over l =
     let b = without l.position.board l.mover.origin in
     record {
-      none : (j : ℕ × ℕ) → In j (take l.over-index l.over-items) → StepsTo b l.mover.piece l.mover.taken j l.middle l.to → ⊥;
+      none : (j : ℕ × ℕ) → In j (take l.over-index l.over-items) → StepsTo b l.mover.piece l.mover.taken j l.middle l.to
+          → ⊥;
       items_are : l.over-items ≡ jumps b l.mover.piece l.mover.taken l.fn.mover.at;
     }
 

@@ -15,6 +15,10 @@ returns-in-Some c =
     let p = c.args.position.now in
     let middle : List ℕ = c.args.middle.now in
     let own = sym c.own_at.ensures ∙ c.in-Some.is in (
-      λ e. SomeFits-goes p c.args.from middle c.args.to c.in-Some.piece own (subst (λ (mover : Mover). Goes p mover middle c.args.to) c.new.ensures (c.goes_to.ensures.0 e)),
-      λ f. c.goes_to.ensures.1 (subst (λ (mover : Mover). Goes p mover middle c.args.to) (sym c.new.ensures) (goes-SomeFits p c.args.from middle c.args.to c.in-Some.piece own f)),
+      λ e. SomeFits-goes p c.args.from middle c.args.to c.in-Some.piece own
+          (subst (λ (mover : Mover). Goes p mover middle c.args.to) c.new.ensures (c.goes_to.ensures.0 e)),
+      λ f.
+          c.goes_to.ensures.1
+          (subst (λ (mover : Mover). Goes p mover middle c.args.to) (sym c.new.ensures)
+          (goes-SomeFits p c.args.from middle c.args.to c.in-Some.piece own f)),
     )

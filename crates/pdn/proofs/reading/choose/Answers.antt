@@ -9,7 +9,9 @@ use Rattle.pdn.proofs.reading.choose.Goals.{then-branch+in-Ok, else-branch}
 
 pub returns-in-Err-clause-fault : goal.returns-in-Err-clause-fault
 returns-in-Err-clause-fault c =
-    choice-parts (Fits c.args.position.now c.args.from c.args.middle.now c.args.to) c.args.moves.now c.loop-played.played-index c.played-item.result c.loop-played-test.true c.played-item.is c.loop-played.choice c.in-Err.fault
+    choice-parts (Fits c.args.position.now c.args.from c.args.middle.now c.args.to) c.args.moves.now
+    c.loop-played.played-index c.played-item.result c.loop-played-test.true c.played-item.is c.loop-played.choice
+    c.in-Err.fault
     c.loop-played.invariant (c.in_ok-fits.ensures.0 c.if-branch.true) c.in-Err.ensures.err
 
 pub loop-played-preserved : goal.loop-played-preserved
@@ -21,7 +23,8 @@ loop-played-preserved c =
     elim c.if-branch.branch [
       | then-branch+in-Ok w ↦
           subst (IsChoice F (take (i + 1) moves)) (sym w.choice-is)
-          (choice-join F moves i n c.loop-played-test.true c.played-item.is c.loop-played.choice _ c.loop-played.invariant (c.in_ok-fits.ensures.0 w.if-branch.true) w.in-Ok.ensures.ok)
+          (choice-join F moves i n c.loop-played-test.true c.played-item.is c.loop-played.choice _
+          c.loop-played.invariant (c.in_ok-fits.ensures.0 w.if-branch.true) w.in-Ok.ensures.ok)
       | else-branch w ↦
           subst (IsChoice F (take (i + 1) moves)) (sym w.choice-is)
           (choice-skip F moves i n c.loop-played-test.true c.played-item.is c.loop-played.choice c.loop-played.invariant
@@ -31,4 +34,5 @@ loop-played-preserved c =
 pub returns-clause-choice : goal.returns-clause-choice
 returns-clause-choice c =
     let F : DMove → Type 0 = Fits c.args.position.now c.args.from c.args.middle.now c.args.to in
-    subst (λ ms. IsChoice F ms c.loop-played.choice) (take_all c.loop-played.played-index c.args.moves.now c.loop-played-test.false) c.loop-played.invariant
+    subst (λ ms. IsChoice F ms c.loop-played.choice)
+    (take_all c.loop-played.played-index c.args.moves.now c.loop-played-test.false) c.loop-played.invariant

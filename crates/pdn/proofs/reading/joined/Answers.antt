@@ -11,5 +11,8 @@ returns-then-is_same-clause-ok c =
 
 pub returns-else-is_same-clause-err : goal.returns-else-is_same-clause-err
 returns-else-is_same-clause-err c =
-    subst (λ o. Parts o c.args.played.now fault.Ambiguous) (sym c.in-Some.is)
-    (refl, λ same. let found = sym c.is_same.ensures ∙ c.if-is_same.false in let itself = same_move-itself c.in-Some.other c.args.played.now same in cc)
+    subst (λ o. Parts o c.args.played.now fault.Ambiguous) (sym c.in-Some.is) (
+      refl,
+      λ same. let found = sym c.is_same.ensures ∙ c.if-is_same.false in
+          let itself = same_move-itself c.in-Some.other c.args.played.now same in cc,
+    )

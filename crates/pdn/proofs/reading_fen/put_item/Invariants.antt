@@ -7,5 +7,6 @@ abbrev pub invariant-loop-square : goal.invariant-loop-square
 invariant-loop-square l =
     record {
       turn : l.position.turn ≡ l.initial.position.turn;
-      board : fold (put_on l.item) l.position.board (drop l.square-index l.square-items) ≡ fold (put_on l.item) l.initial.position.board l.square-items;
+      board : fold (put_on l.item) l.position.board (drop l.square-index l.square-items)
+          ≡ fold (put_on l.item) l.initial.position.board l.square-items;
     }

@@ -7,5 +7,6 @@ abbrev pub invariant-loop-item : goal.invariant-loop-item
 invariant-loop-item l =
     record {
       turn : l.position.turn ≡ l.initial.position.turn;
-      board : fold put_item l.position.board (drop l.item-index l.items) ≡ fold put_item l.initial.position.board l.items;
+      board : fold put_item l.position.board (drop l.item-index l.items)
+          ≡ fold put_item l.initial.position.board l.items;
     }

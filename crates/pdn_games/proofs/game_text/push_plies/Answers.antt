@@ -24,8 +24,12 @@ loop-i-preserved c =
     let is : m ≡ get_or ms i m = c.index-moves-i.is in
     let p : Position = c.loop-i.position in
     let whole : List ℕ = string_bytes c.args.text.now ++ plies_text opening 0 ms in
-    let grown = plies-grow p ms i m (string_bytes c.loop-i.text) (string_bytes c.push_ply.new.text) whole c.loop-i-test.true is c.in_ok-push_ply.ensures c.loop-i.invariant.text in
+    let grown = plies-grow p ms i m (string_bytes c.loop-i.text) (string_bytes c.push_ply.new.text) whole
+    c.loop-i-test.true is c.in_ok-push_ply.ensures c.loop-i.invariant.text in
     record {
-      at = c.play-position.ensures ∙ ap (λ (q : Position). play q m) c.loop-i.invariant.at ∙ sym (next-position ms i m c.loop-i-test.true is);
-      text = subst (λ (q : Position). string_bytes c.push_ply.new.text ++ plies_text q (i + 1) (drop (i + 1) ms) ≡ whole) (sym c.play-position.ensures) grown;
+      at = c.play-position.ensures ∙ ap (λ (q : Position). play q m) c.loop-i.invariant.at
+          ∙ sym (next-position ms i m c.loop-i-test.true is);
+      text =
+          subst (λ (q : Position). string_bytes c.push_ply.new.text ++ plies_text q (i + 1) (drop (i + 1) ms) ≡ whole)
+          (sym c.play-position.ensures) grown;
     }

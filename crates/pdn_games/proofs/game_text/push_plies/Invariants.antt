@@ -13,4 +13,5 @@ abbrev pub invariant-loop-i : goal.invariant-loop-i
 invariant-loop-i l =
     Written
     (l.position ≡ last_position opening (take l.i l.moves))
-    (string_bytes l.text ++ plies_text l.position l.i (drop l.i l.moves) ≡ string_bytes l.initial.text ++ plies_text opening 0 l.moves)
+    (string_bytes l.text ++ plies_text l.position l.i (drop l.i l.moves) ≡ string_bytes l.initial.text
+    ++ plies_text opening 0 l.moves)

@@ -18,5 +18,8 @@ returns-in-Err-clause-fault c =
     let turn = c.turn.ensures ∙ ap (λ p. p.turn) c.requires.stands.position in
     let rule = c.ruled-by_rule.ensures ∙ ap₂ ruled end turn in
     let tag = c.told.ensures in
-    let score : score_in tokens ms ≡ Err c.in-Err.fault = sym (λ i. settled (claim i) (rule i) (tag i)) ∙ sym c.in-Err.ensures in
-    end-fails tokens ms c.in-Err.fault (record { of_club = c.requires.of_club; moves = record { mean = c.requires.mean; played = follows.played } }) score
+    let score : score_in tokens ms ≡ Err c.in-Err.fault = sym (λ i. settled (claim i) (rule i) (tag i))
+    ∙ sym c.in-Err.ensures in
+    end-fails tokens ms c.in-Err.fault
+    (record { of_club = c.requires.of_club; moves = record { mean = c.requires.mean; played = follows.played } })
+    score

@@ -12,11 +12,15 @@ never-true : {A : Type 0} → false ≡ true → A
 never-true e = absurd (cc)
 
 -- a text with such a fault is none of a position's
-no-fen : ReadsOnePosition → (text read : List ℕ) (f : FenFault) → read ≡ text → HasFenFault read f → IsFen text opening → f ≡ fault.Memory
+no-fen : ReadsOnePosition → (text read : List ℕ) (f : FenFault) → read ≡ text → HasFenFault read f → IsFen text opening
+    → f ≡ fault.Memory
 no-fen laws text read f same h fen = (laws opening text fen).1 f (subst (λ t. HasFenFault t f) same h)
 
 pub returns-in-Err : goal.returns-in-Err
-returns-in-Err c = (never-true, λ fen. absurd (c.in-Err.ensures.cases.0 (fen-utf8 c.fen_forms_are_texts.ensures c.args.text.now opening fen)))
+returns-in-Err c = (
+  never-true,
+  λ fen. absurd (c.in-Err.ensures.cases.0 (fen-utf8 c.fen_forms_are_texts.ensures c.args.text.now opening fen)),
+)
 
 pub returns-in-Ok-read_fen : goal.returns-in-Ok-read_fen
 returns-in-Ok-read_fen c =
@@ -30,7 +34,10 @@ returns-in-Ok-read_fen c =
 pub returns-in-Err-BadText : goal.returns-in-Err-BadText
 returns-in-Err-BadText c = (
   never-true,
-  λ fen. absurd (let memory : c.in-Err-BadText.field-0 ≡ fault.Memory = no-fen c.reads_one_position.ensures c.args.text.now c.in-Ok.text.now c.in-Err-BadText.field-0 c.in-Ok.ensures.cases.0 c.in-Err-BadText.ensures.fault fen in
+  λ fen.
+      absurd (let memory : c.in-Err-BadText.field-0 ≡ fault.Memory =
+      no-fen c.reads_one_position.ensures c.args.text.now c.in-Ok.text.now c.in-Err-BadText.field-0
+      c.in-Ok.ensures.cases.0 c.in-Err-BadText.ensures.fault fen in
       let never : fault.BadText c.in-Err-BadText.field-0-0 ≡ fault.Memory = sym c.in-Err-BadText.field-0-is ∙ memory in
       cc),
 )

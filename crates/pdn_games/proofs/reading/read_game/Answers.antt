@@ -7,4 +7,5 @@ use Rattle.pdn_games.proofs.reading.read_game.Goals as goal
 
 pub read_tokens-requires : goal.read_tokens-requires
 read_tokens-requires c =
-    subst (λ (l : List Placed). HaveForms (all_placed l)) (sym c.as_slice-placed.ensures.value) (have-forms (length c.args.text.now) true true c.args.text.now _ _ c.in_ok-lexed.ensures)
+    subst (λ (l : List Placed). HaveForms (all_placed l)) (sym c.as_slice-placed.ensures.value)
+    (have-forms (length c.args.text.now) true true c.args.text.now _ _ c.in_ok-lexed.ensures)

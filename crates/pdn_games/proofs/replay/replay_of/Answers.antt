@@ -15,7 +15,8 @@ returns-in_err-push_token-clause-fault c =
     let placed : List Placed = c.args.placed.now in
     let held : RefusesMoves (move_texts (all_placed placed)) c.in_err-push_token.field-0.0 =
     refuses-there placed c.loop-i.i _ c.loop-i.replay.moves.items c.in_err-push_token.field-0.0 c.loop-i-test.true
-    (record { mean = c.loop-i.invariant.mean; played = c.loop-i.invariant.stands.follows.played }) c.in_err-push_token.ensures.fault in
+    (record { mean = c.loop-i.invariant.mean; played = c.loop-i.invariant.stands.follows.played })
+    c.in_err-push_token.ensures.fault in
     search rules
 
 pub loop-i-preserved : goal.loop-i-preserved
@@ -25,6 +26,7 @@ loop-i-preserved c =
     record {
       stands = c.in_ok-push_token.ensures.stands;
       mean =
-          subst (λ texts. MeanAll opening texts c.push_token.new.replay.moves.items) (sym (texts-there placed k _ c.loop-i-test.true))
+          subst (λ texts. MeanAll opening texts c.push_token.new.replay.moves.items)
+          (sym (texts-there placed k _ c.loop-i-test.true))
           (c.in_ok-push_token.ensures.grown (move_texts (all_placed (take k placed))) c.loop-i.invariant.mean);
     }

@@ -7,7 +7,8 @@ abbrev pub invariant-loop-tokens : goal.invariant-loop-tokens
 invariant-loop-tokens l =
     record {
       within : length l.rest ≤ length l.text;
-      onward : (ts : List Placed) (stop : Option ℕ) → Lexes (length l.text) l.begins_line l.free l.rest ts stop → TextTokens l.text (all_placed l.tokens.items ++ ts) stop;
+      onward : (ts : List Placed) (stop : Option ℕ) → Lexes (length l.text) l.begins_line l.free l.rest ts stop
+          → TextTokens l.text (all_placed l.tokens.items ++ ts) stop;
     }
 
 abbrev pub decreases-loop-tokens : goal.decreases-loop-tokens

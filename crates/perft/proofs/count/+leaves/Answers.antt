@@ -9,12 +9,17 @@ returns-then-depth-eq1 g t c =
     let game = g.G.Game in
     let p = c.args.position.now in
     let moves = c.in_ok-moves.moves.items in
-    subst (λ (xs : List _). HasLines game.Legal game.order game.after c.args.depth p (length xs)) (sym c.as_slice.ensures.value)
+    subst (λ (xs : List _). HasLines game.Legal game.order game.after c.args.depth p (length xs))
+    (sym c.as_slice.ensures.value)
     (subst (λ (d : ℕ). HasLines game.Legal game.order game.after d p (length moves)) (sym c.if-depth-eq1.true)
     (HasLines-one game.Legal game.order game.after p moves c.in_ok-moves.ensures))
 
 pub loop-played-init : goal.loop-played-init
-loop-played-init g t c = (subst (λ (xs : List _). AreTheMoves g.G.Game.Legal g.G.Game.order c.args.position.now xs) (sym c.deref-played-items.ensures.value) c.in_ok-moves.ensures, refl)
+loop-played-init g t c = (
+  subst (λ (xs : List _). AreTheMoves g.G.Game.Legal g.G.Game.order c.args.position.now xs)
+      (sym c.deref-played-items.ensures.value) c.in_ok-moves.ensures,
+  refl,
+)
 
 pub play-next-requires : goal.play-next-requires
 play-next-requires g t c = (c.loop-played.invariant.0.members c.played-item.result).0 (search (rules, Contains-get_or))
@@ -24,11 +29,15 @@ loop-played-preserved g t c =
     let game = g.G.Game in
     let counted = after_first game.Legal game.order game.after (c.args.depth - 1) c.args.position.now in
     let items = c.deref-played-items.result.now in
-    let one : HasLines game.Legal game.order game.after (c.args.depth - 1) (game.after c.args.position.now c.played-item.result) c.in_ok-under.under =
-    subst (λ (p : _). HasLines game.Legal game.order game.after (c.args.depth - 1) p c.in_ok-under.under) c.play-next.ensures c.in_ok-under.ensures in (
+    let one : HasLines game.Legal game.order game.after (c.args.depth - 1)
+    (game.after c.args.position.now c.played-item.result) c.in_ok-under.under =
+    subst (λ (p : _). HasLines game.Legal game.order game.after (c.args.depth - 1) p c.in_ok-under.under)
+    c.play-next.ensures c.in_ok-under.ensures in (
       c.loop-played.invariant.0,
-      subst (λ (n : ℕ). AddUp counted (take (c.loop-played.played-index + 1) items) n) {x = c.loop-played.count + c.in_ok-under.under} (sym c.in_ok-count.ensures)
-          (AddUp-next counted items c.loop-played.played-index c.played-item.result c.loop-played.count c.in_ok-under.under c.loop-played-test.true c.played-item.is c.loop-played.invariant.1 one),
+      subst (λ (n : ℕ). AddUp counted (take (c.loop-played.played-index + 1) items) n)
+          {x = c.loop-played.count + c.in_ok-under.under} (sym c.in_ok-count.ensures)
+          (AddUp-next counted items c.loop-played.played-index c.played-item.result c.loop-played.count
+          c.in_ok-under.under c.loop-played-test.true c.played-item.is c.loop-played.invariant.1 one),
     )
 
 pub returns : goal.returns
@@ -36,5 +45,7 @@ returns g t c =
     let game = g.G.Game in
     let items = c.deref-played-items.result.now in
     let counted = after_first game.Legal game.order game.after (c.args.depth - 1) c.args.position.now in
-    HasLines-more game.Legal game.order game.after c.args.depth c.args.position.now items c.loop-played.count (omega (arith, c.if-depth-eq0.false)) c.loop-played.invariant.0
-    (AddUp-all counted items c.loop-played.played-index c.loop-played.count (omega (arith, c.loop-played-test.false)) c.loop-played.invariant.1)
+    HasLines-more game.Legal game.order game.after c.args.depth c.args.position.now items c.loop-played.count
+    (omega (arith, c.if-depth-eq0.false)) c.loop-played.invariant.0
+    (AddUp-all counted items c.loop-played.played-index c.loop-played.count (omega (arith, c.loop-played-test.false))
+    c.loop-played.invariant.1)

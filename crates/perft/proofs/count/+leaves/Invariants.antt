@@ -9,4 +9,6 @@ decreases-leaves g l = l.depth
 -- the counts of the moves so far add up
 abbrev pub invariant-loop-played : goal.invariant-loop-played
 invariant-loop-played g l =
-    AreTheMoves g.G.Game.Legal g.G.Game.order l.position l.played-items × AddUp (after_first g.G.Game.Legal g.G.Game.order g.G.Game.after (l.depth - 1) l.position) (take l.played-index l.played-items) l.count
+    AreTheMoves g.G.Game.Legal g.G.Game.order l.position l.played-items
+    × AddUp (after_first g.G.Game.Legal g.G.Game.order g.G.Game.after (l.depth - 1) l.position)
+    (take l.played-index l.played-items) l.count

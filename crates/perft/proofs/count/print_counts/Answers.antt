@@ -8,7 +8,8 @@ use Rattle.perft.proofs.count.print_counts.Goals as goal
 
 pub loop-played-init : goal.loop-played-init
 loop-played-init g c = (
-  subst (λ (xs : List _). AreTheMoves g.G.Game.Legal g.G.Game.order c.args.position.now xs) (sym c.deref-played-items.ensures.value) c.in_ok-moves.ensures,
+  subst (λ (xs : List _). AreTheMoves g.G.Game.Legal g.G.Game.order c.args.position.now xs)
+      (sym c.deref-played-items.ensures.value) c.in_ok-moves.ensures,
   ([], (refl, refl), Appends-nil (g.W.Write.contents c.args.out.now)),
 )
 
@@ -27,16 +28,23 @@ loop-played-preserved g c =
     let name = c.as_str.result.now in
     let counted = after_first game.Legal game.order game.after (c.args.depth - 1) p in
     let (lines, are, printed) = c.loop-played.invariant.1 in
-    let written : game.Writes p m name = subst (λ (t : List ℕ). game.Writes p m t) (sym c.as_str.ensures.value) c.in_ok-text.ensures in
+    let written : game.Writes p m name = subst (λ (t : List ℕ). game.Writes p m t) (sym c.as_str.ensures.value)
+    c.in_ok-text.ensures in
     let under : HasLines game.Legal game.order game.after c.saturating_sub.result (game.after p m) c.in_ok-count.count =
-    subst (λ (q : _). HasLines game.Legal game.order game.after c.saturating_sub.result q c.in_ok-count.count) c.play-next.ensures c.in_ok-count.ensures in
+    subst (λ (q : _). HasLines game.Legal game.order game.after c.saturating_sub.result q c.in_ok-count.count)
+    c.play-next.ensures c.in_ok-count.ensures in
     let one : counted m c.in_ok-count.count =
-    subst (λ (d : ℕ). HasLines game.Legal game.order game.after d (game.after p m) c.in_ok-count.count) c.saturating_sub.ensures under in (
+    subst (λ (d : ℕ). HasLines game.Legal game.order game.after d (game.after p m) c.in_ok-count.count)
+    c.saturating_sub.ensures under in (
       c.loop-played.invariant.0,
       (
         lines ++ count_line name c.in_ok-count.count,
-        subst (λ (n : ℕ). AreLines (λ x. game.Writes p x) counted (take (c.loop-played.played-index + 1) items) (lines ++ count_line name c.in_ok-count.count) n) {x = c.loop-played.total + c.in_ok-count.count} (sym c.in_ok-total.ensures)
-            (AreLines-next (λ x. game.Writes p x) counted items c.loop-played.played-index m lines name c.loop-played.total c.in_ok-count.count c.loop-played-test.true c.played-item.is are written one),
+        subst
+            (λ (n : ℕ). AreLines (λ x. game.Writes p x) counted (take (c.loop-played.played-index + 1) items)
+            (lines ++ count_line name c.in_ok-count.count) n) {x = c.loop-played.total + c.in_ok-count.count}
+            (sym c.in_ok-total.ensures)
+            (AreLines-next (λ x. game.Writes p x) counted items c.loop-played.played-index m lines name
+            c.loop-played.total c.in_ok-count.count c.loop-played-test.true c.played-item.is are written one),
         Appends-trans _ _ _ lines (count_line name c.in_ok-count.count) printed c.in_ok-print_count.ensures,
       ),
     )
@@ -58,7 +66,8 @@ returns g c =
       are_moves = c.loop-played.invariant.0;
       lines = lines;
       total = c.loop-played.total;
-      are_lines = AreLines-all (λ x. game.Writes p x) counted items c.loop-played.played-index lines c.loop-played.total c.loop-played-test.false are;
+      are_lines = AreLines-all (λ x. game.Writes p x) counted items c.loop-played.played-index lines c.loop-played.total
+          c.loop-played-test.false are;
       printed = Appends-trans _ _ _ lines (total_line c.loop-played.total) printed more;
     })
     c.print_total.ensures

@@ -9,5 +9,7 @@ invariant-loop-played g l =
     let game = g.G.Game in
     AreTheMoves game.Legal game.order l.position l.played-items
     × ((lines : List ℕ)
-    × AreLines (λ m. game.Writes l.position m) (λ m count. HasLines game.Legal game.order game.after (l.depth - 1) (game.after l.position m) count) (take l.played-index l.played-items) lines l.total
+    × AreLines (λ m. game.Writes l.position m)
+    (λ m count. HasLines game.Legal game.order game.after (l.depth - 1) (game.after l.position m) count)
+    (take l.played-index l.played-items) lines l.total
     × Appends (g.W.Write.contents l.initial.out) (g.W.Write.contents l.out) lines)

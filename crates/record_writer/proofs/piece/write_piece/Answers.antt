@@ -12,8 +12,13 @@ writes-preserved g c =
     elim c.match-write.branch [
       | in-Ok w ↦ (
         it.0 ++ take w.in-Ok.written rest,
-        subst (λ l. (it.0 ++ take w.in-Ok.written rest) ++ l ≡ all) (sym (ap (λ r. r.now) w.rest-is)) (takes_slice all it.0 rest w.in-Ok.written it.1),
+        subst (λ l. (it.0 ++ take w.in-Ok.written rest) ++ l ≡ all) (sym (ap (λ r. r.now) w.rest-is))
+            (takes_slice all it.0 rest w.in-Ok.written it.1),
         Appends-trans _ _ _ _ _ it.2 w.in-Ok.ensures.bytes,
       )
-      | in-Err+else-ne w ↦ (it.0, subst (λ l. it.0 ++ l ≡ all) (sym (ap (λ r. r.now) w.rest-is)) it.1, appends_kept _ _ _ _ it.2 w.in-Err.ensures.bytes)
+      | in-Err+else-ne w ↦ (
+        it.0,
+        subst (λ l. it.0 ++ l ≡ all) (sym (ap (λ r. r.now) w.rest-is)) it.1,
+        appends_kept _ _ _ _ it.2 w.in-Err.ensures.bytes,
+      )
     ]

@@ -24,7 +24,8 @@ pub returns-in_err-push-clause-begun : goal.returns-in_err-push-clause-begun
 returns-in_err-push-clause-begun g c =
     let es : List (SMove × ℕ) = c.args.entries.now in
     let i : ℕ = c.loop-i.i in
-    move-begins c.args.head.now es i c.index-entries-i.result _ _ c.loop-i-test.true c.index-entries-i.is (c.push.ensures.begun c.args.head.now _ (take i es) c.loop-i.invariant)
+    move-begins c.args.head.now es i c.index-entries-i.result _ _ c.loop-i-test.true c.index-entries-i.is
+    (c.push.ensures.begun c.args.head.now _ (take i es) c.loop-i.invariant)
 
 pub loop-i-preserved : goal.loop-i-preserved
 loop-i-preserved g c =
@@ -33,7 +34,9 @@ loop-i-preserved g c =
     let e : SMove × ℕ = c.index-entries-i.result in
     let before = g.W.Write.contents c.args.writer.now in
     let now = g.W.Write.contents c.push.new.writer in
-    subst (λ l. HasWritten c.args.head.now l before now c.push.new.self) (sym (taken-next es i e c.loop-i-test.true c.index-entries-i.is)) (c.in_ok-push.ensures.written c.args.head.now before (take i es) c.loop-i.invariant)
+    subst (λ l. HasWritten c.args.head.now l before now c.push.new.self)
+    (sym (taken-next es i e c.loop-i-test.true c.index-entries-i.is))
+    (c.in_ok-push.ensures.written c.args.head.now before (take i es) c.loop-i.invariant)
 
 pub returns-in_err-finish-clause-begun : goal.returns-in_err-finish-clause-begun
 returns-in_err-finish-clause-begun g c =
@@ -41,7 +44,8 @@ returns-in_err-finish-clause-begun g c =
     let i : ℕ = c.loop-i.i in
     let before = g.W.Write.contents c.args.writer.now in
     let now = g.W.Write.contents c.finish.new.writer in
-    subst (λ l. BeginsGame c.args.head.now l before now) (take_all i es c.loop-i-test.false) (c.finish.ensures.begun c.args.head.now before (take i es) c.loop-i.invariant)
+    subst (λ l. BeginsGame c.args.head.now l before now) (take_all i es c.loop-i-test.false)
+    (c.finish.ensures.begun c.args.head.now before (take i es) c.loop-i.invariant)
 
 pub returns-clause-whole : goal.returns-clause-whole
 returns-clause-whole g c =
@@ -49,7 +53,8 @@ returns-clause-whole g c =
     let i : ℕ = c.loop-i.i in
     let before = g.W.Write.contents c.args.writer.now in
     let now = g.W.Write.contents c.finish.new.writer in
-    subst (λ l. AddsGame c.args.head.now l before now) (take_all i es c.loop-i-test.false) (c.in_ok-finish.ensures.written c.args.head.now before (take i es) c.loop-i.invariant)
+    subst (λ l. AddsGame c.args.head.now l before now) (take_all i es c.loop-i-test.false)
+    (c.in_ok-finish.ensures.written c.args.head.now before (take i es) c.loop-i.invariant)
 
 pub returns-clause-begun : goal.returns-clause-begun
 returns-clause-begun g c =
@@ -57,4 +62,5 @@ returns-clause-begun g c =
     let i : ℕ = c.loop-i.i in
     let before = g.W.Write.contents c.args.writer.now in
     let now = g.W.Write.contents c.finish.new.writer in
-    subst (λ l. BeginsGame c.args.head.now l before now) (take_all i es c.loop-i-test.false) (c.finish.ensures.begun c.args.head.now before (take i es) c.loop-i.invariant)
+    subst (λ l. BeginsGame c.args.head.now l before now) (take_all i es c.loop-i-test.false)
+    (c.finish.ensures.begun c.args.head.now before (take i es) c.loop-i.invariant)

@@ -26,7 +26,8 @@ push-requires g c =
 pub returns-in_err-push-clause-begun : goal.returns-in_err-push-clause-begun
 returns-in_err-push-clause-begun g c =
     let ms : List DMove = c.args.moves.now in
-    move-begins c.args.head.now ms c.loop-i.i c.index-moves-i.result _ _ c.loop-i-test.true c.index-moves-i.is (c.push.ensures.begun c.args.head.now _ (take c.loop-i.i ms) c.loop-i.invariant)
+    move-begins c.args.head.now ms c.loop-i.i c.index-moves-i.result _ _ c.loop-i-test.true c.index-moves-i.is
+    (c.push.ensures.begun c.args.head.now _ (take c.loop-i.i ms) c.loop-i.invariant)
 
 pub loop-i-preserved : goal.loop-i-preserved
 loop-i-preserved g c =
@@ -35,7 +36,9 @@ loop-i-preserved g c =
     let m : DMove = c.index-moves-i.result in
     let before = g.W.Write.contents c.args.writer.now in
     let now = g.W.Write.contents c.push.new.writer in
-    subst (λ l. HasWritten c.args.head.now l before now c.push.new.self) (sym (taken-next ms i m c.loop-i-test.true c.index-moves-i.is)) (c.in_ok-push.ensures.written c.args.head.now before (take i ms) c.loop-i.invariant)
+    subst (λ l. HasWritten c.args.head.now l before now c.push.new.self)
+    (sym (taken-next ms i m c.loop-i-test.true c.index-moves-i.is))
+    (c.in_ok-push.ensures.written c.args.head.now before (take i ms) c.loop-i.invariant)
 
 pub returns-in_err-finish-clause-begun : goal.returns-in_err-finish-clause-begun
 returns-in_err-finish-clause-begun g c =
@@ -43,7 +46,8 @@ returns-in_err-finish-clause-begun g c =
     let i : ℕ = c.loop-i.i in
     let before = g.W.Write.contents c.args.writer.now in
     let now = g.W.Write.contents c.finish.new.writer in
-    subst (λ l. AppendsSome before now (whole_text c.args.head.now l)) (take_all i ms c.loop-i-test.false) (c.finish.ensures.begun c.args.head.now before (take i ms) c.loop-i.invariant)
+    subst (λ l. AppendsSome before now (whole_text c.args.head.now l)) (take_all i ms c.loop-i-test.false)
+    (c.finish.ensures.begun c.args.head.now before (take i ms) c.loop-i.invariant)
 
 pub returns-clause-whole : goal.returns-clause-whole
 returns-clause-whole g c =
@@ -51,7 +55,8 @@ returns-clause-whole g c =
     let i : ℕ = c.loop-i.i in
     let before = g.W.Write.contents c.args.writer.now in
     let now = g.W.Write.contents c.finish.new.writer in
-    subst (λ l. Appends before now (whole_text c.args.head.now l)) (take_all i ms c.loop-i-test.false) (c.in_ok-finish.ensures.written c.args.head.now before (take i ms) c.loop-i.invariant)
+    subst (λ l. Appends before now (whole_text c.args.head.now l)) (take_all i ms c.loop-i-test.false)
+    (c.in_ok-finish.ensures.written c.args.head.now before (take i ms) c.loop-i.invariant)
 
 pub returns-clause-begun : goal.returns-clause-begun
 returns-clause-begun g c =
@@ -59,4 +64,5 @@ returns-clause-begun g c =
     let i : ℕ = c.loop-i.i in
     let before = g.W.Write.contents c.args.writer.now in
     let now = g.W.Write.contents c.finish.new.writer in
-    subst (λ l. AppendsSome before now (whole_text c.args.head.now l)) (take_all i ms c.loop-i-test.false) (c.finish.ensures.begun c.args.head.now before (take i ms) c.loop-i.invariant)
+    subst (λ l. AppendsSome before now (whole_text c.args.head.now l)) (take_all i ms c.loop-i-test.false)
+    (c.finish.ensures.begun c.args.head.now before (take i ms) c.loop-i.invariant)

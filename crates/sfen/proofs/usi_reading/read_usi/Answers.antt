@@ -7,7 +7,8 @@ use Rattle.sfen.proofs.usi_reading.read_usi.Goals as goal
 
 pub returns-in-Some-clause-played : goal.returns-in-Some-clause-played
 returns-in-Some-clause-played c =
-    usi_reading-sound c.args.text.now c.in-Some.played (ap usi_reading (sym c.as_bytes-bytes.ensures.value) ∙ sym c.in-Some.ensures)
+    usi_reading-sound c.args.text.now c.in-Some.played
+    (ap usi_reading (sym c.as_bytes-bytes.ensures.value) ∙ sym c.in-Some.ensures)
 
 pub returns-in-None-clause-fault : goal.returns-in-None-clause-fault
 returns-in-None-clause-fault c =

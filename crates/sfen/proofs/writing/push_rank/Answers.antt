@@ -22,13 +22,17 @@ loop-past-preserved c =
     let left : List (Option SPiece) = cells_from board rank (9 - (k + 1)) in
     let cell : Option SPiece = map.get board (shogi_number (9 - k) rank) in
     let whole : List ℕ = string_bytes c.args.text.now ++ rank_text board rank in
-    let before = sym (ap (λ (cs : List (Option SPiece)). text ++ cells_text gap cs) (cells-more board rank k c.loop-past-test.true)) ∙ c.loop-past.invariant.written in
+    let before =
+    sym
+    (ap (λ (cs : List (Option SPiece)). text ++ cells_text gap cs) (cells-more board rank k c.loop-past-test.true))
+    ∙ c.loop-past.invariant.written in
     elim c.match-piece_at.branch [
       | in-Some+in_ok-push_gap-in-Some+in_ok-push_piece-in-Some w ↦ record {
         written =
             ap (λ t. string_bytes t ++ cells_text c.match-piece_at.gap left) w.text-is
             ∙ ap (λ (g : ℕ). string_bytes w.push_piece.new.text ++ cells_text g left) w.gap-is
-            ∙ rank-piece whole text gap left cell before w.in-Some.piece _ _ (sym c.piece_at.ensures ∙ w.in-Some.is) w.in_ok-push_gap-in-Some.ensures w.in_ok-push_piece-in-Some.ensures;
+            ∙ rank-piece whole text gap left cell before w.in-Some.piece _ _ (sym c.piece_at.ensures ∙ w.in-Some.is)
+            w.in_ok-push_gap-in-Some.ensures w.in_ok-push_piece-in-Some.ensures;
         few = omega (arith, w.gap-is);
       }
       | in-None w ↦ record {

@@ -10,5 +10,6 @@ pub record Written (IsWritten IsFew : Type 0) : Type 0 where
 abbrev pub invariant-loop-past : goal.invariant-loop-past
 invariant-loop-past l =
     Written
-    (string_bytes l.text ++ cells_text l.gap (cells_from l.board l.rank (9 - l.past)) ≡ string_bytes l.initial.text ++ rank_text l.board l.rank)
+    (string_bytes l.text ++ cells_text l.gap (cells_from l.board l.rank (9 - l.past)) ≡ string_bytes l.initial.text
+    ++ rank_text l.board l.rank)
     (l.gap ≤ l.past)

@@ -8,7 +8,8 @@ use Rattle.sfen.proofs.writing.write.Goals as goal
 
 pub returns-clause-text : goal.returns-clause-text
 unfolding sfen_text
-returns-clause-text c = c.in_ok-write.ensures.bytes ∙ ap (λ t. t ++ 32 ∷ decimal c.args.number) c.in_ok-text.ensures.text
+returns-clause-text c = c.in_ok-write.ensures.bytes
+    ∙ ap (λ t. t ++ 32 ∷ decimal c.args.number) c.in_ok-text.ensures.text
 
 pub returns-clause-stands_for : goal.returns-clause-stands_for
 returns-clause-stands_for c =

@@ -8,7 +8,9 @@ unfolding faced_along
 returns-in-None c =
     let a = c.args in
     let w = c.loop-distance in
-    sym (look-edge a.board.now a.side a.heading (farthest a.heading - w.distance) w.distance w.at (sym c.step.ensures ∙ c.in-None.is)) ∙ w.invariant
+    sym
+    (look-edge a.board.now a.side a.heading (farthest a.heading - w.distance) w.distance w.at
+    (sym c.step.ensures ∙ c.in-None.is)) ∙ w.invariant
 
 pub returns-in-Some-at : goal.returns-in-Some-at
 unfolding faced_along
@@ -17,7 +19,10 @@ returns-in-Some-at c =
     let w = c.loop-distance in
     let far = farthest a.heading - (w.distance + 1) in
     c.comes_here.ensures
-    ∙ sym (look-found a.board.now a.side a.heading (farthest a.heading - w.distance) w.distance w.at far c.in-Some.next (sym c.step.ensures ∙ c.in-Some.is) (omega (arith, c.loop-distance-test.true, c.farthest-distance-end.ensures)) c.in-Some-at.piece (sym c.at.ensures ∙ c.in-Some-at.is))
+    ∙ sym
+    (look-found a.board.now a.side a.heading (farthest a.heading - w.distance) w.distance w.at far c.in-Some.next
+    (sym c.step.ensures ∙ c.in-Some.is) (omega (arith, c.loop-distance-test.true, c.farthest-distance-end.ensures))
+    c.in-Some-at.piece (sym c.at.ensures ∙ c.in-Some-at.is))
     ∙ w.invariant
 
 pub loop-distance-preserved : goal.loop-distance-preserved
@@ -25,7 +30,10 @@ loop-distance-preserved c =
     let a = c.args in
     let w = c.loop-distance in
     let far = farthest a.heading - (w.distance + 1) in
-    sym (look-on a.board.now a.side a.heading (farthest a.heading - w.distance) w.distance w.at far c.in-Some.next (sym c.step.ensures ∙ c.in-Some.is) (omega (arith, c.loop-distance-test.true, c.farthest-distance-end.ensures)) (sym c.at.ensures ∙ c.in-None-at.is))
+    sym
+    (look-on a.board.now a.side a.heading (farthest a.heading - w.distance) w.distance w.at far c.in-Some.next
+    (sym c.step.ensures ∙ c.in-Some.is) (omega (arith, c.loop-distance-test.true, c.farthest-distance-end.ensures))
+    (sym c.at.ensures ∙ c.in-None-at.is))
     ∙ w.invariant
 
 pub returns : goal.returns
@@ -33,4 +41,6 @@ unfolding faced_along
 returns c =
     let a = c.args in
     let w = c.loop-distance in
-    sym (look-end a.board.now a.side a.heading (farthest a.heading - w.distance) w.distance w.at (omega (arith, c.loop-distance-test.false, c.farthest-distance-end.ensures))) ∙ w.invariant
+    sym
+    (look-end a.board.now a.side a.heading (farthest a.heading - w.distance) w.distance w.at
+    (omega (arith, c.loop-distance-test.false, c.farthest-distance-end.ensures))) ∙ w.invariant

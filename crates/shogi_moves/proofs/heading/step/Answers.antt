@@ -8,5 +8,7 @@ returns c =
     let on : c.args.from < 81 = search rules in
     square_at-is c.new.result c.next_file.result c.next_rank.result c.new.ensures.some c.new.ensures.value
     ∙ (λ i. square_at (c.next_file.ensures i) (c.next_rank.ensures i))
-    ∙ (λ i. square_at (next_file c.args.heading (c.file.ensures.value i)) (next_rank c.args.side c.args.heading (c.rank.ensures.value i)))
+    ∙
+    (λ i. square_at (next_file c.args.heading (c.file.ensures.value i))
+    (next_rank c.args.side c.args.heading (c.rank.ensures.value i)))
     ∙ sym (step-square_at c.args.side c.args.heading c.args.from on)

@@ -10,12 +10,14 @@ pub returns-then-is_attacked : goal.returns-then-is_attacked
 returns-then-is_attacked c =
     let a = c.args in
     let w = c.loop-square in
-    any-here (attacked a.board.now a.side) 0 81 w.rest c.pop.new.self c.in-Some.square (king_attacked a.board.now a.side) c.in-Some.ensures.0 w.invariant
+    any-here (attacked a.board.now a.side) 0 81 w.rest c.pop.new.self c.in-Some.square
+    (king_attacked a.board.now a.side) c.in-Some.ensures.0 w.invariant
     (ap (attacked a.board.now a.side) (sym c.of_number.ensures) ∙ sym c.is_attacked.ensures ∙ c.if-is_attacked.true)
 
 pub loop-square-preserved : goal.loop-square-preserved
 loop-square-preserved c =
     let a = c.args in
     let w = c.loop-square in
-    any-past (attacked a.board.now a.side) 0 81 w.rest c.pop.new.self c.in-Some.square (king_attacked a.board.now a.side) c.in-Some.ensures.0 w.invariant
+    any-past (attacked a.board.now a.side) 0 81 w.rest c.pop.new.self c.in-Some.square
+    (king_attacked a.board.now a.side) c.in-Some.ensures.0 w.invariant
     (ap (attacked a.board.now a.side) (sym c.of_number.ensures) ∙ sym c.is_attacked.ensures ∙ c.if-is_attacked.false)

@@ -15,7 +15,8 @@ listed c =
     ∙ (λ i. c.new.ensures.items i ++ all_moves (is_legal (c.of.ensures.value i)))
 
 pub returns-clause-in_order : goal.returns-clause-in_order
-returns-clause-in_order c = subst (λ ms. IsStrictlySortedBy move_cmp ms) (sym (listed c)) (moves-sorted (is_legal c.args.position.now))
+returns-clause-in_order c = subst (λ ms. IsStrictlySortedBy move_cmp ms) (sym (listed c))
+    (moves-sorted (is_legal c.args.position.now))
 
 pub returns-clause-members : goal.returns-clause-members
 returns-clause-members c m =

@@ -11,4 +11,5 @@ of_parts-requires c =
     let board = c.board_after-board.ensures ∙ ap (λ q. board_after q m) c.of-layout.ensures.value in
     let hands = c.hands_after-hands.ensures ∙ ap (λ q. hands_after q m) c.of-layout.ensures.value in
     subst (λ b. IsShogiPosition b c.hands_after-hands.result) (sym board)
-    (subst (λ h. IsShogiPosition (board_after p m) h) (sym hands) (play-sound p m c.requires.pseudo c.of-layout.ensures.sound))
+    (subst (λ h. IsShogiPosition (board_after p m) h) (sym hands)
+    (play-sound p m c.requires.pseudo c.of-layout.ensures.sound))

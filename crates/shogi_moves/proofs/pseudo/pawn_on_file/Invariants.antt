@@ -6,7 +6,8 @@ use Rattle.shogi_moves.specs.Computed.{pawn_on_file}
 use Rattle.shogi_moves.proofs.pseudo.pawn_on_file.Given as goal
 
 abbrev pub invariant-loop-there : goal.invariant-loop-there
-invariant-loop-there l = list_any (λ q. file_of q == file_of l.square) (ascending 0 81 l.rest) ≡ pawn_on_file l.fn.board l.fn.side l.square
+invariant-loop-there l = list_any (λ q. file_of q == file_of l.square) (ascending 0 81 l.rest)
+    ≡ pawn_on_file l.fn.board l.fn.side l.square
 
 abbrev pub decreases-loop-there : goal.decreases-loop-there
 decreases-loop-there l = length (ascending 0 81 l.rest)

@@ -14,13 +14,17 @@ pub loop-heading-preserved : goal.loop-heading-preserved
 loop-heading-preserved c to =
     let a = c.args in
     let w = c.loop-heading in
-    let f = λ (heading : Heading). comes_to a.board.now to (line (range a.piece.role heading) a.piece.side heading a.from) in
-    c.with_heading-found.ensures to ∙ any_more f all_headings w.heading-index _ (set.contains w.found to) (omega (arith, c.loop-heading-test.true)) (w.invariant to)
+    let f = λ (heading : Heading). comes_to a.board.now to
+    (line (range a.piece.role heading) a.piece.side heading a.from) in
+    c.with_heading-found.ensures to ∙ any_more f all_headings w.heading-index _ (set.contains w.found to)
+    (omega (arith, c.loop-heading-test.true)) (w.invariant to)
 
 pub returns : goal.returns
 unfolding piece_reaches
 returns c to =
     let a = c.args in
     let w = c.loop-heading in
-    let f = λ (heading : Heading). comes_to a.board.now to (line (range a.piece.role heading) a.piece.side heading a.from) in
-    any_all f all_headings w.heading-index (set.contains w.found to) (omega (arith, c.loop-heading-test.false)) (w.invariant to)
+    let f = λ (heading : Heading). comes_to a.board.now to
+    (line (range a.piece.role heading) a.piece.side heading a.from) in
+    any_all f all_headings w.heading-index (set.contains w.found to) (omega (arith, c.loop-heading-test.false))
+    (w.invariant to)

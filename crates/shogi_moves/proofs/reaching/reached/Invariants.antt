@@ -6,4 +6,6 @@ use Rattle.shogi_moves.specs.Search.{all_headings, comes_to}
 use Rattle.shogi_moves.proofs.reaching.reached.Given as goal
 
 abbrev pub invariant-loop-heading : goal.invariant-loop-heading
-invariant-loop-heading l = (to : ℕ) → set.contains l.found to ≡ list_any (λ heading. comes_to l.board to (line (range l.piece.role heading) l.piece.side heading l.from)) (take l.heading-index all_headings)
+invariant-loop-heading l = (to : ℕ) → set.contains l.found to
+    ≡ list_any (λ heading. comes_to l.board to (line (range l.piece.role heading) l.piece.side heading l.from))
+    (take l.heading-index all_headings)

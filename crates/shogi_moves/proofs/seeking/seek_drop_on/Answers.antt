@@ -13,7 +13,8 @@ returns-then-not-is_pseudo g c =
     let p = position_of a.layout.now in
     let s = g.S.Seeker in
     sought_none s.plus g.met.S.Seeker.plus_none (drops_on (s.test p) a.kind a.to) a.seeker.now
-    (none_passing p (s.test p) (g.met.S.Seeker.only p) (Drop a.kind a.to) (sym c.is_pseudo.ensures ∙ c.if-not-is_pseudo.true))
+    (none_passing p (s.test p) (g.met.S.Seeker.only p) (Drop a.kind a.to)
+    (sym c.is_pseudo.ensures ∙ c.if-not-is_pseudo.true))
 
 pub returns : goal.returns
 unfolding drops_on

@@ -8,4 +8,5 @@ abbrev pub invariant-loop-kind : goal.invariant-loop-kind
 invariant-loop-kind g l =
     let s = g.S.Seeker in
     let p = position_of l.layout in
-    s.plus l.seeker (flat_map (drops_of (s.test p)) (drop l.kind-index l.kind-items)) ≡ s.plus l.fn.seeker (all_drops (s.test p))
+    s.plus l.seeker (flat_map (drops_of (s.test p)) (drop l.kind-index l.kind-items))
+    ≡ s.plus l.fn.seeker (all_drops (s.test p))

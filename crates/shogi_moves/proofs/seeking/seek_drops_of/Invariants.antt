@@ -8,4 +8,5 @@ abbrev pub invariant-loop-to : goal.invariant-loop-to
 invariant-loop-to g l =
     let s = g.S.Seeker in
     let p = position_of l.layout in
-    s.plus l.seeker (flat_map (drops_on (s.test p) l.kind) (drop l.to-index l.to-items)) ≡ s.plus l.fn.seeker (drops_of (s.test p) l.kind)
+    s.plus l.seeker (flat_map (drops_on (s.test p) l.kind) (drop l.to-index l.to-items))
+    ≡ s.plus l.fn.seeker (drops_of (s.test p) l.kind)

@@ -14,10 +14,14 @@ returns-then-not-passes g c =
     let m = Step a.from a.to a.promote in
     sought_none s.plus g.met.S.Seeker.plus_none (if_passes (s.test p) m) a.seeker.now
     (none_passing p (s.test p) (g.met.S.Seeker.only p) m
-    (sym (step-pseudo p a.piece a.from c.requires.stands a.to c.requires.own c.requires.reaches c.requires.lands a.promote) ∙ sym c.passes.ensures ∙ c.if-not-passes.true))
+    (sym
+    (step-pseudo p a.piece a.from c.requires.stands a.to c.requires.own c.requires.reaches c.requires.lands
+    a.promote) ∙ sym c.passes.ensures ∙ c.if-not-passes.true))
 
 pub take-requires : goal.take-requires
 take-requires g c =
     let a = c.args in
     let p = position_of a.layout.now in
-    sym (step-pseudo p a.piece a.from c.requires.stands a.to c.requires.own c.requires.reaches c.requires.lands a.promote) ∙ sym c.passes.ensures ∙ c.if-not-passes.false
+    sym
+    (step-pseudo p a.piece a.from c.requires.stands a.to c.requires.own c.requires.reaches c.requires.lands
+    a.promote) ∙ sym c.passes.ensures ∙ c.if-not-passes.false

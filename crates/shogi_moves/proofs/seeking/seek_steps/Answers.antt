@@ -14,7 +14,9 @@ loop-from-init g c =
     let p = position_of a.layout.now in
     let s = g.S.Seeker in
     record {
-      sought = ap (s.plus a.seeker.now) (steps-own p (s.test p) (g.met.S.Seeker.only p) c.squares_of_side-rest.result c.squares_of_side-rest.ensures);
+      sought =
+          ap (s.plus a.seeker.now)
+          (steps-own p (s.test p) (g.met.S.Seeker.only p) c.squares_of_side-rest.result c.squares_of_side-rest.ensures);
       own = λ from e. sym (c.squares_of_side-rest.ensures from) ∙ e;
     }
 
@@ -27,7 +29,12 @@ loop-from-preserved g c =
     let pop = c.in-Some.ensures in
     record {
       sought =
-          sought_more s.plus g.met.S.Seeker.plus_more (steps_from (s.test p)) c.in-Some.from (ascending 0 81 w.rest) (ascending 0 81 c.pop.new.self) (s.plus a.seeker.now (all_steps (s.test p))) w.seeker c.seek_steps_from.new.seeker
-          pop.0 w.invariant.sought (c.in_ok-seek_steps_from.ensures ∙ ap (λ from. s.plus w.seeker (steps_from (s.test p) from)) c.of_number.ensures);
-      own = λ from e. w.invariant.own from (popped_kept w.rest c.in-Some.from from (ap (λ q. set.contains q from) (sym pop.1) ∙ e));
+          sought_more s.plus g.met.S.Seeker.plus_more (steps_from (s.test p)) c.in-Some.from (ascending 0 81 w.rest)
+          (ascending 0 81 c.pop.new.self) (s.plus a.seeker.now (all_steps (s.test p))) w.seeker
+          c.seek_steps_from.new.seeker
+          pop.0 w.invariant.sought (c.in_ok-seek_steps_from.ensures
+          ∙ ap (λ from. s.plus w.seeker (steps_from (s.test p) from)) c.of_number.ensures);
+      own =
+          λ from e.
+          w.invariant.own from (popped_kept w.rest c.in-Some.from from (ap (λ q. set.contains q from) (sym pop.1) ∙ e));
     }

@@ -13,7 +13,8 @@ invariant-loop-from g l =
     let s = g.S.Seeker in
     let p = position_of l.layout in
     record {
-      sought : s.plus l.seeker (flat_map (steps_from (s.test p)) (ascending 0 81 l.rest)) ≡ s.plus l.fn.seeker (all_steps (s.test p));
+      sought : s.plus l.seeker (flat_map (steps_from (s.test p)) (ascending 0 81 l.rest))
+          ≡ s.plus l.fn.seeker (all_steps (s.test p));
       own : (from : ℕ) → set.contains l.rest from ≡ true → is_side l.layout.turn (map.get l.layout.board from) ≡ true;
     }
 

@@ -14,7 +14,10 @@ loop-to-init g c =
     let p = position_of a.layout.now in
     let s = g.S.Seeker in
     record {
-      sought = ap (s.plus a.seeker.now) (steps-reached p a.piece a.from c.requires.stands (s.test p) (g.met.S.Seeker.only p) c.reached-rest.result c.reached-rest.ensures);
+      sought =
+          ap (s.plus a.seeker.now)
+          (steps-reached p a.piece a.from c.requires.stands (s.test p) (g.met.S.Seeker.only p) c.reached-rest.result
+          c.reached-rest.ensures);
       reached = λ to e. sym (c.reached-rest.ensures to) ∙ e;
     }
 
@@ -27,7 +30,11 @@ loop-to-preserved g c =
     let pop = c.in-Some.ensures in
     record {
       sought =
-          sought_more s.plus g.met.S.Seeker.plus_more (steps_between (s.test p) a.from) c.in-Some.to (ascending 0 81 w.rest) (ascending 0 81 c.pop.new.self) (s.plus a.seeker.now (steps_from (s.test p) a.from)) w.seeker c.seek_between.new.seeker
-          pop.0 w.invariant.sought (c.in_ok-seek_between.ensures ∙ ap (λ to. s.plus w.seeker (steps_between (s.test p) a.from to)) c.of_number.ensures);
-      reached = λ to e. w.invariant.reached to (popped_kept w.rest c.in-Some.to to (ap (λ q. set.contains q to) (sym pop.1) ∙ e));
+          sought_more s.plus g.met.S.Seeker.plus_more (steps_between (s.test p) a.from) c.in-Some.to
+          (ascending 0 81 w.rest) (ascending 0 81 c.pop.new.self)
+          (s.plus a.seeker.now (steps_from (s.test p) a.from)) w.seeker c.seek_between.new.seeker
+          pop.0 w.invariant.sought (c.in_ok-seek_between.ensures
+          ∙ ap (λ to. s.plus w.seeker (steps_between (s.test p) a.from to)) c.of_number.ensures);
+      reached = λ to e. w.invariant.reached to
+          (popped_kept w.rest c.in-Some.to to (ap (λ q. set.contains q to) (sym pop.1) ∙ e));
     }

@@ -12,7 +12,8 @@ invariant-loop-to g l =
     let s = g.S.Seeker in
     let p = position_of l.layout in
     record {
-      sought : s.plus l.seeker (flat_map (steps_between (s.test p) l.from) (ascending 0 81 l.rest)) ≡ s.plus l.fn.seeker (steps_from (s.test p) l.from);
+      sought : s.plus l.seeker (flat_map (steps_between (s.test p) l.from) (ascending 0 81 l.rest))
+          ≡ s.plus l.fn.seeker (steps_from (s.test p) l.from);
       reached : (to : ℕ) → set.contains l.rest to ≡ true → piece_reaches l.layout.board l.piece l.from to ≡ true;
     }
 

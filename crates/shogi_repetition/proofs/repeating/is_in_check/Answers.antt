@@ -7,4 +7,5 @@ pub returns : goal.returns
 returns c =
     let p = c.args.position.now in
     let is = king_attacked-is p.board p.turn in
-    both_ways c.in_check.result (is_in_check p) (λ e. is.1 (c.in_check.ensures.0 e)) (λ e. c.in_check.ensures.1 (is.0 e))
+    both_ways c.in_check.result (is_in_check p) (λ e. is.1 (c.in_check.ensures.0 e))
+    (λ e. c.in_check.ensures.1 (is.0 e))

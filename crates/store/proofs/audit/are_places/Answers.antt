@@ -10,7 +10,8 @@ returns-then-not-is_place-clause-none g c _ places =
     let i = c.rows.i in
     let row = c.index-rows-i.result in
     let within : i < length rows = omega arith in
-    let at : get_or (map number rows) i (pos 0) ≡ number row = got number rows i (pos 0) row within ∙ ap number (sym c.index-rows-i.is) in
+    let at : get_or (map number rows) i (pos 0) ≡ number row = got number rows i (pos 0) row within
+    ∙ ap number (sym c.index-rows-i.is) in
     let other : number row ≢ pos (i + 1) = search rules in
     other (sym at ∙ places i (omega (arith, same_length number rows)))
 
@@ -21,6 +22,7 @@ rows-preserved g c =
     let i = c.rows.i in
     let row = c.index-rows-i.result in
     let within : i < length rows = omega arith in
-    let at : get_or (map number rows) i (pos 0) ≡ number row = got number rows i (pos 0) row within ∙ ap number (sym c.index-rows-i.is) in
+    let at : get_or (map number rows) i (pos 0) ≡ number row = got number rows i (pos 0) row within
+    ∙ ap number (sym c.index-rows-i.is) in
     let here : number row ≡ pos (i + 1) = search rules in
     one_more_place (map number rows) i c.rows.invariant (at ∙ here)

@@ -6,7 +6,12 @@ use Rattle.store.proofs.audit.audit.Goals as goal
 
 pub returns-in-Some-clause-fault : goal.returns-in-Some-clause-fault
 returns-in-Some-clause-fault c =
-    inr (c.in-Some.table, refl, λ s club register. c.in-Some.ensures.wrong (register_places s c.args.rows.now register c.in-Some.table))
+    inr (
+      c.in-Some.table,
+      refl,
+      λ s club register.
+          c.in-Some.ensures.wrong (register_places s c.args.rows.now register c.in-Some.table),
+    )
 
 pub returns-in-Ok-Some-clause-fault : goal.returns-in-Ok-Some-clause-fault
 returns-in-Ok-Some-clause-fault c =
@@ -14,7 +19,8 @@ returns-in-Ok-Some-clause-fault c =
       c.in-Ok-Some.table,
       refl,
       λ s club register.
-          let both = sym c.in-Ok-Some.field-0-is ∙ c.in-Ok-Some.ensures.complete (register_of s c.args.rows.now club register) in
+          let both = sym c.in-Ok-Some.field-0-is ∙ c.in-Ok-Some.ensures.complete
+          (register_of s c.args.rows.now club register) in
           absurd cc,
     )
 

@@ -11,14 +11,17 @@ use Rattle.store.proofs.challenges.decided_answer.Goals as goal
 
 pub returns-clause-decided : goal.returns-clause-decided
 returns-clause-decided g c clean s is_club ms k =
-    let looked : HasCleanDisk (state g.S.Store c.challenge_by.new.conn) = omega (arith, c.games_in.ensures.reads.clean) in
+    let looked : HasCleanDisk (state g.S.Store c.challenge_by.new.conn) =
+    omega (arith, c.games_in.ensures.reads.clean) in
     let number = c.args.command.now.number in
     let found = c.find_member-challenger.ensures ∙ (λ i. find_id (has_member_name (c.as_str.ensures.value i)) (ms i)) in
     let under = c.in_ok-under.ensures.found looked s is_club k ∙ ap (λ o. challenge_by s.challenges o number) found in
     let games = c.in_ok-games.ensures.count clean s (c.in_ok-under.ensures.kept looked club_schema (tables s) k) in
-    c.answer_challenge.ensures ∙ (λ i. by_member c.args.caller (λ m. answer_step (under i) (games i) m c.args.command.now.accept))
+    c.answer_challenge.ensures
+    ∙ (λ i. by_member c.args.caller (λ m. answer_step (under i) (games i) m c.args.command.now.accept))
 
 pub returns-clause-kept : goal.returns-clause-kept
 returns-clause-kept g c clean schema content k =
-    let looked : HasCleanDisk (state g.S.Store c.challenge_by.new.conn) = omega (arith, c.games_in.ensures.reads.clean) in
+    let looked : HasCleanDisk (state g.S.Store c.challenge_by.new.conn) =
+    omega (arith, c.games_in.ensures.reads.clean) in
     c.in_ok-games.ensures.kept clean schema content (c.in_ok-under.ensures.kept looked schema content k)

@@ -20,25 +20,32 @@ use Rattle.store.proofs.challenges.on_answer.Goals as goal
 pub returns-clause-step : goal.returns-clause-step
 returns-clause-step g c clean =
     IfOk-weaker c.put_answered.result _ _ (λ d step s is_club k.
-    let at_events : HasCleanDisk (state g.S.Store c.all_events.new.conn) = omega (arith, c.decided_answer.ensures.reads.clean) in
-    let at_members : HasCleanDisk (state g.S.Store c.all_members.new.conn) = omega (arith, at_events, c.all_events.ensures.reads.clean) in
+    let at_events : HasCleanDisk (state g.S.Store c.all_events.new.conn) =
+    omega (arith, c.decided_answer.ensures.reads.clean) in
+    let at_members : HasCleanDisk (state g.S.Store c.all_members.new.conn) =
+    omega (arith, at_events, c.all_events.ensures.reads.clean) in
     let one = c.in_ok-members.ensures.kept at_members club_schema (tables s) k in
     let two = c.in_ok-events.ensures.kept at_events club_schema (tables s) one in
     let ms = ap members_of c.deref.ensures.value ∙ c.in_ok-members.ensures.values at_members s k in
     let es = ap events_of c.deref-2.ensures.value ∙ c.in_ok-events.ensures.values at_events s one in
     let command = c.args.command.now in
     let accept = command.accept in
-    let under = challenge_by s.challenges (find_id (has_member_name (string_bytes command.challenger)) s.members) command.number in
+    let under = challenge_by s.challenges (find_id (has_member_name (string_bytes command.challenger)) s.members)
+    command.number in
     let wanted : ℕ → Outcome Challenge = λ m. answer_step under (length s.games) m accept in
     let is = c.in_ok-decision.ensures.decided clean s is_club ms two in
     let f = with_answer s c.args.moment accept in
-    let leaves = subst (AnswersTo (length s.games) accept) (sym is) (member_answers c.args.caller under (length s.games) accept) in
-    subst (λ o. IsDecided s o d) (ap (map_outcome f) is ∙ sym (member_mapped f c.args.caller wanted)) (step s accept is_club es leaves)) c.put_answered.ensures.step
+    let leaves = subst (AnswersTo (length s.games) accept) (sym is)
+    (member_answers c.args.caller under (length s.games) accept) in
+    subst (λ o. IsDecided s o d) (ap (map_outcome f) is ∙ sym (member_mapped f c.args.caller wanted))
+    (step s accept is_club es leaves)) c.put_answered.ensures.step
 
 pub returns-clause-kept : goal.returns-clause-kept
 returns-clause-kept g c clean =
-    let at_events : HasCleanDisk (state g.S.Store c.all_events.new.conn) = omega (arith, c.decided_answer.ensures.reads.clean) in
-    let at_members : HasCleanDisk (state g.S.Store c.all_members.new.conn) = omega (arith, at_events, c.all_events.ensures.reads.clean) in
+    let at_events : HasCleanDisk (state g.S.Store c.all_events.new.conn) =
+    omega (arith, c.decided_answer.ensures.reads.clean) in
+    let at_members : HasCleanDisk (state g.S.Store c.all_members.new.conn) =
+    omega (arith, at_events, c.all_events.ensures.reads.clean) in
     always c.put_answered.result _ (λ schema content k.
     c.in_ok-decision.ensures.kept clean schema content
     (c.in_ok-events.ensures.kept at_events schema content (c.in_ok-members.ensures.kept at_members schema content k)))

@@ -17,8 +17,10 @@ use Rattle.store.proofs.challenges.on_challenge.Goals as goal
 pub returns-clause-step : goal.returns-clause-step
 returns-clause-step g c clean =
     IfOk-weaker c.put_challenge.result _ _ (λ d step s is_club k.
-    let at_members : HasCleanDisk (state g.S.Store c.all_members.new.conn) = omega (arith, c.all_events.ensures.reads.clean) in
-    let at_under : HasCleanDisk (state g.S.Store c.challenge_by.new.conn) = omega (arith, at_members, c.all_members.ensures.reads.clean) in
+    let at_members : HasCleanDisk (state g.S.Store c.all_members.new.conn) =
+    omega (arith, c.all_events.ensures.reads.clean) in
+    let at_under : HasCleanDisk (state g.S.Store c.challenge_by.new.conn) =
+    omega (arith, at_members, c.all_members.ensures.reads.clean) in
     let one = c.in_ok-under.ensures.kept at_under club_schema (tables s) k in
     let two = c.in_ok-members.ensures.kept at_members club_schema (tables s) one in
     let ms = ap members_of c.deref.ensures.value ∙ c.in_ok-members.ensures.values at_members s one in
@@ -28,14 +30,23 @@ returns-clause-step g c clean =
     let event = string_bytes command.event in
     let other = string_bytes command.other in
     let f = with_challenge s c.args.moment in
-    let wanted : ℕ → Outcome Challenge = λ m. opening_step s.members s.events (challenge_under s.challenges m command.number) m command.number event other command.first in
-    let same = member_same c.args.caller _ wanted (λ id is i. opening_step (ms i) (es i) ((under ∙ ap (λ o. challenge_by s.challenges o command.number) (c.member_id.ensures id is)) i) id command.number event other command.first) in
-    subst (λ o. IsDecided s o d) (ap (map_outcome f) (c.open_challenge-decision.ensures ∙ same) ∙ sym (member_mapped f c.args.caller wanted)) (step s is_club)) c.put_challenge.ensures.step
+    let wanted : ℕ → Outcome Challenge = λ m.
+    opening_step s.members s.events (challenge_under s.challenges m command.number) m command.number event other
+    command.first in
+    let same = member_same c.args.caller _ wanted
+    (λ id is i.
+    opening_step (ms i) (es i)
+    ((under ∙ ap (λ o. challenge_by s.challenges o command.number) (c.member_id.ensures id is)) i) id command.number
+    event other command.first) in
+    subst (λ o. IsDecided s o d) (ap (map_outcome f) (c.open_challenge-decision.ensures ∙ same)
+    ∙ sym (member_mapped f c.args.caller wanted)) (step s is_club)) c.put_challenge.ensures.step
 
 pub returns-clause-kept : goal.returns-clause-kept
 returns-clause-kept g c clean =
-    let at_members : HasCleanDisk (state g.S.Store c.all_members.new.conn) = omega (arith, c.all_events.ensures.reads.clean) in
-    let at_under : HasCleanDisk (state g.S.Store c.challenge_by.new.conn) = omega (arith, at_members, c.all_members.ensures.reads.clean) in
+    let at_members : HasCleanDisk (state g.S.Store c.all_members.new.conn) =
+    omega (arith, c.all_events.ensures.reads.clean) in
+    let at_under : HasCleanDisk (state g.S.Store c.challenge_by.new.conn) =
+    omega (arith, at_members, c.all_members.ensures.reads.clean) in
     always c.put_challenge.result _ (λ schema content k.
     c.in_ok-events.ensures.kept clean schema content
     (c.in_ok-members.ensures.kept at_members schema content (c.in_ok-under.ensures.kept at_under schema content k)))

@@ -16,8 +16,11 @@ returns-clause-step g c clean =
     let number = c.args.command.now.number in
     let f = with_challenge s c.args.moment in
     let wanted : ℕ → Outcome Challenge = λ m. withdrawal_step (challenge_under s.challenges m number) in
-    let same = member_same c.args.caller _ wanted (λ id is. ap withdrawal_step (under ∙ ap (λ o. challenge_by s.challenges o number) (c.member_id.ensures id is))) in
-    subst (λ o. IsDecided s o d) (ap (map_outcome f) (c.withdraw.ensures ∙ same) ∙ sym (member_mapped f c.args.caller wanted)) (step s is_club)) c.put_challenge.ensures.step
+    let same = member_same c.args.caller _ wanted
+    (λ id is. ap withdrawal_step (under ∙ ap (λ o. challenge_by s.challenges o number) (c.member_id.ensures id is)))
+    in
+    subst (λ o. IsDecided s o d) (ap (map_outcome f) (c.withdraw.ensures ∙ same)
+    ∙ sym (member_mapped f c.args.caller wanted)) (step s is_club)) c.put_challenge.ensures.step
 
 pub returns-clause-kept : goal.returns-clause-kept
 returns-clause-kept g c clean = always c.put_challenge.result _ (c.in_ok-under.ensures.kept clean)

@@ -6,4 +6,5 @@ use Rattle.store.proofs.command.all_events.Goals as goal
 
 pub returns-clause-values : goal.returns-clause-values
 returns-clause-values g c clean s k =
-    c.in_ok-events.ensures.values s.events (ap (map event_cells) c.deref.ensures.value ∙ c.in_ok-list.ensures.rows clean refl (tables s) k (events_begin s.events))
+    c.in_ok-events.ensures.values s.events (ap (map event_cells) c.deref.ensures.value
+    ∙ c.in_ok-list.ensures.rows clean refl (tables s) k (events_begin s.events))

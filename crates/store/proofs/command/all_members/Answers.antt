@@ -6,4 +6,6 @@ use Rattle.store.proofs.command.all_members.Goals as goal
 
 pub returns-clause-values : goal.returns-clause-values
 returns-clause-values g c clean s k =
-    c.in_ok-members.ensures.values s.members (ap (map member_cells) c.deref.ensures.value ∙ c.in_ok-list.ensures.rows clean refl (tables s) k (members_begin s.members))
+    c.in_ok-members.ensures.values s.members
+    (ap (map member_cells) c.deref.ensures.value
+    ∙ c.in_ok-list.ensures.rows clean refl (tables s) k (members_begin s.members))

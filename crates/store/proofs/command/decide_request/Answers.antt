@@ -11,30 +11,41 @@ use Rattle.store.proofs.command.decide_request.Goals as goal
 
 pub returns-in-Some-clause-step : goal.returns-in-Some-clause-step
 returns-in-Some-clause-step g c clean =
-    let after_caller : HasCleanDisk (state g.S.Store c.caller_by.new.conn) = omega (arith, c.on_command.ensures.reads.clean) in
-    let after_last : HasCleanDisk (state g.S.Store c.last_moment.new.conn) = omega (arith, c.caller_by.ensures.reads.clean, c.on_command.ensures.reads.clean) in
+    let after_caller : HasCleanDisk (state g.S.Store c.caller_by.new.conn) =
+    omega (arith, c.on_command.ensures.reads.clean) in
+    let after_last : HasCleanDisk (state g.S.Store c.last_moment.new.conn) =
+    omega (arith, c.caller_by.ensures.reads.clean, c.on_command.ensures.reads.clean) in
     IfOk-weaker c.on_command.result _ _ (λ d step s is_club k.
     let kept = c.in_ok-last.ensures.kept after_last club_schema (tables s) k in
     let last = c.in_ok-last.ensures.last after_last s k in
     let moment = c.later.ensures ∙ ap (max c.args.moment) last in
     let caller = sym c.in-Some.is ∙ c.in_ok-caller.ensures.found after_caller s is_club kept in
     caller_decided s c.args.moment c.later.result c.args.who.now c.in-Some.caller c.args.command.now d moment caller
-    (step s is_club (omega (arith, moment)) (c.in_ok-caller.ensures.kept after_caller club_schema (tables s) kept))) (c.on_command.ensures.step clean)
+    (step s is_club (omega (arith, moment)) (c.in_ok-caller.ensures.kept after_caller club_schema (tables s) kept)))
+    (c.on_command.ensures.step clean)
 
 pub returns-in-None-clause-step : goal.returns-in-None-clause-step
 returns-in-None-clause-step g c clean s is_club k =
-    let after_last : HasCleanDisk (state g.S.Store c.last_moment.new.conn) = omega (arith, c.caller_by.ensures.reads.clean) in
+    let after_last : HasCleanDisk (state g.S.Store c.last_moment.new.conn) =
+    omega (arith, c.caller_by.ensures.reads.clean) in
     let kept = c.in_ok-last.ensures.kept after_last club_schema (tables s) k in
     let caller = sym c.in-None.is ∙ c.in_ok-caller.ensures.found clean s is_club kept in
-    nobody_decided s c.args.moment c.args.who.now c.args.command.now c.unchanged.result caller c.unchanged.ensures.outcome c.unchanged.ensures.none
+    nobody_decided s c.args.moment c.args.who.now c.args.command.now c.unchanged.result caller
+    c.unchanged.ensures.outcome c.unchanged.ensures.none
 
 pub returns-in-Some-clause-kept : goal.returns-in-Some-clause-kept
 returns-in-Some-clause-kept g c clean =
-    let after_caller : HasCleanDisk (state g.S.Store c.caller_by.new.conn) = omega (arith, c.on_command.ensures.reads.clean) in
-    let after_last : HasCleanDisk (state g.S.Store c.last_moment.new.conn) = omega (arith, c.caller_by.ensures.reads.clean, c.on_command.ensures.reads.clean) in
-    on_ok c.on_command.result _ _ (λ last schema content k. last schema content (c.in_ok-caller.ensures.kept after_caller schema content (c.in_ok-last.ensures.kept after_last schema content k))) (c.on_command.ensures.kept clean)
+    let after_caller : HasCleanDisk (state g.S.Store c.caller_by.new.conn) =
+    omega (arith, c.on_command.ensures.reads.clean) in
+    let after_last : HasCleanDisk (state g.S.Store c.last_moment.new.conn) =
+    omega (arith, c.caller_by.ensures.reads.clean, c.on_command.ensures.reads.clean) in
+    on_ok c.on_command.result _ _ (λ last schema content k.
+    last schema content
+    (c.in_ok-caller.ensures.kept after_caller schema content
+    (c.in_ok-last.ensures.kept after_last schema content k))) (c.on_command.ensures.kept clean)
 
 pub returns-in-None-clause-kept : goal.returns-in-None-clause-kept
 returns-in-None-clause-kept g c clean schema content k =
-    let after_last : HasCleanDisk (state g.S.Store c.last_moment.new.conn) = omega (arith, c.caller_by.ensures.reads.clean) in
+    let after_last : HasCleanDisk (state g.S.Store c.last_moment.new.conn) =
+    omega (arith, c.caller_by.ensures.reads.clean) in
     c.in_ok-caller.ensures.kept clean schema content (c.in_ok-last.ensures.kept after_last schema content k)

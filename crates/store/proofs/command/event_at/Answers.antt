@@ -7,4 +7,5 @@ use Rattle.store.proofs.command.event_at.Goals as goal
 pub returns-in-Some : goal.returns-in-Some
 returns-in-Some c =
     let found = c.in-Some.ensures.lookup in
-    placed event_of c.args.events.now c.args.event c.in-Some.event.now c.if-event-eq0.false (ltb-true (c.args.event - 1) (length c.args.events.now) (sym found.0)) found.1
+    placed event_of c.args.events.now c.args.event c.in-Some.event.now c.if-event-eq0.false
+    (ltb-true (c.args.event - 1) (length c.args.events.now) (sym found.0)) found.1

@@ -8,5 +8,6 @@ use Rattle.store.proofs.command.events_of.Given as goal
 abbrev pub invariant-loop-row : goal.invariant-loop-row
 invariant-loop-row l = record {
   count : length l.events.items ≡ l.row-index;
-  values : (all : List Event) → map event_cells l.rows ≡ numbered_from event_row 1 all → events_of l.events.items ≡ take l.row-index all;
+  values : (all : List Event) → map event_cells l.rows ≡ numbered_from event_row 1 all
+      → events_of l.events.items ≡ take l.row-index all;
 }

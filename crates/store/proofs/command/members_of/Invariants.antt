@@ -8,5 +8,6 @@ use Rattle.store.proofs.command.members_of.Given as goal
 abbrev pub invariant-loop-row : goal.invariant-loop-row
 invariant-loop-row l = record {
   count : length l.members.items ≡ l.row-index;
-  values : (all : List Member) → map member_cells l.rows ≡ numbered_from member_row 1 all → members_of l.members.items ≡ take l.row-index all;
+  values : (all : List Member) → map member_cells l.rows ≡ numbered_from member_row 1 all
+      → members_of l.members.items ≡ take l.row-index all;
 }

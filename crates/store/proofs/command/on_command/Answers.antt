@@ -13,52 +13,67 @@ pub returns-in_ok-members-in-AddMember-clause-step : goal.returns-in_ok-members-
 returns-in_ok-members-in-AddMember-clause-step g c clean =
     IfOk-weaker c.on_member.result _ _ (λ d step s is_club later k.
     let ms = ap members_of c.deref.ensures.value ∙ c.in_ok-members-in-AddMember.ensures.values clean s k in
-    subst (λ x. IsDecided s (caller_step s c.args.moment c.args.caller (command_of x)) d) (sym c.in-AddMember.is) (step s ms)) c.on_member.ensures.step
+    subst (λ x. IsDecided s (caller_step s c.args.moment c.args.caller (command_of x)) d) (sym c.in-AddMember.is)
+    (step s ms)) c.on_member.ensures.step
 
 pub returns-in_ok-events-in-AddEvent-clause-step : goal.returns-in_ok-events-in-AddEvent-clause-step
 returns-in_ok-events-in-AddEvent-clause-step g c clean =
     IfOk-weaker c.on_event.result _ _ (λ d step s is_club later k.
     let es = ap events_of c.deref-in-AddEvent.ensures.value ∙ c.in_ok-events-in-AddEvent.ensures.values clean s k in
-    subst (λ x. IsDecided s (caller_step s c.args.moment c.args.caller (command_of x)) d) (sym c.in-AddEvent.is) (step s is_club es)) c.on_event.ensures.step
+    subst (λ x. IsDecided s (caller_step s c.args.moment c.args.caller (command_of x)) d) (sym c.in-AddEvent.is)
+    (step s is_club es)) c.on_event.ensures.step
 
 pub returns-in_ok-events-in-Seat-clause-step : goal.returns-in_ok-events-in-Seat-clause-step
 returns-in_ok-events-in-Seat-clause-step g c clean =
     IfOk-weaker c.on_seat.result _ _ (λ d step s is_club later k.
-    let read : HasCleanDisk (state g.S.Store c.all_events-in-Seat.new.conn) = omega (arith, c.on_seat.ensures.reads.clean) in
-    let listed : HasCleanDisk (state g.S.Store c.all_members-in-Seat.new.conn) = omega (arith, c.all_events-in-Seat.ensures.reads.clean, c.on_seat.ensures.reads.clean) in
+    let read : HasCleanDisk (state g.S.Store c.all_events-in-Seat.new.conn) =
+    omega (arith, c.on_seat.ensures.reads.clean) in
+    let listed : HasCleanDisk (state g.S.Store c.all_members-in-Seat.new.conn) =
+    omega (arith, c.all_events-in-Seat.ensures.reads.clean, c.on_seat.ensures.reads.clean) in
     let one = c.in_ok-members-in-Seat.ensures.kept listed club_schema (tables s) k in
     let two = c.in_ok-events-in-Seat.ensures.kept read club_schema (tables s) one in
     let ms = ap members_of c.deref-in-Seat.ensures.value ∙ c.in_ok-members-in-Seat.ensures.values listed s k in
     let es = ap events_of c.deref-in-Seat-2.ensures.value ∙ c.in_ok-events-in-Seat.ensures.values read s one in
-    subst (λ x. IsDecided s (caller_step s c.args.moment c.args.caller (command_of x)) d) (sym c.in-Seat.is) (step s is_club ms es two)) (c.on_seat.ensures.step clean)
+    subst (λ x. IsDecided s (caller_step s c.args.moment c.args.caller (command_of x)) d) (sym c.in-Seat.is)
+    (step s is_club ms es two)) (c.on_seat.ensures.step clean)
 
 pub returns-in_ok-events-in-Seat-clause-kept : goal.returns-in_ok-events-in-Seat-clause-kept
 returns-in_ok-events-in-Seat-clause-kept g c clean =
-    let read : HasCleanDisk (state g.S.Store c.all_events-in-Seat.new.conn) = omega (arith, c.on_seat.ensures.reads.clean) in
-    let listed : HasCleanDisk (state g.S.Store c.all_members-in-Seat.new.conn) = omega (arith, c.all_events-in-Seat.ensures.reads.clean, c.on_seat.ensures.reads.clean) in
-    on_ok c.on_seat.result _ _ (λ last schema content k. last schema content (c.in_ok-events-in-Seat.ensures.kept read schema content (c.in_ok-members-in-Seat.ensures.kept listed schema content k))) (c.on_seat.ensures.kept clean)
+    let read : HasCleanDisk (state g.S.Store c.all_events-in-Seat.new.conn) =
+    omega (arith, c.on_seat.ensures.reads.clean) in
+    let listed : HasCleanDisk (state g.S.Store c.all_members-in-Seat.new.conn) =
+    omega (arith, c.all_events-in-Seat.ensures.reads.clean, c.on_seat.ensures.reads.clean) in
+    on_ok c.on_seat.result _ _ (λ last schema content k.
+    last schema content
+    (c.in_ok-events-in-Seat.ensures.kept read schema content
+    (c.in_ok-members-in-Seat.ensures.kept listed schema content k))) (c.on_seat.ensures.kept clean)
 
 pub returns-in-Import-clause-step : goal.returns-in-Import-clause-step
 returns-in-Import-clause-step g c clean =
     IfOk-weaker c.on_import.result _ _ (λ d step s is_club later k.
-    subst (λ x. IsDecided s (caller_step s c.args.moment c.args.caller (command_of x)) d) (sym c.in-Import.is) (step s is_club k)) (c.on_import.ensures.step clean)
+    subst (λ x. IsDecided s (caller_step s c.args.moment c.args.caller (command_of x)) d) (sym c.in-Import.is)
+    (step s is_club k)) (c.on_import.ensures.step clean)
 
 pub returns-in-Sweep-clause-step : goal.returns-in-Sweep-clause-step
 returns-in-Sweep-clause-step g c clean =
     IfOk-weaker c.on_sweep.result _ _ (λ d step s is_club later k.
-    subst (λ x. IsDecided s (caller_step s c.args.moment c.args.caller (command_of x)) d) (sym c.in-Sweep.is) (step s is_club k)) (c.on_sweep.ensures.step clean)
+    subst (λ x. IsDecided s (caller_step s c.args.moment c.args.caller (command_of x)) d) (sym c.in-Sweep.is)
+    (step s is_club k)) (c.on_sweep.ensures.step clean)
 
 pub returns-in-Challenge-clause-step : goal.returns-in-Challenge-clause-step
 returns-in-Challenge-clause-step g c clean =
     IfOk-weaker c.on_challenge.result _ _ (λ d step s is_club later k.
-    subst (λ x. IsDecided s (caller_step s c.args.moment c.args.caller (command_of x)) d) (sym c.in-Challenge.is) (step s is_club k)) (c.on_challenge.ensures.step clean)
+    subst (λ x. IsDecided s (caller_step s c.args.moment c.args.caller (command_of x)) d) (sym c.in-Challenge.is)
+    (step s is_club k)) (c.on_challenge.ensures.step clean)
 
 pub returns-in-Withdraw-clause-step : goal.returns-in-Withdraw-clause-step
 returns-in-Withdraw-clause-step g c clean =
     IfOk-weaker c.on_withdraw.result _ _ (λ d step s is_club later k.
-    subst (λ x. IsDecided s (caller_step s c.args.moment c.args.caller (command_of x)) d) (sym c.in-Withdraw.is) (step s is_club k)) (c.on_withdraw.ensures.step clean)
+    subst (λ x. IsDecided s (caller_step s c.args.moment c.args.caller (command_of x)) d) (sym c.in-Withdraw.is)
+    (step s is_club k)) (c.on_withdraw.ensures.step clean)
 
 pub returns-in-Answer-clause-step : goal.returns-in-Answer-clause-step
 returns-in-Answer-clause-step g c clean =
     IfOk-weaker c.on_answer.result _ _ (λ d step s is_club later k.
-    subst (λ x. IsDecided s (caller_step s c.args.moment c.args.caller (command_of x)) d) (sym c.in-Answer.is) (step s is_club k)) (c.on_answer.ensures.step clean)
+    subst (λ x. IsDecided s (caller_step s c.args.moment c.args.caller (command_of x)) d) (sym c.in-Answer.is)
+    (step s is_club k)) (c.on_answer.ensures.step clean)

@@ -17,7 +17,8 @@ returns-in-Some-clause-step g c clean =
     IfOk-weaker c.act_in.result _ _ (λ d step s is_club later k.
     let id = c.args.command.now.game in
     let (game, at, stored) = subst (IsFoundGame s id) c.in-Some.is (c.in_ok-stored.ensures.found looked s is_club k) in
-    step s id game is_club later at stored (c.in_ok-stored.ensures.kept looked club_schema (tables s) k)) (c.act_in.ensures.step clean)
+    step s id game is_club later at stored (c.in_ok-stored.ensures.kept looked club_schema (tables s) k))
+    (c.act_in.ensures.step clean)
 
 pub returns-in-None-clause-step : goal.returns-in-None-clause-step
 returns-in-None-clause-step g c clean s is_club later k =
@@ -29,4 +30,5 @@ returns-in-None-clause-step g c clean s is_club later k =
 pub returns-in-Some-clause-kept : goal.returns-in-Some-clause-kept
 returns-in-Some-clause-kept g c clean =
     let looked : HasCleanDisk (state g.S.Store c.stored_game.new.conn) = omega (arith, c.act_in.ensures.reads.clean) in
-    on_ok c.act_in.result _ _ (λ keeps schema content k. keeps schema content (c.in_ok-stored.ensures.kept looked schema content k)) (c.act_in.ensures.kept clean)
+    on_ok c.act_in.result _ _ (λ keeps schema content k.
+    keeps schema content (c.in_ok-stored.ensures.kept looked schema content k)) (c.act_in.ensures.kept clean)

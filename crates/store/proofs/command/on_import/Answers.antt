@@ -10,12 +10,16 @@ use Rattle.store.proofs.command.on_import.Goals as goal
 
 pub returns-clause-step : goal.returns-clause-step
 returns-clause-step g c clean =
-    let looked : HasCleanDisk (state g.S.Store c.read_known.new.conn) = omega (arith, c.import_in.ensures.reads.clean) in
+    let looked : HasCleanDisk (state g.S.Store c.read_known.new.conn) =
+    omega (arith, c.import_in.ensures.reads.clean) in
     IfOk-weaker c.import_in.result _ _ (λ d step s is_club k.
-    let is = subst (λ key. IsKnown s key c.in_ok-known.known) c.as_str.ensures.value (c.in_ok-known.ensures.known looked s is_club k) in
+    let is = subst (λ key. IsKnown s key c.in_ok-known.known) c.as_str.ensures.value
+    (c.in_ok-known.ensures.known looked s is_club k) in
     step s is_club is (c.in_ok-known.ensures.kept looked club_schema (tables s) k)) (c.import_in.ensures.step clean)
 
 pub returns-clause-kept : goal.returns-clause-kept
 returns-clause-kept g c clean =
-    let looked : HasCleanDisk (state g.S.Store c.read_known.new.conn) = omega (arith, c.import_in.ensures.reads.clean) in
-    on_ok c.import_in.result _ _ (λ last schema content k. last schema content (c.in_ok-known.ensures.kept looked schema content k)) (c.import_in.ensures.kept clean)
+    let looked : HasCleanDisk (state g.S.Store c.read_known.new.conn) =
+    omega (arith, c.import_in.ensures.reads.clean) in
+    on_ok c.import_in.result _ _ (λ last schema content k.
+    last schema content (c.in_ok-known.ensures.kept looked schema content k)) (c.import_in.ensures.kept clean)

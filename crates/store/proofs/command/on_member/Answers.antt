@@ -14,7 +14,8 @@ pub returns-then-not-is_accepted-clause-step : goal.returns-then-not-is_accepted
 returns-then-not-is_accepted-clause-step c s same =
     let name = string_bytes c.args.command.now.name in
     let key = string_bytes c.args.command.now.key in
-    officer_none s (with_members s c.args.moment) c.args.caller (member_step s.members name key) c.unchanged.result c.add_member-outcome.result c.unchanged.ensures.outcome c.unchanged.ensures.none
+    officer_none s (with_members s c.args.moment) c.args.caller (member_step s.members name key) c.unchanged.result
+    c.add_member-outcome.result c.unchanged.ensures.outcome c.unchanged.ensures.none
     (c.add_member-outcome.ensures ∙ ap (λ ms. answered (by_officer c.args.caller (member_step ms name key))) same)
     (sym c.if-not-is_accepted.ensures)
 
@@ -31,7 +32,9 @@ returns-clause-step c s same =
     (sym c.if-not-is_accepted.ensures)
     (record {
       meta = c.at-changes.ensures.meta;
-      members_are = one_pushed member_cells c.at-changes.result.members.items c.push.new.self.items c.in_ok-member_row.field-0 (member_row (1 + length s.members) m) c.at-changes.ensures.members_are c.in_ok-push.ensures.items row;
+      members_are = one_pushed member_cells c.at-changes.result.members.items c.push.new.self.items
+          c.in_ok-member_row.field-0 (member_row (1 + length s.members) m) c.at-changes.ensures.members_are
+          c.in_ok-push.ensures.items row;
       events_are = c.at-changes.ensures.events_are;
       challenges_are = c.at-changes.ensures.challenges_are;
       games_are = c.at-changes.ensures.games_are;

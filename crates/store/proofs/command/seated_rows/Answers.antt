@@ -21,10 +21,13 @@ returns-clause-puts c =
     let pairing = pairing_of c.args.new.pairing in
     let id = c.args.new.game in
     let at : place events pairing.event ≡ Some event = c.in_ok-event.ensures in
-    let terms : terms_given c.terms_of.result ≡ terms_at (place events pairing.event) = c.terms_of.ensures ∙ ap terms_at (sym at) in
+    let terms : terms_given c.terms_of.result ≡ terms_at (place events pairing.event) = c.terms_of.ensures
+    ∙ ap terms_at (sym at) in
     let budget = (in-place IsLegalEvent events pairing.event event legal at).budget in
     let is = started_first events pairing id key c.args.moment event.game (ap kind_at at) in
-    let seen : first_seen_rows event.game id key pairing c.args.moment ≡ started_seen events id key pairing c.args.moment = started_seen_first events pairing id key c.args.moment event.game (ap kind_at at) in
+    let seen : first_seen_rows event.game id key pairing c.args.moment
+    ≡ started_seen events id key pairing c.args.moment =
+    started_seen_first events pairing id key c.args.moment event.game (ap kind_at at) in
     subst₂ (λ r l. PutsOnly changes c.args.moment [] [] (r ∷ []) [] l [])
     (ap (λ t. first_row event.game t id key pairing c.args.moment) terms ∙ sym is) seen
     (puts (subst (λ t. IsTrue (is_budget t.budget)) (sym c.terms_of.ensures) budget))) c.seat_in.ensures.puts
@@ -33,4 +36,5 @@ pub returns-clause-running : goal.returns-clause-running
 returns-clause-running c =
     let key = option_map (λ k. k.now) c.args.key in
     IfOk-weaker c.seat_in.result _ _ (λ changes running.
-    ap (λ kind. first_meetings kind key (pairing_of c.args.new.pairing) c.args.moment) (ap kind_at c.in_ok-event.ensures) ∙ running) c.seat_in.ensures.running
+    ap (λ kind. first_meetings kind key (pairing_of c.args.new.pairing) c.args.moment)
+    (ap kind_at c.in_ok-event.ensures) ∙ running) c.seat_in.ensures.running

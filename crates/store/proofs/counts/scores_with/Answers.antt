@@ -21,7 +21,9 @@ returns-in-Some-clause-puts g c clean content k apart =
       seconds = c.in_ok-seconds.seconds;
       pair = c.in-Some.pair;
       firsts_are = c.in_ok-firsts.ensures.found looked content k;
-      seconds_are = c.in_ok-seconds.ensures.found clean content (c.in_ok-firsts.ensures.kept looked club_schema content k);
-      next = subst₂ (λ one other. AreNext c.args.event c.args.one c.args.other c.args.score one other c.in-Some.pair) firsts seconds (c.in-Some.ensures.some apart);
+      seconds_are = c.in_ok-seconds.ensures.found clean content
+          (c.in_ok-firsts.ensures.kept looked club_schema content k);
+      next = subst₂ (λ one other. AreNext c.args.event c.args.one c.args.other c.args.score one other c.in-Some.pair)
+          firsts seconds (c.in-Some.ensures.some apart);
       rows_are = refl;
     }

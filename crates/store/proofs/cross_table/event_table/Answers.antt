@@ -13,15 +13,19 @@ use Rattle.store.proofs.cross_table.event_table.Goals as goal
 
 pub returns-clause-kept : goal.returns-clause-kept
 returns-clause-kept g c clean =
-    let looked : HasCleanDisk (state g.S.Store c.scores_in.new.conn) = omega (arith, c.all_members.ensures.reads.clean) in
-    always c.lines_of.result _ (λ schema content k. c.in_ok-members.ensures.kept clean schema content (c.in_ok-scores.ensures.kept looked schema content k))
+    let looked : HasCleanDisk (state g.S.Store c.scores_in.new.conn) =
+    omega (arith, c.all_members.ensures.reads.clean) in
+    always c.lines_of.result _ (λ schema content k.
+    c.in_ok-members.ensures.kept clean schema content (c.in_ok-scores.ensures.kept looked schema content k))
 
 pub returns-clause-table : goal.returns-clause-table
 returns-clause-table g c clean =
-    let looked : HasCleanDisk (state g.S.Store c.scores_in.new.conn) = omega (arith, c.all_members.ensures.reads.clean) in
+    let looked : HasCleanDisk (state g.S.Store c.scores_in.new.conn) =
+    omega (arith, c.all_members.ensures.reads.clean) in
     let standings = c.in_ok-standings.standings in
     IfOk-weaker c.lines_of.result _ _ (λ lines are s k.
-    let members = ap members_of c.deref-2.ensures.value ∙ c.in_ok-members.ensures.values clean s (c.in_ok-scores.ensures.kept looked club_schema (tables s) k) in
+    let members = ap members_of c.deref-2.ensures.value
+    ∙ c.in_ok-members.ensures.values clean s (c.in_ok-scores.ensures.kept looked club_schema (tables s) k) in
     let scores = c.deref-3.ensures.value in
     record {
       scores = c.in_ok-scores.scores.items;

@@ -9,6 +9,7 @@ abbrev pub invariant-loop-standing : goal.invariant-loop-standing
 invariant-loop-standing l = record {
   count : length l.lines.items ≡ l.standing-index + 1;
   lines : map (λ t. string_bytes t) l.lines.items
-      ++ lines_from (members_of l.members) l.scores l.standings (l.standing-index + 1) (drop l.standing-index l.standings)
+      ++ lines_from (members_of l.members) l.scores l.standings (l.standing-index + 1)
+      (drop l.standing-index l.standings)
       ≡ header_text l.name ∷ lines_from (members_of l.members) l.scores l.standings 1 l.standings;
 }

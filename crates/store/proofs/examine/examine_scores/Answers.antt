@@ -15,7 +15,8 @@ returns-in-Ok-true-clause-found g c clean has =
       read = c.in-Ok.ensures.rows clean has;
       are = λ t of.
           subst (λ rows. AreEachOnce (map score_cells rows) (scores_in both_games t.games)) c.deref-2.ensures.value
-          (c.in-Ok-true.ensures.sound c.in-Ok-true.field-0-test t (subst (AreGamesOf t) (sym c.deref.ensures.value) of));
+          (c.in-Ok-true.ensures.sound c.in-Ok-true.field-0-test t
+          (subst (AreGamesOf t) (sym c.deref.ensures.value) of));
     }
 
 pub returns-in-Ok-false-clause-blames : goal.returns-in-Ok-false-clause-blames
@@ -26,4 +27,5 @@ returns-in-Ok-false-clause-blames g c clean has =
     (λ s of once.
     sym c.in-Ok-false.field-0-test
     ∙ c.in-Ok-false.ensures.complete s (subst (AreGamesOf s) (sym c.deref.ensures.value) of)
-    (subst (λ rows. AreEachOnce (map score_cells rows) (scores_in both_games s.games)) (sym c.deref-2.ensures.value) once)))
+    (subst (λ rows. AreEachOnce (map score_cells rows) (scores_in both_games s.games)) (sym c.deref-2.ensures.value)
+    once)))

@@ -18,7 +18,12 @@ invariant-loop-ply g l = record {
   under_way : IsUnderWay g.R.Rules.rules g.R.Exports.HasWritten (g.W.Write.contents l.writer) l.export;
   reads : OnlyReads (state g.S.Store l.fn.conn) (state g.S.Store l.conn);
   kept : HasCleanDisk (state g.S.Store l.conn) → KeepsContent (state g.S.Store l.fn.conn) (state g.S.Store l.conn);
-  written : HasCleanDisk (state g.S.Store l.conn) → (content : Content) (terms : core.Terms) (game : Game g.row.R-Move.Denot) (title : Title g.row.R-End.Denot) (before : Option (List ℕ)) → IsExactly content (state g.S.Store l.fn.conn)
-      → TellsMoves g.R.Rules.rules terms l.stored.id game content → IsLegalGame g.R.Rules.rules terms game → l.plies ≡ length game.entries → IsWritten g.R.Rules.rules g.R.Exports.HasWritten title [] before (g.W.Write.contents l.fn.writer) l.fn.export
-      → IsWritten g.R.Rules.rules g.R.Exports.HasWritten title (take l.ply game.entries) before (g.W.Write.contents l.writer) l.export;
+  written : HasCleanDisk (state g.S.Store l.conn)
+      → (content : Content) (terms : core.Terms) (game : Game g.row.R-Move.Denot) (title : Title g.row.R-End.Denot)
+      (before : Option (List ℕ)) → IsExactly content (state g.S.Store l.fn.conn)
+      → TellsMoves g.R.Rules.rules terms l.stored.id game content → IsLegalGame g.R.Rules.rules terms game
+      → l.plies ≡ length game.entries → IsWritten g.R.Rules.rules g.R.Exports.HasWritten title [] before
+      (g.W.Write.contents l.fn.writer) l.fn.export
+      → IsWritten g.R.Rules.rules g.R.Exports.HasWritten title (take l.ply game.entries) before
+      (g.W.Write.contents l.writer) l.export;
 }

@@ -27,11 +27,16 @@ returns-clause-step g c clean =
     let is = c.in_ok-view.ensures.terms in
     let kept = c.in_ok-view.ensures.kept looked club_schema content k in
     let asked_for = subst (λ n. ShowsPly laws old n view) c.asked_ply-ply.ensures asked in
-    subst (λ t. IsDecidedIn laws t c.args.stored.now.id c.args.moment (content 14) old (game_step laws t old c.args.moment c.args.caller command) d) is
-    (step content old kept tells (subst (λ t. IsTrue (is_budget t.budget)) (sym is) of.budget) (subst (λ t. IsTrue (is_increment t.increment)) (sym is) of.increment)
-    (subst (λ t. IsLegalGame laws t old) (sym is) of.legal) shows asked_for (subst (λ t. (clocks_of old t).since ≤ c.args.moment) (sym is) since))) (c.on_view.ensures.step clean)
+    subst
+    (λ t. IsDecidedIn laws t c.args.stored.now.id c.args.moment (content 14) old
+    (game_step laws t old c.args.moment c.args.caller command) d) is
+    (step content old kept tells (subst (λ t. IsTrue (is_budget t.budget)) (sym is) of.budget)
+    (subst (λ t. IsTrue (is_increment t.increment)) (sym is) of.increment)
+    (subst (λ t. IsLegalGame laws t old) (sym is) of.legal) shows asked_for
+    (subst (λ t. (clocks_of old t).since ≤ c.args.moment) (sym is) since))) (c.on_view.ensures.step clean)
 
 pub returns-clause-kept : goal.returns-clause-kept
 returns-clause-kept g c clean =
     let looked : HasCleanDisk (state g.S.Store c.asked_view.new.conn) = omega (arith, c.on_view.ensures.reads.clean) in
-    on_ok c.on_view.result _ _ (λ last schema content k. last schema content (c.in_ok-view.ensures.kept looked schema content k)) (c.on_view.ensures.kept clean)
+    on_ok c.on_view.result _ _ (λ last schema content k.
+    last schema content (c.in_ok-view.ensures.kept looked schema content k)) (c.on_view.ensures.kept clean)

@@ -21,10 +21,15 @@ returns-clause-concluded g c clean content terms old moment who command k tells 
     let times = c.stood_by-stood.result.times in
     let first = c.stood_by-stood.result.first_ply in
     let seen = c.in_ok-seen.ensures.seen looked content terms old moment who command k tells legal plies decided.0 in
-    let stood = seen_stood laws terms old moment c.args.game times first c.in_ok-seen.seen c.stood_by-stood.ensures o (step_legal laws terms old moment legal.line.legal who command) c.args.decision seen in
-    let concluded_as : c.conclude-decision.result ≡ concluded laws c.args.decision (settled_of laws c.args.decision times first) =
+    let stood = seen_stood laws terms old moment c.args.game times first c.in_ok-seen.seen c.stood_by-stood.ensures o
+    (step_legal laws terms old moment legal.line.legal who command) c.args.decision seen in
+    let concluded_as : c.conclude-decision.result ≡ concluded laws c.args.decision
+    (settled_of laws c.args.decision times first) =
     c.conclude-decision.ensures ∙ ap (concluded laws c.args.decision) c.settle-settled.ensures in (
       subst (IsConcluded laws terms old o) (sym concluded_as) (decided.1 times first stood),
-      subst (λ d. IsSeenAfter laws c.args.game o d c.in_ok-seen.seen) (sym concluded_as) (seen_concluded laws terms old moment c.args.game o c.in_ok-seen.seen c.args.decision (settled_of laws c.args.decision times first) seen),
-      λ players. c.in_ok-scores.ensures.scores clean content (c.in_ok-seen.ensures.kept looked club_schema content k) players,
+      subst (λ d. IsSeenAfter laws c.args.game o d c.in_ok-seen.seen) (sym concluded_as)
+          (seen_concluded laws terms old moment c.args.game o c.in_ok-seen.seen c.args.decision
+          (settled_of laws c.args.decision times first) seen),
+      λ players. c.in_ok-scores.ensures.scores clean content (c.in_ok-seen.ensures.kept looked club_schema content k)
+          players,
     )

@@ -13,14 +13,25 @@ pub returns-clause-step : goal.returns-clause-step
 returns-clause-step g c clean =
     IfOk-weaker c.done.result _ _ (λ d step content old k tells budget increment legal shows asked since.
     let laws = g.R.Rules.rules in
-    let are : AreRules laws = record { first_starts = g.met.R.Rules.first_starts; turn_passes = g.met.R.Rules.turn_passes; same_is = g.met.R.Rules.same_is; ends_at_limit = g.met.R.Rules.ends_at_limit } in
+    let are : AreRules laws = record {
+      first_starts = g.met.R.Rules.first_starts;
+      turn_passes = g.met.R.Rules.turn_passes;
+      same_is = g.met.R.Rules.same_is;
+      ends_at_limit =
+          g.met.R.Rules.ends_at_limit;
+    } in
     let view = c.args.view.now in
     let terms = terms_of view in
     let command = game_command_of c.args.command.now in
     let shown : view.row.since ≡ (clocks_of old terms).since = ap (λ k. k.since) shows.row.clocks in
     let same : c.later-moment.result ≡ c.args.moment = omega (arith, c.later-moment.ensures, shown, since) in
     let decided = c.in_ok-decision.ensures old shows asked legal in
-    let (is, seen, scores) = c.in_ok-concluded.ensures.concluded clean content terms old c.later-moment.result c.args.caller command k tells legal shows.row.plies decided in
-    let players = decided_players laws are terms c.args.game old c.later-moment.result c.args.caller command budget increment legal (content 14) c.in_ok-concluded.concluded.decision is in
-    subst (λ m. IsDecidedIn laws terms c.args.game m (content 14) old (game_step laws terms old m c.args.caller command) d) same
-    (step terms old c.args.caller command (content 14) budget increment legal is seen (scores players))) c.done.ensures.step
+    let (is, seen, scores) = c.in_ok-concluded.ensures.concluded clean content terms old c.later-moment.result
+    c.args.caller command k tells legal shows.row.plies decided in
+    let players = decided_players laws are terms c.args.game old c.later-moment.result c.args.caller command budget
+    increment legal (content 14) c.in_ok-concluded.concluded.decision is in
+    subst
+    (λ m. IsDecidedIn laws terms c.args.game m (content 14) old (game_step laws terms old m c.args.caller command)
+    d) same
+    (step terms old c.args.caller command (content 14) budget increment legal is seen (scores players)))
+    c.done.ensures.step

@@ -21,7 +21,8 @@ returns-in-Ok-wrong_game-clause-found g c clean has =
     let many_moves : c.len.result ≡ length ms = search rules in
     let many_seen : c.len-in-Ok-wrong_game.result ≡ length ss = search rules in
     let wrong = c.in-Ok-wrong_game.wrong in
-    subst₂ (λ a b. IsGameFound c.args.rows.now c.args.place c.args.game.now a b wrong s0 s2) (sym many_moves) (sym many_seen)
+    subst₂ (λ a b. IsGameFound c.args.rows.now c.args.place c.args.game.now a b wrong s0 s2) (sym many_moves)
+    (sym many_seen)
     (game_found c.args.rows.now c.args.place c.args.game.now ms ss s0 s1 s2 one two c.requires.at wrong
     (rw (sym c.deref.ensures.value, sym c.deref-2.ensures.value) c.in-Ok-wrong_game.ensures.sound)
     (rw (sym c.deref.ensures.value, sym c.deref-2.ensures.value) c.in-Ok-wrong_game.ensures.complete))

@@ -10,6 +10,9 @@ abbrev pub invariant-loop-place : goal.invariant-loop-place
 invariant-loop-place g l = record {
   items : l.game-items ≡ l.rows.games.items;
   reads : OnlyReads (state g.S.Store l.fn.conn) (state g.S.Store l.conn);
-  left : HasCleanDisk (state g.S.Store l.conn) → (state g.S.Store l.fn.conn).now.schema ≡ club_schema → IsTrue (state g.S.Store l.fn.conn).is_open → l.fn.all.moves ≡ length (moves_in (state g.S.Store l.fn.conn).now.trees) → l.fn.all.seen ≡ length (seen_in (state g.S.Store l.fn.conn).now.trees)
+  left : HasCleanDisk (state g.S.Store l.conn) → (state g.S.Store l.fn.conn).now.schema ≡ club_schema
+      → IsTrue (state g.S.Store l.fn.conn).is_open
+      → l.fn.all.moves ≡ length (moves_in (state g.S.Store l.fn.conn).now.trees)
+      → l.fn.all.seen ≡ length (seen_in (state g.S.Store l.fn.conn).now.trees)
       → AreLeftAfter l.rows l.place l.moves l.seen l.wrong (state g.S.Store l.fn.conn) (state g.S.Store l.conn);
 }

@@ -20,12 +20,14 @@ returns-clause-puts g c clean =
     let key = Some c.args.key.now in
     let pairing = pairing_of new.pairing in
     let game = imported laws key pairing c.args.moment r in
-    let terms : terms_given c.terms_of-terms.result ≡ terms_at (place (events_of c.args.events.now) new.pairing.event) = c.terms_of-terms.ensures ∙ ap terms_at (sym c.in_ok-event.ensures) in
+    let terms : terms_given c.terms_of-terms.result ≡ terms_at (place (events_of c.args.events.now) new.pairing.event) =
+    c.terms_of-terms.ensures ∙ ap terms_at (sym c.in_ok-event.ensures) in
     let rows = subst (λ t. AreNewRows laws t new.game game c.in_ok-rows.rows) terms c.in_ok-rows.ensures in
     record {
       score = new.recorded.score;
       ended = imported-result laws key pairing c.args.moment r c.requires;
       scores = score_list (Some c.in_ok-scores.scores);
       scores_are = c.in_ok-scores.ensures.puts clean content k apart;
-      puts = put_as laws _ new.game c.args.moment game c.in_ok-rows.rows (score_list (Some c.in_ok-scores.scores)) changes rows puts;
+      puts = put_as laws _ new.game c.args.moment game c.in_ok-rows.rows (score_list (Some c.in_ok-scores.scores))
+          changes rows puts;
     }) c.put_rows.ensures

@@ -12,7 +12,9 @@ returns-then-eq c =
     let e = c.index-events-i.result in
     let has : has_event_name name (event_of e) ≡ true = search rules in
     let same = sym c.loop-i.invariant ∙ kind_at_place es name c.loop-i.i e c.loop-i-test.true c.index-events-i.is in
-    sym (kind_here (has_event_name name (event_of e)) e.game (event_kind (drop (c.loop-i.i + 1) (events_of es)) name) (event_kind (events_of es) name) has same)
+    sym
+    (kind_here (has_event_name name (event_of e)) e.game (event_kind (drop (c.loop-i.i + 1) (events_of es)) name)
+    (event_kind (events_of es) name) has same)
 
 pub loop-i-preserved : goal.loop-i-preserved
 loop-i-preserved c =
@@ -21,4 +23,6 @@ loop-i-preserved c =
     let e = c.index-events-i.result in
     let has : has_event_name name (event_of e) ≡ false = search rules in
     let same = sym c.loop-i.invariant ∙ kind_at_place es name c.loop-i.i e c.loop-i-test.true c.index-events-i.is in
-    sym (kind_later (has_event_name name (event_of e)) e.game (event_kind (drop (c.loop-i.i + 1) (events_of es)) name) (event_kind (events_of es) name) has same)
+    sym
+    (kind_later (has_event_name name (event_of e)) e.game (event_kind (drop (c.loop-i.i + 1) (events_of es)) name)
+    (event_kind (events_of es) name) has same)

@@ -26,12 +26,22 @@ returns-in-Adds-clause-step g c clean content old k of =
     let shows = c.in_ok-played.ensures.played looked content old k of in
     let new = c.in-Adds.new in
     let value = ap importing_of (sym c.in-Adds.is) ∙ c.in_ok-new.ensures.value old shows in
-    let same = value ∙ by_known laws records known who given old c.as_slice-members.result.now c.as_slice-events.result.now c.as_slice-members.ensures.value c.as_slice-events.ensures.value in
-    let adds = officer_adds laws records given (find_id (has_member_name given.first) (members_of known.members.items)) (find_id (has_member_name given.second) (members_of known.members.items)) (option_map keyed_of known.keyed) old known.games (record { pairing = pairing_of new.pairing; recorded = recorded_of new.recorded }) new.game who (find_id (has_event_name given.event) (events_of known.events.items)) same in
+    let same = value ∙ by_known laws records known who given old c.as_slice-members.result.now
+    c.as_slice-events.result.now c.as_slice-members.ensures.value c.as_slice-events.ensures.value in
+    let adds = officer_adds laws records given (find_id (has_member_name given.first) (members_of known.members.items))
+    (find_id (has_member_name given.second) (members_of known.members.items)) (option_map keyed_of known.keyed) old
+    known.games (record { pairing = pairing_of new.pairing; recorded = recorded_of new.recorded }) new.game who
+    (find_id (has_event_name given.event) (events_of known.events.items)) same in
     let kept = c.in_ok-played.ensures.kept looked club_schema content k in
     let puts = c.in_ok-changes-in-Adds.ensures.puts clean content kept adds.apart in
-    added_in laws (events_of known.events.items) given.key known.games c.args.moment (content 14) (imported_by laws records known who given old) (record { pairing = pairing_of new.pairing; recorded = recorded_of new.recorded }) new.game c.in_ok-changes-in-Adds.changes same adds.next
-    (subst₂ (λ l key. PutsNewGame laws (terms_at (place (events_of l) new.pairing.event)) new.game c.args.moment (content 14) (imported laws (Some key) (pairing_of new.pairing) c.args.moment (recorded_of new.recorded)) c.in_ok-changes-in-Adds.changes) c.as_slice-events.ensures.value c.as_str.ensures.value puts)
+    added_in laws (events_of known.events.items) given.key known.games c.args.moment (content 14)
+    (imported_by laws records known who given old)
+    (record { pairing = pairing_of new.pairing; recorded = recorded_of new.recorded }) new.game
+    c.in_ok-changes-in-Adds.changes same adds.next
+    (subst₂
+    (λ l key. PutsNewGame laws (terms_at (place (events_of l) new.pairing.event)) new.game c.args.moment
+    (content 14) (imported laws (Some key) (pairing_of new.pairing) c.args.moment (recorded_of new.recorded))
+    c.in_ok-changes-in-Adds.changes) c.as_slice-events.ensures.value c.as_str.ensures.value puts)
 
 pub returns-in-Repeated-clause-step : goal.returns-in-Repeated-clause-step
 returns-in-Repeated-clause-step g c clean content old k of =
@@ -42,8 +52,11 @@ returns-in-Repeated-clause-step g c clean content old k of =
     let given = import_of c.args.command.now in
     let shows = c.in_ok-played.ensures.played clean content old k of in
     let value = ap importing_of (sym c.in-Repeated.is) ∙ c.in_ok-new.ensures.value old shows in
-    let same = value ∙ by_known laws records known who given old c.as_slice-members.result.now c.as_slice-events.result.now c.as_slice-members.ensures.value c.as_slice-events.ensures.value in
-    repeated_in laws (events_of known.events.items) given.key known.games c.args.moment (content 14) c.unchanged.result (imported_by laws records known who given old) c.in-Repeated.game c.unchanged.ensures.outcome c.unchanged.ensures.none same
+    let same = value ∙ by_known laws records known who given old c.as_slice-members.result.now
+    c.as_slice-events.result.now c.as_slice-members.ensures.value c.as_slice-events.ensures.value in
+    repeated_in laws (events_of known.events.items) given.key known.games c.args.moment (content 14) c.unchanged.result
+    (imported_by laws records known who given old) c.in-Repeated.game c.unchanged.ensures.outcome
+    c.unchanged.ensures.none same
 
 pub returns-clause-step : goal.returns-clause-step
 returns-clause-step g c clean content old k of =
@@ -54,8 +67,11 @@ returns-clause-step g c clean content old k of =
     let given = import_of c.args.command.now in
     let shows = c.in_ok-played.ensures.played clean content old k of in
     let value = ap importing_of (sym c.in-Refused.is) ∙ c.in_ok-new.ensures.value old shows in
-    let same = value ∙ by_known laws records known who given old c.as_slice-members.result.now c.as_slice-events.result.now c.as_slice-members.ensures.value c.as_slice-events.ensures.value in
-    refused_in laws (events_of known.events.items) given.key known.games c.args.moment (content 14) c.unchanged-in-Refused.result (imported_by laws records known who given old) c.in-Refused.refusal c.unchanged-in-Refused.ensures.outcome c.unchanged-in-Refused.ensures.none same
+    let same = value ∙ by_known laws records known who given old c.as_slice-members.result.now
+    c.as_slice-events.result.now c.as_slice-members.ensures.value c.as_slice-events.ensures.value in
+    refused_in laws (events_of known.events.items) given.key known.games c.args.moment (content 14)
+    c.unchanged-in-Refused.result (imported_by laws records known who given old) c.in-Refused.refusal
+    c.unchanged-in-Refused.ensures.outcome c.unchanged-in-Refused.ensures.none same
 
 pub returns-in-Adds-clause-kept : goal.returns-in-Adds-clause-kept
 returns-in-Adds-clause-kept g c clean schema content k =

@@ -9,7 +9,8 @@ returns c = record {
   members_are = c.at-changes.ensures.members_are;
   events_are = c.at-changes.ensures.events_are;
   challenges_are = c.at-changes.ensures.challenges_are;
-  games_are = one_pushed game_cells c.at-changes.result.games.items c.push.new.self.items c.args.rows.game _ c.at-changes.ensures.games_are c.in_ok-push.ensures.items refl;
+  games_are = one_pushed game_cells c.at-changes.result.games.items c.push.new.self.items c.args.rows.game _
+      c.at-changes.ensures.games_are c.in_ok-push.ensures.items refl;
   moves_are = refl;
   seen_are = refl;
   scores_are = c.in_ok-changes.ensures;

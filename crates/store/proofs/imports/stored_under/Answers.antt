@@ -13,7 +13,9 @@ returns-in_ok-stored-in-Some-clause-found g c clean s is_club k =
     let rows = c.in_ok-find.field-0.items in
     let looked : HasCleanDisk (state g.S.Store c.find.new.conn) = omega (arith, c.read_game.ensures.reads.clean) in
     let those = c.in_ok-find.ensures.rows looked (tables s) k in
-    let (id, game, here, under, keyed, cells) = under_stored s is_club c.args.key.now (map game_cells rows) (game_cells c.in-Some.row) those (first_mapped game_cells rows c.in-Some.row (sym c.first.ensures ∙ c.in-Some.is)) in
+    let (id, game, here, under, keyed, cells) =
+    under_stored s is_club c.args.key.now (map game_cells rows) (game_cells c.in-Some.row) those
+    (first_mapped game_cells rows c.in-Some.row (sym c.first.ensures ∙ c.in-Some.is)) in
     let kept = c.in_ok-find.ensures.kept looked club_schema (tables s) k in
     record {
       id = id;
@@ -28,8 +30,10 @@ pub returns-in-None-clause-found : goal.returns-in-None-clause-found
 returns-in-None-clause-found g c clean s is_club k =
     let rows = c.in_ok-find.field-0.items in
     let those = c.in_ok-find.ensures.rows clean (tables s) k in
-    let none = none_mapped game_cells rows (sym c.first.ensures ∙ c.in-None.is) in
-    (none_stored s is_club c.args.key.now (map game_cells rows) those none, under_none s is_club c.args.key.now (map game_cells rows) those none)
+    let none = none_mapped game_cells rows (sym c.first.ensures ∙ c.in-None.is) in (
+      none_stored s is_club c.args.key.now (map game_cells rows) those none,
+      under_none s is_club c.args.key.now (map game_cells rows) those none,
+    )
 
 pub returns-in_ok-stored-in-Some-clause-kept : goal.returns-in_ok-stored-in-Some-clause-kept
 returns-in_ok-stored-in-Some-clause-kept g c clean schema content k =

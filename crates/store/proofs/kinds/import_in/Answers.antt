@@ -14,7 +14,9 @@ returns-in-Draughts-clause-step g c clean =
     IfOk-weaker c.import_as.result _ _ (λ d step s is_club is k.
     let given = import_of c.args.command.now in
     let known = c.args.known.now in
-    let asked : event_kind s.events given.event ≡ Draughts = (λ j. event_kind (sym is.events_are j) given.event) ∙ (sym (λ j. event_kind (events_of (c.as_slice.ensures.value j)) (c.as_str.ensures.value j)) ∙ (sym c.event_kind.ensures ∙ c.in-Draughts.is)) in
+    let asked : event_kind s.events given.event ≡ Draughts = (λ j. event_kind (sym is.events_are j) given.event)
+    ∙ (sym (λ j. event_kind (events_of (c.as_slice.ensures.value j)) (c.as_str.ensures.value j))
+    ∙ (sym c.event_kind.ensures ∙ c.in-Draughts.is)) in
     let stored = under_of_kind in_draughts imports_draughts s is_club given.key known.under is.under_is in
     import_decided in_draughts imports_draughts s is_club c.args.moment given c.args.caller known d is asked
     (step (tables s) (draughts_in (any_under s.games given.key)) k stored)) (c.import_as.ensures.step clean)
@@ -24,7 +26,9 @@ returns-in-Shogi-clause-step g c clean =
     IfOk-weaker c.import_as-in-Shogi.result _ _ (λ d step s is_club is k.
     let given = import_of c.args.command.now in
     let known = c.args.known.now in
-    let asked : event_kind s.events given.event ≡ Shogi = (λ j. event_kind (sym is.events_are j) given.event) ∙ (sym (λ j. event_kind (events_of (c.as_slice.ensures.value j)) (c.as_str.ensures.value j)) ∙ (sym c.event_kind.ensures ∙ c.in-Shogi.is)) in
+    let asked : event_kind s.events given.event ≡ Shogi = (λ j. event_kind (sym is.events_are j) given.event)
+    ∙ (sym (λ j. event_kind (events_of (c.as_slice.ensures.value j)) (c.as_str.ensures.value j))
+    ∙ (sym c.event_kind.ensures ∙ c.in-Shogi.is)) in
     let stored = under_of_kind in_shogi imports_shogi s is_club given.key known.under is.under_is in
     import_decided in_shogi imports_shogi s is_club c.args.moment given c.args.caller known d is asked
     (step (tables s) (shogi_in (any_under s.games given.key)) k stored)) (c.import_as-in-Shogi.ensures.step clean)

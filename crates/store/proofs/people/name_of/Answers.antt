@@ -11,9 +11,11 @@ use Rattle.store.proofs.people.name_of.Goals as goal
 pub returns-in-Some-clause-found : goal.returns-in-Some-clause-found
 returns-in-Some-clause-found g c clean s k known at =
     let rows = c.in_ok-find_by_first.field-0.items in
-    let fits : SFits w64 c.from-number.result = subst (SFits w64) (sym c.from-number.ensures) (omega (arith, ints, c.ranges.member.fits)) in
+    let fits : SFits w64 c.from-number.result =
+    subst (SFits w64) (sym c.from-number.ensures) (omega (arith, ints, c.ranges.member.fits)) in
     let found = c.in_ok-find_by_first.ensures.rows clean (tables s) k in
-    let those = subst (λ z. AreThose (0 ∷ []) (Int z ∷ []) (tables s 1) (map member_cells rows)) (to_z-of_z fits ∙ c.from-number.ensures) found.0 in
+    let those = subst (λ z. AreThose (0 ∷ []) (Int z ∷ []) (tables s 1) (map member_cells rows))
+    (to_z-of_z fits ∙ c.from-number.ensures) found.0 in
     name_same c.in-Some.row c.args.member known
     (member_found s c.args.member (map member_cells rows) (member_cells c.in-Some.row) known those
     (first_mapped member_cells rows c.in-Some.row (sym c.first.ensures ∙ c.in-Some.is)) at)

@@ -22,5 +22,6 @@ returns-clause-shows g c clean content game k seen moves of =
     let rows = c.in_ok-rows.ensures.found clean content (terms_given stored.terms) game kept moves of.legal in
     let is = c.in_ok-view.ensures.terms in (
       c.in_ok-asked.ensures.shows game shows,
-      c.in_ok-asked.ensures.ply stored.id game (subst (λ t. IsLegalGame laws t game) (sym is) of.legal) (subst (λ t. AreRowsAt laws t stored.id game c.args.ply c.in_ok-rows.rows) (sym is) rows),
+      c.in_ok-asked.ensures.ply stored.id game (subst (λ t. IsLegalGame laws t game) (sym is) of.legal)
+          (subst (λ t. AreRowsAt laws t stored.id game c.args.ply c.in_ok-rows.rows) (sym is) rows),
     )

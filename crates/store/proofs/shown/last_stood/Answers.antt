@@ -15,7 +15,10 @@ returns-in-Some-clause-stood g c clean content game k tells of =
     let text = laws.write_position (last_position laws game) in
     let is_text = position-text laws (terms_given stored.terms) stored.id stored.row game of in
     let asked_text = c.position_of-question.ensures.position ∙ (c.as_str.ensures.value ∙ is_text) in
-    let those = subst₂ (λ z t. AreThose (0 ∷ 1 ∷ []) (Int z ∷ Text t ∷ []) (content 12) (map seen_cells c.in_ok-find.field-0.items)) c.position_of-question.ensures.game asked_text (c.in_ok-find.ensures.rows clean content k) in
+    let those =
+    subst₂
+    (λ z t. AreThose (0 ∷ 1 ∷ []) (Int z ∷ Text t ∷ []) (content 12) (map seen_cells c.in_ok-find.field-0.items))
+    c.position_of-question.ensures.game asked_text (c.in_ok-find.ensures.rows clean content k) in
     let found = tells text c.in_ok-find.field-0.items those in
     let is = subst (IsFound laws stored.id game text) (sym c.first.ensures ∙ c.in-Some.is) found in
     let told = c.stood_in.ensures stored.id game of.legal.line.legal is in

@@ -8,7 +8,8 @@ use Rattle.store.proofs.shown.rows_at.Goals as goal
 pub returns-then-ply-from-clause-found : goal.returns-then-ply-from-clause-found
 returns-then-ply-from-clause-found g c clean content terms old k tells legal =
     let none = c.no_rows-then-ply-from in
-    past_none g.R.Rules.rules terms c.args.game old none.result none.ensures.at none.ensures.before c.args.ply (omega (arith, c.if-ply-from.true, c.from.ensures, legal.plies))
+    past_none g.R.Rules.rules terms c.args.game old none.result none.ensures.at none.ensures.before c.args.ply
+    (omega (arith, c.if-ply-from.true, c.from.ensures, legal.plies))
 
 pub returns-clause-kept : goal.returns-clause-kept
 returns-clause-kept g c clean schema content k =

@@ -12,5 +12,9 @@ returns-in-Some-clause-shows g c clean content game k tells of =
     let laws = g.R.Rules.rules in
     let stored = c.args.stored.now in
     let stood = c.in_ok-stood.stood in
-    let shows = subst (λ o. IfSome o (λ view. (id : ℕ) (game : Game g.row.R-Move.Denot) → IsRecordOf laws (terms_given stored.terms) id stored.row game → HasLastStood laws game stood → Shows laws game view)) c.in-Some.is c.in_ok-view.ensures.shows in
+    let shows =
+    subst
+    (λ o. IfSome o (λ view. (id : ℕ) (game : Game g.row.R-Move.Denot)
+    → IsRecordOf laws (terms_given stored.terms) id stored.row game → HasLastStood laws game stood
+    → Shows laws game view)) c.in-Some.is c.in_ok-view.ensures.shows in
     shows stored.id game of (c.in_ok-stood.ensures.stood clean content game k tells of)

@@ -3,4 +3,5 @@ use Rattle.store.proofs.sweep.on_sweep.Goals as goal
 
 pub returns-in-Member-clause-step : goal.returns-in-Member-clause-step
 returns-in-Member-clause-step g c clean s is_club k =
-    member_refused s c.args.moment c.args.caller _ c.unchanged.result c.in-Member.is c.unchanged.ensures.outcome c.unchanged.ensures.none
+    member_refused s c.args.moment c.args.caller _ c.unchanged.result c.in-Member.is c.unchanged.ensures.outcome
+    c.unchanged.ensures.none

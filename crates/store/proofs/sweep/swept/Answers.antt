@@ -11,9 +11,11 @@ use Rattle.store.proofs.sweep.swept.Goals as goal
 pub returns-clause-step : goal.returns-clause-step
 returns-clause-step g c clean s is_club k =
     let listed : HasCleanDisk (state g.S.Store c.list.new.conn) = omega (arith, c.list-2.ensures.reads.clean) in
-    let games = ap (map game_cells) c.deref.ensures.value ∙ c.in_ok-games.ensures.rows listed refl (tables s) k (games_begin s) in
+    let games = ap (map game_cells) c.deref.ensures.value
+    ∙ c.in_ok-games.ensures.rows listed refl (tables s) k (games_begin s) in
     let after = c.in_ok-games.ensures.kept listed club_schema (tables s) k in
-    let scores = subst (λ l. HaveSame (map score_cells l) (tables s 14)) (sym c.deref-2.ensures.value) (c.in_ok-scores.ensures.same clean (tables s) after) in
+    let scores = subst (λ l. HaveSame (map score_cells l) (tables s 14)) (sym c.deref-2.ensures.value)
+    (c.in_ok-scores.ensures.same clean (tables s) after) in
     c.put_swept.ensures.step s (c.in_ok-rows.ensures.rows s is_club games scores)
 
 pub returns-clause-kept : goal.returns-clause-kept

@@ -8,5 +8,8 @@ use Rattle.store.proofs.viewed.line.Goals as goal
 pub returns-clause-rows : goal.returns-clause-rows
 returns-clause-rows g c clean content terms old k tells =
     let rows = c.in_ok-rows.rows.items in
-    let fits : SFits w64 c.from-number.result = subst (SFits w64) (sym c.from-number.ensures) (omega (arith, ints, c.ranges.game.fits)) in
-    tells (map move_cells rows) (subst (λ z. AreThose (0 ∷ []) (Int z ∷ []) (content 8) (map move_cells rows)) (to_z-of_z fits ∙ c.from-number.ensures) (c.in_ok-rows.ensures.rows clean content k).0)
+    let fits : SFits w64 c.from-number.result =
+    subst (SFits w64) (sym c.from-number.ensures) (omega (arith, ints, c.ranges.game.fits)) in
+    tells (map move_cells rows)
+    (subst (λ z. AreThose (0 ∷ []) (Int z ∷ []) (content 8) (map move_cells rows))
+    (to_z-of_z fits ∙ c.from-number.ensures) (c.in_ok-rows.ensures.rows clean content k).0)

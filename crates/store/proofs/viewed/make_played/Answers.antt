@@ -20,5 +20,7 @@ returns-clause-played g c clean content game k seen line of =
     let looked : HasCleanDisk (state g.S.Store c.view.new.conn) = omega (arith, c.line.ensures.reads.clean) in
     let kept = c.in_ok-view.ensures.kept looked club_schema content k in
     let rows = c.in_ok-rows.ensures.rows clean content (terms_given stored.terms) game kept line in
-    c.in_ok-played.ensures (terms_given stored.terms) stored.id game c.in_ok-view.ensures.terms of.legal (c.in_ok-view.ensures.shows looked content game k seen of)
-    (subst (λ l. HaveSame (map move_cells l) (move_rows laws (terms_given stored.terms) stored.id game)) (sym c.deref.ensures.value) rows)
+    c.in_ok-played.ensures (terms_given stored.terms) stored.id game c.in_ok-view.ensures.terms of.legal
+    (c.in_ok-view.ensures.shows looked content game k seen of)
+    (subst (λ l. HaveSame (map move_cells l) (move_rows laws (terms_given stored.terms) stored.id game))
+    (sym c.deref.ensures.value) rows)

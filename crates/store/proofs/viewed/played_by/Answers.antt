@@ -16,7 +16,8 @@ returns g c = λ terms id game same legal shows rows.
       left_first = ap (λ k. k.left_first) clocks;
       left_second = ap (λ k. k.left_second) clocks;
       position = row.position;
-      moves = c.in_ok-moves.ensures.texts ∙ texts_are laws terms id game c.args.rows.now rows c.in_ok-moves.ensures.order;
+      moves = c.in_ok-moves.ensures.texts ∙ texts_are laws terms id game c.args.rows.now rows
+          c.in_ok-moves.ensures.order;
       offer = c.offering.ensures ∙ ap (λ (o : Option Offer). option_map (λ (x : Offer). x.side) o) row.offer;
       end = c.named.ensures ∙ ap (option_map (named laws)) row.end;
       result = row.result;

@@ -21,20 +21,26 @@ returns-clause-stored g c clean content k =
     let steps = c.in_ok-put_changes.ensures.put (omega (arith, c.commit.ensures.survives.clean)) (rw begun) in
     let after = changed c.args.changes.now content in
     let holds = (rw begun at steps.holds) content k.now in
-    subst (λ h. IsExactly after (state g.S.Store h)) same (commits club_schema after (state g.S.Store last) (state g.S.Store end) holds (c.in_ok-commit.ensures.ok late).1 (λ db shown left. g.met.S.Store.settled end.store db shown left))
+    subst (λ h. IsExactly after (state g.S.Store h)) same
+    (commits club_schema after (state g.S.Store last) (state g.S.Store end) holds (c.in_ok-commit.ensures.ok late).1
+    (λ db shown left. g.met.S.Store.settled end.store db shown left))
 
 pub returns-in_err-commit-clause-survives : goal.returns-in_err-commit-clause-survives
 returns-in_err-commit-clause-survives g c =
     let old = c.args.conn.now in
     let last = c.put_changes.new.tx.conn.now in
     let begun = c.transaction-tx.ensures.begun in
-    let P = λ (trees : Trees). (content : Content) → Holds (state g.S.Store old).now content → Leaves (changed c.args.changes.now content) trees in
-    let whole = survives_then (state g.S.Store old) (state g.S.Store last) (state g.S.Store c.commit.new.self.0) _ _ P (λ _ db none. absurd none)
+    let P = λ (trees : Trees). (content : Content) → Holds (state g.S.Store old).now content
+    → Leaves (changed c.args.changes.now content) trees in
+    let whole = survives_then (state g.S.Store old) (state g.S.Store last) (state g.S.Store c.commit.new.self.0) _ _ P
+    (λ _ db none. absurd none)
     (λ clean db is content k.
     let steps = c.in_ok-put_changes.ensures.put (omega (arith, c.commit.ensures.survives.clean)) (rw begun) in
     let after = changed c.args.changes.now content in
-    subst (Leaves after) (sym is) (leaves_of club_schema (state g.S.Store last).now after ((rw begun at steps.holds) content k)))
-    (survives_begin g.S.Store old (state g.S.Store last) _ (rw begun at c.put_changes.ensures.survives)) c.commit.ensures.survives in
+    subst (Leaves after) (sym is)
+    (leaves_of club_schema (state g.S.Store last).now after ((rw begun at steps.holds) content k)))
+    (survives_begin g.S.Store old (state g.S.Store last) _ (rw begun at c.put_changes.ensures.survives))
+    c.commit.ensures.survives in
     let same : c.commit.new.self.0 ≡ c.conn-2-1.given.0 = search rules in
     subst (λ h. Survives (state g.S.Store old) (state g.S.Store h) P) same whole
 
@@ -43,12 +49,16 @@ returns-clause-survives g c =
     let old = c.args.conn.now in
     let last = c.put_changes.new.tx.conn.now in
     let begun = c.transaction-tx.ensures.begun in
-    let P = λ (trees : Trees). (content : Content) → Holds (state g.S.Store old).now content → Leaves (changed c.args.changes.now content) trees in
-    let whole = survives_then (state g.S.Store old) (state g.S.Store last) (state g.S.Store c.commit.new.self.0) _ _ P (λ _ db none. absurd none)
+    let P = λ (trees : Trees). (content : Content) → Holds (state g.S.Store old).now content
+    → Leaves (changed c.args.changes.now content) trees in
+    let whole = survives_then (state g.S.Store old) (state g.S.Store last) (state g.S.Store c.commit.new.self.0) _ _ P
+    (λ _ db none. absurd none)
     (λ clean db is content k.
     let steps = c.in_ok-put_changes.ensures.put (omega (arith, c.commit.ensures.survives.clean)) (rw begun) in
     let after = changed c.args.changes.now content in
-    subst (Leaves after) (sym is) (leaves_of club_schema (state g.S.Store last).now after ((rw begun at steps.holds) content k)))
-    (survives_begin g.S.Store old (state g.S.Store last) _ (rw begun at c.put_changes.ensures.survives)) c.commit.ensures.survives in
+    subst (Leaves after) (sym is)
+    (leaves_of club_schema (state g.S.Store last).now after ((rw begun at steps.holds) content k)))
+    (survives_begin g.S.Store old (state g.S.Store last) _ (rw begun at c.put_changes.ensures.survives))
+    c.commit.ensures.survives in
     let same : c.commit.new.self.0 ≡ c.conn-2-1.given.0 = search rules in
     subst (λ h. Survives (state g.S.Store old) (state g.S.Store h) P) same whole

@@ -11,8 +11,17 @@ returns-clause-put g c clean inside =
     let s2 = state g.S.Store c.put_play.new.tx.conn.now in
     let s3 = state g.S.Store c.put_counts.new.tx.conn.now in
     let s4 = state g.S.Store c.put_meta.new.tx.conn.now in
-    let one = c.in_ok-put_people.ensures.put (omega (arith, c.put_play.ensures.survives.clean, c.put_counts.ensures.survives.clean, c.put_meta.ensures.survives.clean)) inside in
-    let two = c.in_ok-put_play.ensures.put (omega (arith, c.put_counts.ensures.survives.clean, c.put_meta.ensures.survives.clean)) one.inside in
+    let one = c.in_ok-put_people.ensures.put
+    (omega (
+      arith,
+      c.put_play.ensures.survives.clean,
+      c.put_counts.ensures.survives.clean,
+      c.put_meta.ensures.survives.clean,
+    )) inside in
+    let two =
+    c.in_ok-put_play.ensures.put
+    (omega (arith, c.put_counts.ensures.survives.clean, c.put_meta.ensures.survives.clean)) one.inside in
     let three = c.in_ok-put_counts.ensures.put (omega (arith, c.put_meta.ensures.survives.clean)) two.inside in
     let four = c.in_ok-put_meta.ensures.put clean three.inside in
-    steps_then club_schema _ _ s0 s3 s4 (steps_then club_schema _ _ s0 s2 s3 (steps_then club_schema _ _ s0 s1 s2 one two) three) four
+    steps_then club_schema _ _ s0 s3 s4
+    (steps_then club_schema _ _ s0 s2 s3 (steps_then club_schema _ _ s0 s1 s2 one two) three) four

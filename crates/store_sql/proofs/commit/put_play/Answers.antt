@@ -13,7 +13,9 @@ returns-clause-put g c clean inside =
     let s1 = state g.S.Store c.put_all.new.tx.conn.now in
     let s2 = state g.S.Store c.put_all-2.new.tx.conn.now in
     let games : c.deref.result.now ≡ c.args.changes.now.games.items = search rules in
-    let step1 = subst (λ l. Steps (put_each 10 (0 ∷ []) (map game_cells l)) s0 s1) games (c.in_ok-put_all.ensures.put (omega (arith, c.put_all-2.ensures.survives.clean)) inside) in
+    let step1 = subst (λ l. Steps (put_each 10 (0 ∷ []) (map game_cells l)) s0 s1) games
+    (c.in_ok-put_all.ensures.put (omega (arith, c.put_all-2.ensures.survives.clean)) inside) in
     let moves : c.deref-2.result.now ≡ c.args.changes.now.moves.items = search rules in
-    let step2 = subst (λ l. Steps (put_each 8 (0 ∷ 1 ∷ []) (map move_cells l)) s1 s2) moves (c.in_ok-put_all-2.ensures.put clean step1.inside) in
+    let step2 = subst (λ l. Steps (put_each 8 (0 ∷ 1 ∷ []) (map move_cells l)) s1 s2) moves
+    (c.in_ok-put_all-2.ensures.put clean step1.inside) in
     steps_then club_schema _ _ s0 s1 s2 step1 step2

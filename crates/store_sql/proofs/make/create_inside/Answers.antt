@@ -10,10 +10,13 @@ returns-clause-filled g c clean inside =
     let b = state g.S.Store c.make_first.new.tx.conn.now in
     let d = state g.S.Store c.make_last.new.tx.conn.now in
     let e = state g.S.Store c.put.new.tx.conn.now in
-    let one = c.in_ok-make_first.ensures.made (omega (arith, c.make_last.ensures.survives.clean, c.put.ensures.survives.clean)) inside in
+    let one = c.in_ok-make_first.ensures.made
+    (omega (arith, c.make_last.ensures.survives.clean, c.put.ensures.survives.clean)) inside in
     let two = c.in_ok-make_last.ensures.made (omega (arith, c.put.ensures.survives.clean)) one.inside in
     let three = c.in_ok-put.ensures.put clean two.inside in
     fills a d e (makes_then 0 4 8 a b d one two) three
 
 pub returns-clause-refuses : goal.returns-clause-refuses
-returns-clause-refuses g c clean inside has = c.in_ok-make_first.ensures.refuses (omega (arith, c.make_last.ensures.survives.clean, c.put.ensures.survives.clean)) inside has
+returns-clause-refuses g c clean inside has =
+    c.in_ok-make_first.ensures.refuses (omega (arith, c.make_last.ensures.survives.clean, c.put.ensures.survives.clean))
+    inside has

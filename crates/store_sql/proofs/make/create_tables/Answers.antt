@@ -19,22 +19,30 @@ returns-clause-stored g c clean k =
     let last = c.create_inside.new.tx.conn.now in
     let steps = c.in_ok-create_inside.ensures.filled (omega (arith, c.commit.ensures.survives.clean)) (rw begun) in
     let holds = (rw begun at steps.holds) k.now in
-    subst (λ h. IsExactly opening (state g.S.Store h)) same (commits club_schema opening (state g.S.Store last) (state g.S.Store end) holds (c.in_ok-commit.ensures.ok late).1 (λ db shown left. g.met.S.Store.settled end.store db shown left))
+    subst (λ h. IsExactly opening (state g.S.Store h)) same
+    (commits club_schema opening (state g.S.Store last) (state g.S.Store end) holds
+    (c.in_ok-commit.ensures.ok late).1 (λ db shown left. g.met.S.Store.settled end.store db shown left))
 
 pub returns-in_err-commit-clause-survives : goal.returns-in_err-commit-clause-survives
 returns-in_err-commit-clause-survives g c =
     let old = c.args.conn.now in
     let last = c.create_inside.new.tx.conn.now in
     let begun = c.transaction-tx.ensures.begun in
-    let P = λ (trees : Trees). (IsExactlyEmpty (state g.S.Store old) → Leaves opening trees) × ((state g.S.Store old).now.schema ≡ club_schema → ⊥) in
-    let whole = survives_then (state g.S.Store old) (state g.S.Store last) (state g.S.Store c.commit.new.self.0) _ _ P (λ _ db none. absurd none)
+    let P = λ (trees : Trees). (IsExactlyEmpty (state g.S.Store old) → Leaves opening trees)
+    × ((state g.S.Store old).now.schema ≡ club_schema → ⊥) in
+    let whole = survives_then (state g.S.Store old) (state g.S.Store last) (state g.S.Store c.commit.new.self.0) _ _ P
+    (λ _ db none. absurd none)
     (λ clean db is. (
       λ k.
-          let steps = c.in_ok-create_inside.ensures.filled (omega (arith, c.commit.ensures.survives.clean)) (rw begun) in
-          subst (Leaves opening) (sym is) (leaves_of club_schema (state g.S.Store last).now opening ((rw begun at steps.holds) k.now)),
-      λ has. c.in_ok-create_inside.ensures.refuses (omega (arith, c.commit.ensures.survives.clean)) (rw begun) (rw begun has),
+          let steps = c.in_ok-create_inside.ensures.filled (omega (arith, c.commit.ensures.survives.clean)) (rw begun)
+          in
+          subst (Leaves opening) (sym is)
+          (leaves_of club_schema (state g.S.Store last).now opening ((rw begun at steps.holds) k.now)),
+      λ has. c.in_ok-create_inside.ensures.refuses (omega (arith, c.commit.ensures.survives.clean)) (rw begun)
+          (rw begun has),
     ))
-    (survives_begin g.S.Store old (state g.S.Store last) _ (rw begun at c.create_inside.ensures.survives)) c.commit.ensures.survives in
+    (survives_begin g.S.Store old (state g.S.Store last) _ (rw begun at c.create_inside.ensures.survives))
+    c.commit.ensures.survives in
     let same : c.commit.new.self.0 ≡ c.conn-2-1.given.0 = search rules in
     subst (λ h. Survives (state g.S.Store old) (state g.S.Store h) P) same whole
 
@@ -43,14 +51,20 @@ returns-clause-survives g c =
     let old = c.args.conn.now in
     let last = c.create_inside.new.tx.conn.now in
     let begun = c.transaction-tx.ensures.begun in
-    let P = λ (trees : Trees). (IsExactlyEmpty (state g.S.Store old) → Leaves opening trees) × ((state g.S.Store old).now.schema ≡ club_schema → ⊥) in
-    let whole = survives_then (state g.S.Store old) (state g.S.Store last) (state g.S.Store c.commit.new.self.0) _ _ P (λ _ db none. absurd none)
+    let P = λ (trees : Trees). (IsExactlyEmpty (state g.S.Store old) → Leaves opening trees)
+    × ((state g.S.Store old).now.schema ≡ club_schema → ⊥) in
+    let whole = survives_then (state g.S.Store old) (state g.S.Store last) (state g.S.Store c.commit.new.self.0) _ _ P
+    (λ _ db none. absurd none)
     (λ clean db is. (
       λ k.
-          let steps = c.in_ok-create_inside.ensures.filled (omega (arith, c.commit.ensures.survives.clean)) (rw begun) in
-          subst (Leaves opening) (sym is) (leaves_of club_schema (state g.S.Store last).now opening ((rw begun at steps.holds) k.now)),
-      λ has. c.in_ok-create_inside.ensures.refuses (omega (arith, c.commit.ensures.survives.clean)) (rw begun) (rw begun has),
+          let steps = c.in_ok-create_inside.ensures.filled (omega (arith, c.commit.ensures.survives.clean)) (rw begun)
+          in
+          subst (Leaves opening) (sym is)
+          (leaves_of club_schema (state g.S.Store last).now opening ((rw begun at steps.holds) k.now)),
+      λ has. c.in_ok-create_inside.ensures.refuses (omega (arith, c.commit.ensures.survives.clean)) (rw begun)
+          (rw begun has),
     ))
-    (survives_begin g.S.Store old (state g.S.Store last) _ (rw begun at c.create_inside.ensures.survives)) c.commit.ensures.survives in
+    (survives_begin g.S.Store old (state g.S.Store last) _ (rw begun at c.create_inside.ensures.survives))
+    c.commit.ensures.survives in
     let same : c.commit.new.self.0 ≡ c.conn-2-1.given.0 = search rules in
     subst (λ h. Survives (state g.S.Store old) (state g.S.Store h) P) same whole

@@ -15,4 +15,5 @@ returns-clause-blames g c clean =
     IfErr-weaker c.typed.result _ _ (λ e faults has.
     let same : mid.now ≡ old.now = (c.in-Ok.ensures.counted early has).same.0.now_is in
     let still : mid.now.schema ≡ club_schema = ap (λ (d : Database). d.schema) same ∙ has in
-    blame_types g.T.Select.table g.T.TableRow.IsTyped old mid _ c.in-Ok-show_all.shown.items e (search rules) same (c.in-Ok-show_all.ensures.rows clean still).keeps faults) c.typed.ensures.blames
+    blame_types g.T.Select.table g.T.TableRow.IsTyped old mid _ c.in-Ok-show_all.shown.items e (search rules) same
+    (c.in-Ok-show_all.ensures.rows clean still).keeps faults) c.typed.ensures.blames

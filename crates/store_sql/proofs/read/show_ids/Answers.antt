@@ -15,32 +15,51 @@ pub returns-clause-reads : goal.returns-clause-reads
 returns-clause-reads g c =
     let is = g.met.T.Select.read in
     let text : c.ids.result.now ≡ g.T.Select.ids_text = search rules in
-    only_reads c.ids.result.now (subst IsSelect (sym text) is.ids_is) _ (state g.S.Store c.args.conn.now) (state g.S.Store c.query_all.new.self) (λ rows. rows.items) c.query_all.result c.query_all.ensures.mode c.query_all.ensures.survives c.query_all.ensures.ok c.query_all.ensures.err
+    only_reads c.ids.result.now (subst IsSelect (sym text) is.ids_is) _ (state g.S.Store c.args.conn.now)
+    (state g.S.Store c.query_all.new.self) (λ rows. rows.items) c.query_all.result c.query_all.ensures.mode
+    c.query_all.ensures.survives c.query_all.ensures.ok c.query_all.ensures.err
 
 pub returns-clause-kept : goal.returns-clause-kept
 returns-clause-kept g c clean =
     let is = g.met.T.Select.read in
     let text : c.ids.result.now ≡ g.T.Select.ids_text = search rules in
     let select = subst IsSelect (sym text) is.ids_is in
-    let only : OnlyReads (state g.S.Store c.args.conn.now) (state g.S.Store c.query_all.new.self) = only_reads c.ids.result.now select _ (state g.S.Store c.args.conn.now) (state g.S.Store c.query_all.new.self) (λ rows. rows.items) c.query_all.result c.query_all.ensures.mode c.query_all.ensures.survives c.query_all.ensures.ok c.query_all.ensures.err in
-    select_keeps c.ids.result.now _ (state g.S.Store c.args.conn.now) (state g.S.Store c.query_all.new.self) (λ rows. rows.items) c.query_all.result select only clean (c.query_all.ensures.ok clean)
+    let only : OnlyReads (state g.S.Store c.args.conn.now) (state g.S.Store c.query_all.new.self) =
+    only_reads c.ids.result.now select _ (state g.S.Store c.args.conn.now) (state g.S.Store c.query_all.new.self)
+    (λ rows. rows.items) c.query_all.result c.query_all.ensures.mode c.query_all.ensures.survives
+    c.query_all.ensures.ok c.query_all.ensures.err in
+    select_keeps c.ids.result.now _ (state g.S.Store c.args.conn.now) (state g.S.Store c.query_all.new.self)
+    (λ rows. rows.items) c.query_all.result select only clean (c.query_all.ensures.ok clean)
 
 pub returns-clause-ids : goal.returns-clause-ids
 returns-clause-ids g c clean =
     let text : c.ids.result.now ≡ g.T.Select.ids_text = search rules in
-    IfOk-weaker c.query_all.result _ _ (λ rows shown has. ids_told club_schema g.T.Select.table g.T.Select.width g.T.Select.all_text g.T.Select.ids_text g.T.Select.by_first_text g.met.T.Select.read c.ids.result.now [] (state g.S.Store c.args.conn.now) (state g.S.Store c.query_all.new.self) text refl rows.items shown has) (c.query_all.ensures.ok clean)
+    IfOk-weaker c.query_all.result _ _ (λ rows shown has.
+    ids_told club_schema g.T.Select.table g.T.Select.width g.T.Select.all_text g.T.Select.ids_text
+    g.T.Select.by_first_text g.met.T.Select.read c.ids.result.now [] (state g.S.Store c.args.conn.now)
+    (state g.S.Store c.query_all.new.self) text refl rows.items shown has) (c.query_all.ensures.ok clean)
 
 pub returns-clause-known : goal.returns-clause-known
 returns-clause-known g c clean =
     let text : c.ids.result.now ≡ g.T.Select.ids_text = search rules in
-    IfErr-weaker c.query_all.result _ _ (λ e failed has. ids_known club_schema g.T.Select.table g.T.Select.width g.T.Select.all_text g.T.Select.ids_text g.T.Select.by_first_text g.met.T.Select.read c.ids.result.now [] (state g.S.Store c.args.conn.now) (state g.S.Store c.query_all.new.self) text refl e failed has) (c.query_all.ensures.err clean)
+    IfErr-weaker c.query_all.result _ _ (λ e failed has.
+    ids_known club_schema g.T.Select.table g.T.Select.width g.T.Select.all_text g.T.Select.ids_text
+    g.T.Select.by_first_text g.met.T.Select.read c.ids.result.now [] (state g.S.Store c.args.conn.now)
+    (state g.S.Store c.query_all.new.self) text refl e failed has) (c.query_all.ensures.err clean)
 
 pub returns-clause-count : goal.returns-clause-count
 returns-clause-count g c clean =
     let text : c.ids.result.now ≡ g.T.Select.ids_text = search rules in
-    IfOk-weaker c.query_all.result _ _ (λ rows shown id content k places. counted club_schema g.T.Select.table g.T.Select.width g.T.Select.all_text g.T.Select.ids_text g.T.Select.by_first_text g.met.T.Select.read c.ids.result.now [] (state g.S.Store c.args.conn.now) (state g.S.Store c.query_all.new.self) text refl (g.met.T.Select.numbered id).1 rows.items shown content k places) (c.query_all.ensures.ok clean)
+    IfOk-weaker c.query_all.result _ _ (λ rows shown id content k places.
+    counted club_schema g.T.Select.table g.T.Select.width g.T.Select.all_text g.T.Select.ids_text
+    g.T.Select.by_first_text g.met.T.Select.read c.ids.result.now [] (state g.S.Store c.args.conn.now)
+    (state g.S.Store c.query_all.new.self) text refl (g.met.T.Select.numbered id).1 rows.items shown content k
+    places) (c.query_all.ensures.ok clean)
 
 pub returns-clause-number : goal.returns-clause-number
 returns-clause-number g c clean =
     let text : c.ids.result.now ≡ g.T.Select.ids_text = search rules in
-    IfOk-weaker c.query_all.result _ _ (λ rows shown has. ids_number club_schema g.T.Select.table g.T.Select.width g.T.Select.all_text g.T.Select.ids_text g.T.Select.by_first_text g.met.T.Select.read c.ids.result.now [] (state g.S.Store c.args.conn.now) (state g.S.Store c.query_all.new.self) text refl rows.items shown has) (c.query_all.ensures.ok clean)
+    IfOk-weaker c.query_all.result _ _ (λ rows shown has.
+    ids_number club_schema g.T.Select.table g.T.Select.width g.T.Select.all_text g.T.Select.ids_text
+    g.T.Select.by_first_text g.met.T.Select.read c.ids.result.now [] (state g.S.Store c.args.conn.now)
+    (state g.S.Store c.query_all.new.self) text refl rows.items shown has) (c.query_all.ensures.ok clean)

@@ -18,13 +18,17 @@ rows-preserved g c =
     let cells = g.T.TableRow.cells in
     let i = c.rows.row-index in (
       c.put.ensures.same_reference ∙ c.rows.invariant.0,
-      survives_then old mid new _ _ (λ _. ⊥) (λ _ db none. none) (λ _ db none. none) c.rows.invariant.1 c.put.ensures.survives,
+      survives_then old mid new _ _ (λ _. ⊥) (λ _ db none. none) (λ _ db none. none) c.rows.invariant.1
+          c.put.ensures.survives,
       λ clean inside.
           let so_far = c.rows.invariant.2 (omega (arith, c.put.ensures.survives.clean)) inside in
           let step = c.in_ok-put.ensures.put clean so_far.inside in
           let rows = c.args.rows.now in
           let within : i < length rows = omega arith in
-          let longer = take_more rows i c.row-item.result within ∙ ap (λ r. take i rows ++ r ∷ []) (sym c.row-item.is) in
+          let longer = take_more rows i c.row-item.result within
+          ∙ ap (λ r. take i rows ++ r ∷ []) (sym c.row-item.is) in
           let shown = ap (map cells) longer ∙ map-append cells (take i rows) (c.row-item.result ∷ []) in
-          subst (λ l. Steps (put_each tree key l) old new) (sym shown) (one_more club_schema tree key (map cells (take i rows)) (cells c.row-item.result) old mid new so_far step),
+          subst (λ l. Steps (put_each tree key l) old new) (sym shown)
+          (one_more club_schema tree key (map cells (take i rows)) (cells c.row-item.result) old mid new so_far
+          step),
     )

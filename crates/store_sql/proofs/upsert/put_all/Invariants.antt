@@ -9,4 +9,6 @@ abbrev pub invariant-rows : goal.invariant-rows
 invariant-rows g l =
     let old = state g.S.Store l.fn.tx.conn.now in
     let now = state g.S.Store l.tx.conn.now in
-    (l.tx.conn.ghost_name ≡ l.fn.tx.conn.ghost_name) × Survives old now (λ _. ⊥) × (HasCleanDisk now → IsTrue old.in_transaction → Steps (put_each g.T.Put.tree g.T.Put.key (map g.T.TableRow.cells (take l.row-index l.rows))) old now)
+    (l.tx.conn.ghost_name ≡ l.fn.tx.conn.ghost_name) × Survives old now (λ _. ⊥)
+    × (HasCleanDisk now → IsTrue old.in_transaction
+    → Steps (put_each g.T.Put.tree g.T.Put.key (map g.T.TableRow.cells (take l.row-index l.rows))) old now)

@@ -8,5 +8,6 @@ use Rattle.sweep_rows.proofs.swept.swept_rows.Given as goal
 
 abbrev pub invariant-loop-game : goal.invariant-loop-game
 invariant-loop-game l =
-    (s : ClubState) → IsClub s → map game_cells l.games ≡ tables s 10 → HaveSame (map score_cells l.fn.scores) (tables s 14)
+    (s : ClubState) → IsClub s → map game_cells l.games ≡ tables s 10
+    → HaveSame (map score_cells l.fn.scores) (tables s 14)
     → IsSweptTo s l.moment l.game-index l.ended.items l.changed.items (λ pair. sums_at l.standings pair)

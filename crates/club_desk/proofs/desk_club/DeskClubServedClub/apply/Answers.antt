@@ -13,7 +13,8 @@ returns-clause-shut g c fault shut =
 pub returns-clause-serves : goal.returns-clause-serves
 returns-clause-serves g c clean s served =
     let asked = request c.args.who.now c.args.command.now c.args.moment in
-    apply_serves c.args.self.now.club.needs_reopening c.apply.new.self.needs_reopening (state g.S.Store c.args.self.now.club.connection) (state g.S.Store c.apply.new.self.connection) s asked
+    apply_serves c.args.self.now.club.needs_reopening c.apply.new.self.needs_reopening
+    (state g.S.Store c.args.self.now.club.connection) (state g.S.Store c.apply.new.self.connection) s asked
     (λ outcome. outcome_of outcome ≡ answered (club_step s asked))
     c.apply.result c.told_all.result c.told_all.ensures c.requests_keep_clubs.ensures
     (omega (arith, c.seconds-within.ensures.value, c.seconds-within.ensures.range))

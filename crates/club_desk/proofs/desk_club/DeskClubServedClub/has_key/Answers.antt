@@ -7,7 +7,8 @@ use Rattle.club_desk.proofs.desk_club.DeskClubServedClub.has_key.Goals as goal
 
 pub returns-clause-clean : goal.returns-clause-clean
 returns-clause-clean g c clean =
-    clean_before c.args.self.now.club.needs_reopening (state g.S.Store c.args.self.now.club.connection) (state g.S.Store c.has_key.new.self.connection)
+    clean_before c.args.self.now.club.needs_reopening (state g.S.Store c.args.self.now.club.connection)
+    (state g.S.Store c.has_key.new.self.connection)
     (λ is. ap (λ k. state g.S.Store k.connection) (c.has_key.ensures.shut is).1)
     c.has_key.ensures.reads clean
 
@@ -18,8 +19,11 @@ returns-clause-shut g c fault shut =
 
 pub returns-clause-serves : goal.returns-clause-serves
 returns-clause-serves g c clean s served =
-    read_serves c.args.self.now.club.needs_reopening c.has_key.new.self.needs_reopening (state g.S.Store c.args.self.now.club.connection) (state g.S.Store c.has_key.new.self.connection) s
+    read_serves c.args.self.now.club.needs_reopening c.has_key.new.self.needs_reopening
+    (state g.S.Store c.args.self.now.club.connection) (state g.S.Store c.has_key.new.self.connection) s
     (λ found. found ≡ has_key s c.args.key.now)
-    c.has_key.result c.told_all.result c.told_all.ensures c.has_key.ensures.goes_on c.has_key.ensures.ends c.has_key.ensures.reads (c.has_key.ensures.kept clean)
-    (if_ok _ _ c.has_key.result (c.has_key.ensures.held clean) (λ found held. key_is s c.args.key.now found (held s served.legal served.exactly)))
+    c.has_key.result c.told_all.result c.told_all.ensures c.has_key.ensures.goes_on c.has_key.ensures.ends
+    c.has_key.ensures.reads (c.has_key.ensures.kept clean)
+    (if_ok _ _ c.has_key.result (c.has_key.ensures.held clean)
+    (λ found held. key_is s c.args.key.now found (held s served.legal served.exactly)))
     clean served

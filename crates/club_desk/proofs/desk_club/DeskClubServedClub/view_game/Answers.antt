@@ -6,13 +6,16 @@ use Rattle.club_desk.proofs.desk_club.DeskClubServedClub.view_game.Goals as goal
 
 pub returns-in-Ok-clause-serves : goal.returns-in-Ok-clause-serves
 returns-in-Ok-clause-serves g c clean s served =
-    made_serves c.args.self.now.club.needs_reopening c.view_game.new.self.needs_reopening (state g.S.Store c.args.self.now.club.connection) (state g.S.Store c.view_game.new.self.connection) s
+    made_serves c.args.self.now.club.needs_reopening c.view_game.new.self.needs_reopening
+    (state g.S.Store c.args.self.now.club.connection) (state g.S.Store c.view_game.new.self.connection) s
     (λ found. IsGame s c.args.game (found_view found)) c.found_shown.result
     c.in-Ok.ensures.goes_on (c.in-Ok.ensures.kept clean)
-    (if_ok _ _ c.found_shown.result c.found_shown.ensures.shown (λ found is. (c.in-Ok.found, c.in-Ok.ensures.viewed clean s served.legal served.exactly, is)))
+    (if_ok _ _ c.found_shown.result c.found_shown.ensures.shown
+    (λ found is. (c.in-Ok.found, c.in-Ok.ensures.viewed clean s served.legal served.exactly, is)))
     served
 
 pub returns-in-Err-clause-serves : goal.returns-in-Err-clause-serves
 returns-in-Err-clause-serves g c clean s served =
-    read_left c.args.self.now.club.needs_reopening c.view_game.new.self.needs_reopening (state g.S.Store c.args.self.now.club.connection) (state g.S.Store c.view_game.new.self.connection) s
+    read_left c.args.self.now.club.needs_reopening c.view_game.new.self.needs_reopening
+    (state g.S.Store c.args.self.now.club.connection) (state g.S.Store c.view_game.new.self.connection) s
     c.in-Err.ensures.ends c.in-Err.ensures.reads clean served

@@ -5,8 +5,10 @@ use Rattle.club_exports.proofs.draughts.DraughtsExports.begin_record.Goals as go
 
 pub returns-clause-written : goal.returns-clause-written
 returns-clause-written g c =
-    IfOk-weaker c.start.result _ _ (λ game written. record { head = _; is_head = c.head_of-head.ensures; written = written }) c.start.ensures.written
+    IfOk-weaker c.start.result _ _ (λ game written.
+    record { head = _; is_head = c.head_of-head.ensures; written = written }) c.start.ensures.written
 
 pub returns-clause-begun : goal.returns-clause-begun
 returns-clause-begun g c plies =
-    pdn-tags c.written_moves_begin_games.ensures.tags (title_of c.args.heading.now) _ _ _ c.head_of-head.ensures c.start.ensures.begun plies
+    pdn-tags c.written_moves_begin_games.ensures.tags (title_of c.args.heading.now) _ _ _ c.head_of-head.ensures
+    c.start.ensures.begun plies

@@ -8,4 +8,5 @@ unreachable-requires c =
     let arm = c.in-Err-Illegal in
     let start = c.args.start.now in
     let moves = c.args.moves.now in
-    no-illegal start moves arm.field-0-0 arm.field-0-1 c.requires (subst (λ f. HasFault start moves f) arm.field-0-is arm.ensures.fault)
+    no-illegal start moves arm.field-0-0 arm.field-0-1 c.requires
+    (subst (λ f. HasFault start moves f) arm.field-0-is arm.ensures.fault)

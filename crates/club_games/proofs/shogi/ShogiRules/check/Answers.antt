@@ -16,4 +16,6 @@ returns-in-Err c =
     let p = c.args.position.now in
     let m = c.args.made.now in
     let rule = c.in-Err.illegal in
-    ap Err c.refusal_of.ensures ∙ sym (ap (refused_by refusal_of) ((check_of-refused p m rule).1 ((c.check.ensures.refused rule).0 c.in-Err.is)))
+    ap Err c.refusal_of.ensures
+    ∙ sym
+    (ap (refused_by refusal_of) ((check_of-refused p m rule).1 ((c.check.ensures.refused rule).0 c.in-Err.is)))

@@ -4,7 +4,8 @@ use Rattle.std.proofs.lemmas.List.Quantifiers.{position-Some}
 use Rattle.cross_tables.specs.Totals.{AreTotals}
 use Rattle.cross_tables.specs.declared.standings.Standing.{Standing}
 use Rattle.cross_tables.specs.declared.sums.Scored.{Scored}
-use Rattle.cross_tables.proofs.Adding.{AreTotals-raised, Fit-raised, position-none, AreTotals-entered, on_ok, on_err, member-is}
+use Rattle.cross_tables.proofs.Adding.{AreTotals-raised, Fit-raised, position-none, AreTotals-entered, on_ok, on_err}
+use Rattle.cross_tables.proofs.Adding.{member-is}
 use Rattle.cross_tables.proofs.standings.Standings.add.Goals as goal
 
 own : Scored → Standing

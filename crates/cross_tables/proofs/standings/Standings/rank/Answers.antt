@@ -7,7 +7,8 @@ use Rattle.cross_tables.proofs.Showing.{AreTotals-permutation}
 use Rattle.cross_tables.proofs.standings.Standings.rank.Goals as goal
 
 pub returns-clause-totals : goal.returns-clause-totals
-returns-clause-totals c = λ rows t. AreTotals-permutation _ _ rows c.sort_unstable_by.ensures.permutation (subst (λ xs. AreTotals xs rows) (sym c.self.view_is) t)
+returns-clause-totals c = λ rows t. AreTotals-permutation _ _ rows c.sort_unstable_by.ensures.permutation
+    (subst (λ xs. AreTotals xs rows) (sym c.self.view_is) t)
 
 pub returns-clause-ranked : goal.returns-clause-ranked
 returns-clause-ranked c =

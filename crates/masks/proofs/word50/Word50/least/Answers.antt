@@ -6,7 +6,8 @@ use Rattle.masks.proofs.SetLemmas.{pops_nothing}
 use Rattle.masks.proofs.word50.Word50.least.Goals as goal
 
 pub returns-then-self-eq0 : goal.returns-then-self-eq0
-returns-then-self-eq0 c = (pops_nothing 1 50 c.self.inside.bits c.self.invariant c.args.self c.self.view_is c.if-self-eq0.true).0
+returns-then-self-eq0 c =
+    (pops_nothing 1 50 c.self.inside.bits c.self.invariant c.args.self c.self.view_is c.if-self-eq0.true).0
 
 pub returns : goal.returns
 returns c =

@@ -9,4 +9,5 @@ invariant_of-result c = lowered_small 1 50 c.self.inside.bits c.from.result c.se
 pub returns : goal.returns
 returns c = λ q from.
     lowered_at 1 50 c.self.inside.bits c.from.result c.self.invariant q from
-    ∙ ap (λ s. set.contains s (q + c.from.result)) c.self.view_is ∙ ap (λ k. set.contains c.args.self (q + k)) (let e : c.from.result ≡ c.args.by = omega arith in e)
+    ∙ ap (λ s. set.contains s (q + c.from.result)) c.self.view_is
+    ∙ ap (λ k. set.contains c.args.self (q + k)) (let e : c.from.result ≡ c.args.by = omega arith in e)

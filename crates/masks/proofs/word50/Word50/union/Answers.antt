@@ -8,4 +8,5 @@ pub invariant_of-result : goal.invariant_of-result
 invariant_of-result c = or_lt 50 c.self.inside.bits c.other.inside.bits c.self.invariant c.other.invariant
 
 pub returns : goal.returns
-returns c = union_word 1 50 c.self.inside.bits c.other.inside.bits c.self.invariant c.other.invariant ∙ (λ i. set.union (c.self.view_is i) (c.other.view_is i))
+returns c = union_word 1 50 c.self.inside.bits c.other.inside.bits c.self.invariant c.other.invariant
+    ∙ (λ i. set.union (c.self.view_is i) (c.other.view_is i))

@@ -6,4 +6,6 @@ use Rattle.masks.proofs.SetLemmas.{has_word}
 use Rattle.masks.proofs.word81.Word81.contains.Goals as goal
 
 pub returns : goal.returns
-returns c = has_bit-test c.self.inside.bits c.from.result ∙ has_word 0 81 w128 c.self.inside.bits c.from.result c.args.square c.self.invariant (omega arith) (omega arith) (omega arith) ∙ ap (λ s. set.contains s c.args.square) c.self.view_is
+returns c = has_bit-test c.self.inside.bits c.from.result
+    ∙ has_word 0 81 w128 c.self.inside.bits c.from.result c.args.square c.self.invariant (omega arith) (omega arith)
+    (omega arith) ∙ ap (λ s. set.contains s c.args.square) c.self.view_is

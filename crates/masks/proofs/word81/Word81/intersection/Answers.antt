@@ -4,4 +4,5 @@ use Rattle.masks.proofs.SetLemmas.{intersection_word}
 use Rattle.masks.proofs.word81.Word81.intersection.Goals as goal
 
 pub returns : goal.returns
-returns c = intersection_word 0 81 c.self.inside.bits c.other.inside.bits c.self.invariant c.other.invariant ∙ (λ i. set.intersection (c.self.view_is i) (c.other.view_is i))
+returns c = intersection_word 0 81 c.self.inside.bits c.other.inside.bits c.self.invariant c.other.invariant
+    ∙ (λ i. set.intersection (c.self.view_is i) (c.other.view_is i))

@@ -4,4 +4,5 @@ use Rattle.masks.specs.Words.{contains_past}
 use Rattle.masks.proofs.word81.Word81.keeps_to_its_squares.Goals as goal
 
 pub returns : goal.returns
-returns c q above = ap (λ s. set.contains s q) (sym c.self.view_is) ∙ contains_past 0 81 c.self.inside.bits c.self.invariant q (omega arith)
+returns c q above = ap (λ s. set.contains s q) (sym c.self.view_is)
+    ∙ contains_past 0 81 c.self.inside.bits c.self.invariant q (omega arith)

@@ -6,4 +6,5 @@ use Rattle.masks.proofs.word81.Word81.word.Goals as goal
 pub returns : goal.returns
 returns c n =
     let is : 0 + n ≡ n = omega arith in
-    sym (contains_at 0 81 c.self.inside.bits c.self.invariant n) ∙ ap (λ s. set.contains s (0 + n)) c.self.view_is ∙ ap (λ q. set.contains c.args.self q) is
+    sym (contains_at 0 81 c.self.inside.bits c.self.invariant n) ∙ ap (λ s. set.contains s (0 + n)) c.self.view_is
+    ∙ ap (λ q. set.contains c.args.self q) is

@@ -12,19 +12,22 @@ pub returns-in_err-write_piece-clause-begun : goal.returns-in_err-write_piece-cl
 returns-in_err-write_piece-clause-begun g c =
     let m = c.args.played.now in
     let game = c.args.self.now in
-    let line : c.as_bytes.result.now ≡ line_of game m = c.as_bytes.ensures.value ∙ c.in_ok-push_ply.ensures ∙ ap (λ l. l ++ line_of game m) c.clear.ensures.bytes in
+    let line : c.as_bytes.result.now ≡ line_of game m = c.as_bytes.ensures.value ∙ c.in_ok-push_ply.ensures
+    ∙ ap (λ l. l ++ line_of game m) c.clear.ensures.bytes in
     begins-line m game _ _ (subst (AppendsSome _ _) line c.write_piece.ensures.begun)
 
 pub returns-clause-written : goal.returns-clause-written
 returns-clause-written g c =
     let m = c.args.played.now in
     let game = c.args.self.now in
-    let line : c.as_bytes.result.now ≡ line_of game m = c.as_bytes.ensures.value ∙ c.in_ok-push_ply.ensures ∙ ap (λ l. l ++ line_of game m) c.clear.ensures.bytes in
+    let line : c.as_bytes.result.now ≡ line_of game m = c.as_bytes.ensures.value ∙ c.in_ok-push_ply.ensures
+    ∙ ap (λ l. l ++ line_of game m) c.clear.ensures.bytes in
     adds-line m game _ _ _ c.play-self.ensures refl refl (subst (Appends _ _) line c.in_ok-write_piece.ensures.whole)
 
 pub returns-clause-begun : goal.returns-clause-begun
 returns-clause-begun g c =
     let m = c.args.played.now in
     let game = c.args.self.now in
-    let line : c.as_bytes.result.now ≡ line_of game m = c.as_bytes.ensures.value ∙ c.in_ok-push_ply.ensures ∙ ap (λ l. l ++ line_of game m) c.clear.ensures.bytes in
+    let line : c.as_bytes.result.now ≡ line_of game m = c.as_bytes.ensures.value ∙ c.in_ok-push_ply.ensures
+    ∙ ap (λ l. l ++ line_of game m) c.clear.ensures.bytes in
     begins-line m game _ _ (subst (AppendsSome _ _) line c.write_piece.ensures.begun)

@@ -3,20 +3,25 @@ use Rattle.std.specs.Prelude.{Some, cond}
 use Rattle.std.specs.BTreeMap.{get}
 use Rattle.std.specs.Ordering.{eq_by_cmp}
 use Rattle.squares.specs.ShogiOrder.{position_cmp}
-use Rattle.shogi_repetition.proofs.MarkLemmas.{unlimited, next-first_checks, next-second_checks, after-end, not-legal, next-follows}
+use Rattle.shogi_repetition.proofs.MarkLemmas.{unlimited, next-first_checks, next-second_checks, after-end, not-legal}
+use Rattle.shogi_repetition.proofs.MarkLemmas.{next-follows}
 use Rattle.shogi_repetition.proofs.marks.Marks.push.Goals as goal
 
 pub returns-in-Some-clause-fault : goal.returns-in-Some-clause-fault
-returns-in-Some-clause-fault c = λ start moves follows. after-end start moves c.args.played.now c.args.self.now follows c.in-Some.field-0 (sym c.end_by_tail.ensures ∙ c.in-Some.is)
+returns-in-Some-clause-fault c = λ start moves follows.
+    after-end start moves c.args.played.now c.args.self.now follows c.in-Some.field-0
+    (sym c.end_by_tail.ensures ∙ c.in-Some.is)
 
 pub returns-in-Err-clause-fault : goal.returns-in-Err-clause-fault
 returns-in-Err-clause-fault c = λ start moves follows.
-    not-legal start moves c.args.played.now c.args.self.now follows c.in-Err.cause (sym c.end_by_tail.ensures ∙ c.in-None.is) ((c.check.ensures.refused c.in-Err.cause).0 c.in-Err.is)
+    not-legal start moves c.args.played.now c.args.self.now follows c.in-Err.cause
+    (sym c.end_by_tail.ensures ∙ c.in-None.is) ((c.check.ensures.refused c.in-Err.cause).0 c.in-Err.is)
 
 pub invariant_of-self-2 : goal.invariant_of-self-2
 invariant_of-self-2 c =
     let self = c.args.self.now in
-    let before = unlimited self.tail self.last self.plies self.stood.times self.stood.first (sym c.end_by_tail.ensures ∙ c.in-None.is) in
+    let before = unlimited self.tail self.last self.plies self.stood.times self.stood.first
+    (sym c.end_by_tail.ensures ∙ c.in-None.is) in
     let within = self.within in
     let first = next-first_checks self.tail c.play-next.result self.plies self.few_first_checks in
     let second = next-second_checks self.tail c.play-next.result self.plies self.few_second_checks in
@@ -29,6 +34,10 @@ invariant_of-self-2 c =
 
 pub returns-clause-follows : goal.returns-clause-follows
 returns-clause-follows c = λ start moves follows.
-    next-follows start moves c.args.played.now c.args.self.now follows c.play-next.result c.play-next.ensures _ c.args.self.now.within (sym c.end_by_tail.ensures ∙ c.in-None.is) (c.check.ensures.legal.0 (ap is_ok c.in-Ok.is)) refl refl c.next-self.ensures c.stood_again-stood.ensures (λ q.
+    next-follows start moves c.args.played.now c.args.self.now follows c.play-next.result c.play-next.ensures _
+    c.args.self.now.within (sym c.end_by_tail.ensures ∙ c.in-None.is)
+    (c.check.ensures.legal.0 (ap is_ok c.in-Ok.is)) refl refl c.next-self.ensures c.stood_again-stood.ensures (λ q.
     c.in_ok-insert.ensures.updates.0 q
-    ∙ ap (λ p. cond (eq_by_cmp position_cmp p q) (Some c.stood_again-stood.result) (get position_cmp c.args.self.now.seen q)) c.copied.ensures)
+    ∙ ap
+    (λ p. cond (eq_by_cmp position_cmp p q) (Some c.stood_again-stood.result)
+    (get position_cmp c.args.self.now.seen q)) c.copied.ensures)

@@ -5,4 +5,5 @@ use Rattle.squares.proofs.ShogiCounts.{kinds}
 use Rattle.squares.proofs.shogi.position.keeps_sets.Given as goal
 
 abbrev pub invariant-loop-kind : goal.invariant-loop-kind
-invariant-loop-kind l = (k : ℕ) → k < l.kind-index → in_play (get_or kinds k Rook) l.board l.hands ≤ set_size (get_or kinds k Rook)
+invariant-loop-kind l = (k : ℕ) → k < l.kind-index
+    → in_play (get_or kinds k Rook) l.board l.hands ≤ set_size (get_or kinds k Rook)

@@ -19,18 +19,25 @@ returns-in-Err-clause-fault g c clean usable s is_club k db left =
 pub returns-in-Ok-apply_changes-clause-step : goal.returns-in-Ok-apply_changes-clause-step
 returns-in-Ok-apply_changes-clause-step g c clean s is_club k =
     let inside : IsExactly (tables s) (state g.S.Store c.self.inside.connection) = search rules in
-    let decided : HasCleanDisk (state g.S.Store c.decide_request.new.conn) = omega (arith, c.apply_changes.ensures.clean) in
+    let decided : HasCleanDisk (state g.S.Store c.decide_request.new.conn) =
+    omega (arith, c.apply_changes.ensures.clean) in
     let next = tables (club_next s (request c.args.who.now c.args.command.now c.args.moment)) in
-    let same = subst (λ cs. AreSame (changed_if cs (tables s)) next) c.in-Some.is (c.in-Ok.ensures.step decided s is_club inside).rows in
-    exactly_same (changed c.in-Some.changes (tables s)) next _ same (c.in-Ok-apply_changes.ensures.stored clean (tables s) (c.in-Ok.ensures.kept decided club_schema (tables s) inside))
+    let same = subst (λ cs. AreSame (changed_if cs (tables s)) next) c.in-Some.is
+    (c.in-Ok.ensures.step decided s is_club inside).rows in
+    exactly_same (changed c.in-Some.changes (tables s)) next _ same
+    (c.in-Ok-apply_changes.ensures.stored clean (tables s)
+    (c.in-Ok.ensures.kept decided club_schema (tables s) inside))
 
 pub returns-in-Err-apply_changes-clause-fault : goal.returns-in-Err-apply_changes-clause-fault
 returns-in-Err-apply_changes-clause-fault g c clean usable s is_club k db left =
     let inside : IsExactly (tables s) (state g.S.Store c.self.inside.connection) = search rules in
-    let decided : HasCleanDisk (state g.S.Store c.decide_request.new.conn) = omega (arith, c.apply_changes.ensures.clean) in
+    let decided : HasCleanDisk (state g.S.Store c.decide_request.new.conn) =
+    omega (arith, c.apply_changes.ensures.clean) in
     let next = tables (club_next s (request c.args.who.now c.args.command.now c.args.moment)) in
-    let same = subst (λ cs. AreSame (changed_if cs (tables s)) next) c.in-Some.is (c.in-Ok.ensures.step decided s is_club inside).rows in
-    elim (c.in-Err-apply_changes.ensures.fault clean (search rules) (tables s) (c.in-Ok.ensures.kept decided club_schema (tables s) inside) db left) [
+    let same = subst (λ cs. AreSame (changed_if cs (tables s)) next) c.in-Some.is
+    (c.in-Ok.ensures.step decided s is_club inside).rows in
+    elim (c.in-Err-apply_changes.ensures.fault clean (search rules) (tables s)
+    (c.in-Ok.ensures.kept decided club_schema (tables s) inside) db left) [
       | inl before ↦ inl before
       | inr after ↦ inr (leaves_same (changed c.in-Some.changes (tables s)) next db same after)
     ]
@@ -39,7 +46,8 @@ pub returns-in-None-clause-step : goal.returns-in-None-clause-step
 returns-in-None-clause-step g c clean s is_club k =
     let inside : IsExactly (tables s) (state g.S.Store c.self.inside.connection) = search rules in
     let next = tables (club_next s (request c.args.who.now c.args.command.now c.args.moment)) in
-    let same = subst (λ cs. AreSame (changed_if cs (tables s)) next) c.in-None.is (c.in-Ok.ensures.step clean s is_club inside).rows in
+    let same = subst (λ cs. AreSame (changed_if cs (tables s)) next) c.in-None.is
+    (c.in-Ok.ensures.step clean s is_club inside).rows in
     exactly_same (tables s) next _ same (c.in-Ok.ensures.kept clean club_schema (tables s) inside)
 
 pub returns-in-None-clause-unchanged : goal.returns-in-None-clause-unchanged
@@ -57,9 +65,12 @@ returns-in-Err-clause-cut_off g c clean usable sessions at db left =
 pub returns-in-Ok-apply_changes-clause-stands : goal.returns-in-Ok-apply_changes-clause-stands
 returns-in-Ok-apply_changes-clause-stands g c clean sessions at =
     let asked = request c.args.who.now c.args.command.now c.args.moment in
-    let inside : IsExactly (tables at.after) (state g.S.Store c.self.inside.connection) = (let e = at.exactly in search rules) in
-    let decided : HasCleanDisk (state g.S.Store c.decide_request.new.conn) = omega (arith, c.apply_changes.ensures.clean) in
-    one_stands at.after sessions asked _ (state g.S.Store c.apply_changes.new.self.connection) at.leads (c.in-Ok.ensures.step decided at.after at.legal inside).answer
+    let inside : IsExactly (tables at.after) (state g.S.Store c.self.inside.connection) =
+    (let e = at.exactly in search rules) in
+    let decided : HasCleanDisk (state g.S.Store c.decide_request.new.conn) =
+    omega (arith, c.apply_changes.ensures.clean) in
+    one_stands at.after sessions asked _ (state g.S.Store c.apply_changes.new.self.connection) at.leads
+    (c.in-Ok.ensures.step decided at.after at.legal inside).answer
     (club_stays at.after asked (omega (arith, c.seconds-within.ensures.value, c.seconds-within.ensures.range)) at.legal)
     (returns-in-Ok-apply_changes-clause-step g c clean at.after at.legal at.exactly)
 
@@ -73,7 +84,9 @@ returns-in-Err-apply_changes-clause-cut_off g c clean usable sessions at db left
 pub returns-in-None-clause-stands : goal.returns-in-None-clause-stands
 returns-in-None-clause-stands g c clean sessions at =
     let asked = request c.args.who.now c.args.command.now c.args.moment in
-    let inside : IsExactly (tables at.after) (state g.S.Store c.self.inside.connection) = (let e = at.exactly in search rules) in
-    one_stands at.after sessions asked _ (state g.S.Store c.decide_request.new.conn) at.leads (c.in-Ok.ensures.step clean at.after at.legal inside).answer
+    let inside : IsExactly (tables at.after) (state g.S.Store c.self.inside.connection) =
+    (let e = at.exactly in search rules) in
+    one_stands at.after sessions asked _ (state g.S.Store c.decide_request.new.conn) at.leads
+    (c.in-Ok.ensures.step clean at.after at.legal inside).answer
     (club_stays at.after asked (omega (arith, c.seconds-within.ensures.value, c.seconds-within.ensures.range)) at.legal)
     (returns-in-None-clause-step g c clean at.after at.legal at.exactly)

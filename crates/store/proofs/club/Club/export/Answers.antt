@@ -12,5 +12,8 @@ returns-in-Ok-clause-kept g c clean ready schema content k =
 pub returns-in-Err-Output-clause-kept : goal.returns-in-Err-Output-clause-kept
 returns-in-Err-Output-clause-kept g c clean ready schema content k =
     let inside : IsExactly schema content (state g.S.Store c.self.inside.connection) = search rules in
-    let kept = subst (λ fault. KeepsUnlessCalled {A = Bool} (Err fault) (state g.S.Store c.self.inside.connection) (state g.S.Store c.export_of.new.conn)) c.in-Err-Output.field-0-is (c.in-Err-Output.ensures.kept clean) in
+    let kept =
+    subst
+    (λ fault. KeepsUnlessCalled {A = Bool} (Err fault) (state g.S.Store c.self.inside.connection)
+    (state g.S.Store c.export_of.new.conn)) c.in-Err-Output.field-0-is (c.in-Err-Output.ensures.kept clean) in
     kept schema content inside

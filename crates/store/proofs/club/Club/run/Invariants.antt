@@ -13,5 +13,6 @@ invariant-loop-request g l =
     (l.self.needs_reopening ≡ false)
     × (doubt (state g.S.Store l.fn.self.connection).is_clean ≤ doubt (state g.S.Store l.self.connection).is_clean)
     × (length l.outcomes.items ≡ l.request-index)
-    × (HasCleanDisk (state g.S.Store l.self.connection) → (s : ClubState) → IsClub s → IsExactly (tables s) (state g.S.Store l.fn.self.connection) →
+    × (HasCleanDisk (state g.S.Store l.self.connection) → (s : ClubState) → IsClub s
+    → IsExactly (tables s) (state g.S.Store l.fn.self.connection) →
     Served s l.requests l.request-index l.outcomes.items (state g.S.Store l.self.connection))

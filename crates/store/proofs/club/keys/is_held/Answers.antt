@@ -6,4 +6,5 @@ use Rattle.store.proofs.club.keys.is_held.Goals as goal
 
 pub returns-clause-held : goal.returns-clause-held
 returns-clause-held g c clean s is_club k =
-    subst (λ b. IsTrue b ↔ HasKey s c.args.key.now) (sym c.is_some.ensures) (key_held s c.args.key.now c.in_ok-member.member (c.in_ok-member.ensures.found clean s is_club k))
+    subst (λ b. IsTrue b ↔ HasKey s c.args.key.now) (sym c.is_some.ensures)
+    (key_held s c.args.key.now c.in_ok-member.member (c.in_ok-member.ensures.found clean s is_club k))

@@ -15,8 +15,10 @@ pub returns-in_ok-viewed-in-Some-clause-viewed : goal.returns-in_ok-viewed-in-So
 returns-in_ok-viewed-in-Some-clause-viewed g c clean s is_club k =
     let looked : HasCleanDisk (state g.S.Store c.stored_game.new.conn) = omega (arith, c.viewed.ensures.reads.clean) in
     let kept = c.in_ok-found.ensures.kept looked club_schema (tables s) k in
-    let (game, at, stored) = subst (IsFoundGame s c.args.game) c.in-Some.is (c.in_ok-found.ensures.found looked s is_club k) in
+    let (game, at, stored) = subst (IsFoundGame s c.args.game) c.in-Some.is
+    (c.in_ok-found.ensures.found looked s is_club k) in
     (game, at, c.in_ok-viewed-in-Some.ensures.viewed clean s c.args.game game is_club at stored kept)
 
 pub returns-in-None-clause-viewed : goal.returns-in-None-clause-viewed
-returns-in-None-clause-viewed g c clean s is_club k = subst (IsFoundGame s c.args.game) c.in-None.is (c.in_ok-found.ensures.found clean s is_club k)
+returns-in-None-clause-viewed g c clean s is_club k =
+    subst (IsFoundGame s c.args.game) c.in-None.is (c.in_ok-found.ensures.found clean s is_club k)

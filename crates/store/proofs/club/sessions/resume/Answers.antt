@@ -14,15 +14,18 @@ returns-clause-history g c clean opens live sessions led db left =
     let was = state g.S.Store c.args.conn in
     let now = state g.S.Store c.in-Ok.club.connection in
     let before : HasCleanDisk now = omega (arith, c.session-run.ensures.clean, clean) in
-    let found : IsHistory sessions was = opens_led sessions was opens live (λ d shown stays. g.met.S.Store.settled c.args.conn.store d shown stays) led in
-    c.session-run.ensures.history clean c.in-Ok.ensures.ready sessions (still_stands sessions was now (c.in-Ok.ensures.same before) found) db left
+    let found : IsHistory sessions was = opens_led sessions was opens live
+    (λ d shown stays. g.met.S.Store.settled c.args.conn.store d shown stays) led in
+    c.session-run.ensures.history clean c.in-Ok.ensures.ready sessions
+    (still_stands sessions was now (c.in-Ok.ensures.same before) found) db left
 
 pub returns-clause-stands : goal.returns-clause-stands
 returns-clause-stands g c clean opens live none sessions led =
     let was = state g.S.Store c.args.conn in
     let now = state g.S.Store c.in-Ok.club.connection in
     let before : HasCleanDisk now = omega (arith, c.session-run.ensures.clean, clean) in
-    let found : IsHistory sessions was = opens_led sessions was opens live (λ d shown stays. g.met.S.Store.settled c.args.conn.store d shown stays) led in
+    let found : IsHistory sessions was = opens_led sessions was opens live
+    (λ d shown stays. g.met.S.Store.settled c.args.conn.store d shown stays) led in
     c.session-run.ensures.stands clean none sessions (still_stands sessions was now (c.in-Ok.ensures.same before) found)
 
 pub returns-clause-outcomes : goal.returns-clause-outcomes
@@ -30,17 +33,20 @@ returns-clause-outcomes g c clean opens live s is_club left =
     let was = state g.S.Store c.args.conn in
     let now = state g.S.Store c.in-Ok.club.connection in
     let before : HasCleanDisk now = omega (arith, c.session-run.ensures.clean, clean) in
-    let found : IsExactly (tables s) was = opens_exactly club_schema (tables s) was opens live (λ d shown stays. g.met.S.Store.settled c.args.conn.store d shown stays) left in
+    let found : IsExactly (tables s) was = opens_exactly club_schema (tables s) was opens live
+    (λ d shown stays. g.met.S.Store.settled c.args.conn.store d shown stays) left in
     c.session-run.ensures.outcomes clean s is_club (c.in-Ok.ensures.same before (tables s) found)
 
 pub returns-in-Err-clause-good : goal.returns-in-Err-clause-good
 returns-in-Err-clause-good g c clean opens live s is_club left =
     let was = state g.S.Store c.args.conn in
-    let found : IsExactly (tables s) was = opens_exactly club_schema (tables s) was opens live (λ d shown stays. g.met.S.Store.settled c.args.conn.store d shown stays) left in
+    let found : IsExactly (tables s) was = opens_exactly club_schema (tables s) was opens live
+    (λ d shown stays. g.met.S.Store.settled c.args.conn.store d shown stays) left in
     c.in-Err.ensures.good clean s is_club found
 
 pub returns-in-Err-clause-kept : goal.returns-in-Err-clause-kept
 returns-in-Err-clause-kept g c clean opens live sessions led db left =
     let was = state g.S.Store c.args.conn in
-    let found : IsHistory sessions was = opens_led sessions was opens live (λ d shown stays. g.met.S.Store.settled c.args.conn.store d shown stays) led in
+    let found : IsHistory sessions was = opens_led sessions was opens live
+    (λ d shown stays. g.met.S.Store.settled c.args.conn.store d shown stays) led in
     stops_led sessions was found db (c.in-Err.ensures.reads.may clean db left)

@@ -7,6 +7,21 @@ use Rattle.store_sql.proofs.upsert.GameRecordPut.put.Goals as goal
 pub returns-clause-put : goal.returns-clause-put
 returns-clause-put g c clean inside =
     let row = c.args.self.now in
-    game_put_of row _ _ (state g.S.Store c.args.tx.now.conn.now) (state g.S.Store c.execute.new.self.conn.now) c.in_ok-execute.field-0 refl
-    (cons_is (search rules) (cons_is (let plain = maybe_text string_bytes row.key in search rules) (cons_is (search rules) (cons_is (search rules) (cons_is (search rules) (cons_is (search rules) (cons_is (search rules) (cons_is (search rules) (cons_is (search rules) (cons_is (search rules) (cons_is (let plain = maybe_int row.offer_side in search rules) (cons_is (let plain = maybe_int row.offer_ply in search rules) (cons_is (let plain = maybe_text string_bytes row.end in search rules) (cons_is (let plain = maybe_text string_bytes row.result in search rules) (cons_is (search rules) (cons_is (search rules) (cons_is (search rules) (refl))))))))))))))))))
+    game_put_of row _ _ (state g.S.Store c.args.tx.now.conn.now) (state g.S.Store c.execute.new.self.conn.now)
+    c.in_ok-execute.field-0 refl
+    (cons_is (search rules)
+    (cons_is (let plain = maybe_text string_bytes row.key in search rules)
+    (cons_is (search rules)
+    (cons_is (search rules)
+    (cons_is (search rules)
+    (cons_is (search rules)
+    (cons_is (search rules)
+    (cons_is (search rules)
+    (cons_is (search rules)
+    (cons_is (search rules)
+    (cons_is (let plain = maybe_int row.offer_side in search rules)
+    (cons_is (let plain = maybe_int row.offer_ply in search rules)
+    (cons_is (let plain = maybe_text string_bytes row.end in search rules)
+    (cons_is (let plain = maybe_text string_bytes row.result in search rules)
+    (cons_is (search rules) (cons_is (search rules) (cons_is (search rules) (refl))))))))))))))))))
     (c.in_ok-execute.ensures.runs clean inside)

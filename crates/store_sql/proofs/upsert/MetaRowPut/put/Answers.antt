@@ -5,4 +5,6 @@ use Rattle.store_sql.proofs.upsert.MetaRowPut.put.Goals as goal
 
 pub returns-clause-put : goal.returns-clause-put
 returns-clause-put g c clean inside =
-    meta_put_of c.args.self.now _ _ (state g.S.Store c.args.tx.now.conn.now) (state g.S.Store c.execute.new.self.conn.now) c.in_ok-execute.field-0 refl (search rules) (c.in_ok-execute.ensures.runs clean inside)
+    meta_put_of c.args.self.now _ _ (state g.S.Store c.args.tx.now.conn.now)
+    (state g.S.Store c.execute.new.self.conn.now) c.in_ok-execute.field-0 refl (search rules)
+    (c.in_ok-execute.ensures.runs clean inside)

@@ -4,4 +4,7 @@ use Rattle.store_tables.proofs.parse.GameRecordTableRow.parse.Goals as goal
 
 pub returns-clause-shows : goal.returns-clause-shows
 returns-clause-shows c = seventeen c.args.row.now _ _ _ _ _ _ _ _ _ _ _ _ _ _ _ _ _ (search rules)
-    (search rules) c.in_ok-read_text.ensures.reads (search rules) (search rules) (search rules) (search rules) (search rules) (search rules) (search rules) (search rules) c.in_ok-read_integer.ensures.reads c.in_ok-read_integer-2.ensures.reads c.in_ok-read_text-2.ensures.reads c.in_ok-read_text-3.ensures.reads (search rules) (search rules) (search rules)
+    (search rules) c.in_ok-read_text.ensures.reads (search rules) (search rules) (search rules) (search rules)
+    (search rules) (search rules) (search rules) (search rules) c.in_ok-read_integer.ensures.reads
+    c.in_ok-read_integer-2.ensures.reads c.in_ok-read_text-2.ensures.reads c.in_ok-read_text-3.ensures.reads
+    (search rules) (search rules) (search rules)

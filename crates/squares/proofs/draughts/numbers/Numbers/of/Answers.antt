@@ -7,7 +7,9 @@ pub loop-square-init : goal.loop-square-init
 loop-square-init c = record { few = omega (arith, ascending-fits c.args.set); room = refl; so_far = refl }
 
 found : (c : goal.After-number) → ascending c.loop-square.rest ≡ c.in-Some.square ∷ ascending c.pop.new.self
-found c = (let w : PopsSquare c.loop-square.rest (Some c.in-Some.square) c.pop.new.self = subst (λ (o : Option ℕ). PopsSquare c.loop-square.rest o c.pop.new.self) c.in-Some.is c.pop.ensures in w.0)
+found c =
+    (let w : PopsSquare c.loop-square.rest (Some c.in-Some.square) c.pop.new.self =
+    subst (λ (o : Option ℕ). PopsSquare c.loop-square.rest o c.pop.new.self) c.in-Some.is c.pop.ensures in w.0)
 
 pub bounds-numbers-len : goal.bounds-numbers-len
 bounds-numbers-len c = omega (arith, c.loop-square.invariant.few, ap length (found c))
@@ -18,13 +20,16 @@ loop-square-preserved c =
     record {
       few = omega (arith, w.invariant.few, ap length (found c));
       room = simp length-set w.invariant.room;
-      so_far = popped-write w.numbers (ascending c.args.set) (ascending w.rest) (ascending c.pop.new.self) w.len c.in-Some.square c.number.result
-          (omega (arith, w.invariant.few, w.invariant.room, ap length (found c))) c.number.ensures.value w.invariant.so_far (found c);
+      so_far = popped-write w.numbers (ascending c.args.set) (ascending w.rest) (ascending c.pop.new.self) w.len
+          c.in-Some.square c.number.result
+          (omega (arith, w.invariant.few, w.invariant.room, ap length (found c))) c.number.ensures.value
+          w.invariant.so_far (found c);
     }
 
 pub returns : goal.returns
 returns c =
     let w = c.loop-square in
     let none : c.pop.result ≡ None = c.in_default.is in
-    let empty : PopsSquare w.rest None c.pop.new.self = subst (λ (o : Option ℕ). PopsSquare w.rest o c.pop.new.self) none c.pop.ensures in
+    let empty : PopsSquare w.rest None c.pop.new.self =
+    subst (λ (o : Option ℕ). PopsSquare w.rest o c.pop.new.self) none c.pop.ensures in
     popped-end w.numbers (ascending c.args.set) (ascending w.rest) w.len empty.1 w.invariant.so_far

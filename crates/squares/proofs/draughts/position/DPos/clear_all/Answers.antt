@@ -8,7 +8,8 @@ loop-square-preserved c =
     let w = c.loop-square in
     let pop = c.in-Some.ensures in
     record {
-      board = cleared_next w.rest c.pop.new.self w.self.board c.clear.new.self.board c.in-Some.square pop.1 pop.2 (ap (λ (p : Position). p.board) c.clear.ensures) ∙ w.invariant.board;
+      board = cleared_next w.rest c.pop.new.self w.self.board c.clear.new.self.board c.in-Some.square pop.1 pop.2
+          (ap (λ (p : Position). p.board) c.clear.ensures) ∙ w.invariant.board;
       turn = ap (λ (p : Position). p.turn) c.clear.ensures ∙ w.invariant.turn;
     }
 

@@ -8,7 +8,9 @@ use Rattle.squares.proofs.draughts.position.DPos.keeps_to_its_squares.Goals as g
 pub returns : goal.returns
 returns c n (inl below) =
     let zero : n ≡ 0 = omega arith in
-    subst (λ (p : Position). get p.board n ≡ None) c.self.view_is (ap (get (board_of c.self.inside.cells)) zero ∙ get-board_of-zero c.self.inside.cells)
+    subst (λ (p : Position). get p.board n ≡ None) c.self.view_is
+    (ap (get (board_of c.self.inside.cells)) zero ∙ get-board_of-zero c.self.inside.cells)
 returns c n (inr above) =
     subst (λ (p : Position). get p.board n ≡ None) c.self.view_is
-    (get-board_of c.self.inside.cells n (n - 1) (omega arith) ∙ get_or_past c.self.inside.cells (n - 1) None (omega (arith, c.self.invariant.has_cells)))
+    (get-board_of c.self.inside.cells n (n - 1) (omega arith)
+    ∙ get_or_past c.self.inside.cells (n - 1) None (omega (arith, c.self.invariant.has_cells)))

@@ -8,4 +8,5 @@ unfolding board_of
 returns c = refl
 
 pub invariant_of-result : goal.invariant_of-result
-invariant_of-result c = kept_empty c.new.result c.new-2.result c.new-3.result c.new.ensures c.new-2.ensures c.new-3.ensures
+invariant_of-result c = kept_empty c.new.result c.new-2.result c.new-3.result c.new.ensures c.new-2.ensures
+    c.new-3.ensures

@@ -10,7 +10,8 @@ use Rattle.squares.specs.declared.sides.Side.TheVariants.{First, Second}
 use Rattle.squares.specs.Sides.{same_side}
 use Rattle.squares.specs.DraughtsBoard.{Position, board_of}
 use Rattle.squares.specs.DraughtsCells.{cells_back}
-use Rattle.squares.specs.DraughtsSamePosition.{same_position, same_position-same, same_position-itself, same_side-same, same_side-itself}
+use Rattle.squares.specs.DraughtsSamePosition.{same_position, same_position-same, same_position-itself, same_side-same}
+use Rattle.squares.specs.DraughtsSamePosition.{same_side-itself}
 use Rattle.squares.proofs.draughts.position.DPosPartialEq.eq.Goals as goal
 
 turns : (a b : Side) → sameb the_type a b ≡ same_side a b
@@ -33,10 +34,12 @@ returns-then-ne c =
     let q : Position = c.args.other.now in
     let mine = c.self.inside.turn in
     let theirs = c.other.inside.turn in
-    let differ : same_side mine theirs ≡ false = sym (turns mine theirs) ∙ not_true (sameb the_type mine theirs) (sym c.ne.ensures ∙ c.if-ne.true) in
+    let differ : same_side mine theirs ≡ false = sym (turns mine theirs)
+    ∙ not_true (sameb the_type mine theirs) (sym c.ne.ensures ∙ c.if-ne.true) in
     both_ways false (same_position p q) (λ e. cc)
     (λ same.
-    let turn : mine ≡ theirs = ap (λ (r : Position). r.turn) (c.self.view_is ∙ same_position-same p q same ∙ sym c.other.view_is) in
+    let turn : mine ≡ theirs = ap (λ (r : Position). r.turn)
+    (c.self.view_is ∙ same_position-same p q same ∙ sym c.other.view_is) in
     let itself : same_side mine theirs ≡ true = subst (λ t. same_side mine t ≡ true) turn (same_side-itself mine) in
     cc)
 
@@ -46,12 +49,18 @@ returns c =
     let q : Position = c.args.other.now in
     let mine = c.self.inside in
     let theirs = c.other.inside in
-    let turn : mine.turn ≡ theirs.turn = same_side-same mine.turn theirs.turn (sym (turns mine.turn theirs.turn) ∙ not_false (sameb the_type mine.turn theirs.turn) (sym c.ne.ensures ∙ c.if-ne.false)) in
+    let turn : mine.turn ≡ theirs.turn = same_side-same mine.turn theirs.turn
+    (sym (turns mine.turn theirs.turn) ∙ not_false (sameb the_type mine.turn theirs.turn)
+    (sym c.ne.ensures ∙ c.if-ne.false)) in
     both_ways c.same_cells.result (same_position p q)
     (λ is_true.
     let cells = c.same_cells.ensures.0 is_true in
-    let views : p ≡ q = sym c.self.view_is ∙ (λ i. record { board = board_of (cells i); turn = turn i }) ∙ c.other.view_is in
+    let views : p ≡ q = sym c.self.view_is ∙ (λ i. record { board = board_of (cells i); turn = turn i })
+    ∙ c.other.view_is in
     subst (λ r. same_position p r ≡ true) views (same_position-itself p))
     (λ same.
-    let boards : board_of mine.cells ≡ board_of theirs.cells = ap (λ (r : Position). r.board) (c.self.view_is ∙ same_position-same p q same ∙ sym c.other.view_is) in
-    c.same_cells.ensures.1 (sym (cells_back mine.cells c.self.invariant.has_cells) ∙ ap (λ b. map (λ n. get b n) (range_with_len 1 50)) boards ∙ cells_back theirs.cells c.other.invariant.has_cells))
+    let boards : board_of mine.cells ≡ board_of theirs.cells =
+    ap (λ (r : Position). r.board) (c.self.view_is ∙ same_position-same p q same ∙ sym c.other.view_is) in
+    c.same_cells.ensures.1 (sym (cells_back mine.cells c.self.invariant.has_cells)
+    ∙ ap (λ b. map (λ n. get b n) (range_with_len 1 50)) boards
+    ∙ cells_back theirs.cells c.other.invariant.has_cells))

@@ -13,7 +13,8 @@ use Rattle.squares.specs.ShogiSamePosition.{same_shogi_board, same_shogi_board-s
 use Rattle.squares.proofs.ShogiCells.{get-shogi_board_of}
 use Rattle.squares.proofs.shogi.board.SBoardPartialEq.eq.Goals as goal
 
-cells-Decides : (E : SPiece → SPiece → Bool) → ((a b : SPiece) → Decides (E a b) (a ≡ b)) → (a b : Option SPiece) → Decides (option_eq E a b) (a ≡ b)
+cells-Decides : (E : SPiece → SPiece → Bool) → ((a b : SPiece) → Decides (E a b) (a ≡ b)) → (a b : Option SPiece)
+    → Decides (option_eq E a b) (a ≡ b)
 cells-Decides E each None None = (λ _. refl, λ _. refl)
 cells-Decides E each None (Some b) = (λ e. cc, λ e. cc)
 cells-Decides E each (Some a) None = (λ e. cc, λ e. cc)
@@ -48,6 +49,8 @@ returns c =
     both_ways c.eq.result (same_shogi_board b d)
     (λ is_true. let one : b ≡ d = sym c.self.view_is ∙ ap shogi_board_of (test.0 is_true) ∙ c.other.view_is in
     subst (λ x. same_shogi_board b x ≡ true) one (same_shogi_board-itself b))
-    (λ same. let views : shogi_board_of mine ≡ shogi_board_of theirs = c.self.view_is ∙ same_shogi_board-same b d same ∙ sym c.other.view_is in
+    (λ same. let views : shogi_board_of mine ≡ shogi_board_of theirs = c.self.view_is ∙ same_shogi_board-same b d same
+    ∙ sym c.other.view_is in
     test.1 (ext_get_or None mine theirs (c.self.invariant.has_cells ∙ sym c.other.invariant.has_cells)
-    (λ k below. sym (get-shogi_board_of mine k) ∙ ap (λ (x : ShogiBoard). get x k) views ∙ get-shogi_board_of theirs k)))
+    (λ k below. sym (get-shogi_board_of mine k) ∙ ap (λ (x : ShogiBoard). get x k) views
+    ∙ get-shogi_board_of theirs k)))

@@ -6,7 +6,9 @@ use Rattle.squares.specs.ShogiOrder.{side_cmp, hands_cmp, board_cmp, position_cm
 use Rattle.squares.proofs.shogi.position.SPosOrd.cmp.Goals as goal
 
 -- the order by turn and hands, and then by the board
-by_parts : (p q : ShogiPosition) (first : Ordering) → first ≡ ordering_then (side_cmp p.turn q.turn) (hands_cmp p.hands q.hands) → ordering_then first (board_cmp p.board q.board) ≡ position_cmp p q
+by_parts : (p q : ShogiPosition) (first : Ordering)
+    → first ≡ ordering_then (side_cmp p.turn q.turn) (hands_cmp p.hands q.hands)
+    → ordering_then first (board_cmp p.board q.board) ≡ position_cmp p q
 unfolding position_cmp
 by_parts p q first e = ap (λ o. ordering_then o (board_cmp p.board q.board)) e
 
@@ -16,7 +18,9 @@ returns-in-Less c =
     let theirs = c.other.inside in
     let p : ShogiPosition = record { board = mine.board; hands = mine.hands; turn = mine.turn } in
     let q : ShogiPosition = record { board = theirs.board; hands = theirs.hands; turn = theirs.turn } in
-    ap (λ o. ordering_then o (board_cmp p.board q.board)) (sym c.in-Less.is) ∙ by_parts p q c.then.result (c.then.ensures ∙ (λ i. ordering_then (c.cmp.ensures i) (c.cmp-2.ensures i))) ∙ (λ i. position_cmp (c.self.view_is i) (c.other.view_is i))
+    ap (λ o. ordering_then o (board_cmp p.board q.board)) (sym c.in-Less.is)
+    ∙ by_parts p q c.then.result (c.then.ensures ∙ (λ i. ordering_then (c.cmp.ensures i) (c.cmp-2.ensures i)))
+    ∙ (λ i. position_cmp (c.self.view_is i) (c.other.view_is i))
 
 pub returns-in-Equal : goal.returns-in-Equal
 returns-in-Equal c =
@@ -24,7 +28,9 @@ returns-in-Equal c =
     let theirs = c.other.inside in
     let p : ShogiPosition = record { board = mine.board; hands = mine.hands; turn = mine.turn } in
     let q : ShogiPosition = record { board = theirs.board; hands = theirs.hands; turn = theirs.turn } in
-    c.compare.ensures ∙ ap (λ o. ordering_then o (board_cmp p.board q.board)) (sym c.in-Equal.is) ∙ by_parts p q c.then.result (c.then.ensures ∙ (λ i. ordering_then (c.cmp.ensures i) (c.cmp-2.ensures i))) ∙ (λ i. position_cmp (c.self.view_is i) (c.other.view_is i))
+    c.compare.ensures ∙ ap (λ o. ordering_then o (board_cmp p.board q.board)) (sym c.in-Equal.is)
+    ∙ by_parts p q c.then.result (c.then.ensures ∙ (λ i. ordering_then (c.cmp.ensures i) (c.cmp-2.ensures i)))
+    ∙ (λ i. position_cmp (c.self.view_is i) (c.other.view_is i))
 
 pub returns-in-Greater : goal.returns-in-Greater
 returns-in-Greater c =
@@ -32,4 +38,6 @@ returns-in-Greater c =
     let theirs = c.other.inside in
     let p : ShogiPosition = record { board = mine.board; hands = mine.hands; turn = mine.turn } in
     let q : ShogiPosition = record { board = theirs.board; hands = theirs.hands; turn = theirs.turn } in
-    ap (λ o. ordering_then o (board_cmp p.board q.board)) (sym c.in-Greater.is) ∙ by_parts p q c.then.result (c.then.ensures ∙ (λ i. ordering_then (c.cmp.ensures i) (c.cmp-2.ensures i))) ∙ (λ i. position_cmp (c.self.view_is i) (c.other.view_is i))
+    ap (λ o. ordering_then o (board_cmp p.board q.board)) (sym c.in-Greater.is)
+    ∙ by_parts p q c.then.result (c.then.ensures ∙ (λ i. ordering_then (c.cmp.ensures i) (c.cmp-2.ensures i)))
+    ∙ (λ i. position_cmp (c.self.view_is i) (c.other.view_is i))
