@@ -9,7 +9,7 @@ ghost use Rattle.sqlite.specs.Tree.{Trees};
 ghost use Rattle.store_tables.specs.Club.{Leaves};
 ghost use Rattle.club_core.specs.Answer.{answered, outcome_of};
 ghost use Rattle.club_rows.specs.Club.{ClubState, IsClub, tables};
-ghost use Rattle.store.specs.Steps.{club_step};
+ghost use Rattle.club_changes.specs.Steps.{club_step};
 ghost use Rattle.sessions.specs.Finds.{IsFoundIn, AreReachable, AreVoid};
 ghost use Rattle.club_words.specs.declared.words.Task.TheVariants.{Init};
 ghost use Rattle.club_words.specs.declared.report.Report.TheVariants.{InUse, NotOpened};

@@ -5,7 +5,7 @@ use Rattle.club_core.specs.Limits.{last_moment}
 use Rattle.club_core.specs.State.{Command, Request, key_holder, withdraw_challenge, on_game as game_command}
 use Rattle.club_core.specs.Step.{GameCommand}
 use Rattle.club_rows.specs.Club.{ClubState}
-use Rattle.store.specs.Steps.{club_next}
+use Rattle.club_changes.specs.Steps.{club_next}
 use Rattle.http_head.specs.Request as head
 use Rattle.http_head.specs.Request.{Seen, unfinished, refused, whole}
 use Rattle.http_desk.specs.Routes.{Asked, game_view, legal_moves, cross_table, on_game, challenge, withdraw, answer}

@@ -13,9 +13,9 @@ use Rattle.club_core.specs.State.{Request, key_holder, caller_of}
 use Rattle.club_rows.specs.Club.{ClubState, tables}
 use Rattle.store.specs.declared.fault.StoreFault.{StoreFault}
 use Rattle.store.specs.declared.fault.StoreFault.TheVariants.{Reopen as StoreReopen}
-use Rattle.store.specs.Keys.{HasKey}
-use Rattle.store.specs.Steps.{KeepsClub, club_next}
-use Rattle.store.proofs.KeyLemmas.{key_held}
+use Rattle.club_reads.specs.Keys.{HasKey}
+use Rattle.club_changes.specs.Steps.{KeepsClub, club_next}
+use Rattle.club_reads.proofs.Proved.{key_held}
 use Rattle.http_desk.specs.declared.faults.ClubFault.{ClubFault}
 use Rattle.http_desk.specs.declared.faults.ClubFault.TheVariants.{Reopen}
 use Rattle.http_desk.specs.Served.{Serves}

@@ -2,10 +2,10 @@
 use Rattle.std.proofs.Common.{◌≡◌, ◌⊎◌, inl, inr, ℕ, List, Option, Bool, true, false, Result, Ok, Err, refl}
 use Rattle.std.specs.Prelude.{IfOk, IfErr}
 use Rattle.club_rows.specs.Club.{ClubState}
-use Rattle.store.specs.declared.exported.ExportFault.{ExportFault}
-use Rattle.store.specs.declared.exported.ExportFault.TheVariants as export_fault
+use Rattle.store.specs.declared.fault.ExportFault.{ExportFault}
+use Rattle.store.specs.declared.fault.ExportFault.TheVariants as export_fault
 use Rattle.store.specs.declared.fault.StoreFault.TheVariants as store_fault
-use Rattle.store.specs.Exported.{IsExported, IsWrittenSome}
+use Rattle.club_reads.specs.Exported.{IsExported, IsWrittenSome}
 use Rattle.club_words.specs.Report.{WritesRecord, export_report}
 
 -- a club that was open tells no fault of an earlier call

@@ -14,17 +14,18 @@ use Rattle.club_core.specs.declared.refusals.Refusal.TheVariants.{UnknownEvent, 
 use Rattle.club_core.specs.AnswerText.{outcome_text}
 use Rattle.club_core.specs.State.{Request}
 use Rattle.club_rows.specs.Club.{ClubState}
-use Rattle.store.specs.declared.exported.ExportFault.{ExportFault}
-use Rattle.store.specs.declared.exported.ExportFault.TheVariants as export_fault
-use Rattle.store.specs.declared.fault.OpenFault.{OpenFault}
-use Rattle.store.specs.declared.fault.OpenFault.TheVariants as open_fault
+use Rattle.store.specs.declared.fault.ExportFault.{ExportFault}
+use Rattle.store.specs.declared.fault.ExportFault.TheVariants as export_fault
+use Rattle.club_opening.specs.declared.fault.OpenFault.{OpenFault}
+use Rattle.club_opening.specs.declared.fault.OpenFault.TheVariants as open_fault
 use Rattle.store.specs.declared.fault.StoreFault.TheVariants as store_fault
-use Rattle.store.specs.FaultText.{open_fault_text, store_fault_text}
+use Rattle.club_opening.specs.FaultText.{open_fault_text}
+use Rattle.store.specs.FaultText.{store_fault_text}
 use Rattle.store.specs.Histories.{Session, IsReachable, answered_session, cut_session}
-use Rattle.store.specs.Steps.{request}
-use Rattle.store.specs.CrossTable.{AreTableRows}
-use Rattle.store.specs.Exported.{IsExported, IsWrittenSome}
-use Rattle.store.specs.Stored.{AreLegalRows}
+use Rattle.club_changes.specs.Steps.{request}
+use Rattle.club_reads.specs.CrossTable.{AreTableRows}
+use Rattle.club_reads.specs.Exported.{IsExported, IsWrittenSome}
+use Rattle.club_changes.specs.Stored.{AreLegalRows}
 use Rattle.club_words.specs.declared.report.Report.{Report}
 use Rattle.club_words.specs.declared.report.Report.TheVariants.{Ready, Sound, Answered, Listed, Exported, Unwritten}
 use Rattle.club_words.specs.declared.report.Report.TheVariants.{Unopened, Stopped, InUse, NotOpened, NoMoment, Unread}

@@ -21,7 +21,7 @@ use Rattle.store_tables.specs.Contents.{Content, IsEmpty, IsExactlyEmpty}
 use Rattle.store_tables.specs.Club.{IsExactly, Leaves}
 use Rattle.store.specs.declared.club.run.Run.{Run}
 use Rattle.store.specs.declared.fault.StoreFault.{StoreFault}
-use Rattle.store.specs.Steps.{club_step, club_next}
+use Rattle.club_changes.specs.Steps.{club_step, club_next}
 use Rattle.store.specs.Runs.{club_fold, club_outcomes, club_accepted}
 use Rattle.store_sql.proofs.Laws.{opens_exactly, schema_once}
 use Rattle.store.specs.Histories.{Session, SessionReaches, Reaches, IsReachable, IsHistory, IsAfter, is_taken}

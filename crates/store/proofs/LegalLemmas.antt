@@ -8,7 +8,7 @@ use Rattle.club_games.specs.CsaLaws.{shogi-reads_games}
 use Rattle.club_games.specs.PdnLaws.{draughts-reads_games}
 use Rattle.club_rows.specs.Club.{both_games, ClubState, IsClub}
 use Rattle.club_rows.proofs.KindLemmas.{draughts_laws, shogi_laws}
-use Rattle.store.specs.Steps.{club_next}
+use Rattle.club_changes.specs.Steps.{club_next}
 
 pub club_stays : (s : ClubState) (r : Request) → r.moment ≤ last_moment → IsClub s → IsClub (club_next s r)
 club_stays s r within club =

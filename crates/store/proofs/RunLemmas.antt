@@ -10,7 +10,7 @@ use Rattle.club_core.specs.declared.answers.Outcome as given_outcome
 use Rattle.club_core.specs.Answer.{answered, outcome_of, request_of}
 use Rattle.club_core.specs.State.{Request}
 use Rattle.club_rows.specs.Club.{ClubState, IsClub, tables}
-use Rattle.store.specs.Steps.{club_step, club_next}
+use Rattle.club_changes.specs.Steps.{club_step, club_next}
 use Rattle.store.specs.Runs.{club_fold, club_outcomes}
 use Rattle.store.specs.Histories.{IsAfter}
 

@@ -1,6 +1,6 @@
 //! Laws of the stored club: each is what a function with an empty body ensures.
 
-ghost use Rattle.store.specs.Steps.{KeepsClub};
+ghost use Rattle.club_changes.specs.Steps.{KeepsClub};
 ghost use Rattle.store.specs.Histories.{BeginsAtOpening};
 
 /// A request leaves a legal club legal, so that command after command may be given to the store.

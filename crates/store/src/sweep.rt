@@ -1,6 +1,6 @@
 //! What a sweep does to the tables.
 
-ghost use Rattle.std.specs.Prelude.{◌≤◌, ℕ, IfOk, OnOk};
+ghost use Rattle.std.specs.Prelude.{IfOk, OnOk};
 ghost use Rattle.sqlite.specs.State.{HasCleanDisk};
 ghost use Rattle.sqlite.specs.Held.{state};
 ghost use Rattle.club_core.specs.State.{sweep};
@@ -9,43 +9,17 @@ ghost use Rattle.club_rows.specs.Club.{ClubState, IsClub, tables};
 ghost use Rattle.store_tables.specs.Club.{IsExactly};
 ghost use Rattle.store_tables.specs.Reading.{OnlyReads};
 ghost use Rattle.store_sql.specs.Read.{KeepsContent};
-ghost use Rattle.store.specs.Steps.{caller_step, IsDecided};
-ghost use Rattle.store.specs.Whole.{IsWhole};
-ghost use Rattle.sweep_rows.specs.Swept.{IsSwept};
+ghost use Rattle.club_changes.specs.Steps.{caller_step, IsDecided};
+ghost use Rattle.club_changes.specs.Whole.{IsWhole};
 
-use crate::command::{Decided, at, unchanged};
-use crate::fault::CallFault;
 use clocks::Moment;
-use club_core::{Answer, Caller, Outcome, Refusal};
+use club_changes::{Decided, sweep_games, unchanged};
+use club_core::{Caller, Outcome, Refusal};
+use club_reads::CallFault;
 use sqlite::{Alter, Connection};
 use std::alloc::Global;
 use store_sql::list;
 use store_tables::{GameRecord, ScoreRow};
-use sweep_rows::{SweepFault, SweptRows, swept_rows};
-
-impl From<SweepFault> for CallFault {
-    fn from(fault: SweepFault) -> CallFault {
-        match fault {
-            SweepFault::Memory => CallFault::Memory,
-            SweepFault::Unfit => CallFault::Store,
-        }
-    }
-}
-
-// These rows are put, and the moment.
-fn put_swept(alloc: Global, rows: SweptRows, moment: Moment) -> Decided
-    ensures acts { IsWhole result }
-    ensures step { (s : ClubState) → IsSwept s moment rows →
-        IsDecided s (caller_step s moment Officer sweep) result }
-{
-    let mut changes = at(alloc, moment);
-    changes.games = rows.games;
-    changes.scores = rows.scores;
-    Decided {
-        outcome: Outcome::Accepted(Answer::Swept { count: rows.count }),
-        changes: Some(changes),
-    }
-}
 
 // What a sweep of the officer's does.
 fn swept<S: Alter>(
@@ -62,8 +36,8 @@ fn swept<S: Alter>(
 {
     let games = list::<GameRecord, S>(alloc, conn)?;
     let scores = list::<ScoreRow, S>(alloc, conn)?;
-    let rows = swept_rows(alloc, &games, &scores, moment)?;
-    Ok(put_swept(alloc, rows, moment))
+    let decided = sweep_games(alloc, &games, &scores, moment)?;
+    Ok(decided)
 }
 
 // What a sweep does: it is the officer's.

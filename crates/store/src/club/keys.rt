@@ -7,25 +7,13 @@ ghost use Rattle.store_tables.specs.Club.{IsExactly};
 ghost use Rattle.store_tables.specs.Reading.{OnlyReads};
 ghost use Rattle.store_sql.specs.Read.{KeepsContent};
 ghost use Rattle.club_rows.specs.Club.{ClubState, IsClub, tables};
-ghost use Rattle.store.specs.Keys.{HasKey};
+ghost use Rattle.club_reads.specs.Keys.{HasKey};
 
 use super::Club;
-use crate::fault::{CallFault, StoreFault};
-use crate::people::member_with;
-use sqlite::{Alter, Connection};
+use crate::fault::StoreFault;
+use club_reads::is_held;
+use sqlite::Alter;
 use std::alloc::Global;
-
-// Whether a member has the key.
-fn is_held<S: Alter>(alloc: Global, conn: &mut Connection<S>, key: &str) -> Result<bool, CallFault>
-    ensures reads { OnlyReads (state S.Store conn.old) (state S.Store conn.new) }
-    ensures kept { HasCleanDisk (state S.Store conn.new) → OnOk result (KeepsContent (state S.Store conn.old)
-        (state S.Store conn.new)) }
-    ensures held { HasCleanDisk (state S.Store conn.new) → IfOk result (λ found. (s : ClubState) → IsClub s →
-        IsExactly (tables s) (state S.Store conn.old) → IsTrue found ↔ HasKey s key.now) }
-{
-    let member = member_with(alloc, conn, key)?;
-    Ok(member.is_some())
-}
 
 impl<S: Alter> Club<S> {
     /// Whether a member has the key. It changes nothing. After a fault every later call is refused with `Reopen`.

@@ -8,7 +8,7 @@ ghost use Rattle.sqlite_trees.specs.View.{doubt};
 ghost use Rattle.store_tables.specs.Club.{IsExactly, Leaves};
 ghost use Rattle.club_core.specs.Answer.{answered, outcome_of, request_of};
 ghost use Rattle.club_rows.specs.Club.{ClubState, IsClub, tables};
-ghost use Rattle.store.specs.Steps.{club_step, club_next};
+ghost use Rattle.club_changes.specs.Steps.{club_step, club_next};
 ghost use Rattle.store.specs.Runs.{club_fold, club_outcomes};
 ghost use Rattle.store.specs.Histories.{IsAfter};
 

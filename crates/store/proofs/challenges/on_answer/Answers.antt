@@ -1,6 +1,5 @@
 use Rattle.store_tables.specs.Tables.{club_schema}
 use Rattle.std.proofs.Common.{ℕ, ap, sym, subst, ◌∙◌, arith, length, string_bytes}
-use Rattle.std.proofs.lemmas.Result.{IfOk-weaker}
 use Rattle.sqlite.specs.Held.{state}
 use Rattle.sqlite.specs.State.{HasCleanDisk}
 use Rattle.club_core.specs.declared.challenges.Challenge.{Challenge}
@@ -11,15 +10,15 @@ use Rattle.club_core.specs.Outcome.{Outcome, map_outcome}
 use Rattle.club_core.specs.Seats.{has_member_name}
 use Rattle.club_core.specs.State.{with_answer}
 use Rattle.club_rows.specs.Club.{tables}
-use Rattle.store.specs.Challenged.{AnswersTo}
-use Rattle.store.specs.Steps.{IsDecided}
-use Rattle.store.proofs.ChallengedTables.{member_answers, member_mapped}
-use Rattle.store.proofs.FoundLemmas.{always}
+use Rattle.club_changes.specs.Challenged.{AnswersTo}
+use Rattle.club_changes.specs.Steps.{IsDecided}
+use Rattle.club_changes.proofs.Proved.{member_answers, member_mapped}
 use Rattle.store.proofs.challenges.on_answer.Goals as goal
 
 pub returns-clause-step : goal.returns-clause-step
-returns-clause-step g c clean =
-    IfOk-weaker c.put_answered.result _ _ (λ d step s is_club k.
+returns-clause-step g c clean s is_club k =
+    let d = c.in_ok-put_answered.field-0 in
+    let step = c.in_ok-put_answered.ensures.step in
     let at_events : HasCleanDisk (state g.S.Store c.all_events.new.conn) =
     omega (arith, c.decided_answer.ensures.reads.clean) in
     let at_members : HasCleanDisk (state g.S.Store c.all_members.new.conn) =
@@ -38,14 +37,13 @@ returns-clause-step g c clean =
     let leaves = subst (AnswersTo (length s.games) accept) (sym is)
     (member_answers c.args.caller under (length s.games) accept) in
     subst (λ o. IsDecided s o d) (ap (map_outcome f) is ∙ sym (member_mapped f c.args.caller wanted))
-    (step s accept is_club es leaves)) c.put_answered.ensures.step
+    (step s accept is_club es leaves)
 
 pub returns-clause-kept : goal.returns-clause-kept
-returns-clause-kept g c clean =
+returns-clause-kept g c clean schema content k =
     let at_events : HasCleanDisk (state g.S.Store c.all_events.new.conn) =
     omega (arith, c.decided_answer.ensures.reads.clean) in
     let at_members : HasCleanDisk (state g.S.Store c.all_members.new.conn) =
     omega (arith, at_events, c.all_events.ensures.reads.clean) in
-    always c.put_answered.result _ (λ schema content k.
     c.in_ok-decision.ensures.kept clean schema content
-    (c.in_ok-events.ensures.kept at_events schema content (c.in_ok-members.ensures.kept at_members schema content k)))
+    (c.in_ok-events.ensures.kept at_events schema content (c.in_ok-members.ensures.kept at_members schema content k))

@@ -1,6 +1,5 @@
 use Rattle.store_tables.specs.Tables.{club_schema}
 use Rattle.std.proofs.Common.{ℕ, ap, sym, subst, ◌∙◌, arith, string_bytes}
-use Rattle.std.proofs.lemmas.Result.{IfOk-weaker}
 use Rattle.sqlite.specs.Held.{state}
 use Rattle.sqlite.specs.State.{HasCleanDisk}
 use Rattle.club_core.specs.declared.challenges.Challenge.{Challenge}
@@ -9,14 +8,14 @@ use Rattle.club_core.specs.Challenges.{challenge_by, challenge_under, opening_st
 use Rattle.club_core.specs.Outcome.{Outcome, map_outcome}
 use Rattle.club_core.specs.State.{with_challenge}
 use Rattle.club_rows.specs.Club.{tables}
-use Rattle.store.specs.Steps.{IsDecided}
-use Rattle.store.proofs.ChallengedTables.{member_mapped, member_same}
-use Rattle.store.proofs.FoundLemmas.{always}
+use Rattle.club_changes.specs.Steps.{IsDecided}
+use Rattle.club_changes.proofs.Proved.{member_mapped, member_same}
 use Rattle.store.proofs.challenges.on_challenge.Goals as goal
 
 pub returns-clause-step : goal.returns-clause-step
-returns-clause-step g c clean =
-    IfOk-weaker c.put_challenge.result _ _ (λ d step s is_club k.
+returns-clause-step g c clean s is_club k =
+    let d = c.in_ok-put_challenge.field-0 in
+    let step = c.in_ok-put_challenge.ensures.step in
     let at_members : HasCleanDisk (state g.S.Store c.all_members.new.conn) =
     omega (arith, c.all_events.ensures.reads.clean) in
     let at_under : HasCleanDisk (state g.S.Store c.challenge_by.new.conn) =
@@ -39,14 +38,13 @@ returns-clause-step g c clean =
     ((under ∙ ap (λ o. challenge_by s.challenges o command.number) (c.member_id.ensures id is)) i) id command.number
     event other command.first) in
     subst (λ o. IsDecided s o d) (ap (map_outcome f) (c.open_challenge-decision.ensures ∙ same)
-    ∙ sym (member_mapped f c.args.caller wanted)) (step s is_club)) c.put_challenge.ensures.step
+    ∙ sym (member_mapped f c.args.caller wanted)) (step s is_club)
 
 pub returns-clause-kept : goal.returns-clause-kept
-returns-clause-kept g c clean =
+returns-clause-kept g c clean schema content k =
     let at_members : HasCleanDisk (state g.S.Store c.all_members.new.conn) =
     omega (arith, c.all_events.ensures.reads.clean) in
     let at_under : HasCleanDisk (state g.S.Store c.challenge_by.new.conn) =
     omega (arith, at_members, c.all_members.ensures.reads.clean) in
-    always c.put_challenge.result _ (λ schema content k.
     c.in_ok-events.ensures.kept clean schema content
-    (c.in_ok-members.ensures.kept at_members schema content (c.in_ok-under.ensures.kept at_under schema content k)))
+    (c.in_ok-members.ensures.kept at_members schema content (c.in_ok-under.ensures.kept at_under schema content k))

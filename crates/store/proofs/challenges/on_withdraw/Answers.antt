@@ -1,17 +1,16 @@
 use Rattle.std.proofs.Common.{ℕ, ap, sym, subst, ◌∙◌}
-use Rattle.std.proofs.lemmas.Result.{IfOk-weaker}
 use Rattle.club_core.specs.declared.challenges.Challenge.{Challenge}
 use Rattle.club_core.specs.Challenges.{challenge_by, challenge_under, withdrawal_step}
 use Rattle.club_core.specs.Outcome.{Outcome, map_outcome}
 use Rattle.club_core.specs.State.{with_challenge}
-use Rattle.store.specs.Steps.{IsDecided}
-use Rattle.store.proofs.ChallengedTables.{member_mapped, member_same}
-use Rattle.store.proofs.FoundLemmas.{always}
+use Rattle.club_changes.specs.Steps.{IsDecided}
+use Rattle.club_changes.proofs.Proved.{member_mapped, member_same}
 use Rattle.store.proofs.challenges.on_withdraw.Goals as goal
 
 pub returns-clause-step : goal.returns-clause-step
-returns-clause-step g c clean =
-    IfOk-weaker c.put_challenge.result _ _ (λ d step s is_club k.
+returns-clause-step g c clean s is_club k =
+    let d = c.in_ok-put_challenge.field-0 in
+    let step = c.in_ok-put_challenge.ensures.step in
     let under = c.in_ok-under.ensures.found clean s is_club k in
     let number = c.args.command.now.number in
     let f = with_challenge s c.args.moment in
@@ -20,7 +19,7 @@ returns-clause-step g c clean =
     (λ id is. ap withdrawal_step (under ∙ ap (λ o. challenge_by s.challenges o number) (c.member_id.ensures id is)))
     in
     subst (λ o. IsDecided s o d) (ap (map_outcome f) (c.withdraw.ensures ∙ same)
-    ∙ sym (member_mapped f c.args.caller wanted)) (step s is_club)) c.put_challenge.ensures.step
+    ∙ sym (member_mapped f c.args.caller wanted)) (step s is_club)
 
 pub returns-clause-kept : goal.returns-clause-kept
-returns-clause-kept g c clean = always c.put_challenge.result _ (c.in_ok-under.ensures.kept clean)
+returns-clause-kept g c clean = c.in_ok-under.ensures.kept clean

@@ -1,5 +1,5 @@
 use Rattle.sqlite.specs.Held.{state}
-use Rattle.store.proofs.ClubLemmas.{good_fault}
+use Rattle.club_opening.proofs.Proved.{good_fault}
 use Rattle.store.proofs.club.adopt.Goals as goal
 
 pub returns-in-Err-clause-good : goal.returns-in-Err-clause-good

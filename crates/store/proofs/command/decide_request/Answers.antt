@@ -5,8 +5,7 @@ use Rattle.std.proofs.lemmas.Result.{IfOk-weaker}
 use Rattle.sqlite.specs.Held.{state}
 use Rattle.sqlite.specs.State.{HasCleanDisk}
 use Rattle.club_rows.specs.Club.{tables}
-use Rattle.store.proofs.FoundLemmas.{on_ok}
-use Rattle.store.proofs.OutcomeLemmas.{caller_decided, nobody_decided}
+use Rattle.club_changes.proofs.Proved.{on_ok, caller_decided, nobody_decided}
 use Rattle.store.proofs.command.decide_request.Goals as goal
 
 pub returns-in-Some-clause-step : goal.returns-in-Some-clause-step

@@ -5,23 +5,25 @@ use Rattle.sqlite.specs.Held.{state}
 use Rattle.sqlite.specs.State.{HasCleanDisk}
 use Rattle.club_core.specs.Answer.{events_of, members_of, command_of}
 use Rattle.club_rows.specs.Club.{tables}
-use Rattle.store.specs.Steps.{caller_step, IsDecided}
-use Rattle.store.proofs.FoundLemmas.{on_ok}
+use Rattle.club_changes.specs.Steps.{caller_step, IsDecided}
+use Rattle.club_changes.proofs.Proved.{on_ok}
 use Rattle.store.proofs.command.on_command.Goals as goal
 
-pub returns-in_ok-members-in-AddMember-clause-step : goal.returns-in_ok-members-in-AddMember-clause-step
-returns-in_ok-members-in-AddMember-clause-step g c clean =
-    IfOk-weaker c.on_member.result _ _ (λ d step s is_club later k.
+pub returns-in_ok-decided-in-AddMember-clause-step : goal.returns-in_ok-decided-in-AddMember-clause-step
+returns-in_ok-decided-in-AddMember-clause-step g c clean s is_club later k =
     let ms = ap members_of c.deref.ensures.value ∙ c.in_ok-members-in-AddMember.ensures.values clean s k in
-    subst (λ x. IsDecided s (caller_step s c.args.moment c.args.caller (command_of x)) d) (sym c.in-AddMember.is)
-    (step s ms)) c.on_member.ensures.step
+    subst
+    (λ x. IsDecided s (caller_step s c.args.moment c.args.caller (command_of x))
+    c.in_ok-decided-in-AddMember.decided)
+    (sym c.in-AddMember.is) (c.in_ok-decided-in-AddMember.ensures.step s ms)
 
-pub returns-in_ok-events-in-AddEvent-clause-step : goal.returns-in_ok-events-in-AddEvent-clause-step
-returns-in_ok-events-in-AddEvent-clause-step g c clean =
-    IfOk-weaker c.on_event.result _ _ (λ d step s is_club later k.
+pub returns-in_ok-decided-in-AddEvent-clause-step : goal.returns-in_ok-decided-in-AddEvent-clause-step
+returns-in_ok-decided-in-AddEvent-clause-step g c clean s is_club later k =
     let es = ap events_of c.deref-in-AddEvent.ensures.value ∙ c.in_ok-events-in-AddEvent.ensures.values clean s k in
-    subst (λ x. IsDecided s (caller_step s c.args.moment c.args.caller (command_of x)) d) (sym c.in-AddEvent.is)
-    (step s is_club es)) c.on_event.ensures.step
+    subst
+    (λ x. IsDecided s (caller_step s c.args.moment c.args.caller (command_of x))
+    c.in_ok-decided-in-AddEvent.decided)
+    (sym c.in-AddEvent.is) (c.in_ok-decided-in-AddEvent.ensures.step s is_club es)
 
 pub returns-in_ok-events-in-Seat-clause-step : goal.returns-in_ok-events-in-Seat-clause-step
 returns-in_ok-events-in-Seat-clause-step g c clean =

@@ -2,13 +2,12 @@ use Rattle.std.proofs.Common.{◌∙◌, ap, subst, arith}
 use Rattle.std.proofs.lemmas.Result.{IfOk-weaker}
 use Rattle.club_core.specs.declared.answers.Outcome.TheVariants as given_is
 use Rattle.club_core.specs.Answer.{game_command_of}
-use Rattle.store.specs.Stored.{IsFoundGame}
-use Rattle.store.proofs.PlayedLemmas.{unknown_decided}
+use Rattle.club_changes.specs.Stored.{IsFoundGame}
+use Rattle.club_changes.proofs.Proved.{unknown_decided, on_ok}
 use Rattle.sqlite.specs.Held.{state}
 use Rattle.sqlite.specs.State.{HasCleanDisk}
 use Rattle.store_tables.specs.Tables.{club_schema}
 use Rattle.club_rows.specs.Club.{tables}
-use Rattle.store.proofs.FoundLemmas.{on_ok}
 use Rattle.store.proofs.command.on_game.Goals as goal
 
 pub returns-in-Some-clause-step : goal.returns-in-Some-clause-step

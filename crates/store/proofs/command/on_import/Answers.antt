@@ -4,8 +4,8 @@ use Rattle.std.proofs.lemmas.Result.{IfOk-weaker}
 use Rattle.sqlite.specs.Held.{state}
 use Rattle.sqlite.specs.State.{HasCleanDisk}
 use Rattle.club_rows.specs.Club.{tables}
-use Rattle.store.specs.Importing.{IsKnown}
-use Rattle.store.proofs.FoundLemmas.{on_ok}
+use Rattle.club_changes.specs.Importing.{IsKnown}
+use Rattle.club_changes.proofs.Proved.{on_ok}
 use Rattle.store.proofs.command.on_import.Goals as goal
 
 pub returns-clause-step : goal.returns-clause-step

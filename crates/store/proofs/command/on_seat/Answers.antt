@@ -9,10 +9,9 @@ use Rattle.club_core.specs.LegalState.{Each, IsLegalEvent}
 use Rattle.club_core.specs.Seats.{seat_step}
 use Rattle.club_core.specs.State.{game_under, with_new_game}
 use Rattle.club_rows.specs.Club.{tables}
-use Rattle.store.specs.Steps.{game_in, started, started_seen, started_scores, PutsOnly}
-use Rattle.store.proofs.PutSame.{numbered_length}
-use Rattle.store.proofs.OutcomeLemmas.{officer_none, seat_same, seat_decided}
-use Rattle.store.proofs.ReadRows.{games_begin}
+use Rattle.club_changes.specs.Steps.{game_in, started, started_seen, started_scores, Puts, no_rows}
+use Rattle.club_changes.proofs.Proved.{numbered_length, officer_none, seat_same, seat_decided}
+use Rattle.club_reads.proofs.Proved.{games_begin}
 use Rattle.store.proofs.command.on_seat.Goals as goal
 
 pub returns-in_ok-changes-in-Starts-clause-step : goal.returns-in_ok-changes-in-Starts-clause-step
@@ -36,14 +35,21 @@ returns-in_ok-changes-in-Starts-clause-step g c clean s is_club ms es k =
     let id = c.in-Starts.new.game in
     let by_events =
     subst
-    (λ e. PutsOnly c.in_ok-changes-in-Starts.changes c.args.moment [] []
-    (started e id (Some c.as_str-in-Starts.result.now) p c.args.moment ∷ []) []
-    (started_seen e id (Some c.as_str-in-Starts.result.now) p c.args.moment) []) es
+    (λ e. Puts c.in_ok-changes-in-Starts.changes c.args.moment
+    (record no_rows {
+      games = started e id (Some c.as_str-in-Starts.result.now) p c.args.moment ∷ [];
+      seen =
+          started_seen e id (Some c.as_str-in-Starts.result.now) p c.args.moment;
+    })) es
     (c.in_ok-changes-in-Starts.ensures.puts legal) in
     let are =
     subst
-    (λ n. PutsOnly c.in_ok-changes-in-Starts.changes c.args.moment [] []
-    (started s.events id (Some n) p c.args.moment ∷ []) [] (started_seen s.events id (Some n) p c.args.moment) [])
+    (λ n. Puts c.in_ok-changes-in-Starts.changes c.args.moment
+    (record no_rows {
+      games = started s.events id (Some n) p c.args.moment ∷ [];
+      seen =
+          started_seen s.events id (Some n) p c.args.moment;
+    }))
     c.as_str-in-Starts.ensures.value by_events in
     let running = ap (λ e. started_scores e (Some key) p c.args.moment) (sym es)
     ∙

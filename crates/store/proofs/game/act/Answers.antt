@@ -11,8 +11,8 @@ use Rattle.club_core.specs.Limits.{is_budget, is_increment}
 use Rattle.club_core.specs.Step.{game_step}
 use Rattle.club_core.specs.View.{ShowsPly}
 use Rattle.club_rows.specs.Replay.{terms_given}
-use Rattle.store.specs.Steps.{IsDecidedIn}
-use Rattle.store.proofs.FoundLemmas.{on_ok}
+use Rattle.club_changes.specs.Steps.{IsDecidedIn}
+use Rattle.club_changes.proofs.Proved.{on_ok}
 use Rattle.store.proofs.game.act.Goals as goal
 
 pub returns-clause-step : goal.returns-clause-step

@@ -4,8 +4,8 @@ use Rattle.sqlite.specs.State.{HasCleanDisk}
 use Rattle.store_tables.specs.Tables.{club_schema}
 use Rattle.club_core.specs.Step.{game_step}
 use Rattle.club_core.specs.View.{IsConcluded, concluded, settled_of}
-use Rattle.store.specs.Steps.{IsSeenAfter}
-use Rattle.store.proofs.PlayedLemmas.{step_legal, seen_stood, seen_concluded}
+use Rattle.club_changes.specs.Steps.{IsSeenAfter}
+use Rattle.club_changes.proofs.Proved.{step_legal, seen_stood, seen_concluded}
 use Rattle.store.proofs.game.counted.Goals as goal
 
 pub returns-clause-kept : goal.returns-clause-kept

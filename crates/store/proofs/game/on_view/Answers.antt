@@ -1,17 +1,17 @@
 use Rattle.std.proofs.Common.{◌≡◌, ◌∙◌, ap, sym, subst, arith}
-use Rattle.std.proofs.lemmas.Result.{IfOk-weaker}
 use Rattle.club_core.proofs.Legals.{AreRules}
 use Rattle.club_core.specs.Answer.{game_command_of}
 use Rattle.club_core.specs.Game.{clocks_of}
 use Rattle.club_core.specs.Step.{game_step}
 use Rattle.club_core.specs.View.{IsConcluded, concluded, settled_of, terms_of}
-use Rattle.store.specs.Steps.{IsDecidedIn}
-use Rattle.store.proofs.PlayedLemmas.{decided_players}
+use Rattle.club_changes.specs.Steps.{IsDecidedIn}
+use Rattle.club_changes.proofs.Proved.{decided_players}
 use Rattle.store.proofs.game.on_view.Goals as goal
 
 pub returns-clause-step : goal.returns-clause-step
-returns-clause-step g c clean =
-    IfOk-weaker c.done.result _ _ (λ d step content old k tells budget increment legal shows asked since.
+returns-clause-step g c clean content old k tells budget increment legal shows asked since =
+    let d = c.in_ok-put_decision.field-0 in
+    let step = c.in_ok-put_decision.ensures.step in
     let laws = g.R.Rules.rules in
     let are : AreRules laws = record {
       first_starts = g.met.R.Rules.first_starts;
@@ -33,5 +33,4 @@ returns-clause-step g c clean =
     subst
     (λ m. IsDecidedIn laws terms c.args.game m (content 14) old (game_step laws terms old m c.args.caller command)
     d) same
-    (step terms old c.args.caller command (content 14) budget increment legal is seen (scores players)))
-    c.done.ensures.step
+    (step terms old c.args.caller command (content 14) budget increment legal is seen (scores players))

@@ -1,5 +1,4 @@
 use Rattle.std.proofs.Common.{◌≡◌, [], ◌∷◌, Some, ap, sym, subst, ◌∙◌}
-use Rattle.std.proofs.lemmas.Result.{IfOk-weaker}
 use Rattle.club_rules.specs.Records.{recorded_of}
 use Rattle.club_core.specs.Answer.{event_of, events_of, pairing_of}
 use Rattle.club_core.specs.Imports.{imported}
@@ -7,13 +6,14 @@ use Rattle.club_core.specs.State.{place, terms_at}
 use Rattle.club_core.proofs.ImportedGames.{imported-result}
 use Rattle.club_rows.specs.Replay.{terms_given}
 use Rattle.import_rows.specs.NewGames.{AreNewRows}
-use Rattle.store.specs.Steps.{PutsOnly, score_list}
-use Rattle.store.proofs.ImportLemmas.{put_as}
+use Rattle.club_changes.specs.Steps.{Puts, score_list, no_rows}
+use Rattle.club_changes.proofs.Proved.{put_as}
 use Rattle.store.proofs.imports.added.Goals as goal
 
 pub returns-clause-puts : goal.returns-clause-puts
-returns-clause-puts g c clean =
-    IfOk-weaker c.put_rows.result _ _ (λ changes puts content k apart.
+returns-clause-puts g c clean content k apart =
+    let changes = c.in_ok-put_rows.field-0 in
+    let puts = c.in_ok-put_rows.ensures in
     let laws = g.R.Rules.rules in
     let new = c.args.new.now in
     let r = recorded_of new.recorded in
@@ -30,4 +30,4 @@ returns-clause-puts g c clean =
       scores_are = c.in_ok-scores.ensures.puts clean content k apart;
       puts = put_as laws _ new.game c.args.moment game c.in_ok-rows.rows (score_list (Some c.in_ok-scores.scores))
           changes rows puts;
-    }) c.put_rows.ensures
+    }

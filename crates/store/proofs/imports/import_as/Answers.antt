@@ -11,8 +11,8 @@ use Rattle.club_core.specs.Seats.{has_member_name}
 use Rattle.club_core.specs.State.{place, terms_at}
 use Rattle.club_imports.specs.Importing.{importing_of}
 use Rattle.store_tables.specs.Tables.{club_schema}
-use Rattle.store.specs.Importing.{PutsNewGame, imported_by}
-use Rattle.store.proofs.ImportLemmas.{by_known, officer_adds, added_in, repeated_in, refused_in}
+use Rattle.club_changes.specs.Importing.{PutsNewGame, imported_by}
+use Rattle.club_changes.proofs.Proved.{by_known, officer_adds, added_in, repeated_in, refused_in}
 use Rattle.store.proofs.imports.import_as.Goals as goal
 
 pub returns-in-Adds-clause-step : goal.returns-in-Adds-clause-step

@@ -2,7 +2,7 @@ use Rattle.std.proofs.lemmas.Result.{IfOk-weaker}
 use Rattle.club_core.specs.Answer.{game_command_of}
 use Rattle.club_rows.proofs.KindLemmas.{in_draughts, in_shogi}
 use Rattle.club_rows.specs.Club.{tables}
-use Rattle.store.proofs.GameRows.{stored_decided}
+use Rattle.club_changes.proofs.Proved.{stored_decided}
 use Rattle.store.proofs.kinds.act_in.Goals as goal
 
 pub returns-in-Draughts-clause-step : goal.returns-in-Draughts-clause-step

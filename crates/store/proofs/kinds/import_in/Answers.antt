@@ -6,7 +6,7 @@ use Rattle.club_core.specs.Events.{event_kind}
 use Rattle.club_core.specs.State.{any_under, draughts_in, shogi_in}
 use Rattle.club_rows.proofs.KindLemmas.{in_draughts, in_shogi}
 use Rattle.club_rows.specs.Club.{tables}
-use Rattle.store.proofs.ImportLemmas.{imports_draughts, imports_shogi, under_of_kind, import_decided}
+use Rattle.club_changes.proofs.Proved.{imports_draughts, imports_shogi, under_of_kind, import_decided}
 use Rattle.store.proofs.kinds.import_in.Goals as goal
 
 pub returns-in-Draughts-clause-step : goal.returns-in-Draughts-clause-step

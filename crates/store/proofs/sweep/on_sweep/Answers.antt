@@ -1,4 +1,4 @@
-use Rattle.store.proofs.SweptTables.{member_refused}
+use Rattle.club_changes.proofs.Proved.{member_refused}
 use Rattle.store.proofs.sweep.on_sweep.Goals as goal
 
 pub returns-in-Member-clause-step : goal.returns-in-Member-clause-step

@@ -5,7 +5,7 @@ use Rattle.store_tables.specs.Cells.{game_cells, score_cells}
 use Rattle.store_tables.specs.Changes.{HaveSame}
 use Rattle.store_tables.specs.Tables.{club_schema}
 use Rattle.club_rows.specs.Club.{tables}
-use Rattle.store.proofs.ReadRows.{games_begin}
+use Rattle.club_reads.proofs.Proved.{games_begin}
 use Rattle.store.proofs.sweep.swept.Goals as goal
 
 pub returns-clause-step : goal.returns-clause-step
@@ -16,7 +16,7 @@ returns-clause-step g c clean s is_club k =
     let after = c.in_ok-games.ensures.kept listed club_schema (tables s) k in
     let scores = subst (λ l. HaveSame (map score_cells l) (tables s 14)) (sym c.deref-2.ensures.value)
     (c.in_ok-scores.ensures.same clean (tables s) after) in
-    c.put_swept.ensures.step s (c.in_ok-rows.ensures.rows s is_club games scores)
+    c.in_ok-decided.ensures.step s is_club games scores
 
 pub returns-clause-kept : goal.returns-clause-kept
 returns-clause-kept g c clean schema content k =

@@ -1,7 +1,7 @@
 use Rattle.std.proofs.Common.{◌≡◌, ap, ◌∙◌, arith}
 use Rattle.sqlite.specs.Held.{state}
 use Rattle.club_core.specs.Answer.{answered, outcome_of}
-use Rattle.store.specs.Steps.{request, club_step}
+use Rattle.club_changes.specs.Steps.{request, club_step}
 use Rattle.club_desk.proofs.ServeLemmas.{told_shut, apply_serves, if_ok, on_ok, on_err}
 use Rattle.club_desk.proofs.desk_club.DeskClubServedClub.apply.Goals as goal
 

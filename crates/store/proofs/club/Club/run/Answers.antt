@@ -6,7 +6,7 @@ use Rattle.sqlite_trees.specs.View.{doubt}
 use Rattle.store_tables.specs.Club.{IsExactly, Leaves}
 use Rattle.club_core.specs.Answer.{answered, outcome_of, request_of}
 use Rattle.club_rows.specs.Club.{ClubState, IsClub, tables}
-use Rattle.store.specs.Steps.{club_step, club_next}
+use Rattle.club_changes.specs.Steps.{club_step, club_next}
 use Rattle.store.specs.Runs.{club_fold, club_outcomes}
 use Rattle.store.proofs.RunLemmas.{Served, count-more, first_of, served-none, served-next, served-outcomes}
 use Rattle.store.proofs.RunLemmas.{served-leaves, served-all, legal-all, after-served, after-next}

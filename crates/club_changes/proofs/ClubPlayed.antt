@@ -1,0 +1,285 @@
+-- What is decided of a command on a game of the club, and the rows of a game that starts.
+use Rattle.std.proofs.Common.{◌≡◌, inl, inr, ℕ, zero, suc, ◌+◌, ◌-◌, ◌<◌, ◌≤◌, ◌^◌, List, []}
+use Rattle.std.proofs.Common.{◌∷◌, ◌++◌, length, Option, Some, None, refl, ap, sym, subst}
+use Rattle.std.proofs.Common.{subst₂, pos, ◌∙◌, arith}
+use Rattle.std.specs.Prelude.{slice_get, slice_set, IsTrue}
+use Rattle.squares.specs.declared.sides.Side.TheVariants.{First}
+use Rattle.club_rules.specs.declared.names.GameKind.{GameKind}
+use Rattle.club_rules.specs.declared.names.GameKind.TheVariants.{Draughts, Shogi}
+use Rattle.club_rules.specs.GameRules.{GameRules}
+use Rattle.club_core.specs.declared.answers.Outcome.TheVariants as given_is
+use Rattle.club_core.specs.declared.rows.GameRow.{GameRow}
+use Rattle.club_core.specs.declared.requests.Caller.{Caller}
+use Rattle.club_core.specs.Limits.{is_budget, is_increment}
+use Rattle.club_core.specs.Outcome.{Outcome, accepted, repeated}
+use Rattle.club_core.specs.Outcome.{refused, map_outcome}
+use Rattle.club_core.specs.Answer.{answered}
+use Rattle.club_core.specs.Events.{Event, Terms}
+use Rattle.club_core.specs.Game.{Game, clocks_of}
+use Rattle.club_core.specs.Game.{result_of}
+use Rattle.club_core.specs.Legal.{IsLegalGame}
+use Rattle.club_core.specs.LegalState.{IsLegalEvent, IsLegalIn, IsGameOf}
+use Rattle.club_core.specs.Step.{GameCommand, move}
+use Rattle.club_core.specs.Step.{no_game_refusal}
+use Rattle.club_core.specs.Step.{game_step}
+use Rattle.club_core.specs.Seats.{Pairing}
+use Rattle.club_core.specs.State.{seated, seated_as, state_after, place, kind_at, terms_at, with_game, step_game}
+use Rattle.club_core.specs.State.{on_game}
+use Rattle.club_core.specs.View.{IsRowOf}
+use Rattle.club_core.proofs.LegalSteps.{in-place}
+use Rattle.club_rows.specs.Made.{made_row}
+use Rattle.club_rows.specs.Tables.{game_row, move_rows, number}
+use Rattle.club_rows.specs.Tables.{row_of_game, rows_of_moves, rows_of_seen}
+use Rattle.club_rows.proofs.KindLemmas.{Kind}
+use Rattle.store_tables.specs.Cells.{game_cells}
+use Rattle.store_tables.specs.declared.rows.GameRecord.{GameRecord}
+use Rattle.store_tables.specs.declared.rows.Changes.{Changes}
+use Rattle.club_changes.specs.declared.decided.Decided.{Decided}
+use Rattle.club_rows.specs.Club.{both_games, ClubState, IsClub, tables}
+use Rattle.sqlite.specs.Order.{Row}
+use Rattle.store_tables.specs.Changed.{changed}
+use Rattle.club_changes.specs.Steps.{caller_step, AreSame, HaveSame, Puts, PutsScoresOf, PutsMove, PutsRow, PutsGame}
+use Rattle.club_changes.specs.Steps.{no_rows}
+use Rattle.club_changes.specs.Steps.{IsDecided, IsDecidedIn, changed_if, first_row, first_seen_rows}
+use Rattle.club_changes.specs.Steps.{started, started_seen}
+use Rattle.squares.specs.declared.sides.Score.{Score}
+use Rattle.store_tables.specs.Cells.{score_cells}
+use Rattle.store_tables.specs.Changes.{Alters, put_rows}
+use Rattle.store_tables.proofs.AlterLemmas.{altered}
+use Rattle.club_rows.specs.Scores.{Meeting, meetings, meetings_in, scores_in}
+use Rattle.club_rows.proofs.ScoreLemmas.{met_running, met_ended, scores_next, scores_stay}
+use Rattle.club_rows.proofs.SeenLemmas.{entry-alters, seen-stay, seen-table-set}
+use Rattle.club_changes.proofs.PutSame.{same_by}
+use Rattle.club_changes.proofs.NextRows.{AreFew, play_next, change_next}
+use Rattle.club_changes.proofs.OutcomeLemmas.{none_decided, answered_mapped, same_content}
+use Rattle.club_changes.proofs.SameLemmas.{puts_changed}
+use Rattle.club_changes.proofs.PlayedLemmas.{budget_most, since_within}
+
+-- ---- in a game of the club
+
+pub place_at : {A : Type 0} (xs : List A) (id : ℕ) (x : A) → place xs id ≡ Some x → (n : ℕ) × (id ≡ 1 + n)
+    × (slice_get xs n ≡ Some x)
+place_at xs zero x at = cc
+place_at xs (suc n) x at = (n, omega arith, at)
+
+-- a game of the club by its terms
+pub record IsGameIn {P M E T : Type 0} (laws : GameRules P M E T) (kind : GameKind) (s : ClubState) (terms : Terms)
+    (g : Game M) : Type 0 where
+  pub budget : IsTrue (is_budget terms.budget)
+  pub increment : IsTrue (is_increment terms.increment)
+  pub legal : IsLegalGame laws terms g
+  pub of : IsGameOf laws kind s g
+
+module _ {P M E T : Type 0} {laws : GameRules P M E T} {kind : GameKind} (k : Kind laws kind) (s : ClubState)
+    (is_club : IsClub s) where
+  pub game_is : (id : ℕ) (g : Game M) → place s.games id ≡ Some (k.into g)
+      → IsGameIn laws kind s (terms_at (place s.events g.event)) g
+  game_is id g at =
+      let of : IsGameOf laws kind s g = k.legal s g
+      (in-place (IsLegalIn both_games s) s.games id (k.into g) is_club.games at) in
+      let event : IsLegalEvent of.event = in-place IsLegalEvent s.events g.event of.event is_club.events of.in_event in
+      let same : of.event.terms ≡ terms_at (place s.events g.event) = ap terms_at (sym of.in_event) in
+      record {
+        budget = subst (λ t. IsTrue (is_budget t.budget)) same event.budget;
+        increment = subst (λ t. IsTrue (is_increment t.increment)) same event.increment;
+        legal = subst (λ t. IsLegalGame laws t g) same of.legal;
+        of = of;
+      }
+
+  -- no game of the club has a moment after the last accepted command's
+  pub no_later : (id : ℕ) (g : Game M) (terms : Terms) → place s.games id ≡ Some (k.into g)
+      → (clocks_of g terms).since ≤ s.last
+  no_later id g terms at =
+      let game = game_is id g at in
+      since_within terms.increment First g.entries _ s.last game.of.start game.of.entries
+
+module _ {P M E T : Type 0} {laws : GameRules P M E T} {kind : GameKind} (k : Kind laws kind) (s : ClubState) where
+  abbrev meets : Game M → List Meeting
+  meets g = meetings_in both_games (k.into g)
+
+  -- the scores that are put make the table of the club with the game after the change
+  module _ (n : ℕ) (g new : Game M) (at : slice_get s.games n ≡ Some (k.into g))
+      (running : result_of laws g ≡ None) where
+    none_before : meets g ≡ []
+    none_before = k.scores g ∙ met_running laws g running
+
+    scores_by_result : (result : Option Score) (rows : List Row) → result_of laws new ≡ result
+        → PutsScoresOf (tables s 14) new.event new.first new.second result rows
+        → AreFew both_games rows × HaveSame (put_rows (0 ∷ 1 ∷ 2 ∷ []) rows (scores_in both_games s.games))
+        (scores_in both_games (slice_set s.games n (k.into new)))
+    scores_by_result None rows is none =
+        let after : meets new ≡ [] = k.scores new ∙ met_running laws new is in (
+          inl none,
+          subst
+              (λ l. HaveSame (put_rows (0 ∷ 1 ∷ 2 ∷ []) l (scores_in both_games s.games))
+              (scores_in both_games (slice_set s.games n (k.into new)))) (sym none)
+              (same_by _ _
+              (sym (scores_stay both_games s.games n (k.into g) (k.into new) at (after ∙ sym none_before)))),
+        )
+    scores_by_result (Some score) rows is put =
+        let after : meets new ≡ meetings (pos new.event) (pos new.first) (pos new.second) score = k.scores new
+        ∙ met_ended laws new score is in (
+          inr (_, _, put.rows_are),
+          subst
+              (λ l. HaveSame (put_rows (0 ∷ 1 ∷ 2 ∷ []) l (scores_in both_games s.games))
+              (scores_in both_games (slice_set s.games n (k.into new)))) (sym put.rows_are)
+              (altered (0 ∷ 1 ∷ 2 ∷ []) (score_cells put.pair.first ∷ score_cells put.pair.second ∷ []) _ _
+              (scores_next both_games s.games new.event new.first new.second score put.firsts put.seconds put.pair
+              put.firsts_are put.seconds_are put.next n (k.into g) (k.into new) at none_before after)),
+        )
+
+  -- the rows that are put make the tables of the club with the game after the move
+  put_at : (n moment : ℕ) (g new : Game M) (c : Changes) → slice_get s.games n ≡ Some (k.into g)
+      → PutsMove laws (terms_at (place s.events g.event)) (1 + n) moment (tables s 14) g new c
+      → AreSame (changed c (tables s)) (tables (with_game s moment (1 + n) (k.into new)))
+  put_at n moment g new c at p =
+      let made : Row = made_row (1 + n) p.reply moment in
+      let row : game_row laws (terms_at (place s.events g.event)) (1 + n) new
+      ≡ row_of_game both_games s.events (1 + n) (k.into new) =
+      ap (λ e. game_row laws (terms_at (place s.events e)) (1 + n) new) (sym p.event)
+      ∙ sym (k.row s.events (1 + n) new) in
+      let grown : rows_of_moves both_games s.events (1 + n) (k.into new)
+      ≡ rows_of_moves both_games s.events (1 + n) (k.into g) ++ made ∷ [] =
+      k.moves s.events (1 + n) new
+      ∙ (ap (λ e. move_rows laws (terms_at (place s.events e)) (1 + n) new) p.event
+      ∙ (p.grown ∙ ap (λ rs. rs ++ made ∷ []) (sym (k.moves s.events (1 + n) g)))) in
+      let alters = subst₂ (λ was now. Alters (0 ∷ 1 ∷ []) (p.seen ∷ []) was now) (sym (k.seen (1 + n) g))
+      (sym (k.seen (1 + n) new)) (entry-alters laws (1 + n) g new p.entry p.seen p.entries p.seen_is) in
+      let seen = altered (0 ∷ 1 ∷ []) (p.seen ∷ []) _ _
+      (seen-table-set both_games s n (k.into g) (k.into new) moment (p.seen ∷ []) at alters) in
+      let (few, scores) = scores_by_result n g new at p.running (result_of laws new) p.scores refl p.scores_are in
+      let puts_are =
+      subst
+      (λ r.
+      Puts c moment (record no_rows { games = r ∷ []; moves = made ∷ []; seen = p.seen ∷ []; scores = p.scores }))
+      row p.puts in
+      let count = k.plies g in
+      let next = play_next both_games s n (k.into g) (k.into new) made (length g.entries + 1) at grown refl
+      (ap number p.ply) (omega (arith, count)) moment p.seen seen p.scores few scores in
+      let back : (1 + n) - 1 ≡ n = omega arith in
+      subst
+      (λ m.
+      AreSame (changed c (tables s))
+      (tables (record s { last = moment; games = slice_set s.games m (k.into new) }))) (sym back)
+      (subst
+      (λ content. AreSame content (tables (record s { last = moment; games = slice_set s.games n (k.into new) })))
+      (sym
+      (puts_changed c moment [] [] (row_of_game both_games s.events (1 + n) (k.into new) ∷ []) (made ∷ [])
+      (p.seen ∷ []) p.scores puts_are (tables s))) next)
+
+  -- and so do those of a game that changes without a move
+  change_at : (n moment : ℕ) (g new : Game M) (c : Changes) → slice_get s.games n ≡ Some (k.into g)
+      → PutsRow laws (terms_at (place s.events g.event)) (1 + n) moment (tables s 14) g new c
+      → AreSame (changed c (tables s)) (tables (with_game s moment (1 + n) (k.into new)))
+  change_at n moment g new c at p =
+      let row : game_row laws (terms_at (place s.events g.event)) (1 + n) new
+      ≡ row_of_game both_games s.events (1 + n) (k.into new) =
+      ap (λ e. game_row laws (terms_at (place s.events e)) (1 + n) new) (sym p.event)
+      ∙ sym (k.row s.events (1 + n) new) in
+      let stays : rows_of_moves both_games s.events (1 + n) (k.into new)
+      ≡ rows_of_moves both_games s.events (1 + n) (k.into g) =
+      k.moves s.events (1 + n) new
+      ∙ (ap (λ e. move_rows laws (terms_at (place s.events e)) (1 + n) new) p.event
+      ∙ (p.stays ∙ sym (k.moves s.events (1 + n) g))) in
+      let seen : rows_of_seen both_games (1 + n) (k.into new) ≡ rows_of_seen both_games (1 + n) (k.into g) =
+      k.seen (1 + n) new ∙ (seen-stay laws (1 + n) new g p.entries ∙ sym (k.seen (1 + n) g)) in
+      let (few, scores) = scores_by_result n g new at p.running (result_of laws new) p.scores refl p.scores_are in
+      let puts_are = subst (λ r. Puts c moment (record no_rows { games = r ∷ []; scores = p.scores })) row p.puts in
+      let next = change_next both_games s n (k.into g) (k.into new) moment p.scores at stays seen few scores in
+      let back : (1 + n) - 1 ≡ n = omega arith in
+      subst
+      (λ m.
+      AreSame (changed c (tables s))
+      (tables (record s { last = moment; games = slice_set s.games m (k.into new) }))) (sym back)
+      (subst
+      (λ content. AreSame content (tables (record s { last = moment; games = slice_set s.games n (k.into new) })))
+      (sym
+      (puts_changed c moment [] [] (row_of_game both_games s.events (1 + n) (k.into new) ∷ []) [] [] p.scores
+      puts_are (tables s))) next)
+
+  put_game : (id moment : ℕ) (g : Game M) → place s.games id ≡ Some (k.into g)
+      → (o : Outcome (Game M)) (c : Option Changes)
+      → PutsGame laws (terms_at (place s.events g.event)) id moment (tables s 14) g o c
+      →
+      AreSame (changed_if c (tables s))
+      (tables (state_after s (map_outcome (λ new. with_game s moment id (k.into new)) o)))
+  put_game id moment g at (accepted new reply) (Some c) p =
+      let (n, id_is, stands) = place_at s.games id (k.into g) at in
+      subst (λ i. AreSame (changed c (tables s)) (tables (with_game s moment i (k.into new)))) (sym id_is)
+      (elim p [
+        | inl made ↦ put_at n moment g new c stands
+            (subst (λ i. PutsMove laws (terms_at (place s.events g.event)) i moment (tables s 14) g new c) id_is made)
+        | inr row ↦ change_at n moment g new c stands
+            (subst (λ i. PutsRow laws (terms_at (place s.events g.event)) i moment (tables s 14) g new c) id_is row)
+      ])
+  put_game id moment g at (repeated reply) None p = same_content s
+  put_game id moment g at (refused refusal) None p = same_content s
+  put_game id moment g at (accepted new reply) None p = absurd p
+  put_game id moment g at (repeated reply) (Some c) p = absurd p
+  put_game id moment g at (refused refusal) (Some c) p = absurd p
+
+  -- what was decided in the game was decided in the club
+  pub decided_club : (id moment : ℕ) (who : Caller) (command : GameCommand) (g : Game M) (d : Decided)
+      → place s.games id ≡ Some (k.into g)
+      → IsDecidedIn laws (terms_at (place s.events g.event)) id moment (tables s 14) g
+      (game_step laws (terms_at (place s.events g.event)) g moment who command) d
+      → IsDecided s (caller_step s moment who (on_game id command)) d
+  decided_club id moment who command g d at decided =
+      let f = λ (new : Game M). with_game s moment id (k.into new) in
+      let o = game_step laws (terms_at (place s.events g.event)) g moment who command in
+      let step : caller_step s moment who (on_game id command) ≡ map_outcome f o =
+      ap (step_game both_games s moment id who command) at ∙ k.step s moment id who command g in
+      record {
+        answer = decided.answer ∙ (sym (answered_mapped s f o) ∙ ap answered (sym step));
+        rows = subst (λ x. AreSame (changed_if d.changes (tables s)) (tables (state_after s x))) (sym step)
+            (put_game id moment g at o d.changes decided.puts);
+      }
+
+-- ---- a game that starts
+
+pub seated_cells : {P M E T : Type 0} (laws : GameRules P M E T) (r : GameRecord) (row : GameRow E) (terms : Terms)
+    (p : Pairing) (id : ℕ) (key : Option (List ℕ)) (moment : ℕ) → IsTrue (is_budget terms.budget)
+    →
+    ((increment : ℕ) → IsRowOf laws (record { budget = terms.budget; increment = increment }) (seated key p moment)
+    row)
+    → (row.left_first < 2 ^ 63 → row.left_second < 2 ^ 63 → (terms : Terms) (game : Game M)
+    → IsRowOf laws terms game row → game_cells r ≡ game_row laws terms id game)
+    → game_cells r ≡ game_row laws terms id (seated key p moment)
+seated_cells {P} {M} laws r row terms p id key moment legal shows cells =
+    let is_row = shows terms.increment in
+    let budget : terms.budget ≤ 31536000 = budget_most terms.budget legal in
+    let first : row.left_first ≡ terms.budget = ap (λ c. c.left_first) is_row.clocks in
+    let second : row.left_second ≡ terms.budget = ap (λ c. c.left_second) is_row.clocks in
+    let start : Game M = seated key p moment in
+    cells (omega (arith, first, budget)) (omega (arith, second, budget)) terms start is_row
+
+pub started_first : (events : List Event) (p : Pairing) (id : ℕ) (key : Option (List ℕ)) (moment : ℕ) (kind : GameKind)
+    → kind_at (place events p.event) ≡ kind → started events id key p moment
+    ≡ first_row kind (terms_at (place events p.event)) id key p moment
+started_first events p id key moment kind is =
+    ap (λ k. row_of_game both_games events id (seated_as k key p moment)) is ∙ first kind
+  where
+    first : (k : GameKind) → row_of_game both_games events id (seated_as k key p moment)
+        ≡ first_row k (terms_at (place events p.event)) id key p moment
+    first Draughts = refl
+    first Shogi = refl
+
+pub started_seen_first : (events : List Event) (p : Pairing) (id : ℕ) (key : Option (List ℕ)) (moment : ℕ)
+    (kind : GameKind) → kind_at (place events p.event) ≡ kind
+    → first_seen_rows kind id key p moment ≡ started_seen events id key p moment
+started_seen_first events p id key moment kind is = first kind
+    ∙ ap (λ k. rows_of_seen both_games id (seated_as k key p moment)) (sym is)
+  where
+    first : (k : GameKind) → first_seen_rows k id key p moment ≡ rows_of_seen both_games id (seated_as k key p moment)
+    first Draughts = refl
+    first Shogi = refl
+
+-- ---- a game that there is not
+
+pub unknown_decided : (s : ClubState) (id : ℕ) (moment : ℕ) (who : Caller) (command : GameCommand) (d : Decided)
+    → place s.games id ≡ None → d.outcome ≡ given_is.Refused (no_game_refusal who command) → d.changes ≡ None
+    → IsDecided s (caller_step s moment who (on_game id command)) d
+unknown_decided s id moment who command d absent is none =
+    none_decided s (caller_step s moment who (on_game id command)) d (given_is.Refused (no_game_refusal who command)) is
+    none
+    (sym (ap (λ o. answered (step_game both_games s moment id who command o)) absent)) refl

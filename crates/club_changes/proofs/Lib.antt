@@ -1,0 +1,17 @@
+pub mod ChallengeRows
+pub mod ChallengedTables
+pub mod ClubPlayed
+pub mod FoundLemmas
+pub mod FoundMoves
+pub mod FoundPeople
+pub mod GameRows
+pub mod ImportLemmas
+pub mod ImportedTables
+pub mod NextRows
+pub mod OutcomeLemmas
+pub mod PlayedLemmas
+pub mod Proved
+pub mod PutSame
+pub mod ReadRows
+pub mod SameLemmas
+pub mod SweptTables

@@ -1,0 +1,47 @@
+use Rattle.std.proofs.Common.{◌≡◌, ◌+◌, ◌≤◌, length, sym, ap, ◌∙◌, arith}
+use Rattle.std.proofs.lemmas.List.{length-map}
+use Rattle.club_core.specs.Outcome.{by_officer}
+use Rattle.club_core.specs.Events.{Event, event_step}
+use Rattle.club_core.specs.Answer.{answered, events_of, added_event}
+use Rattle.club_core.specs.State.{with_events}
+use Rattle.club_rows.specs.Tables.{event_row}
+use Rattle.store_tables.specs.Cells.{event_cells}
+use Rattle.club_changes.proofs.OutcomeLemmas.{officer_none, event_decided, event_limits}
+use Rattle.club_changes.proofs.PlayedLemmas.{budget_most, increment_most}
+use Rattle.club_changes.proofs.ReadRows.{one_pushed}
+use Rattle.club_changes.proofs.people.on_event.Goals as goal
+
+pub returns-then-not-is_accepted-clause-step : goal.returns-then-not-is_accepted-clause-step
+returns-then-not-is_accepted-clause-step c s is_club same =
+    let e : Event = added_event c.args.command.now in
+    officer_none s (with_events s c.args.moment) c.args.caller (event_step s.events e) c.unchanged.result
+    c.add_event-outcome.result c.unchanged.ensures.outcome c.unchanged.ensures.none
+    (c.add_event-outcome.ensures ∙ ap (λ es. answered (by_officer c.args.caller (event_step es e))) same)
+    (sym c.if-not-is_accepted.ensures)
+
+pub returns-clause-step : goal.returns-clause-step
+returns-clause-step c s is_club same =
+    let e : Event = added_event c.args.command.now in
+    let counted : length (events_of c.args.events.now) ≡ length c.args.events.now = simp length-map in
+    let next : length c.args.events.now + 1 ≡ 1 + length s.events = omega (arith, counted, ap length same) in
+    let answer = c.add_event-outcome.ensures ∙ ap (λ es. answered (by_officer c.args.caller (event_step es e))) same in
+    let limits = event_limits c.args.caller s.events e c.add_event-outcome.result answer
+    (sym c.if-not-is_accepted.ensures) in
+    let budget : e.terms.budget ≤ 31536000 = budget_most e.terms.budget limits.0 in
+    let increment : e.terms.increment ≤ 2592000 = increment_most e.terms.increment limits.1 in
+    let row = c.in_ok-event_row.ensures (omega (arith, budget)) (omega (arith, increment))
+    ∙ ap (λ k. event_row k e) next in
+    event_decided s c.args.moment c.args.caller e c.add_event-outcome.result _ is_club answer
+    (sym c.if-not-is_accepted.ensures)
+    (record {
+      meta = c.at-changes.ensures.meta;
+      members_are = c.at-changes.ensures.members_are;
+      events_are = one_pushed event_cells c.at-changes.result.events.items c.push.new.self.items
+          c.in_ok-event_row.field-0 (event_row (1 + length s.events) e) c.at-changes.ensures.events_are
+          c.in_ok-push.ensures.items row;
+      challenges_are = c.at-changes.ensures.challenges_are;
+      games_are = c.at-changes.ensures.games_are;
+      moves_are = c.at-changes.ensures.moves_are;
+      seen_are = c.at-changes.ensures.seen_are;
+      scores_are = c.at-changes.ensures.scores_are;
+    })

@@ -1,0 +1,40 @@
+use Rattle.std.proofs.Common.{◌≡◌, [], ◌∷◌, Some, ap, sym, subst, subst₂, ◌∙◌}
+use Rattle.std.specs.Option.{option_map}
+use Rattle.std.specs.Prelude.{IsTrue}
+use Rattle.std.proofs.lemmas.Result.{IfOk-weaker}
+use Rattle.club_core.specs.Answer.{event_of, events_of, pairing_of}
+use Rattle.club_core.specs.LegalState.{IsLegalEvent}
+use Rattle.club_core.specs.Limits.{is_budget}
+use Rattle.club_core.specs.State.{place, kind_at, terms_at}
+use Rattle.club_core.proofs.LegalSteps.{in-place}
+use Rattle.club_rows.specs.Replay.{terms_given}
+use Rattle.club_changes.specs.Steps.{first_row, first_seen_rows, first_meetings, started_seen, Puts, no_rows}
+use Rattle.club_changes.proofs.ClubPlayed.{started_first, started_seen_first}
+use Rattle.club_changes.proofs.seats.seated_rows.Goals as goal
+
+pub returns-clause-puts : goal.returns-clause-puts
+returns-clause-puts c =
+    IfOk-weaker c.seat_in.result _ _ (λ changes puts legal.
+    let key = option_map (λ k. k.now) c.args.key in
+    let events = events_of c.args.events.now in
+    let event = event_of c.in_ok-event.event.now in
+    let pairing = pairing_of c.args.new.pairing in
+    let id = c.args.new.game in
+    let at : place events pairing.event ≡ Some event = c.in_ok-event.ensures in
+    let terms : terms_given c.terms_of.result ≡ terms_at (place events pairing.event) = c.terms_of.ensures
+    ∙ ap terms_at (sym at) in
+    let budget = (in-place IsLegalEvent events pairing.event event legal at).budget in
+    let is = started_first events pairing id key c.args.moment event.game (ap kind_at at) in
+    let seen : first_seen_rows event.game id key pairing c.args.moment
+    ≡ started_seen events id key pairing c.args.moment =
+    started_seen_first events pairing id key c.args.moment event.game (ap kind_at at) in
+    subst₂ (λ r l. Puts changes c.args.moment (record no_rows { games = r ∷ []; seen = l }))
+    (ap (λ t. first_row event.game t id key pairing c.args.moment) terms ∙ sym is) seen
+    (puts (subst (λ t. IsTrue (is_budget t.budget)) (sym c.terms_of.ensures) budget))) c.seat_in.ensures.puts
+
+pub returns-clause-running : goal.returns-clause-running
+returns-clause-running c =
+    let key = option_map (λ k. k.now) c.args.key in
+    IfOk-weaker c.seat_in.result _ _ (λ changes running.
+    ap (λ kind. first_meetings kind key (pairing_of c.args.new.pairing) c.args.moment)
+    (ap kind_at c.in_ok-event.ensures) ∙ running) c.seat_in.ensures.running

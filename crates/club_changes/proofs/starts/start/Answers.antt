@@ -1,0 +1,35 @@
+use Rattle.std.specs.Option.{option_map}
+use Rattle.std.proofs.Common.{◌≡◌, None, refl, sym, ◌∙◌, rules}
+use Rattle.club_core.specs.Answer.{pairing_of}
+use Rattle.club_core.specs.State.{seated}
+use Rattle.club_rows.specs.Replay.{terms_given}
+use Rattle.store_tables.specs.Cells.{game_cells, seen_cells}
+use Rattle.club_changes.proofs.ReadRows.{one_pushed}
+use Rattle.club_changes.proofs.ClubPlayed.{seated_cells}
+use Rattle.club_changes.proofs.starts.start.Goals as goal
+
+pub returns-clause-puts : goal.returns-clause-puts
+returns-clause-puts g c legal =
+    let cells = seated_cells g.R.Rules.rules c.in_ok-record_of.field-0 c.in_ok-row.row (terms_given c.args.terms)
+    (pairing_of c.args.new.pairing) c.args.new.game (option_map (λ k. k.now) c.args.key) c.args.moment legal
+    c.in_ok-row.ensures c.in_ok-record_of.ensures in
+    record {
+      meta = c.at-changes.ensures.meta;
+      members_are = c.at-changes.ensures.members_are;
+      events_are = c.at-changes.ensures.events_are;
+      challenges_are = c.at-changes.ensures.challenges_are;
+      games_are = one_pushed game_cells c.at-changes.result.games.items c.push.new.self.items c.in_ok-record_of.field-0
+          _ c.at-changes.ensures.games_are c.in_ok-push.ensures.items cells;
+      moves_are = c.at-changes.ensures.moves_are;
+      seen_are = one_pushed seen_cells c.at-changes.result.seen.items c.push-2.new.self.items c.in_ok-first_seen.field-0
+          _ c.at-changes.ensures.seen_are c.in_ok-push-2.ensures.items refl
+          ∙ sym
+          (c.in_ok-first_seen.ensures
+          (seated (option_map (λ k. k.now) c.args.key) (pairing_of c.args.new.pairing) c.args.moment) refl);
+      scores_are = c.at-changes.ensures.scores_are;
+    }
+
+pub returns-clause-running : goal.returns-clause-running
+returns-clause-running g c =
+    let none : c.in_ok-row.row.result ≡ None = search rules in
+    sym (c.in_ok-row.ensures 0).result ∙ none

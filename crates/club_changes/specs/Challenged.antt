@@ -1,0 +1,53 @@
+-- What is put of a challenge, with the game that it starts where it was accepted.
+use Rattle.std.specs.Prelude.{◌≡◌, ◌+◌, ℕ, List, [], ◌∷◌, None, Bool, true, false, ⊤}
+use Rattle.sqlite.specs.Order.{Row}
+use Rattle.club_core.specs.declared.challenges.Challenge.{Challenge}
+use Rattle.club_core.specs.declared.challenges.Standing.{Standing}
+use Rattle.club_core.specs.declared.challenges.Standing.TheVariants.{Open, Withdrawn, Refused, Accepted}
+use Rattle.club_core.specs.Challenges.{pairing_for}
+use Rattle.club_core.specs.Events.{Event}
+use Rattle.club_core.specs.Outcome.{Outcome, accepted, repeated, refused}
+use Rattle.club_rows.specs.Scores.{Meeting}
+use Rattle.store_tables.specs.declared.rows.Changes.{Changes}
+use Rattle.club_changes.specs.Steps.{Puts, started, started_seen, started_scores, no_rows}
+
+-- the row of the game that it starts, those of its positions, and the meetings that it is: it has no key
+abbrev pub begun_games : List Event → ℕ → Challenge → Standing → List Row
+begun_games events moment c Open = []
+begun_games events moment c Withdrawn = []
+begun_games events moment c Refused = []
+begun_games events moment c (Accepted id) = started events id None (pairing_for c) moment ∷ []
+
+abbrev pub begun_seen : List Event → ℕ → Challenge → Standing → List Row
+begun_seen events moment c Open = []
+begun_seen events moment c Withdrawn = []
+begun_seen events moment c Refused = []
+begun_seen events moment c (Accepted id) = started_seen events id None (pairing_for c) moment
+
+abbrev pub begun_meetings : List Event → ℕ → Challenge → Standing → List Meeting
+begun_meetings events moment c Open = []
+begun_meetings events moment c Withdrawn = []
+begun_meetings events moment c Refused = []
+begun_meetings events moment c (Accepted id) = started_scores events None (pairing_for c) moment
+
+-- these rows of challenges are put, with those of the game
+pub record PutsBegun (events : List Event) (moment : ℕ) (c : Challenge) (challenges : List Row)
+    (changes : Changes) : Type 0 where
+  pub puts : Puts changes moment
+      (record no_rows {
+        challenges = challenges;
+        games = begun_games events moment c c.standing;
+        seen =
+            begun_seen events moment c c.standing;
+      })
+  pub running : begun_meetings events moment c c.standing ≡ []
+
+-- how an accepted answer leaves the challenge: refused, or started with the next game
+abbrev pub standing_after : ℕ → Bool → Standing
+standing_after games true = Accepted (games + 1)
+standing_after games false = Refused
+
+abbrev pub AnswersTo : ℕ → Bool → Outcome Challenge → Type 0
+AnswersTo games accept (accepted c reply) = c.standing ≡ standing_after games accept
+AnswersTo games accept (repeated reply) = ⊤
+AnswersTo games accept (refused refusal) = ⊤

@@ -1,0 +1,59 @@
+//! What may go wrong where the rows of a command are made.
+
+use club_rules::Memory;
+use std::alloc::{AllocError, AllocFailed};
+use std::error::Error;
+use std::fmt;
+use sweep_rows::SweepFault;
+
+/// Why the rows of a command were not made.
+#[derive(Clone, Copy, Debug, PartialEq, Eq, Drop)]
+pub enum ChangeFault {
+    /// Memory was refused.
+    Memory,
+    /// No club has the rows that were given.
+    Unfit,
+}
+
+impl fmt::Display for ChangeFault {
+    ghost use Rattle.std.specs.Prelude.{Some};
+    ghost use Rattle.club_changes.specs.Faults.{fault_text};
+
+    ghost output = { λ fault. Some (fault_text fault) };
+
+    fn fmt<W: fmt::Write>(&self, f: &mut fmt::Formatter<W>) -> fmt::Result {
+        match self {
+            ChangeFault::Memory => f.write_str("out of memory"),
+            ChangeFault::Unfit => f.write_str("the rows are those of no club"),
+        }
+    }
+}
+
+impl Error for ChangeFault {}
+
+impl From<Memory> for ChangeFault {
+    fn from(_refused: Memory) -> ChangeFault {
+        ChangeFault::Memory
+    }
+}
+
+impl<T: Drop> From<AllocFailed<T>> for ChangeFault {
+    fn from(_refused: AllocFailed<T>) -> ChangeFault {
+        ChangeFault::Memory
+    }
+}
+
+impl From<AllocError> for ChangeFault {
+    fn from(_refused: AllocError) -> ChangeFault {
+        ChangeFault::Memory
+    }
+}
+
+impl From<SweepFault> for ChangeFault {
+    fn from(fault: SweepFault) -> ChangeFault {
+        match fault {
+            SweepFault::Memory => ChangeFault::Memory,
+            SweepFault::Unfit => ChangeFault::Unfit,
+        }
+    }
+}

@@ -1,0 +1,69 @@
+//! The rows of a game that is imported.
+
+ghost use Rattle.std.specs.Prelude.{◌≡◌, [], ◌∷◌, map, Option, Some, IfOk};
+ghost use Rattle.club_core.specs.Answer.{events_of};
+ghost use Rattle.club_core.specs.Events.{event_kind};
+ghost use Rattle.store_tables.specs.Cells.{game_cells, move_cells, seen_cells};
+ghost use Rattle.club_changes.specs.Steps.{Puts, score_list, no_rows};
+
+use crate::decided::at;
+use crate::fault::ChangeFault;
+use crate::game::listed_scores;
+use crate::stored::StoredGame;
+use clocks::Moment;
+use club_core::{Event, KeyedGame, Member};
+use club_rows::ScorePair;
+use club_rules::GameKind;
+use import_rows::NewRows;
+use std::alloc::Global;
+use store_tables::Changes;
+
+/// What a club has that an import may ask of: its members and events by id, the game under the import's key, and how
+/// many games there are.
+#[derive(Drop)]
+pub struct Known {
+    pub members: Vec<Member>,
+    pub events: Vec<Event>,
+    pub keyed: Option<KeyedGame>,
+    pub under: Option<StoredGame>,
+    pub games: u32,
+}
+
+/// The kind of the event of that name; draughts where there is none.
+pub fn event_kind(events: &[Event], name: &str) -> GameKind
+    ensures { result ≡ event_kind (events_of events.now) name.now }
+{
+    for i in 0..events.len() {
+        let event = &events[i];
+        if event.name.as_str() == name {
+            return event.game;
+        }
+    }
+    GameKind::Draughts
+}
+
+/// The rows of a game that is added, and no other, at that moment.
+pub fn put_rows(
+    alloc: Global,
+    rows: NewRows,
+    scores: ScorePair,
+    moment: Moment,
+) -> Result<Changes, ChangeFault>
+    ensures { IfOk result
+        (λ changes.
+        Puts changes moment
+        (record no_rows {
+          games = game_cells rows.game ∷ [];
+          moves = map move_cells rows.moves.items;
+          seen =
+              map seen_cells rows.seen.items;
+          scores = score_list (Some scores);
+        })) }
+{
+    let mut changes = at(alloc, moment);
+    changes.games.push(rows.game)?;
+    changes.moves = rows.moves;
+    changes.seen = rows.seen;
+    changes.scores = listed_scores(alloc, Some(scores))?;
+    Ok(changes)
+}

@@ -1,0 +1,45 @@
+//! The kinds of games: a game starts by the rules of its event's kind.
+
+ghost use Rattle.std.specs.Prelude.{◌≡◌, [], ◌∷◌, IfOk, IsTrue};
+ghost use Rattle.std.specs.Option.{option_map};
+ghost use Rattle.club_core.specs.Answer.{pairing_of};
+ghost use Rattle.club_core.specs.Limits.{is_budget};
+ghost use Rattle.club_rows.specs.Replay.{terms_given};
+ghost use Rattle.club_changes.specs.Steps.{first_row, first_seen_rows, first_meetings, Puts, no_rows};
+
+use crate::fault::ChangeFault;
+use crate::starts::start;
+use clocks::Moment;
+use club_core::KeyedGame;
+use club_games::{Draughts, Shogi};
+use club_rows::Terms;
+use club_rules::GameKind;
+use std::alloc::Global;
+use store_tables::Changes;
+
+// The rows of a game of this kind that starts by these terms.
+pub(crate) fn seat_in(
+    alloc: Global,
+    kind: GameKind,
+    terms: Terms,
+    new: KeyedGame,
+    key: Option<&str>,
+    moment: Moment,
+) -> Result<Changes, ChangeFault>
+    ensures puts { IfOk result (λ changes. IsTrue (is_budget terms.budget) →
+        Puts changes moment
+        (record
+        no_rows {
+          games = first_row kind (terms_given terms) new.game (option_map (λ k. k.now) key.entry)
+              (pairing_of new.pairing) moment ∷ [];
+          seen =
+              first_seen_rows kind new.game (option_map (λ k. k.now) key.entry) (pairing_of new.pairing) moment;
+        })) }
+    ensures running { IfOk result (λ changes.
+        first_meetings kind (option_map (λ k. k.now) key.entry) (pairing_of new.pairing) moment ≡ []) }
+{
+    match kind {
+        GameKind::Draughts => start::<Draughts>(alloc, terms, new, key, moment),
+        GameKind::Shogi => start::<Shogi>(alloc, terms, new, key, moment),
+    }
+}

@@ -1,0 +1,26 @@
+//! What a command does to the tables of a club: of the rows that it has read, its outcome and the rows to put. Nothing
+//! here reads or writes a database. A call fails with `Memory` where memory was refused, and with `Unfit` where no club
+//! has the rows and values that it was given.
+#![tactic(auto)]
+
+pub mod challenges;
+pub mod decided;
+pub mod fault;
+pub mod game;
+pub mod imports;
+mod kinds;
+pub mod people;
+pub mod seats;
+mod starts;
+pub mod stored;
+pub mod sweep;
+
+pub use challenges::{put_answered, put_challenge};
+pub use decided::{Decided, unchanged};
+pub use fault::ChangeFault;
+pub use game::{Counts, put_decision};
+pub use imports::{Known, event_kind, put_rows};
+pub use people::{on_event, on_member};
+pub use seats::{event_at, seated_rows, terms_of};
+pub use stored::StoredGame;
+pub use sweep::sweep_games;

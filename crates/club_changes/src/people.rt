@@ -1,0 +1,106 @@
+//! What adding a member or an event does to the tables.
+
+ghost use Rattle.std.specs.Prelude.{◌≡◌, ◌≤◌, ◌<◌, ◌^◌, Some, IfOk};
+ghost use Rattle.std.specs.Prelude.{length, string_bytes};
+ghost use Rattle.club_core.specs.Answer.{members_of, events_of, added_event};
+ghost use Rattle.club_core.specs.State.{is_accepted, add_member, add_event};
+ghost use Rattle.club_rows.specs.Tables.{member_row, event_row};
+ghost use Rattle.store_tables.specs.Cells.{member_cells, event_cells};
+ghost use Rattle.club_rows.specs.Club.{ClubState, IsClub};
+ghost use Rattle.club_changes.specs.Steps.{caller_step};
+ghost use Rattle.club_changes.specs.Steps.{IsDecided};
+ghost use Rattle.club_changes.specs.Whole.{IsWhole};
+
+use crate::decided::{Decided, at, is_accepted, unchanged};
+use crate::fault::ChangeFault;
+use clocks::Moment;
+use club_core::{AddEvent, AddMember, Caller, Event, Member, add_event, add_member};
+use club_rows::kind_number;
+use club_rows::numbers::stored;
+use std::alloc::Global;
+use store_tables::{EventRow, MemberRow};
+
+// The row of a member that is added.
+fn member_row(id: u32, command: &AddMember) -> Result<MemberRow, ChangeFault>
+    ensures { IfOk result (λ row. member_cells row ≡ member_row id
+        (record { name = string_bytes command.now.name; key = string_bytes command.now.key })) }
+{
+    let name = command.name.clone()?;
+    let key = command.key.clone()?;
+    Ok(MemberRow {
+        id: i64::from(id),
+        name,
+        key,
+    })
+}
+
+/// What adding a member does, by the members of the club.
+pub fn on_member(
+    alloc: Global,
+    members: &[Member],
+    caller: Caller,
+    command: &AddMember,
+    moment: Moment,
+) -> Result<Decided, ChangeFault>
+    requires { length members.now ≤ 200 }
+    ensures acts { IfOk result IsWhole }
+    ensures step { IfOk result (λ d. (s : ClubState) → members_of members.now ≡ s.members →
+        IsDecided s (caller_step s moment caller (add_member (string_bytes command.now.name)
+        (string_bytes command.now.key))) d) }
+{
+    let outcome = add_member(members, caller, command);
+    if !is_accepted(&outcome) {
+        return Ok(unchanged(outcome));
+    }
+    let mut changes = at(alloc, moment);
+    changes
+        .members
+        .push(member_row(members.len() as u32 + 1, command)?)?;
+    Ok(Decided {
+        outcome,
+        changes: Some(changes),
+    })
+}
+
+// The row of an event that is added.
+fn event_row(id: u32, command: &AddEvent) -> Result<EventRow, ChangeFault>
+    // Seconds that 63 bits hold are stored as they are.
+    ensures { IfOk result (λ row. command.now.budget < 2 ^ 63 → command.now.increment < 2 ^ 63 →
+        event_cells row ≡ event_row id (added_event command.now)) }
+{
+    let name = command.name.clone()?;
+    Ok(EventRow {
+        id: i64::from(id),
+        name,
+        game: kind_number(command.game),
+        budget: stored(command.budget),
+        increment: stored(command.increment),
+    })
+}
+
+/// What adding an event does, by the events of the club.
+pub fn on_event(
+    alloc: Global,
+    events: &[Event],
+    caller: Caller,
+    command: &AddEvent,
+    moment: Moment,
+) -> Result<Decided, ChangeFault>
+    requires { length events.now ≤ 50 }
+    ensures acts { IfOk result IsWhole }
+    ensures step { IfOk result (λ d. (s : ClubState) → IsClub s → events_of events.now ≡ s.events →
+        IsDecided s (caller_step s moment caller (add_event (added_event command.now))) d) }
+{
+    let outcome = add_event(events, caller, command);
+    if !is_accepted(&outcome) {
+        return Ok(unchanged(outcome));
+    }
+    let mut changes = at(alloc, moment);
+    changes
+        .events
+        .push(event_row(events.len() as u32 + 1, command)?)?;
+    Ok(Decided {
+        outcome,
+        changes: Some(changes),
+    })
+}

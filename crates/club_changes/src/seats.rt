@@ -1,0 +1,68 @@
+//! The rows of a game that starts in an event.
+
+ghost use Rattle.std.specs.Prelude.{◌≡◌, ◌<◌, [], ◌∷◌, Some, None, IfOk};
+ghost use Rattle.std.specs.Option.{option_map};
+ghost use Rattle.club_core.specs.Answer.{event_of, events_of};
+ghost use Rattle.club_core.specs.Answer.{pairing_of};
+ghost use Rattle.club_core.specs.State.{place};
+ghost use Rattle.club_core.specs.LegalState.{Each, IsLegalEvent};
+ghost use Rattle.club_rows.specs.Replay.{terms_given};
+ghost use Rattle.club_changes.specs.Steps.{started, started_seen, started_scores};
+ghost use Rattle.club_changes.specs.Steps.{Puts, no_rows};
+
+use crate::fault::ChangeFault;
+use crate::kinds::seat_in;
+use clocks::Moment;
+use club_core::{Event, KeyedGame};
+use club_rows::Terms;
+use std::alloc::Global;
+use store_tables::Changes;
+
+/// The event of this id, from 1.
+pub fn event_at(events: &[Event], event: u32) -> Result<&Event, ChangeFault>
+    ensures { IfOk result (λ e. place (events_of events.now) event ≡ Some (event_of e.now)) }
+{
+    if event == 0 {
+        return Err(ChangeFault::Unfit);
+    }
+    match events.get(event as usize - 1) {
+        Some(event) => Ok(event),
+        None => Err(ChangeFault::Unfit),
+    }
+}
+
+/// The seconds that an event gives.
+pub fn terms_of(event: &Event) -> Terms
+    ensures { terms_given result ≡ (event_of event.now).terms }
+{
+    Terms {
+        budget: event.budget,
+        increment: event.increment,
+    }
+}
+
+/// The rows of a game of an event that starts, under a key or under none.
+pub fn seated_rows(
+    alloc: Global,
+    events: &[Event],
+    new: KeyedGame,
+    key: Option<&str>,
+    moment: Moment,
+) -> Result<Changes, ChangeFault>
+    ensures puts { IfOk result (λ changes. Each IsLegalEvent (events_of events.now) →
+        Puts changes moment
+        (record
+        no_rows {
+          games = started (events_of events.now) new.game (option_map (λ k. k.now) key.entry)
+              (pairing_of new.pairing) moment ∷ [];
+          seen =
+              started_seen (events_of events.now) new.game (option_map (λ k. k.now) key.entry) (pairing_of new.pairing)
+              moment;
+        })) }
+    ensures running { IfOk result (λ changes.
+        started_scores (events_of events.now) (option_map (λ k. k.now) key.entry) (pairing_of new.pairing) moment
+        ≡ []) }
+{
+    let event = event_at(events, new.pairing.event)?;
+    seat_in(alloc, event.game, terms_of(event), new, key, moment)
+}

@@ -1,0 +1,49 @@
+//! What a sweep does to the tables.
+
+ghost use Rattle.std.specs.Prelude.{◌≡◌, map, IfOk};
+ghost use Rattle.club_core.specs.State.{sweep};
+ghost use Rattle.club_core.specs.declared.requests.Caller.TheVariants.{Officer};
+ghost use Rattle.club_rows.specs.Club.{ClubState, IsClub, tables};
+ghost use Rattle.store_tables.specs.Cells.{game_cells, score_cells};
+ghost use Rattle.club_changes.specs.Steps.{caller_step, HaveSame, IsDecided};
+ghost use Rattle.club_changes.specs.Whole.{IsWhole};
+ghost use Rattle.sweep_rows.specs.Swept.{IsSwept};
+
+use crate::decided::{Decided, at};
+use crate::fault::ChangeFault;
+use clocks::Moment;
+use club_core::{Answer, Outcome};
+use std::alloc::Global;
+use store_tables::{GameRecord, ScoreRow};
+use sweep_rows::{SweptRows, swept_rows};
+
+// These rows are put, and the moment.
+fn put_swept(alloc: Global, rows: SweptRows, moment: Moment) -> Decided
+    ensures acts { IsWhole result }
+    ensures step { (s : ClubState) → IsSwept s moment rows →
+        IsDecided s (caller_step s moment Officer sweep) result }
+{
+    let mut changes = at(alloc, moment);
+    changes.games = rows.games;
+    changes.scores = rows.scores;
+    Decided {
+        outcome: Outcome::Accepted(Answer::Swept { count: rows.count }),
+        changes: Some(changes),
+    }
+}
+
+/// What a sweep of the officer's does, by the rows of all games, in their order, and of all scores. It fails where
+/// memory was refused, and where no club has these rows.
+pub fn sweep_games(
+    alloc: Global,
+    games: &[GameRecord],
+    scores: &[ScoreRow],
+    moment: Moment,
+) -> Result<Decided, ChangeFault>
+    ensures acts { IfOk result IsWhole }
+    ensures step { IfOk result (λ d. (s : ClubState) → IsClub s → map game_cells games.now ≡ tables s 10 →
+        HaveSame (map score_cells scores.now) (tables s 14) → IsDecided s (caller_step s moment Officer sweep) d) }
+{
+    let rows = swept_rows(alloc, games, scores, moment)?;
+    Ok(put_swept(alloc, rows, moment))
+}

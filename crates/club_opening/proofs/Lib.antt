@@ -1,0 +1,10 @@
+pub mod BlameLemmas
+pub mod ClubLemmas
+pub mod ExaminedLemmas
+pub mod GroupRows
+pub mod MoveOrderLemmas
+pub mod OnceLemmas
+pub mod PastLemmas
+pub mod PlaceLemmas
+pub mod Proved
+pub mod RegisterLemmas

@@ -1,0 +1,2 @@
+-- What is proved of an opening, for the proofs of crates above.
+pub use Rattle.club_opening.proofs.ClubLemmas.{good_fault}

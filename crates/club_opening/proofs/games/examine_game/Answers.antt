@@ -1,0 +1,28 @@
+use Rattle.std.proofs.Common.{◌≡◌, length, ap, sym, subst₂, ◌∙◌, arith, rules}
+use Rattle.sqlite.specs.Effect.{Database}
+use Rattle.sqlite.specs.Held.{state}
+use Rattle.sqlite.specs.State.{HasCleanDisk}
+use Rattle.store_tables.specs.Tables.{club_schema}
+use Rattle.club_opening.specs.Examined.{IsGameFound}
+use Rattle.club_opening.proofs.ExaminedLemmas.{game_found}
+use Rattle.club_opening.proofs.games.examine_game.Goals as goal
+
+pub returns-in-Ok-wrong_game-clause-found : goal.returns-in-Ok-wrong_game-clause-found
+returns-in-Ok-wrong_game-clause-found g c clean has =
+    let s0 = state g.S.Store c.args.conn.now in
+    let s1 = state g.S.Store c.read_of.new.conn in
+    let s2 = state g.S.Store c.read_of-2.new.conn in
+    let early : HasCleanDisk s1 = omega (arith, c.read_of-2.ensures.reads.clean) in
+    let one = c.in-Ok.ensures.rows early has in
+    let still : s1.now.schema ≡ club_schema = ap (λ (d : Database). d.schema) one.same.0.now_is ∙ has in
+    let two = c.in-Ok-read_of.ensures.rows clean still in
+    let ms = c.in-Ok.moves.items in
+    let ss = c.in-Ok-read_of.seen.items in
+    let many_moves : c.len.result ≡ length ms = search rules in
+    let many_seen : c.len-in-Ok-wrong_game.result ≡ length ss = search rules in
+    let wrong = c.in-Ok-wrong_game.wrong in
+    subst₂ (λ a b. IsGameFound c.args.rows.now c.args.place c.args.game.now a b wrong s0 s2) (sym many_moves)
+    (sym many_seen)
+    (game_found c.args.rows.now c.args.place c.args.game.now ms ss s0 s1 s2 one two c.requires.at wrong
+    (rw (sym c.deref.ensures.value, sym c.deref-2.ensures.value) c.in-Ok-wrong_game.ensures.sound)
+    (rw (sym c.deref.ensures.value, sym c.deref-2.ensures.value) c.in-Ok-wrong_game.ensures.complete))

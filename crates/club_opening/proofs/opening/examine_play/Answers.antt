@@ -1,0 +1,48 @@
+use Rattle.std.proofs.Common.{arith, inr}
+use Rattle.std.proofs.lemmas.Int.{ints}
+use Rattle.sqlite.specs.Held.{state}
+use Rattle.sqlite.specs.State.{HasCleanDisk}
+use Rattle.store_tables.specs.declared.names.Table.TheVariants.{Meta}
+use Rattle.club_opening.proofs.BlameLemmas.{still}
+use Rattle.club_opening.proofs.ExaminedLemmas.{blamed_before, both_same, moment_blamed, moves_number, play_examined}
+use Rattle.club_opening.proofs.ExaminedLemmas.{seen_number}
+use Rattle.club_opening.proofs.opening.examine_play.Goals as goal
+
+pub returns-in-None-clause-blames : goal.returns-in-None-clause-blames
+returns-in-None-clause-blames g c clean has =
+    inr
+    (moment_blamed c.args.rows.now (state g.S.Store c.args.conn.now).now
+    (λ n low is. c.moment.ensures.none c.in-None.is n low (omega (arith, ints, is))) Meta)
+
+pub returns-in-Ok-examine_games-clause-found : goal.returns-in-Ok-examine_games-clause-found
+returns-in-Ok-examine_games-clause-found g c clean has =
+    let s0 = state g.S.Store c.args.conn.now in
+    let s1 = state g.S.Store c.count_of.new.conn in
+    let s2 = state g.S.Store c.count_of-2.new.conn in
+    let s3 = state g.S.Store c.examine_games.new.conn in
+    let clean2 : HasCleanDisk s2 = omega (arith, c.examine_games.ensures.reads.clean) in
+    let clean1 : HasCleanDisk s1 = omega (arith, c.count_of-2.ensures.reads.clean, c.examine_games.ensures.reads.clean)
+    in
+    let moves = c.in-Ok.ensures.counted clean1 has in
+    let seen = c.in-Ok-count_of.ensures.counted clean2 (still s0 s1 moves.same has) in
+    let same = both_same s0 s1 s2 c.in-Ok.count c.in-Ok-count_of.count moves seen in
+    play_examined s0 s1 s2 c.in-Ok.count c.in-Ok-count_of.count moves seen c.args.rows.now s3
+    (c.in-Ok-examine_games.ensures.found clean (still s0 s2 same has) same.0.is_open
+    (moves_number s0 s1 s2 c.in-Ok.count c.in-Ok-count_of.count moves seen)
+    (seen_number s0 s1 s2 c.in-Ok.count c.in-Ok-count_of.count moves seen))
+
+pub returns-in-Err-examine_games-clause-blames : goal.returns-in-Err-examine_games-clause-blames
+returns-in-Err-examine_games-clause-blames g c clean has =
+    let s0 = state g.S.Store c.args.conn.now in
+    let s1 = state g.S.Store c.count_of.new.conn in
+    let s2 = state g.S.Store c.count_of-2.new.conn in
+    let clean2 : HasCleanDisk s2 = omega (arith, c.examine_games.ensures.reads.clean) in
+    let clean1 : HasCleanDisk s1 = omega (arith, c.count_of-2.ensures.reads.clean, c.examine_games.ensures.reads.clean)
+    in
+    let moves = c.in-Ok.ensures.counted clean1 has in
+    let seen = c.in-Ok-count_of.ensures.counted clean2 (still s0 s1 moves.same has) in
+    let same = both_same s0 s1 s2 c.in-Ok.count c.in-Ok-count_of.count moves seen in
+    blamed_before c.args.rows.now s0 s2 c.in-Err-examine_games.fault same
+    (c.in-Err-examine_games.ensures.blames clean (still s0 s2 same has) same.0.is_open
+    (moves_number s0 s1 s2 c.in-Ok.count c.in-Ok-count_of.count moves seen)
+    (seen_number s0 s1 s2 c.in-Ok.count c.in-Ok-count_of.count moves seen))

@@ -1,0 +1,102 @@
+-- The rows of a club's games in a database, and how many of its games were found there.
+use Rattle.std.specs.Prelude.{◌≡◌, ◌+◌, ℕ, zero, suc, pos, not, List, [], ◌∷◌, map, take, length, filter, Option, Some}
+use Rattle.std.specs.Prelude.{None, slice_get}
+use Rattle.sqlite.specs.Order.{Row}
+use Rattle.sqlite.specs.Tree.{Trees}
+use Rattle.sqlite.specs.Effect.{Database}
+use Rattle.sqlite.specs.State.{State, IsUnchanged}
+use Rattle.club_core.specs.LegalState.{Each, IsLegalIn}
+use Rattle.club_rows.specs.Club.{ClubGame, ClubState, IsClub, both_games, tables}
+use Rattle.club_rows.specs.EachOnce.{AreEachOnce}
+use Rattle.club_rows.specs.Scores.{scores_in}
+use Rattle.club_rows.specs.Tables.{number, numbered_from, row_of_game, rows_of_moves, rows_of_seen}
+use Rattle.store_tables.specs.Cells.{game_cells}
+use Rattle.store_tables.specs.Content.{AreApart, cells, same_key}
+use Rattle.store_tables.specs.Tables.{moves, scores, seen}
+use Rattle.store_tables.specs.declared.rows.GameRecord.{GameRecord}
+use Rattle.store_sql.specs.Read.{IsReadAs, beginning_with}
+use Rattle.store_tables.specs.Club.{Holds}
+use Rattle.store_tables.specs.declared.names.Table.{Table}
+use Rattle.store_tables.specs.declared.rows.Rows.{Rows}
+use Rattle.club_audit.specs.Audit.{HasPeople}
+use Rattle.club_audit.specs.Standings.{AreGamesOf}
+use Rattle.club_opening.specs.Places.{IsRegisterOf}
+use Rattle.club_changes.specs.Steps.{HaveSame}
+use Rattle.club_opening.specs.declared.fault.OpenFault.{OpenFault}
+use Rattle.club_opening.specs.declared.fault.OpenFault.TheVariants.{Damaged}
+
+-- the rows of moves, and those of positions
+abbrev pub moves_in : Trees → List Row
+moves_in db = map (cells (moves 8)) (db 8)
+
+abbrev pub seen_in : Trees → List Row
+seen_in db = map (cells (seen 12)) (db 12)
+
+-- those of the rows that begin with none of the numbers 1 to k
+abbrev pub past : ℕ → List Row → List Row
+past zero rows = rows
+past (suc k) rows = filter (λ x. not (same_key (0 ∷ []) x (number (suc k) ∷ []))) (past k rows)
+
+-- the rows are those of this game of the club, which has this id: its own, and those of moves and of positions that
+-- begin as it
+pub record IsFoundAs (s : ClubState) (id : ℕ) (row : GameRecord) (db : Trees) (game : ClubGame) : Type 0 where
+  pub legal : IsLegalIn both_games s game
+  pub row_is : game_cells row ≡ row_of_game both_games s.events id game
+  pub moves_are : HaveSame (beginning_with row.id (moves_in db)) (rows_of_moves both_games s.events id game)
+  pub seen_are : HaveSame (beginning_with row.id (seen_in db)) (rows_of_seen both_games id game)
+
+-- So many games of the club were found: these rows are theirs, and the rows of moves and of positions with their
+-- numbers.
+pub record WereFound (s : ClubState) (rows : List GameRecord) (db : Trees) (count : ℕ) : Type 0 where
+  pub games : List ClubGame
+  pub number_of : length games ≡ count
+  pub legal : Each (IsLegalIn both_games s) games
+  pub rows_are : map game_cells (take count rows) ≡ numbered_from (row_of_game both_games s.events) 1 games
+  pub moves_are : (n : ℕ) (g : ClubGame) → slice_get games n ≡ Some g
+      → HaveSame (beginning_with (pos (1 + n)) (moves_in db)) (rows_of_moves both_games s.events (1 + n) g)
+  pub seen_are : (n : ℕ) (g : ClubGame) → slice_get games n ≡ Some g
+      → HaveSame (beginning_with (pos (1 + n)) (seen_in db)) (rows_of_seen both_games (1 + n) g)
+
+-- A table is called damaged, and no legal club whose register these rows are has the tables of the database.
+abbrev pub NamesPlay : Rows → Database → OpenFault → Type 0
+NamesPlay rows db fault = (t : Table) × (fault ≡ Damaged t)
+    × ((s : ClubState) → IsClub s → IsRegisterOf s rows → ¬ Holds db (tables s))
+
+-- What was read of a game's rows tells: how many are of its moves and of its positions, and that all of them are those
+-- of a
+-- legal game at its place, or a wrong table.
+pub record IsGameFound (rows : Rows) (place : ℕ) (game : GameRecord) (moves seen : ℕ) (wrong : Option Table)
+    (old new : State) : Type 0 where
+  pub same : IsUnchanged old new
+  pub moves_number : moves ≡ length (beginning_with game.id (moves_in old.now.trees))
+  pub seen_number : seen ≡ length (beginning_with game.id (seen_in old.now.trees))
+  pub found : wrong ≡ None → (s : ClubState) → HasPeople s rows → (g : ClubGame)
+      × IsFoundAs s (place + 1) game old.now.trees g
+  pub blamed : (t : Table) → wrong ≡ Some t → NamesPlay rows old.now (Damaged t)
+
+-- what was read of all games tells
+pub record AreGamesFound (rows : Rows) (old new : State) : Type 0 where
+  pub same : IsUnchanged old new
+  pub found : (s : ClubState) → HasPeople s rows → WereFound s rows.games.items old.now.trees (length rows.games.items)
+  pub moves_none : length (past (length rows.games.items) (moves_in old.now.trees)) ≡ 0
+  pub seen_none : length (past (length rows.games.items) (seen_in old.now.trees)) ≡ 0
+
+-- and what is left of the rows when so many games were read, of which a table was wrong or none
+pub record AreLeftAfter (rows : Rows) (place moves seen : ℕ) (wrong : Option Table) (old new : State) : Type 0 where
+  pub same : IsUnchanged old new
+  pub found : wrong ≡ None → (s : ClubState) → HasPeople s rows → WereFound s rows.games.items old.now.trees place
+  pub blamed : (t : Table) → wrong ≡ Some t → NamesPlay rows old.now (Damaged t)
+  pub moves_left : moves ≡ length (past place (moves_in old.now.trees))
+  pub seen_left : seen ≡ length (past place (seen_in old.now.trees))
+
+-- what was read of all games tells, with the rowids of both tables
+pub record IsPlayExamined (rows : Rows) (old new : State) : Type 0 where
+  pub games : AreGamesFound rows old new
+  pub moves_apart : AreApart (old.now.trees 8)
+  pub seen_apart : AreApart (old.now.trees 12)
+
+-- the scores that were read are those of the club whose games the rows are, each once
+pub record AreScoresExamined (rows : Rows) (old new : State) : Type 0 where
+  pub rows_of : List Row
+  pub read : IsReadAs (scores 14) 3 rows_of old new
+  pub are : (t : ClubState) → AreGamesOf t rows.games.items → AreEachOnce rows_of (scores_in both_games t.games)

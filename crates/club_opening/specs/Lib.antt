@@ -1,0 +1,5 @@
+pub mod Blames
+pub mod Examined
+pub mod FaultText
+pub mod Faults
+pub mod Places

@@ -1,0 +1,205 @@
+//! Examining the games of a club, one after another: each by its row, and by those of its moves and of its positions.
+
+ghost use Rattle.std.specs.Prelude.{◌≡◌, ◌⊎◌, ◌+◌, ◌<◌, ◌≤◌, ◌^◌, pos, None, Some, IsTrue, IfOk, IfErr, OnOk, map};
+ghost use Rattle.std.specs.Prelude.{length, slice_get};
+ghost use Rattle.sqlite.specs.State.{HasCleanDisk};
+ghost use Rattle.sqlite.specs.Held.{state};
+ghost use Rattle.store_tables.specs.Reading.{OnlyReads};
+ghost use Rattle.store_tables.specs.Tables.{club_schema};
+ghost use Rattle.store_sql.specs.Read.{AreCounted, AreReadOf};
+ghost use Rattle.club_opening.specs.Blames.{Blames, NamesTable};
+ghost use Rattle.club_opening.specs.Places.{ArePlaces, order};
+ghost use Rattle.club_opening.specs.Examined.{AreGamesFound, IsGameFound, NamesPlay, moves_in, seen_in};
+
+use crate::fault::OpenFault;
+use crate::read::fault_in;
+use clocks::Moment;
+use club_audit::wrong_game;
+use sqlite::{Alter, Connection};
+use std::alloc::Global;
+use store_sql::{Select, check_rowids, read_by_first};
+use store_tables::{GameRecord, MoveRow, Rows, SeenRow, Table};
+
+/// How many rows of moves and of positions there are.
+#[derive(Clone, Copy, Drop)]
+pub(crate) struct Counts {
+    pub moves: usize,
+    pub seen: usize,
+}
+
+/// What was found of the rows of a game: how many are its own, and the first wrong table, if there is one.
+#[derive(Clone, Copy, Drop)]
+struct Found {
+    own: Counts,
+    wrong: Option<Table>,
+}
+
+/// The place of a table in the order in which wrong ones are named.
+fn order_of(table: Table) -> u8
+    ensures { result ≡ order table }
+{
+    match table {
+        Table::Members => 0,
+        Table::Events => 1,
+        Table::Challenges => 2,
+        Table::Moves => 3,
+        Table::Games => 4,
+        Table::Seen => 5,
+        Table::Scores => 6,
+        Table::Meta => 7,
+    }
+}
+
+/// The one of two wrong tables that is named first.
+fn first_of(one: Option<Table>, other: Option<Table>) -> Option<Table>
+    ensures none { result ≡ None → (one ≡ None) × (other ≡ None) }
+    ensures some { (t : Table) → result ≡ Some t → (one ≡ Some t) ⊎ (other ≡ Some t) }
+    ensures first { (t u : Table) → result ≡ Some t → (one ≡ Some u) ⊎ (other ≡ Some u) → order t ≤ order u }
+{
+    let first = match one {
+        Some(first) => first,
+        None => return other,
+    };
+    let second = match other {
+        Some(second) => second,
+        None => return Some(first),
+    };
+    if order_of(second) < order_of(first) {
+        Some(second)
+    } else {
+        Some(first)
+    }
+}
+
+/// A table with so many rows that are no game's, which is wrong where there are some.
+fn left_over(count: usize, table: Table) -> Option<Table>
+    ensures none { result ≡ None → count ≡ 0 }
+    ensures some { (t : Table) → result ≡ Some t → (t ≡ table) × (0 < count) }
+{
+    if count > 0 { Some(table) } else { None }
+}
+
+/// How many rows a table has, which a fault names so. Its rowids are tested.
+pub(crate) fn count_of<T: Select, S: Alter>(
+    alloc: Global,
+    conn: &mut Connection<S>,
+    table: Table,
+) -> Result<usize, OpenFault>
+    ensures reads { OnlyReads (state S.Store conn.old) (state S.Store conn.new) }
+    ensures counted { HasCleanDisk (state S.Store conn.new) → IfOk result (λ count.
+        (state S.Store conn.old).now.schema ≡ club_schema → AreCounted T.table.tree count
+        (state S.Store conn.old) (state S.Store conn.new)) }
+    ensures blames { HasCleanDisk (state S.Store conn.new) → IfErr result (λ e.
+        (state S.Store conn.old).now.schema ≡ club_schema → Blames table T.table T.IsTyped
+        (state S.Store conn.old) e) }
+{
+    match check_rowids::<T, S>(alloc, conn) {
+        Ok(count) => Ok(count),
+        Err(fault) => Err(fault_in(table, fault)),
+    }
+}
+
+/// The rows of a table that begin with the id of a game. A fault names the table so.
+fn read_of<T: Select, S: Alter>(
+    alloc: Global,
+    conn: &mut Connection<S>,
+    table: Table,
+    game: &GameRecord,
+) -> Result<Vec<T>, OpenFault>
+    ensures reads { OnlyReads (state S.Store conn.old) (state S.Store conn.new) }
+    ensures rows { HasCleanDisk (state S.Store conn.new) → IfOk result (λ found.
+        (state S.Store conn.old).now.schema ≡ club_schema → AreReadOf T.table T.width game.now.id
+        (map T.cells found.items) (state S.Store conn.old) (state S.Store conn.new)) }
+    ensures blames { HasCleanDisk (state S.Store conn.new) → IfErr result (λ e.
+        (state S.Store conn.old).now.schema ≡ club_schema → Blames table T.table T.IsTyped
+        (state S.Store conn.old) e) }
+{
+    match read_by_first(alloc, conn, &game.id) {
+        Ok(found) => Ok(found),
+        Err(fault) => Err(fault_in(table, fault)),
+    }
+}
+
+/// Reads all rows of the game at this place, from 0, and tests whether they are those of a legal game, up to the last
+/// moment.
+fn examine_game<S: Alter>(
+    alloc: Global,
+    conn: &mut Connection<S>,
+    rows: &Rows,
+    place: usize,
+    game: &GameRecord,
+    last: Moment,
+) -> Result<Found, OpenFault>
+    requires room { place + 1 < 2 ^ 64 }
+    requires last { rows.now.meta.last ≡ pos last }
+    requires at { slice_get rows.now.games.items place ≡ Some game.now }
+    ensures reads { OnlyReads (state S.Store conn.old) (state S.Store conn.new) }
+    ensures found { HasCleanDisk (state S.Store conn.new) → IfOk result (λ found.
+        (state S.Store conn.old).now.schema ≡ club_schema → IsGameFound rows.now place game.now found.own.moves
+        found.own.seen found.wrong (state S.Store conn.old) (state S.Store conn.new)) }
+    ensures blames { HasCleanDisk (state S.Store conn.new) → IfErr result (λ e.
+        (state S.Store conn.old).now.schema ≡ club_schema →
+        NamesTable (state S.Store conn.old).now e ⊎ NamesPlay rows.now (state S.Store conn.old).now e) }
+{
+    let moves = match read_of::<MoveRow, S>(alloc, conn, Table::Moves, game) {
+        Ok(moves) => moves,
+        Err(fault) => return Err(fault),
+    };
+    let seen = match read_of::<SeenRow, S>(alloc, conn, Table::Seen, game) {
+        Ok(seen) => seen,
+        Err(fault) => return Err(fault),
+    };
+    match wrong_game(alloc, rows, place, game, &moves, &seen, last) {
+        Ok(wrong) => Ok(Found {
+            own: Counts {
+                moves: moves.len(),
+                seen: seen.len(),
+            },
+            wrong,
+        }),
+        Err(_) => Err(OpenFault::Memory),
+    }
+}
+
+/// Reads the rows of all games, one game after another, of so many rows of moves and of positions, and tests that
+/// they are those of legal games, up to the last moment, and that there are no others. Of tables whose rows tell
+/// another game the first is named.
+pub(crate) fn examine_games<S: Alter>(
+    alloc: Global,
+    conn: &mut Connection<S>,
+    rows: &Rows,
+    last: Moment,
+    all: Counts,
+) -> Result<(), OpenFault>
+    requires last { rows.now.meta.last ≡ pos last }
+    requires places { ArePlaces (map (λ r. r.id) rows.now.games.items) }
+    ensures reads { OnlyReads (state S.Store conn.old) (state S.Store conn.new) }
+    ensures found { HasCleanDisk (state S.Store conn.new) → OnOk result (
+        (state S.Store conn.old).now.schema ≡ club_schema → IsTrue (state S.Store conn.old).is_open →
+        all.moves ≡ length (moves_in (state S.Store conn.old).now.trees) →
+        all.seen ≡ length (seen_in (state S.Store conn.old).now.trees) →
+        AreGamesFound rows.now (state S.Store conn.old) (state S.Store conn.new)) }
+    ensures blames { HasCleanDisk (state S.Store conn.new) → IfErr result (λ e.
+        (state S.Store conn.old).now.schema ≡ club_schema → IsTrue (state S.Store conn.old).is_open →
+        all.moves ≡ length (moves_in (state S.Store conn.old).now.trees) →
+        all.seen ≡ length (seen_in (state S.Store conn.old).now.trees) →
+        NamesTable (state S.Store conn.old).now e ⊎ NamesPlay rows.now (state S.Store conn.old).now e) }
+{
+    let mut moves = all.moves;
+    let mut seen = all.seen;
+    let mut wrong = None;
+    for (place, game) in rows.games.iter().enumerate() {
+        let found = match examine_game(alloc, conn, rows, place, game, last) {
+            Ok(found) => found,
+            Err(fault) => return Err(fault),
+        };
+        moves = moves.saturating_sub(found.own.moves);
+        seen = seen.saturating_sub(found.own.seen);
+        wrong = first_of(wrong, found.wrong);
+    }
+    let with_moves = first_of(wrong, left_over(moves, Table::Moves));
+    match first_of(with_moves, left_over(seen, Table::Seen)) {
+        Some(table) => Err(OpenFault::Damaged(table)),
+        None => Ok(()),
+    }
+}

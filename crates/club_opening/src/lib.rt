@@ -1,0 +1,12 @@
+//! What an opening asks of a database: that its tables are those of a club, every row of them. It changes nothing.
+#![tactic(auto)]
+
+mod audit;
+mod fault;
+mod games;
+mod opening;
+mod read;
+
+pub use fault::OpenFault;
+pub use opening::examine;
+pub use read::fault_of;

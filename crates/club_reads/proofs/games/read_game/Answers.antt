@@ -1,0 +1,22 @@
+use Rattle.store_tables.specs.Tables.{club_schema}
+use Rattle.std.proofs.Common.{◌≡◌, Some, ap, sym, subst, ◌∙◌}
+use Rattle.club_core.specs.Answer.{event_of, keyed_of}
+use Rattle.club_core.specs.State.{place, kind_at, terms_at, pairing_of}
+use Rattle.club_rows.specs.Club.{tables}
+use Rattle.club_changes.proofs.Proved.{ids_read, event_stands}
+use Rattle.club_reads.proofs.games.read_game.Goals as goal
+
+pub returns-clause-found : goal.returns-clause-found
+returns-clause-found g c clean s id game is_club at cells k =
+    let ids = c.in_ok-ids.ids in
+    let event = c.in_ok-event.event in
+    let (id_is, event_is) = ids_read (keyed_of ids) id game (c.in_ok-ids.ensures s id game cells) in
+    let (known, there) = event_stands s is_club id game at in
+    let stands : place s.events (pairing_of game).event ≡ Some (event_of event) =
+    there ∙ ap Some (sym (c.in_ok-event.ensures.found clean s k known (ap (place s.events) event_is ∙ there))) in
+    record {
+      id_is = id_is;
+      kind = ap kind_at (sym stands);
+      terms = c.terms_of.ensures ∙ ap terms_at (sym stands);
+      row = cells;
+    }

@@ -1,0 +1,13 @@
+use Rattle.std.proofs.Common.{◌≡◌, List, length, map, take}
+use Rattle.club_core.specs.Answer.{members_of}
+use Rattle.club_core.specs.Members.{Member}
+use Rattle.club_rows.specs.Tables.{numbered_from, member_row}
+use Rattle.store_tables.specs.Cells.{member_cells}
+use Rattle.club_reads.proofs.people.members_of.Given as goal
+
+abbrev pub invariant-loop-row : goal.invariant-loop-row
+invariant-loop-row l = record {
+  count : length l.members.items ≡ l.row-index;
+  values : (all : List Member) → map member_cells l.rows ≡ numbered_from member_row 1 all
+      → members_of l.members.items ≡ take l.row-index all;
+}

@@ -1,0 +1,4 @@
+pub mod CrossTable
+pub mod Exported
+pub mod Keys
+pub mod Viewed

@@ -1,0 +1,72 @@
+//! The challenges of the club.
+
+ghost use Rattle.std.specs.Prelude.{◌≡◌, ◌<◌, pos, Some, IfOk, OnOk, IfSome};
+ghost use Rattle.std.specs.Prelude.{IfNone};
+ghost use Rattle.sqlite.specs.State.{HasCleanDisk};
+ghost use Rattle.sqlite.specs.Held.{state};
+ghost use Rattle.club_core.specs.Challenges.{challenge_by};
+ghost use Rattle.club_rows.specs.Club.{ClubState, IsClub, tables};
+ghost use Rattle.club_rows.specs.Tables.{challenge_row};
+ghost use Rattle.store_tables.specs.Cells.{challenge_cells};
+ghost use Rattle.store_tables.specs.Club.{IsExactly};
+ghost use Rattle.store_tables.specs.Reading.{OnlyReads};
+ghost use Rattle.store_sql.specs.Read.{KeepsContent};
+
+use crate::fault::CallFault;
+use crate::found::first;
+use club_core::Challenge;
+use club_rows::challenge_of;
+use sqlite::{Alter, Connection};
+use std::alloc::Global;
+use store_sql::{ChallengeNumber, find};
+use store_tables::ChallengeRow;
+
+// The challenge of which this is the row.
+fn challenge_in(row: &ChallengeRow) -> Result<Challenge, CallFault>
+    ensures { IfOk result (λ c. challenge_cells row.now ≡ challenge_row c) }
+{
+    match challenge_of(row) {
+        Some(challenge) => Ok(challenge),
+        None => Err(CallFault::Store),
+    }
+}
+
+// What is asked for a member's challenge under the member's number for it, if a row can have that number.
+fn question_of(member: u32, number: u64) -> Option<ChallengeNumber>
+    ensures member { IfSome result (λ q. q.member ≡ pos member) }
+    ensures number { IfSome result (λ q. q.number ≡ pos number) }
+    ensures none { IfNone result (9999 < number) }
+{
+    let Ok(number) = i64::try_from(number) else {
+        return None;
+    };
+    Some(ChallengeNumber {
+        member: i64::from(member),
+        number,
+    })
+}
+
+/// The challenge of a member, if one is given, under the member's number for it.
+pub fn challenge_by<S: Alter>(
+    alloc: Global,
+    conn: &mut Connection<S>,
+    member: Option<u32>,
+    number: u64,
+) -> Result<Option<Challenge>, CallFault>
+    ensures reads { OnlyReads (state S.Store conn.old) (state S.Store conn.new) }
+    ensures kept { HasCleanDisk (state S.Store conn.new) → OnOk result (KeepsContent (state S.Store conn.old)
+        (state S.Store conn.new)) }
+    ensures found { HasCleanDisk (state S.Store conn.new) → IfOk result (λ c. (s : ClubState) → IsClub s →
+        IsExactly (tables s) (state S.Store conn.old) → c ≡ challenge_by s.challenges member number) }
+{
+    let Some(member) = member else {
+        return Ok(None);
+    };
+    let Some(question) = question_of(member, number) else {
+        return Ok(None);
+    };
+    match first(find(alloc, conn, &question)?) {
+        Some(row) => Ok(Some(challenge_in(&row)?)),
+        None => Ok(None),
+    }
+}

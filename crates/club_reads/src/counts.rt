@@ -1,0 +1,199 @@
+//! What a decision in a game makes of the positions that stood in it, and of the scores.
+
+ghost use Rattle.std.specs.Prelude.{◌≡◌, ◌≢◌, ◌≤◌, ◌+◌, ℕ, pos, length, Some, None, IfOk, OnOk};
+ghost use Rattle.sqlite.specs.State.{HasCleanDisk};
+ghost use Rattle.sqlite.specs.Held.{state};
+ghost use Rattle.club_rules.specs.Line.{IsLegalLine, times_stood, FirstStands};
+ghost use Rattle.club_core.specs.Events as core;
+ghost use Rattle.club_core.specs.Game.{Entry, Game, last_position, moves_of};
+ghost use Rattle.club_core.specs.Legal.{IsLegalGame};
+ghost use Rattle.club_core.specs.Step as machine;
+ghost use Rattle.club_core.specs.Step.{game_step};
+ghost use Rattle.club_core.specs.View.{HasMade};
+ghost use Rattle.club_rows.specs.NextScores.{pair_of as pair, IsFound as score_found};
+ghost use Rattle.club_rows.specs.Seen.{IsSeenRow};
+ghost use Rattle.club_rows.specs.Tables.{with_entry};
+ghost use Rattle.store_tables.specs.Cells.{seen_cells};
+ghost use Rattle.store_tables.specs.declared.rows.SeenRow.{SeenRow};
+ghost use Rattle.store_tables.specs.Club.{IsExactly};
+ghost use Rattle.store_tables.specs.Contents.{Content};
+ghost use Rattle.store_tables.specs.Reading.{OnlyReads};
+ghost use Rattle.store_sql.specs.Read.{KeepsContent};
+ghost use Rattle.club_changes.specs.Steps.{TellsSeen, IsSeenAfter, HasTwoPlayers, AreScoresAfter, PutsScores};
+ghost use Rattle.club_changes.specs.Steps.{score_list};
+
+use crate::fault::CallFault;
+use crate::found::first;
+use club_core::Decision;
+use club_rows::{ScorePair, Stood, score_after, seen_after, stood_in};
+use club_rules::Rules;
+use sqlite::{Alter, Connection};
+use squares::Score;
+use std::alloc::Global;
+use store_sql::{ScorePair as PairOf, SeenPosition, find};
+use store_tables::{ScoreRow, SeenRow};
+
+// The row of a position that stands in the game after that ply, once more or for the first time.
+fn seen_at<R: Rules, S: Alter>(
+    alloc: Global,
+    conn: &mut Connection<S>,
+    game: u32,
+    position: &R::Position,
+    ply: u32,
+) -> Result<SeenRow, CallFault>
+    ensures reads { OnlyReads (state S.Store conn.old) (state S.Store conn.new) }
+    ensures kept { HasCleanDisk (state S.Store conn.new) → OnOk result (KeepsContent (state S.Store conn.old)
+        (state S.Store conn.new)) }
+    ensures seen { HasCleanDisk (state S.Store conn.new) → IfOk result (λ row. (content : Content) (old : Game R.Move)
+        (e : Entry R.Move) → IsExactly content (state S.Store conn.old) → TellsSeen R.rules game old content →
+        position.now ≡ last_position R.rules (with_entry old e) → length old.entries ≤ 600 →
+        ply ≡ length old.entries + 1 →
+        IsSeenRow R.rules game (with_entry old e) (R.rules.write_position position.now) (seen_cells row)) }
+{
+    let text = R::write_position(alloc, position)?;
+    let question = SeenPosition {
+        game: i64::from(game),
+        position: text.as_str(),
+    };
+    let found = first(find(alloc, conn, &question)?);
+    let row = seen_after::<R>(alloc, game, text.as_str(), found.as_ref(), ply)?;
+    Ok(row)
+}
+
+/// The row of the position that a decision's move leads to, after so many plies; none where it made no move.
+pub fn seen_by<R: Rules, S: Alter>(
+    alloc: Global,
+    conn: &mut Connection<S>,
+    game: u32,
+    decision: &Decision<R>,
+    plies: u32,
+) -> Result<Option<SeenRow>, CallFault>
+    requires { plies ≤ 600 }
+    ensures reads { OnlyReads (state S.Store conn.old) (state S.Store conn.new) }
+    ensures kept { HasCleanDisk (state S.Store conn.new) → OnOk result (KeepsContent (state S.Store conn.old)
+        (state S.Store conn.new)) }
+    ensures seen { HasCleanDisk (state S.Store conn.new) → IfOk result (λ seen. (content : Content) (terms : core.Terms)
+        (old : Game R.Move) (moment : ℕ) (who : _) (command : machine.GameCommand) →
+        IsExactly content (state S.Store conn.old) → TellsSeen R.rules game old content →
+        IsLegalGame R.rules terms old → plies ≡ length old.entries →
+        HasMade R.rules old (game_step R.rules terms old moment who command) decision.now →
+        IsSeenAfter R.rules game (game_step R.rules terms old moment who command) decision.now seen) }
+{
+    match decision {
+        Decision::Accepted {
+            row: _,
+            made,
+            answer: _,
+        } => match made {
+            Some(made) => {
+                let row = seen_at::<R, S>(alloc, conn, game, &made.position, plies + 1)?;
+                Ok(Some(row))
+            }
+            None => Ok(None),
+        },
+        _ => Ok(None),
+    }
+}
+
+/// How often the position of the row stood, and after which ply first. Nobody looks at the numbers where there is none.
+pub fn stood_by<R: Rules>(seen: &Option<SeenRow>) -> Stood
+    ensures { (row : SeenRow) → seen.now ≡ Some row → (id : ℕ) (game : Game R.Move) →
+        IsLegalLine R.rules R.rules.start (moves_of game) →
+        IsSeenRow R.rules id game (R.rules.write_position (last_position R.rules game)) (seen_cells row) →
+        (result.times ≡ times_stood R.rules R.rules.start (moves_of game))
+        × FirstStands R.rules R.rules.start (moves_of game) result.first_ply }
+{
+    match seen {
+        Some(row) => stood_in::<R>(row),
+        None => Stood {
+            times: 0,
+            first_ply: 0,
+        },
+    }
+}
+
+// The question for the row of a member and an opponent in an event.
+fn pair_of(event: u32, member: u32, opponent: u32) -> PairOf
+    ensures event { result.event ≡ pos event }
+    ensures member { result.member ≡ pos member }
+    ensures opponent { result.opponent ≡ pos opponent }
+{
+    PairOf {
+        event: i64::from(event),
+        member: i64::from(member),
+        opponent: i64::from(opponent),
+    }
+}
+
+// What a member scored against an opponent in an event so far, if they met.
+fn score_of<S: Alter>(
+    alloc: Global,
+    conn: &mut Connection<S>,
+    event: u32,
+    member: u32,
+    opponent: u32,
+) -> Result<Option<ScoreRow>, CallFault>
+    ensures reads { OnlyReads (state S.Store conn.old) (state S.Store conn.new) }
+    ensures kept { HasCleanDisk (state S.Store conn.new) → OnOk result (KeepsContent (state S.Store conn.old)
+        (state S.Store conn.new)) }
+    ensures found { HasCleanDisk (state S.Store conn.new) → IfOk result (λ row. (content : Content) →
+        IsExactly content (state S.Store conn.old) → score_found (content 14) (pair event member opponent) row) }
+{
+    let question = pair_of(event, member, opponent);
+    let row = first(find(alloc, conn, &question)?);
+    Ok(row)
+}
+
+/// The rows of scores of two players whose game ended so.
+pub fn scores_with<S: Alter>(
+    alloc: Global,
+    conn: &mut Connection<S>,
+    event: u32,
+    one: u32,
+    other: u32,
+    score: Score,
+) -> Result<ScorePair, CallFault>
+    ensures reads { OnlyReads (state S.Store conn.old) (state S.Store conn.new) }
+    ensures kept { HasCleanDisk (state S.Store conn.new) → OnOk result (KeepsContent (state S.Store conn.old)
+        (state S.Store conn.new)) }
+    ensures puts { HasCleanDisk (state S.Store conn.new) → IfOk result (λ pair. (content : Content) →
+        IsExactly content (state S.Store conn.old) → one ≢ other →
+        PutsScores (content 14) event one other score (score_list (Some pair))) }
+{
+    let firsts = score_of(alloc, conn, event, one, other)?;
+    let seconds = score_of(alloc, conn, event, other, one)?;
+    match score_after(event, one, other, score, firsts.as_ref(), seconds.as_ref()) {
+        Some(pair) => Ok(pair),
+        None => Err(CallFault::Store),
+    }
+}
+
+/// The rows of scores that a decision puts: those of the two players where the game has ended by it.
+pub fn scores_by<R: Rules, S: Alter>(
+    alloc: Global,
+    conn: &mut Connection<S>,
+    decision: &Decision<R>,
+) -> Result<Option<ScorePair>, CallFault>
+    ensures reads { OnlyReads (state S.Store conn.old) (state S.Store conn.new) }
+    ensures kept { HasCleanDisk (state S.Store conn.new) → OnOk result (KeepsContent (state S.Store conn.old)
+        (state S.Store conn.new)) }
+    ensures scores { HasCleanDisk (state S.Store conn.new) → IfOk result (λ scores. (content : Content) →
+        IsExactly content (state S.Store conn.old) → HasTwoPlayers decision.now →
+        AreScoresAfter (content 14) decision.now scores) }
+{
+    let row = match decision {
+        Decision::Accepted {
+            row,
+            made: _,
+            answer: _,
+        } => row,
+        _ => return Ok(None),
+    };
+    match row.result {
+        Some(score) => {
+            let pair = scores_with(alloc, conn, row.event, row.first, row.second, score)?;
+            Ok(Some(pair))
+        }
+        None => Ok(None),
+    }
+}

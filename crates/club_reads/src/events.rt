@@ -1,0 +1,99 @@
+//! The events of the club.
+
+ghost use Rattle.std.specs.Prelude.{◌≡◌, ◌≤◌, ◌<◌, ℕ, List, map, Some, None, IfOk, OnOk};
+ghost use Rattle.std.specs.Prelude.{length};
+ghost use Rattle.sqlite.specs.State.{HasCleanDisk};
+ghost use Rattle.sqlite.specs.Held.{state};
+ghost use Rattle.club_core.specs.Answer.{event_of, events_of};
+ghost use Rattle.club_core.specs.Events as core;
+ghost use Rattle.club_core.specs.State as club;
+ghost use Rattle.club_core.specs.State.{place};
+ghost use Rattle.club_rows.specs.Tables.{number, numbered_from, event_row};
+ghost use Rattle.store_tables.specs.Cells.{event_cells};
+ghost use Rattle.store_tables.specs.Club.{IsExactly};
+ghost use Rattle.store_tables.specs.Reading.{OnlyReads};
+ghost use Rattle.store_sql.specs.Read.{KeepsContent};
+ghost use Rattle.club_rows.specs.Club.{ClubState, tables};
+
+use crate::fault::CallFault;
+use crate::found::first;
+use club_core::Event;
+use club_core::values::MOST_EVENTS;
+use club_rows::kind_of;
+use club_rows::numbers::counted;
+use sqlite::{Alter, Connection};
+use std::alloc::Global;
+use store_sql::{find_by_first, list};
+use store_tables::EventRow;
+
+// The event of which this is the row.
+pub(crate) fn event_of(row: &EventRow) -> Result<Event, CallFault>
+    ensures { IfOk result (λ e. (id : ℕ) (event : core.Event) → event_cells row.now ≡ event_row id event →
+        event_of e ≡ event) }
+{
+    let game = match kind_of(row.game) {
+        Some(game) => game,
+        None => return Err(CallFault::Store),
+    };
+    let (Some(budget), Some(increment)) = (counted(row.budget), counted(row.increment)) else {
+        return Err(CallFault::Store);
+    };
+    Ok(Event {
+        name: row.name.clone()?,
+        game,
+        budget,
+        increment,
+    })
+}
+
+// The events of which these are the rows, by id.
+fn events_of(alloc: Global, rows: &[EventRow]) -> Result<Vec<Event>, CallFault>
+    ensures room { IfOk result (λ events. length events.items ≤ 50) }
+    ensures values { IfOk result (λ events. (all : List core.Event) →
+        map event_cells rows.now ≡ numbered_from event_row 1 all → events_of events.items ≡ all) }
+{
+    if rows.len() > MOST_EVENTS {
+        return Err(CallFault::Store);
+    }
+    let mut events = Vec::new(alloc);
+    for row in rows {
+        events.push(event_of(row)?)?;
+    }
+    Ok(events)
+}
+
+/// The events of the club, by id.
+pub fn all_events<S: Alter>(
+    alloc: Global,
+    conn: &mut Connection<S>,
+) -> Result<Vec<Event>, CallFault>
+    ensures reads { OnlyReads (state S.Store conn.old) (state S.Store conn.new) }
+    ensures kept { HasCleanDisk (state S.Store conn.new) → OnOk result (KeepsContent (state S.Store conn.old)
+        (state S.Store conn.new)) }
+    ensures room { IfOk result (λ events. length events.items ≤ 50) }
+    ensures values { HasCleanDisk (state S.Store conn.new) → IfOk result (λ events. (s : ClubState) →
+        IsExactly (tables s) (state S.Store conn.old) → events_of events.items ≡ s.events) }
+{
+    let events = events_of(alloc, &list::<EventRow, S>(alloc, conn)?)?;
+    Ok(events)
+}
+
+// The event of this id.
+pub(crate) fn event_with<S: Alter>(
+    alloc: Global,
+    conn: &mut Connection<S>,
+    event: u32,
+) -> Result<Event, CallFault>
+    ensures reads { OnlyReads (state S.Store conn.old) (state S.Store conn.new) }
+    ensures kept { HasCleanDisk (state S.Store conn.new) → OnOk result (KeepsContent (state S.Store conn.old)
+        (state S.Store conn.new)) }
+    ensures found { HasCleanDisk (state S.Store conn.new) → IfOk result (λ e. (s : ClubState) →
+        IsExactly (tables s) (state S.Store conn.old) → (known : core.Event) → place s.events event ≡ Some known →
+        event_of e ≡ known) }
+{
+    let number = i64::from(event);
+    match first(find_by_first::<EventRow, S>(alloc, conn, &number)?) {
+        Some(row) => Ok(event_of(&row)?),
+        None => Err(CallFault::Store),
+    }
+}

@@ -1,0 +1,11 @@
+//! The one row that is asked for.
+
+ghost use Rattle.std.specs.Prelude.{◌≡◌, ◌<◌};
+ghost use Rattle.std.specs.Prelude.{slice_get};
+
+// The first of the rows, if there is one.
+pub(crate) fn first<T: Drop>(rows: Vec<T>) -> Option<T>
+    ensures { result ≡ slice_get rows.items 0 }
+{
+    rows.into_iter().next()
+}

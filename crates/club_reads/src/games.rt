@@ -1,0 +1,133 @@
+//! The games of the club as they are stored.
+
+ghost use Rattle.std.specs.Prelude.{◌≡◌, ◌<◌, ℕ, Some, None, IfOk, OnOk};
+ghost use Rattle.std.specs.Prelude.{length};
+ghost use Rattle.std.specs.Option.{option_map};
+ghost use Rattle.sqlite.specs.State.{HasCleanDisk};
+ghost use Rattle.sqlite.specs.Held.{state};
+ghost use Rattle.club_core.specs.Answer.{keyed_of};
+ghost use Rattle.club_core.specs.State.{place, game_under, keyed_game};
+ghost use Rattle.club_rows.specs.Tables.{number};
+ghost use Rattle.store_tables.specs.Cells.{game_cells};
+ghost use Rattle.store_tables.specs.Club.{IsExactly};
+ghost use Rattle.store_tables.specs.Reading.{OnlyReads};
+ghost use Rattle.store_sql.specs.Read.{KeepsContent};
+ghost use Rattle.club_rows.specs.Club.{ClubGame, ClubState, IsClub, tables};
+ghost use Rattle.club_changes.specs.Steps.{game_in};
+ghost use Rattle.club_changes.specs.Stored.{IsStoredGame, IsFoundGame};
+ghost use Rattle.std.specs.Prelude.{Option};
+
+use crate::events::event_with;
+use crate::fault::CallFault;
+use crate::found::first;
+use club_changes::{StoredGame, terms_of};
+use club_core::{KeyedGame, Pairing};
+use club_rows::numbers::id;
+use sqlite::{Alter, Connection};
+use std::alloc::Global;
+use store_sql::{GameKey, count, find, find_by_first};
+use store_tables::GameRecord;
+
+// The ids in the row of a game: its own, and those of its event and players.
+pub(crate) fn ids_in(row: &GameRecord) -> Result<KeyedGame, CallFault>
+    ensures { IfOk result (λ k. (s : ClubState) (id : ℕ) (game : ClubGame) →
+        game_cells row.now ≡ game_in s id game →
+        Some (keyed_of k) ≡ keyed_game (Some game) id) }
+{
+    let (Some(game), Some(event), Some(first), Some(second)) = (
+        id(row.id),
+        id(row.event),
+        id(row.first),
+        id(row.second),
+    ) else {
+        return Err(CallFault::Store);
+    };
+    Ok(KeyedGame {
+        game,
+        pairing: Pairing {
+            event,
+            first,
+            second,
+        },
+    })
+}
+
+/// The game that stands under a key, if there is one.
+pub fn game_under<S: Alter>(
+    alloc: Global,
+    conn: &mut Connection<S>,
+    key: &str,
+) -> Result<Option<KeyedGame>, CallFault>
+    ensures reads { OnlyReads (state S.Store conn.old) (state S.Store conn.new) }
+    ensures kept { HasCleanDisk (state S.Store conn.new) → OnOk result (KeepsContent (state S.Store conn.old)
+        (state S.Store conn.new)) }
+    ensures found { HasCleanDisk (state S.Store conn.new) → IfOk result (λ k. (s : ClubState) → IsClub s →
+        IsExactly (tables s) (state S.Store conn.old) →
+        option_map keyed_of k ≡ game_under s.games key.now) }
+{
+    match first(find(alloc, conn, &GameKey { key })?) {
+        Some(row) => Ok(Some(ids_in(&row)?)),
+        None => Ok(None),
+    }
+}
+
+// A game as its row and that of its event tell it.
+pub(crate) fn read_game<S: Alter>(
+    alloc: Global,
+    conn: &mut Connection<S>,
+    row: GameRecord,
+) -> Result<StoredGame, CallFault>
+    ensures reads { OnlyReads (state S.Store conn.old) (state S.Store conn.new) }
+    ensures kept { HasCleanDisk (state S.Store conn.new) → OnOk result (KeepsContent (state S.Store conn.old)
+        (state S.Store conn.new)) }
+    ensures found { HasCleanDisk (state S.Store conn.new) → IfOk result (λ stored. (s : ClubState) (id : ℕ)
+        (game : ClubGame) → IsClub s → place s.games id ≡ Some game → game_cells row ≡ game_in s id game →
+        IsExactly (tables s) (state S.Store conn.old) → IsStoredGame s id game stored) }
+{
+    let ids = ids_in(&row)?;
+    let event = event_with(alloc, conn, ids.pairing.event)?;
+    Ok(StoredGame {
+        id: ids.game,
+        kind: event.game,
+        terms: terms_of(&event),
+        row,
+    })
+}
+
+/// The game of this number as it is stored, if there is one.
+pub fn stored_game<S: Alter>(
+    alloc: Global,
+    conn: &mut Connection<S>,
+    game: u64,
+) -> Result<Option<StoredGame>, CallFault>
+    ensures reads { OnlyReads (state S.Store conn.old) (state S.Store conn.new) }
+    ensures kept { HasCleanDisk (state S.Store conn.new) → OnOk result (KeepsContent (state S.Store conn.old)
+        (state S.Store conn.new)) }
+    ensures found { HasCleanDisk (state S.Store conn.new) → IfOk result (λ found. (s : ClubState) → IsClub s →
+        IsExactly (tables s) (state S.Store conn.old) → IsFoundGame s game found) }
+{
+    let Ok(id) = i64::try_from(game) else {
+        return Ok(None);
+    };
+    match first(find_by_first::<GameRecord, S>(alloc, conn, &id)?) {
+        Some(row) => {
+            let stored = read_game(alloc, conn, row)?;
+            Ok(Some(stored))
+        }
+        None => Ok(None),
+    }
+}
+
+/// How many games there are.
+pub fn games_in<S: Alter>(conn: &mut Connection<S>) -> Result<u32, CallFault>
+    ensures reads { OnlyReads (state S.Store conn.old) (state S.Store conn.new) }
+    ensures kept { HasCleanDisk (state S.Store conn.new) → OnOk result (KeepsContent (state S.Store conn.old)
+        (state S.Store conn.new)) }
+    ensures count { HasCleanDisk (state S.Store conn.new) → IfOk result (λ games. (s : ClubState) →
+        IsExactly (tables s) (state S.Store conn.old) → games ≡ length s.games) }
+{
+    match u32::try_from(count::<GameRecord, S>(conn)?) {
+        Ok(games) => Ok(games),
+        Err(_) => Err(CallFault::Store),
+    }
+}

@@ -1,0 +1,84 @@
+//! What an import may ask of the club.
+
+ghost use Rattle.std.specs.Prelude.{◌≡◌, ◌≤◌, ℕ, List, length, Option, Some, IfOk, OnOk};
+ghost use Rattle.std.specs.Option.{option_map};
+ghost use Rattle.sqlite.specs.State.{HasCleanDisk};
+ghost use Rattle.sqlite.specs.Held.{state};
+ghost use Rattle.club_core.specs.Answer.{keyed_of};
+ghost use Rattle.club_core.specs.State.{game_under};
+ghost use Rattle.club_rows.specs.Club.{ClubState, IsClub, tables};
+ghost use Rattle.store_tables.specs.Club.{IsExactly};
+ghost use Rattle.store_tables.specs.Reading.{OnlyReads};
+ghost use Rattle.store_sql.specs.Read.{KeepsContent};
+ghost use Rattle.club_changes.specs.Importing.{IsUnder, IsKnown};
+
+use crate::events::all_events;
+use crate::fault::CallFault;
+use crate::found::first;
+use crate::games::{games_in, ids_in, read_game};
+use crate::people::all_members;
+use club_changes::{Known, StoredGame};
+use club_core::KeyedGame;
+use sqlite::{Alter, Connection};
+use std::alloc::Global;
+use store_sql::{GameKey, find};
+
+// The game that stands under a key as it is stored, if there is one.
+pub(crate) fn stored_under<S: Alter>(
+    alloc: Global,
+    conn: &mut Connection<S>,
+    key: &str,
+) -> Result<Option<StoredGame>, CallFault>
+    ensures reads { OnlyReads (state S.Store conn.old) (state S.Store conn.new) }
+    ensures kept { HasCleanDisk (state S.Store conn.new) → OnOk result (KeepsContent (state S.Store conn.old)
+        (state S.Store conn.new)) }
+    ensures found { HasCleanDisk (state S.Store conn.new) → IfOk result (λ found. (s : ClubState) → IsClub s →
+        IsExactly (tables s) (state S.Store conn.old) → IsUnder s key.now found) }
+{
+    match first(find(alloc, conn, &GameKey { key })?) {
+        Some(row) => {
+            let stored = read_game(alloc, conn, row)?;
+            Ok(Some(stored))
+        }
+        None => Ok(None),
+    }
+}
+
+// The ids of a stored game.
+fn keyed(under: &Option<StoredGame>) -> Result<Option<KeyedGame>, CallFault>
+    ensures { IfOk result (λ k. (s : ClubState) (key : List ℕ) → IsUnder s key under.now →
+        option_map keyed_of k ≡ game_under s.games key) }
+{
+    match under {
+        Some(stored) => Ok(Some(ids_in(&stored.row)?)),
+        None => Ok(None),
+    }
+}
+
+/// What the club has that an import under this key may ask of.
+pub fn read_known<S: Alter>(
+    alloc: Global,
+    conn: &mut Connection<S>,
+    key: &str,
+) -> Result<Known, CallFault>
+    ensures reads { OnlyReads (state S.Store conn.old) (state S.Store conn.new) }
+    ensures kept { HasCleanDisk (state S.Store conn.new) → OnOk result (KeepsContent (state S.Store conn.old)
+        (state S.Store conn.new)) }
+    ensures members { IfOk result (λ known. length known.members.items ≤ 200) }
+    ensures events { IfOk result (λ known. length known.events.items ≤ 50) }
+    ensures known { HasCleanDisk (state S.Store conn.new) → IfOk result (λ known. (s : ClubState) → IsClub s →
+        IsExactly (tables s) (state S.Store conn.old) → IsKnown s key.now known) }
+{
+    let under = stored_under(alloc, conn, key)?;
+    let keyed = keyed(&under)?;
+    let games = games_in(conn)?;
+    let members = all_members(alloc, conn)?;
+    let events = all_events(alloc, conn)?;
+    Ok(Known {
+        members,
+        events,
+        keyed,
+        under,
+        games,
+    })
+}

@@ -1,0 +1,44 @@
+//! The moment of the last accepted command.
+
+ghost use Rattle.std.specs.Prelude.{◌≡◌, ◌<◌, ℕ, [], ◌∷◌, Some, None, IfOk, OnOk};
+ghost use Rattle.sqlite.specs.State.{HasCleanDisk};
+ghost use Rattle.sqlite.specs.Held.{state};
+ghost use Rattle.club_rows.specs.Tables.{number};
+ghost use Rattle.store_tables.specs.Cells.{meta_cells};
+ghost use Rattle.store_tables.specs.Club.{IsExactly};
+ghost use Rattle.store_tables.specs.Reading.{OnlyReads};
+ghost use Rattle.store_sql.specs.Read.{KeepsContent};
+ghost use Rattle.club_rows.specs.Club.{ClubState, tables};
+
+use crate::fault::CallFault;
+use crate::found::first;
+use clocks::Moment;
+use club_rows::numbers::moment as moment_of;
+use sqlite::{Alter, Connection};
+use std::alloc::Global;
+use store_sql::list;
+use store_tables::MetaRow;
+
+// The moment that the row of `meta` has.
+fn last_in(row: &MetaRow) -> Result<Moment, CallFault>
+    ensures { IfOk result (λ last. (n : ℕ) → meta_cells row.now ≡ number 1 ∷ number 1 ∷ number n ∷ [] → last ≡ n) }
+{
+    match moment_of(row.last) {
+        Some(last) => Ok(last),
+        None => Err(CallFault::Store),
+    }
+}
+
+/// The moment of the last accepted command.
+pub fn last_moment<S: Alter>(alloc: Global, conn: &mut Connection<S>) -> Result<Moment, CallFault>
+    ensures reads { OnlyReads (state S.Store conn.old) (state S.Store conn.new) }
+    ensures kept { HasCleanDisk (state S.Store conn.new) → OnOk result (KeepsContent (state S.Store conn.old)
+        (state S.Store conn.new)) }
+    ensures last { HasCleanDisk (state S.Store conn.new) → IfOk result (λ last. (s : ClubState) → IsExactly (tables s)
+        (state S.Store conn.old) → last ≡ s.last) }
+{
+    match first(list::<MetaRow, S>(alloc, conn)?) {
+        Some(row) => Ok(last_in(&row)?),
+        None => Err(CallFault::Store),
+    }
+}

@@ -1,0 +1,153 @@
+//! The members of the club, and who gives a command.
+
+ghost use Rattle.std.specs.Prelude.{◌≡◌, ◌≤◌, ◌<◌, ℕ, List, map, Some, None, IfOk, OnOk};
+ghost use Rattle.std.specs.Prelude.{length, string_bytes};
+ghost use Rattle.sqlite.specs.State.{HasCleanDisk};
+ghost use Rattle.sqlite.specs.Held.{state};
+ghost use Rattle.club_core.specs.Answer.{members_of};
+ghost use Rattle.club_core.specs.Members as core_members;
+ghost use Rattle.club_core.specs.State as club;
+ghost use Rattle.club_core.specs.State.{place};
+ghost use Rattle.club_rows.specs.Tables.{number, numbered_from, member_row};
+ghost use Rattle.store_tables.specs.Cells.{member_cells};
+ghost use Rattle.store_tables.specs.Club.{IsExactly};
+ghost use Rattle.store_tables.specs.Reading.{OnlyReads};
+ghost use Rattle.store_sql.specs.Read.{KeepsContent};
+ghost use Rattle.club_rows.specs.Club.{ClubState, IsClub, tables};
+ghost use Rattle.club_core.specs.Answer.{who_of};
+ghost use Rattle.club_core.specs.Members.{find_id};
+ghost use Rattle.club_core.specs.State.{caller_found, caller_of, has_member_key};
+ghost use Rattle.std.specs.Prelude.{◌↔◌, Err, IsTrue};
+ghost use Rattle.club_reads.specs.Keys.{HasKey};
+
+use crate::fault::CallFault;
+use crate::found::first;
+use club_core::values::MOST_MEMBERS;
+use club_core::{Caller, Member, Who};
+use club_rows::numbers::id;
+use sqlite::{Alter, Connection};
+use std::alloc::Global;
+use store_sql::{MemberKey, find, find_by_first, list};
+use store_tables::MemberRow;
+
+// The members of which these are the rows, by id.
+fn members_of(alloc: Global, rows: &[MemberRow]) -> Result<Vec<Member>, CallFault>
+    ensures room { IfOk result (λ members. length members.items ≤ 200) }
+    ensures values { IfOk result (λ members. (all : List core_members.Member) →
+        map member_cells rows.now ≡ numbered_from member_row 1 all → members_of members.items ≡ all) }
+{
+    if rows.len() > MOST_MEMBERS {
+        return Err(CallFault::Store);
+    }
+    let mut members = Vec::new(alloc);
+    for row in rows {
+        members.push(Member {
+            name: row.name.clone()?,
+            key: row.key.clone()?,
+        })?;
+    }
+    Ok(members)
+}
+
+/// The members of the club, by id.
+pub fn all_members<S: Alter>(
+    alloc: Global,
+    conn: &mut Connection<S>,
+) -> Result<Vec<Member>, CallFault>
+    ensures reads { OnlyReads (state S.Store conn.old) (state S.Store conn.new) }
+    ensures kept { HasCleanDisk (state S.Store conn.new) → OnOk result (KeepsContent (state S.Store conn.old)
+        (state S.Store conn.new)) }
+    ensures room { IfOk result (λ members. length members.items ≤ 200) }
+    ensures values { HasCleanDisk (state S.Store conn.new) → IfOk result (λ members. (s : ClubState) →
+        IsExactly (tables s) (state S.Store conn.old) → members_of members.items ≡ s.members) }
+{
+    let members = members_of(alloc, &list::<MemberRow, S>(alloc, conn)?)?;
+    Ok(members)
+}
+
+// The member of whom this is the row.
+fn member_in(row: &MemberRow) -> Result<Caller, CallFault>
+    ensures { IfOk result (λ caller. (id : ℕ) (member : core_members.Member) →
+        member_cells row.now ≡ member_row id member → caller ≡ Caller.Member id) }
+{
+    match id(row.id) {
+        Some(id) => Ok(Caller::Member(id)),
+        None => Err(CallFault::Store),
+    }
+}
+
+// The member who has a key, if there is one.
+pub(crate) fn member_with<S: Alter>(
+    alloc: Global,
+    conn: &mut Connection<S>,
+    key: &str,
+) -> Result<Option<Caller>, CallFault>
+    ensures reads { OnlyReads (state S.Store conn.old) (state S.Store conn.new) }
+    ensures kept { HasCleanDisk (state S.Store conn.new) → OnOk result (KeepsContent (state S.Store conn.old)
+        (state S.Store conn.new)) }
+    ensures found { HasCleanDisk (state S.Store conn.new) → IfOk result (λ caller. (s : ClubState) → IsClub s →
+        IsExactly (tables s) (state S.Store conn.old) →
+        caller ≡ caller_found (find_id (has_member_key key.now) s.members)) }
+{
+    match first(find(alloc, conn, &MemberKey { key })?) {
+        Some(row) => Ok(Some(member_in(&row)?)),
+        None => Ok(None),
+    }
+}
+
+/// Who gives a command: the officer, or the member who has the key, if there is one.
+pub fn caller_by<S: Alter>(
+    alloc: Global,
+    conn: &mut Connection<S>,
+    who: &Who,
+) -> Result<Option<Caller>, CallFault>
+    ensures reads { OnlyReads (state S.Store conn.old) (state S.Store conn.new) }
+    ensures kept { HasCleanDisk (state S.Store conn.new) → OnOk result (KeepsContent (state S.Store conn.old)
+        (state S.Store conn.new)) }
+    ensures found { HasCleanDisk (state S.Store conn.new) → IfOk result (λ caller. (s : ClubState) → IsClub s →
+        IsExactly (tables s) (state S.Store conn.old) → caller ≡ caller_of s.members (who_of who.now)) }
+{
+    match who {
+        Who::Officer => Ok(Some(Caller::Officer)),
+        Who::Key(key) => {
+            let member = member_with(alloc, conn, key.as_str())?;
+            Ok(member)
+        }
+    }
+}
+
+// The name of the member of this id.
+pub(crate) fn name_of<S: Alter>(
+    alloc: Global,
+    conn: &mut Connection<S>,
+    member: u32,
+) -> Result<String, CallFault>
+    ensures reads { OnlyReads (state S.Store conn.old) (state S.Store conn.new) }
+    ensures kept { HasCleanDisk (state S.Store conn.new) → OnOk result (KeepsContent (state S.Store conn.old)
+        (state S.Store conn.new)) }
+    ensures found { HasCleanDisk (state S.Store conn.new) → IfOk result (λ name. (s : ClubState) →
+        IsExactly (tables s) (state S.Store conn.old) → (known : core_members.Member) →
+        place s.members member ≡ Some known → string_bytes name ≡ known.name) }
+{
+    let number = i64::from(member);
+    match first(find_by_first::<MemberRow, S>(alloc, conn, &number)?) {
+        Some(row) => Ok(row.name),
+        None => Err(CallFault::Store),
+    }
+}
+
+/// Whether a member has the key.
+pub fn is_held<S: Alter>(
+    alloc: Global,
+    conn: &mut Connection<S>,
+    key: &str,
+) -> Result<bool, CallFault>
+    ensures reads { OnlyReads (state S.Store conn.old) (state S.Store conn.new) }
+    ensures kept { HasCleanDisk (state S.Store conn.new) → OnOk result (KeepsContent (state S.Store conn.old)
+        (state S.Store conn.new)) }
+    ensures held { HasCleanDisk (state S.Store conn.new) → IfOk result (λ found. (s : ClubState) → IsClub s →
+        IsExactly (tables s) (state S.Store conn.old) → IsTrue found ↔ HasKey s key.now) }
+{
+    let member = member_with(alloc, conn, key)?;
+    Ok(member.is_some())
+}

@@ -1,0 +1,178 @@
+//! What the rows of a game show: its view by its own row, and by the rows of the ply that is asked of.
+
+ghost use Rattle.std.specs.Prelude.{◌≡◌, ◌<◌, pos, IfOk, OnOk, None};
+ghost use Rattle.std.specs.Option.{option_map};
+ghost use Rattle.club_core.specs.Events as core;
+ghost use Rattle.club_core.specs.Game.{Game};
+ghost use Rattle.club_core.specs.Legal.{IsLegalGame};
+ghost use Rattle.club_core.specs.View.{IsSound, Shows, ShowsPly, terms_of};
+ghost use Rattle.club_rows.specs.Replay.{terms_given};
+ghost use Rattle.club_rows.specs.RowView.{HasLastStood, AreRowsAt, row_at};
+ghost use Rattle.sqlite.specs.State.{HasCleanDisk};
+ghost use Rattle.sqlite.specs.Held.{state};
+ghost use Rattle.store_tables.specs.Cells.{move_cells};
+ghost use Rattle.store_tables.specs.Club.{IsExactly};
+ghost use Rattle.store_tables.specs.Contents.{Content};
+ghost use Rattle.store_tables.specs.Reading.{OnlyReads};
+ghost use Rattle.store_sql.specs.Read.{KeepsContent};
+ghost use Rattle.club_changes.specs.Steps.{IsRecordOf, TellsMoves, TellsSeen};
+
+use crate::fault::CallFault;
+use crate::found::first;
+use club_changes::StoredGame;
+use club_core::GameView;
+use club_core::values::MOST_PLIES;
+use club_rows::{PlyRows, Stood, ask_rows, stood_in, view_of_row};
+use club_rules::Rules;
+use sqlite::{Alter, Connection};
+use std::alloc::Global;
+use store_sql::{MovePly, SeenPosition, find};
+use store_tables::MoveRow;
+
+// The question for the row of a position.
+fn position_of<'a>(game: u32, position: &'a str) -> SeenPosition<'a>
+    ensures game { result.game ≡ pos game }
+    ensures position { result.position.now ≡ position.now }
+{
+    SeenPosition {
+        game: i64::from(game),
+        position,
+    }
+}
+
+// How often the last position of a game stood, and after which ply first.
+fn last_stood<R: Rules, S: Alter>(
+    alloc: Global,
+    conn: &mut Connection<S>,
+    stored: &StoredGame,
+) -> Result<Stood, CallFault>
+    ensures reads { OnlyReads (state S.Store conn.old) (state S.Store conn.new) }
+    ensures kept { HasCleanDisk (state S.Store conn.new) → OnOk result (KeepsContent (state S.Store conn.old)
+        (state S.Store conn.new)) }
+    ensures stood { HasCleanDisk (state S.Store conn.new) →
+        IfOk result (λ stood. (content : Content) (game : Game R.Move) →
+        IsExactly content (state S.Store conn.old) → TellsSeen R.rules stored.now.id game content →
+        IsRecordOf R.rules (terms_given stored.now.terms) stored.now.id stored.now.row game →
+        HasLastStood R.rules game stood) }
+{
+    let question = position_of(stored.id, stored.row.position.as_str());
+    match first(find(alloc, conn, &question)?) {
+        Some(row) => Ok(stood_in::<R>(&row)),
+        None => Err(CallFault::Store),
+    }
+}
+
+// The question for the row of a ply.
+fn ply_of(game: u32, ply: u32) -> MovePly
+    ensures game { result.game ≡ pos game }
+    ensures ply { result.ply ≡ pos ply }
+{
+    MovePly {
+        game: i64::from(game),
+        ply: i64::from(ply),
+    }
+}
+
+// The row of a ply, if it was played.
+pub(crate) fn row_of<R: Rules, S: Alter>(
+    alloc: Global,
+    conn: &mut Connection<S>,
+    game: u32,
+    ply: u32,
+) -> Result<Option<MoveRow>, CallFault>
+    ensures reads { OnlyReads (state S.Store conn.old) (state S.Store conn.new) }
+    ensures kept { HasCleanDisk (state S.Store conn.new) → OnOk result (KeepsContent (state S.Store conn.old)
+        (state S.Store conn.new)) }
+    ensures found { HasCleanDisk (state S.Store conn.new) → IfOk result (λ row. (content : Content) (terms : core.Terms)
+        (old : Game R.Move) → IsExactly content (state S.Store conn.old) → TellsMoves R.rules terms game old content →
+        option_map move_cells row ≡ row_at R.rules terms game old ply) }
+{
+    let question = ply_of(game, ply);
+    let row = first(find(alloc, conn, &question)?);
+    Ok(row)
+}
+
+// No row of a ply, nor of the one before it.
+fn no_rows() -> PlyRows
+    ensures at { result.at ≡ None }
+    ensures before { result.before ≡ None }
+{
+    PlyRows {
+        at: None,
+        before: None,
+    }
+}
+
+// The rows of a ply and of the one before it. No game has a ply past the last one that a game may have.
+fn rows_at<R: Rules, S: Alter>(
+    alloc: Global,
+    conn: &mut Connection<S>,
+    game: u32,
+    ply: u64,
+) -> Result<PlyRows, CallFault>
+    ensures reads { OnlyReads (state S.Store conn.old) (state S.Store conn.new) }
+    ensures kept { HasCleanDisk (state S.Store conn.new) → OnOk result (KeepsContent (state S.Store conn.old)
+        (state S.Store conn.new)) }
+    ensures found { HasCleanDisk (state S.Store conn.new) →
+        IfOk result (λ rows. (content : Content) (terms : core.Terms)
+        (old : Game R.Move) → IsExactly content (state S.Store conn.old) → TellsMoves R.rules terms game old content →
+        IsLegalGame R.rules terms old → AreRowsAt R.rules terms game old ply rows) }
+{
+    if ply == 0 {
+        return Ok(no_rows());
+    }
+    if ply > u64::from(MOST_PLIES) + 1 {
+        return Ok(no_rows());
+    }
+    let at = row_of::<R, S>(alloc, conn, game, ply as u32)?;
+    let before = row_of::<R, S>(alloc, conn, game, ply as u32 - 1)?;
+    Ok(PlyRows { at, before })
+}
+
+// The view of a stored game, with no ply asked of.
+pub(crate) fn view<R: Rules, S: Alter>(
+    alloc: Global,
+    conn: &mut Connection<S>,
+    stored: &StoredGame,
+) -> Result<GameView<R>, CallFault>
+    ensures reads { OnlyReads (state S.Store conn.old) (state S.Store conn.new) }
+    ensures kept { HasCleanDisk (state S.Store conn.new) → OnOk result (KeepsContent (state S.Store conn.old)
+        (state S.Store conn.new)) }
+    ensures sound { IfOk result (IsSound R.rules) }
+    ensures terms { IfOk result (λ view. terms_of view ≡ terms_given stored.now.terms) }
+    ensures shows { HasCleanDisk (state S.Store conn.new) →
+        IfOk result (λ view. (content : Content) (game : Game R.Move) →
+        IsExactly content (state S.Store conn.old) → TellsSeen R.rules stored.now.id game content →
+        IsRecordOf R.rules (terms_given stored.now.terms) stored.now.id stored.now.row game → Shows R.rules game view) }
+{
+    let stood = last_stood::<R, S>(alloc, conn, stored)?;
+    match view_of_row::<R>(alloc, &stored.row, stored.terms, stood)? {
+        Some(view) => Ok(view),
+        None => Err(CallFault::Store),
+    }
+}
+
+/// The view of a stored game, asked of a ply.
+pub fn asked_view<R: Rules, S: Alter>(
+    alloc: Global,
+    conn: &mut Connection<S>,
+    stored: &StoredGame,
+    ply: u64,
+) -> Result<GameView<R>, CallFault>
+    ensures reads { OnlyReads (state S.Store conn.old) (state S.Store conn.new) }
+    ensures kept { HasCleanDisk (state S.Store conn.new) → OnOk result (KeepsContent (state S.Store conn.old)
+        (state S.Store conn.new)) }
+    ensures sound { IfOk result (IsSound R.rules) }
+    ensures terms { IfOk result (λ view. terms_of view ≡ terms_given stored.now.terms) }
+    ensures shows { HasCleanDisk (state S.Store conn.new) →
+        IfOk result (λ view. (content : Content) (game : Game R.Move) →
+        IsExactly content (state S.Store conn.old) → TellsSeen R.rules stored.now.id game content →
+        TellsMoves R.rules (terms_given stored.now.terms) stored.now.id game content →
+        IsRecordOf R.rules (terms_given stored.now.terms) stored.now.id stored.now.row game →
+        Shows R.rules game view × ShowsPly R.rules game ply view) }
+{
+    let view = view::<R, S>(alloc, conn, stored)?;
+    let rows = rows_at::<R, S>(alloc, conn, stored.id, ply)?;
+    let asked = ask_rows(alloc, view, ply, &rows)?;
+    Ok(asked)
+}
