@@ -103,7 +103,12 @@ fn changed_rows<R: Rules>(
     // Seconds that 63 bits hold are stored as they are.
     ensures { IfOk result (λ changes. (terms : core.Terms) (new : Game R.Move) → row.now.left_first < 2 ^ 63 →
         row.now.left_second < 2 ^ 63 → left_answered answer.now < 2 ^ 63 → IsRowOf R.rules terms new row.now →
-        Puts changes moment (record no_rows { games = game_row R.rules terms game new ∷ []; moves = answered_rows game answer.now moment; seen = seen_list counts.seen; scores = score_list counts.scores })) }
+        Puts changes moment (record no_rows {
+          games = game_row R.rules terms game new ∷ [];
+          moves = answered_rows game answer.now moment;
+          seen = seen_list counts.seen;
+          scores = score_list counts.scores;
+        })) }
 {
     let mut changes = at(alloc, moment);
     changes.games.push(record_of::<R>(alloc, game, row)?)?;
