@@ -30,9 +30,13 @@ def processes():
             with open(f"/proc/{name}/status") as it:
                 peak = re.search(r"VmHWM:\s+(\d+)", it.read())
             folder = os.readlink(f"/proc/{name}/cwd")
+            with open(f"/proc/{fields[1]}/cmdline", "rb") as it:
+                above = it.read().split(b"\0")[0].decode(errors="replace")
         except OSError:
             continue
-        yield name, words, fields, peak, folder
+        # A check's own helpers count for it once they have ended.
+        if os.path.basename(above) != "rattle":
+            yield name, words, fields, peak, folder
 
 
 def look():
