@@ -124,7 +124,24 @@ fn given(
     Ok(club.apply(alloc, &asked.who, &asked.command, asked.moment))
 }
 
-/// A club's requests, a line each and all accepted, and one more, which is stopped.
+// What every club of these trials begins with.
+const PEOPLE: &str = "1000 officer member anna keyanna1
+1000 officer member bert keybert2
+1000 officer event autumn draughts 60 5
+1000 officer event fuji shogi 60 5";
+
+/// Gives the club these requests, a line each, which it accepts.
+fn accept_all(alloc: Global, club: &mut Club<Stopping>, lines: &str) -> Result<(), Fail> {
+    for line in lines.lines() {
+        match given(alloc, club, line)?? {
+            Outcome::Accepted(_) => {}
+            _ => return Err(Fail::new("not accepted before the stop")),
+        }
+    }
+    Ok(())
+}
+
+/// Requests of a club with its people, a line each and all accepted, and one more, which is stopped.
 #[derive(Clone, Copy)]
 struct Trial<'a> {
     before: &'a str,
@@ -143,12 +160,8 @@ fn begun(alloc: Global, trial: Trial<'_>) -> Result<Image, Fail> {
         Ok(club) => club,
         Err(unopened) => return Err(Fail::from(unopened.fault)),
     };
-    for line in trial.before.lines() {
-        match given(alloc, &mut club, line)?? {
-            Outcome::Accepted(_) => {}
-            _ => return Err(Fail::new("not accepted before the stop")),
-        }
-    }
+    accept_all(alloc, &mut club, PEOPLE)?;
+    accept_all(alloc, &mut club, trial.before)?;
     image_of(alloc, &closed(club))
 }
 
@@ -212,8 +225,7 @@ fn make_wanted(alloc: Global, trial: Trial<'_>, before: &Image) -> Result<Wanted
 }
 
 /// Whole before the request, which is then accepted, or whole after it, which is then repeated; what was answered
-/// stands.
-/// A sweep is not repeated: after it there is nothing more to end.
+/// stands. A sweep is not repeated: after it there is nothing more to end.
 fn is_whole(wanted: &Wanted, answered: bool, found: &Tables, outcome: &Outcome) -> bool {
     match outcome {
         Outcome::Accepted(Answer::Swept { count: 0 }) => *found == wanted.after,
@@ -275,10 +287,7 @@ fn a_stopped_move_is_whole_or_none(rt: HostRuntime) -> Result<(), Fail> {
     whole_or_none(
         &rt,
         Trial {
-            before: "1000 officer member anna keyanna1
-1000 officer member bert keybert2
-1000 officer event autumn draughts 60 5
-1000 officer seat g1 autumn anna bert
+            before: "1000 officer seat g1 autumn anna bert
 1000 officer move 1 1 32-28
 1000 officer move 1 2 20-25",
             stopped: "1000 officer move 1 3 31-26",
@@ -291,10 +300,7 @@ fn a_stopped_offer_is_whole_or_none(rt: HostRuntime) -> Result<(), Fail> {
     whole_or_none(
         &rt,
         Trial {
-            before: "1000 officer member anna keyanna1
-1000 officer member bert keybert2
-1000 officer event autumn draughts 60 5
-1000 officer seat g1 autumn anna bert",
+            before: "1000 officer seat g1 autumn anna bert",
             stopped: "1010 keyanna1 offer 1 1",
         },
     )
@@ -305,10 +311,7 @@ fn a_stopped_agreement_is_whole_or_none(rt: HostRuntime) -> Result<(), Fail> {
     whole_or_none(
         &rt,
         Trial {
-            before: "1000 officer member anna keyanna1
-1000 officer member bert keybert2
-1000 officer event autumn draughts 60 5
-1000 officer seat g1 autumn anna bert
+            before: "1000 officer seat g1 autumn anna bert
 1010 keyanna1 offer 1 1",
             stopped: "1020 keybert2 accept 1 1",
         },
@@ -320,10 +323,7 @@ fn a_stopped_resignation_is_whole_or_none(rt: HostRuntime) -> Result<(), Fail> {
     whole_or_none(
         &rt,
         Trial {
-            before: "1000 officer member anna keyanna1
-1000 officer member bert keybert2
-1000 officer event fuji shogi 60 5
-1000 officer seat s1 fuji anna bert
+            before: "1000 officer seat s1 fuji anna bert
 1005 keyanna1 move 1 1 7g7f",
             stopped: "1010 keybert2 resign 1",
         },
@@ -335,10 +335,7 @@ fn a_stopped_claim_of_time_is_whole_or_none(rt: HostRuntime) -> Result<(), Fail>
     whole_or_none(
         &rt,
         Trial {
-            before: "1000 officer member anna keyanna1
-1000 officer member bert keybert2
-1000 officer event fuji shogi 60 5
-1000 officer seat s1 fuji anna bert",
+            before: "1000 officer seat s1 fuji anna bert",
             stopped: "1061 keybert2 claim 1",
         },
     )
@@ -349,11 +346,7 @@ fn a_stopped_sweep_is_whole_or_none(rt: HostRuntime) -> Result<(), Fail> {
     whole_or_none(
         &rt,
         Trial {
-            before: "1000 officer member anna keyanna1
-1000 officer member bert keybert2
-1000 officer event autumn draughts 60 5
-1000 officer event fuji shogi 60 5
-1000 officer seat g1 autumn anna bert
+            before: "1000 officer seat g1 autumn anna bert
 1000 officer seat s1 fuji bert anna
 1010 keyanna1 move 1 1 32-28",
             stopped: "1071 officer sweep",
@@ -366,9 +359,7 @@ fn a_stopped_challenge_is_whole_or_none(rt: HostRuntime) -> Result<(), Fail> {
     whole_or_none(
         &rt,
         Trial {
-            before: "1000 officer member anna keyanna1
-1000 officer member bert keybert2
-1000 officer event autumn draughts 60 5",
+            before: "",
             stopped: "1010 keyanna1 challenge 1 autumn bert first",
         },
     )
@@ -379,10 +370,7 @@ fn a_stopped_withdrawal_is_whole_or_none(rt: HostRuntime) -> Result<(), Fail> {
     whole_or_none(
         &rt,
         Trial {
-            before: "1000 officer member anna keyanna1
-1000 officer member bert keybert2
-1000 officer event autumn draughts 60 5
-1010 keyanna1 challenge 1 autumn bert first",
+            before: "1010 keyanna1 challenge 1 autumn bert first",
             stopped: "1020 keyanna1 withdraw 1",
         },
     )
@@ -394,10 +382,7 @@ fn a_stopped_answer_is_whole_or_none(rt: HostRuntime) -> Result<(), Fail> {
     whole_or_none(
         &rt,
         Trial {
-            before: "1000 officer member anna keyanna1
-1000 officer member bert keybert2
-1000 officer event fuji shogi 60 5
-1010 keyanna1 challenge 1 fuji bert second",
+            before: "1010 keyanna1 challenge 1 fuji bert second",
             stopped: "1020 keybert2 answer anna 1 accept",
         },
     )
