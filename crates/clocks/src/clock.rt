@@ -44,8 +44,7 @@ impl Clock {
     }
 
     /// The last second, in Unix seconds, at which a move is in time whose seconds run from `since`. It may lie past
-    /// every
-    /// moment.
+    /// every moment.
     pub fn deadline(self, since: Moment) -> u64
         requires { since + self.left < 2 ^ 64 }
         ensures { result ≡ since + self.left }

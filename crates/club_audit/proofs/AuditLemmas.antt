@@ -10,7 +10,7 @@ use Rattle.store_tables.specs.declared.rows.GameRecord.{GameRecord}
 use Rattle.club_rows.specs.Club.{both_games, ClubGame, ClubState}
 use Rattle.club_rows.specs.Tables.{numbered_from, row_of_game}
 use Rattle.club_audit.proofs.PlacedLemmas.{numbered-at, numbered-back}
-use Rattle.club_rows.proofs.ToldLemmas.{columns-told}
+use Rattle.club_rows.proofs.Proved.{columns-told}
 
 -- ---- lists
 

@@ -13,19 +13,17 @@ use Rattle.club_core.specs.LegalState.{Each, AreApart, IsLegalChallenge}
 use Rattle.club_core.specs.Limits.{is_challenge_number}
 use Rattle.club_core.specs.Seats.{Pairing}
 use Rattle.club_core.specs.State.{draughts, shogi, place, terms_at, pairing_of}
-use Rattle.club_core.proofs.Lists.{map-at, map-got}
-use Rattle.club_core.proofs.Room.{le-true}
+use Rattle.club_core.proofs.Proved.{map-at, map-got, le-true}
 use Rattle.store_tables.specs.Cells.{challenge_cells, game_cells, event_cells}
 use Rattle.store_tables.specs.declared.rows.ChallengeRow.{ChallengeRow}
 use Rattle.store_tables.specs.declared.rows.GameRecord.{GameRecord}
 use Rattle.store_tables.specs.declared.rows.Rows.{Rows}
-use Rattle.store_tables.proofs.Laws.{same_by}
+use Rattle.store_tables.proofs.Proved.{same_by}
 use Rattle.club_rows.specs.ChallengeRows.{HasShortGame, HasShortNumbers}
 use Rattle.club_rows.specs.Club.{both_games, ClubGame, ClubState, IsClub}
 use Rattle.club_rows.specs.EachOnce.{AreEachOnce}
 use Rattle.club_rows.specs.Tables.{challenge_row, event_row, numbered_from, row_of_game}
-use Rattle.club_rows.proofs.ChallengeLemmas.{challenge-had}
-use Rattle.club_rows.proofs.ToldLemmas.{columns-told, same-pos}
+use Rattle.club_rows.proofs.Proved.{challenge-had, columns-told, same-pos}
 use Rattle.club_audit.specs.Audit.{HasPeople}
 use Rattle.club_audit.specs.ChallengeAudit.{AreChallenges, HasItsGame, IsChallengeAmong, IsChallengeOf, IsRowOfPairing}
 use Rattle.club_audit.specs.ChallengeKeys.{key_in}

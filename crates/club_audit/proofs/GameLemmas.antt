@@ -22,7 +22,7 @@ use Rattle.club_core.specs.Legal.{IsTimely, IsLegalGame}
 use Rattle.club_core.specs.LegalState.{Each, IsGameOf}
 use Rattle.club_core.specs.State.{draughts, shogi, place, kind_at, terms_at}
 use Rattle.club_core.specs.View.{IsRowOf, Shows, clocks_in, terms_of}
-use Rattle.club_core.proofs.LegalSteps.{in-place}
+use Rattle.club_core.proofs.Proved.{in-place}
 use Rattle.store_tables.specs.Cells.{event_cells, move_cells}
 use Rattle.store_tables.specs.declared.rows.EventRow.{EventRow}
 use Rattle.store_tables.specs.declared.rows.GameRecord.{GameRecord}
@@ -37,10 +37,10 @@ use Rattle.club_rows.specs.Replay.{terms_with}
 use Rattle.club_rows.specs.Shown.{AreRowsOf}
 use Rattle.club_rows.specs.Tables.{event_row, member_row, kind_number, game_row, move_rows, rows_of_seen}
 use Rattle.club_rows.specs.Seen.{seen_rows}
-use Rattle.club_rows.proofs.KindLemmas.{Kind, event_in, in_draughts, in_shogi, kinds-alike}
+use Rattle.club_rows.proofs.Proved.{Kind, event_in, in_draughts, in_shogi, kinds-alike, IsToldBy, columns-told}
+use Rattle.club_rows.proofs.Proved.{same-pos, since-rises, spend-since}
 use Rattle.club_audit.proofs.PeopleLemmas.{EventParts, event-parts}
 use Rattle.club_audit.proofs.PlacedLemmas.{numbered-at, numbered-back, numbered-length}
-use Rattle.club_rows.proofs.ToldLemmas.{IsToldBy, columns-told, same-pos, since-rises, spend-since}
 
 -- ---- places
 

@@ -6,6 +6,7 @@ pub mod MatchLemmas
 pub mod NumberLemmas
 pub mod PeopleLemmas
 pub mod PlacedLemmas
+pub mod Proved
 pub mod SeenCounts
 pub mod SeenMoves
 pub mod StandingLemmas

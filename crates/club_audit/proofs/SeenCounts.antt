@@ -11,7 +11,7 @@ use Rattle.sqlite_value.specs.declared.value.Value.{Value}
 use Rattle.sqlite_value.specs.declared.value.Value.TheVariants.{Text}
 use Rattle.sqlite.specs.Order.{Row, column}
 use Rattle.sqlite_rules.specs.Lists.{Has}
-use Rattle.club_core.proofs.Lists.{same-bytes_eq, bytes_eq-same, got-append}
+use Rattle.club_core.proofs.Proved.{same-bytes_eq, bytes_eq-same, got-append}
 use Rattle.store_tables.specs.Cells.{seen_cells}
 use Rattle.store_tables.specs.declared.rows.SeenRow.{SeenRow}
 use Rattle.club_rows.specs.Seen.{FirstAt, times_in, seen_row, rows_of_texts}
@@ -20,9 +20,8 @@ use Rattle.club_audit.specs.SeenAudit.{AreCounted, IsCountOf, HasCounted}
 use Rattle.club_rows.specs.Tally.{stood_seldom, stood_then}
 use Rattle.club_rows.specs.declared.tally.Stood.{Stood}
 use Rattle.club_audit.proofs.MatchLemmas.{Took, took-start, took-more}
-use Rattle.club_rows.proofs.SeenAfter.{times-none}
-use Rattle.club_rows.proofs.SeenTexts.{Texts, row-had, row-has, one-row, one-first, times-new, times-other, first-more}
-use Rattle.club_rows.proofs.SeenTexts.{first-new}
+use Rattle.club_rows.proofs.Proved.{times-none, Texts, row-had, row-has, one-row, one-first, times-new, times-other}
+use Rattle.club_rows.proofs.Proved.{first-more, first-new}
 
 -- what is found of each text
 abbrev pub Found : Type 0

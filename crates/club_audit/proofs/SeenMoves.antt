@@ -16,8 +16,7 @@ use Rattle.store_tables.specs.declared.rows.MoveRow.{MoveRow}
 use Rattle.club_rows.specs.Seen.{texts_of}
 use Rattle.club_audit.specs.SeenAudit.{texts_in}
 use Rattle.club_rows.specs.Tables.{with_entry, at_start, entry_row, entry_rows, move_rows}
-use Rattle.club_rows.proofs.SeenGame.{map-more}
-use Rattle.club_rows.proofs.WholeLemmas.{take-got}
+use Rattle.club_rows.proofs.Proved.{map-more, take-got}
 
 abbrev text_in : MoveRow → List ℕ
 text_in row = string_bytes row.position

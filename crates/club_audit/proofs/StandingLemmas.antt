@@ -24,8 +24,8 @@ use Rattle.club_rows.specs.Pairs.{firsts_pair, pair_in, seconds_pair, sums_at}
 use Rattle.club_rows.specs.declared.scores.Pair.{Pair}
 use Rattle.club_rows.specs.declared.scores.OwnScore.{OwnScore}
 use Rattle.club_rows.specs.declared.scores.Sums.{Sums}
-use Rattle.club_rows.proofs.ScoreRows.{pair_same, pair_itself, pairs_of, rows_had, rows_has, scores_append, scores_none}
-use Rattle.club_rows.proofs.ScoreAfter.{gained, fit, scores_few}
+use Rattle.club_rows.proofs.Proved.{pair_same, pair_itself, pairs_of, rows_had, rows_has, scores_append, scores_none}
+use Rattle.club_rows.proofs.Proved.{gained, fit, scores_few}
 
 -- ---- one score more
 

@@ -13,7 +13,7 @@ use Rattle.club_rows.specs.Club.{ClubGame, ClubState, both_games}
 use Rattle.club_rows.specs.Scores.{meetings_if, meetings_in}
 use Rattle.club_audit.specs.Standings.{AreGamesOf, AreTold, Tells}
 use Rattle.club_rows.specs.Tables.{numbered_from, row_of_game}
-use Rattle.club_rows.proofs.ToldLemmas.{IsToldBy, columns-told}
+use Rattle.club_rows.proofs.Proved.{IsToldBy, columns-told}
 use Rattle.club_rules.specs.GameRules.{GameRules}
 
 tells : {P M E T : Type 0} (rules : GameRules P M E T) (id : ℕ) (game : Game M) (row : GameRecord)

@@ -132,8 +132,7 @@ pub record AreAllOf (s : ClubState) (id : ℕ) (row : GameRecord) (moves : List 
 -- ---- a club but for the moves and the positions of its games
 
 -- The rows are those of the members, the events and the challenges of a legal club; there are no more games than a club
--- may
--- have, and no two with one key.
+-- may have, and no two with one key.
 pub record HaveRegister (rows : Rows) : Type 0 where
   pub state : ClubState
   pub people : HasPeople state rows

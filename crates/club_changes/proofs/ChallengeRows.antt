@@ -11,13 +11,12 @@ use Rattle.club_core.specs.declared.challenges.Standing.{Standing}
 use Rattle.club_core.specs.declared.challenges.Standing.TheVariants.{Open, Withdrawn, Refused, Accepted}
 use Rattle.club_core.specs.Challenges.{challenge_under}
 use Rattle.club_core.specs.LegalState.{IsLegalChallenge}
-use Rattle.club_core.proofs.Room.{le-true}
-use Rattle.club_core.proofs.PutChallenges.{under-each, under-found, under-key}
+use Rattle.club_core.proofs.Proved.{le-true, under-each, under-found, under-key}
 use Rattle.club_rows.specs.ChallengeRows.{challenge_key}
 use Rattle.club_rows.specs.Club.{ClubState, IsClub, tables}
 use Rattle.club_rows.specs.Tables.{challenge_row}
-use Rattle.club_rows.proofs.ChallengeLemmas.{challenge-shown, challenge-not-shown, challenge-told, no-challenge-told}
-use Rattle.club_rows.proofs.ChallengeLemmas.{challenges-alike}
+use Rattle.club_rows.proofs.Proved.{challenge-shown, challenge-not-shown, challenge-told, no-challenge-told}
+use Rattle.club_rows.proofs.Proved.{challenges-alike}
 use Rattle.store_tables.specs.Cells.{IsChallenge, challenge_cells}
 use Rattle.store_tables.specs.Contents.{AreThose}
 use Rattle.store_tables.specs.declared.rows.ChallengeRow.{ChallengeRow}

@@ -24,12 +24,11 @@ use Rattle.club_core.specs.Outcome.{unless_repeat}
 use Rattle.club_core.specs.Seats.{Pairing}
 use Rattle.club_core.specs.State.{AnyGame, State, place, kind_at, seated_as, is_accepted, with_challenge, with_answer}
 use Rattle.club_core.specs.State.{with_imported, challenge_game}
-use Rattle.club_rows.specs.Club.{both_games, ClubState, IsClub, tables}
+use Rattle.club_rows.specs.Club.{both_games, ClubState, IsClub}
 use Rattle.club_rows.specs.Scores.{meetings_in}
 use Rattle.club_rows.specs.Tables.{challenge_row, row_of_game, rows_of_moves, rows_of_seen, tables_of}
-use Rattle.club_rows.proofs.ChallengeLemmas.{challenge-put, seated-added}
-use Rattle.club_rows.proofs.ScoreLemmas.{scores_seated}
-use Rattle.store_tables.proofs.AlterLemmas.{altered}
+use Rattle.club_rows.proofs.Proved.{challenge-put, seated-added, scores_seated}
+use Rattle.store_tables.proofs.Proved.{altered}
 use Rattle.store_tables.specs.declared.rows.Changes.{Changes}
 use Rattle.club_changes.specs.declared.decided.Decided.{Decided}
 use Rattle.club_changes.specs.Challenged.{PutsBegun, AnswersTo, standing_after, begun_games, begun_seen, begun_meetings}

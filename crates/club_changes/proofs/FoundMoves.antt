@@ -1,5 +1,5 @@
 -- The row of a ply, by the rows that are found for it.
-use Rattle.std.proofs.Common.{◌≡◌, ℕ, zero, suc, ◌+◌, ◌-◌, ◌<◌, ◌≤◌, List, [], ◌∷◌, length, map, pos, Option, Some}
+use Rattle.std.proofs.Common.{◌≡◌, ℕ, zero, suc, ◌+◌, ◌-◌, ◌<◌, ◌≤◌, List, [], ◌∷◌, length, pos, Option, Some}
 use Rattle.std.proofs.Common.{None, true, refl, ap, sym, subst, subst₂, ◌∙◌, arith, inl, inr}
 use Rattle.std.specs.Prelude.{slice_get}
 use Rattle.std.specs.Option.{option_map}
@@ -13,20 +13,15 @@ use Rattle.club_rules.specs.declared.names.GameKind.{GameKind}
 use Rattle.club_rules.specs.GameRules.{GameRules}
 use Rattle.club_core.specs.Events.{Terms}
 use Rattle.club_core.specs.Game.{Game}
-use Rattle.club_core.specs.Legal.{IsLegalGame}
 use Rattle.club_core.specs.State.{place, terms_at}
 use Rattle.club_rows.specs.Club.{ClubGame, both_games, ClubState, tables}
 use Rattle.club_rows.specs.RowView.{row_at, AreRowsAt}
 use Rattle.club_rows.specs.declared.row_view.PlyRows.{PlyRows}
 use Rattle.club_rows.specs.Tables.{number, move_rows, rows_of_moves, at_start}
-use Rattle.club_rows.proofs.KindLemmas.{Kind}
-use Rattle.club_rows.proofs.SeenLemmas.{same-numbers}
-use Rattle.club_rows.proofs.WholeLemmas.{rows-count}
+use Rattle.club_rows.proofs.Proved.{Kind, same-numbers, rows-count}
 use Rattle.store_tables.specs.Cells.{move_cells}
 use Rattle.store_tables.specs.Content.{same_key}
-use Rattle.store_tables.specs.Contents.{AreThose}
-use Rattle.store_tables.specs.declared.rows.MoveRow.{MoveRow}
-use Rattle.store_tables.proofs.Laws.{equal_ints, equal_from}
+use Rattle.store_tables.proofs.Proved.{equal_ints, equal_from}
 use Rattle.club_changes.specs.Steps.{TellsMoves}
 use Rattle.club_changes.proofs.PutSame.{gathered_had, gathered_has, had_at}
 use Rattle.club_changes.proofs.NextRows.{entry_rows_at, moves_had}

@@ -15,15 +15,15 @@ use Rattle.club_core.specs.Members.{Member, find_id}
 use Rattle.club_core.specs.State.{place, caller_found, has_member_key}
 use Rattle.club_core.specs.declared.requests.Caller.{Caller}
 use Rattle.club_core.specs.declared.requests.Caller.TheVariants as caller
-use Rattle.club_core.proofs.Lists.{bytes_eq-same, same-bytes_eq, find_id-found, find_id-none}
+use Rattle.club_core.proofs.Proved.{bytes_eq-same, same-bytes_eq, find_id-found, find_id-none}
 use Rattle.club_rows.specs.Club.{ClubState, IsClub, tables}
 use Rattle.club_rows.specs.Tables.{number, member_row, event_row}
 use Rattle.store_tables.specs.Cells.{member_cells}
 use Rattle.store_tables.specs.declared.rows.MemberRow.{MemberRow}
 use Rattle.store_tables.specs.Content.{same_key}
 use Rattle.store_tables.specs.Contents.{AreThose}
-use Rattle.store_tables.proofs.Laws.{equal_cmp, equal_from}
-use Rattle.club_changes.proofs.PutSame.{numbered_had, numbered_has, ids_same, ids_agree}
+use Rattle.store_tables.proofs.Proved.{equal_cmp, equal_from}
+use Rattle.club_changes.proofs.PutSame.{numbered_had, numbered_has, ids_same}
 use Rattle.club_changes.proofs.ClubPlayed.{place_at}
 
 -- ---- the member of a key

@@ -1,5 +1,5 @@
 -- What the rows of a game tell, where they are those of a club.
-use Rattle.std.proofs.Common.{◌≡◌, ℕ, suc, ◌+◌, ◌<◌, ◌≤◌, List, [], ◌∷◌, length, map, pos, SFits, w64, Option, Some}
+use Rattle.std.proofs.Common.{◌≡◌, ℕ, suc, ◌+◌, ◌<◌, ◌≤◌, List, [], ◌∷◌, length, pos, SFits, w64, Option, Some}
 use Rattle.std.proofs.Common.{None, true, refl, ap, sym, subst, subst₂, ◌∙◌, arith, true≢false}
 use Rattle.std.specs.Prelude.{ℤ, slice_get, IsSome}
 use Rattle.std.specs.Cmp.{tied_itself}
@@ -18,43 +18,34 @@ use Rattle.sqlite_value.proofs.OrderLemmas.{value_cmp_total, value_cmp-Text, val
 use Rattle.sqlite_rules.specs.Lists.{Has}
 use Rattle.club_rules.specs.declared.names.GameKind.{GameKind}
 use Rattle.club_rules.specs.GameRules.{GameRules}
-use Rattle.club_core.specs.Events.{Event, Terms}
+use Rattle.club_core.specs.Events.{Event}
 use Rattle.club_core.specs.Members.{Member, find_id}
 use Rattle.club_core.specs.Seats.{KeyedGame}
 use Rattle.club_core.specs.Game.{Game, clocks_of}
 use Rattle.club_core.specs.LegalState.{IsLegalIn}
 use Rattle.club_core.specs.Step.{GameCommand, game_step}
 use Rattle.club_core.specs.declared.requests.Caller.{Caller}
-use Rattle.club_core.proofs.LegalSteps.{in-place}
+use Rattle.club_core.proofs.Proved.{in-place, bytes_eq-same, same-bytes_eq, find_id-found, find_id-none}
 use Rattle.club_rows.specs.Replay.{terms_given}
 use Rattle.club_core.specs.Limits.{last_moment}
 use Rattle.club_core.specs.State as club
 use Rattle.club_core.specs.State.{AnyGame, place, terms_at, key_of, is_key, has_key, at_found, any_under, keyed_at}
 use Rattle.club_core.specs.State.{keyed_game, game_under, pairing_of, on_game}
-use Rattle.club_core.specs.View.{IsSound, Shows, terms_of}
-use Rattle.club_rules.specs.Line.{IsLegalLine}
-use Rattle.club_rows.specs.declared.view.Played.{Played}
-use Rattle.club_core.proofs.Lists.{bytes_eq-same, same-bytes_eq, find_id-found, find_id-none}
-use Rattle.club_rows.specs.Shown.{AreRowsOf, IsHistoryOf, ShowsGame, IsSoundIfShown}
-use Rattle.club_rows.specs.declared.view.Shown.{Shown}
-use Rattle.club_rows.specs.declared.view.Shown.TheVariants as shown
-use Rattle.club_rows.proofs.KindLemmas.{Kind}
-use Rattle.club_rows.specs.Tables.{number, game_row, move_rows, rows_of_moves, at_start}
-use Rattle.store_tables.specs.Cells.{game_cells, move_cells}
+use Rattle.club_rows.proofs.Proved.{Kind, seen-found}
+use Rattle.club_rows.specs.Tables.{number}
+use Rattle.store_tables.specs.Cells.{game_cells}
 use Rattle.store_tables.specs.Content.{same_key}
 use Rattle.store_tables.specs.Contents.{AreThose}
 use Rattle.store_tables.specs.declared.rows.GameRecord.{GameRecord}
-use Rattle.store_tables.specs.declared.rows.MoveRow.{MoveRow}
-use Rattle.store_tables.proofs.Laws.{equal_cmp, equal_from}
+use Rattle.store_tables.proofs.Proved.{equal_cmp, equal_from}
 use Rattle.club_rows.specs.Club.{ClubGame, both_games, ClubState, IsClub, tables}
 use Rattle.club_changes.specs.declared.decided.Decided.{Decided}
 use Rattle.club_changes.specs.declared.stored.StoredGame.{StoredGame}
 use Rattle.club_changes.specs.Steps.{caller_step, game_in, TellsMoves, TellsSeen, IsRecordOf, IsDecided, IsDecidedIn}
-use Rattle.club_rows.proofs.SeenLemmas.{seen-found}
 use Rattle.club_changes.specs.Stored.{IsStoredGame}
-use Rattle.club_changes.proofs.PutSame.{numbered_had, numbered_has, gathered_had, gathered_has, ids_same as same_ids}
-use Rattle.club_changes.proofs.PutSame.{ids_agree, one_line, AreAtPlaces}
-use Rattle.club_changes.proofs.NextRows.{entry_rows_at, move_rows_had, first_of_game, moves_had}
+use Rattle.club_changes.proofs.PutSame.{numbered_had, numbered_has, ids_same as same_ids}
+use Rattle.club_changes.proofs.PutSame.{ids_agree}
+use Rattle.club_changes.proofs.NextRows.{first_of_game}
 use Rattle.club_changes.proofs.FoundMoves.{tells_moves}
 use Rattle.club_changes.proofs.ClubPlayed.{game_is, place_at, no_later, decided_club}
 

@@ -35,17 +35,13 @@ use Rattle.club_core.specs.Outcome.{unless_repeat, game_seated}
 use Rattle.club_core.specs.Seats.{KeyedGame, has_member_name, are_two}
 use Rattle.club_core.specs.State.{draughts, shogi, place, kind_at, terms_at, any_under, draughts_in, shogi_in}
 use Rattle.club_core.specs.State.{state_after, with_imported, import_looked_up, import_as, import_record}
-use Rattle.club_core.proofs.Legals.{none-holds}
-use Rattle.club_core.proofs.AddedSteps.{three-true, not-false, not-true, false-true}
-use Rattle.club_core.proofs.LegalSteps.{in-place}
+use Rattle.club_core.proofs.Proved.{none-holds, three-true, not-false, not-true, false-true, in-place}
 use Rattle.club_rows.specs.Club.{ClubGame, both_games, ClubState, IsClub, tables}
-use Rattle.club_rows.specs.Replay.{terms_given}
 use Rattle.club_rows.specs.Scores.{meetings, meetings_in}
 use Rattle.club_rows.specs.Seen.{seen_rows}
 use Rattle.club_rows.specs.Tables.{number, game_row, move_rows, rows_of_moves, rows_of_seen}
-use Rattle.club_rows.proofs.KindLemmas.{Kind, event_in, in_draughts, in_shogi}
-use Rattle.club_rows.proofs.ScoreLemmas.{met_ended}
-use Rattle.import_rows.proofs.SeenTexts.{drop-mapped, drop-all}
+use Rattle.club_rows.proofs.Proved.{Kind, event_in, in_draughts, in_shogi, met_ended}
+use Rattle.import_rows.proofs.Proved.{drop-mapped, drop-all}
 use Rattle.import_rows.specs.NewGames.{AreNewRows}
 use Rattle.import_rows.specs.declared.added.NewRows.{NewRows}
 use Rattle.store_tables.specs.Cells.{game_cells, move_cells, seen_cells}
@@ -56,7 +52,7 @@ use Rattle.club_changes.specs.declared.stored.StoredGame.{StoredGame}
 use Rattle.club_changes.specs.declared.imports.Known.{Known}
 use Rattle.club_changes.specs.Importing.{TellsLine, IsUnder, IsKnown, IsOfKind, imported_by, PutsNewGame, PutsImport}
 use Rattle.club_changes.specs.Importing.{IsImportedIn}
-use Rattle.club_changes.specs.Steps.{AreSame, HaveSame, Puts, caller_step, IsDecided, changed_if, no_rows}
+use Rattle.club_changes.specs.Steps.{AreSame, Puts, caller_step, IsDecided, changed_if, no_rows}
 use Rattle.club_changes.proofs.FoundMoves.{of_game, in_table, id_of}
 use Rattle.club_changes.proofs.GameRows.{stored_as}
 use Rattle.club_changes.proofs.ImportedTables.{game_more}

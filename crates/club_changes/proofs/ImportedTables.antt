@@ -1,6 +1,6 @@
 -- The tables of a club with a game more, which has rows in each of them.
 use Rattle.std.proofs.Common.{◌≡◌, ℕ, ◌+◌, List, [], ◌∷◌, ◌++◌, length, map, pos, Option, Some, None, true, refl, ap}
-use Rattle.std.proofs.Common.{sym, subst, subst₂, ◌∙◌, arith, inl, inr}
+use Rattle.std.proofs.Common.{sym, subst, ◌∙◌, arith, inl, inr}
 use Rattle.std.specs.Prelude.{slice_get}
 use Rattle.std.specs.Option.{option_map}
 use Rattle.sqlite.specs.Order.{Row, column}
@@ -13,22 +13,18 @@ use Rattle.club_core.specs.Events.{Event, Terms}
 use Rattle.club_core.specs.Game.{Game}
 use Rattle.club_core.specs.LegalState.{AreApart}
 use Rattle.club_core.specs.State.{AnyGame, draughts, shogi, State, place, terms_at, with_imported}
-use Rattle.club_core.proofs.Lists.{got-append, get-append, at-last}
+use Rattle.club_core.proofs.Proved.{got-append, get-append, at-last}
 use Rattle.club_rows.specs.Scores.{meetings, meetings_in, scores_in}
 use Rattle.club_rows.specs.Tables.{number, at_start, move_rows, member_row, event_row, challenge_row, numbered_from}
 use Rattle.club_rows.specs.Tables.{row_of_game, rows_of_moves, rows_of_seen, tables_of}
-use Rattle.club_rows.proofs.ChallengeLemmas.{challenges-unaltered}
-use Rattle.club_rows.proofs.GatheredLemmas.{gathered-added}
-use Rattle.club_rows.proofs.ScoreLemmas.{scores_added}
-use Rattle.club_rows.proofs.SeenLemmas.{seen-added}
+use Rattle.club_rows.proofs.Proved.{challenges-unaltered, gathered-added, scores_added, seen-added}
 use Rattle.store_tables.specs.Cells.{meta_cells}
-use Rattle.store_tables.specs.Changed.{changed, maybe_row, AltersTables}
+use Rattle.store_tables.specs.Changed.{changed, maybe_row}
 use Rattle.store_tables.specs.Changes.{Alters}
 use Rattle.store_tables.specs.Content.{same_key}
-use Rattle.store_tables.specs.Tables.{club_schema}
 use Rattle.store_tables.specs.declared.rows.Changes.{Changes}
 use Rattle.store_tables.specs.declared.rows.MetaRow.{MetaRow}
-use Rattle.store_tables.proofs.AlterLemmas.{unaltered, tables_altered}
+use Rattle.store_tables.proofs.Proved.{unaltered, tables_altered}
 use Rattle.club_changes.specs.Steps.{AreSame, Puts, PutsScores, no_rows}
 use Rattle.club_changes.proofs.FoundMoves.{numbers_same}
 use Rattle.club_changes.proofs.NextRows.{meta_row, entry_rows_at, move_rows_had, first_of_game, moves_had}

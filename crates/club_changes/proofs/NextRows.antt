@@ -1,6 +1,6 @@
 -- The tables of a club after each command that is accepted.
-use Rattle.std.proofs.Common.{◌≡◌, ℕ, zero, suc, ◌+◌, ◌<◌, ◌≤◌, List, [], ◌∷◌, ◌++◌, length, Option, Some, false, refl}
-use Rattle.std.proofs.Common.{ap, sym, subst, ◌∙◌, arith, inl, inr, ◌⊎◌, None, length-append}
+use Rattle.std.proofs.Common.{◌≡◌, ℕ, ◌+◌, ◌<◌, ◌≤◌, List, [], ◌∷◌, ◌++◌, length, Option, Some, false, refl}
+use Rattle.std.proofs.Common.{ap, sym, subst, ◌∙◌, arith, inl, inr, ◌⊎◌, length-append}
 use Rattle.std.specs.Prelude.{slice_get, slice_set}
 use Rattle.sqlite.specs.Order.{Row, column}
 use Rattle.sqlite_rules.specs.Lists.{Has}
@@ -15,17 +15,15 @@ use Rattle.club_core.specs.Game.{Game, Entry}
 use Rattle.club_core.specs.LegalState.{Each, IsLegalIn}
 use Rattle.club_core.specs.State.{AnyGame, draughts, shogi, State, place, kind_at, terms_at, seated_as, with_members}
 use Rattle.club_core.specs.State.{with_events, with_new_game}
-use Rattle.club_core.proofs.Lists.{place-append}
-use Rattle.club_rows.proofs.KindLemmas.{plies_in}
-pub use Rattle.import_rows.proofs.PlacedRows.{entry_rows_at}
+use Rattle.club_core.proofs.Proved.{place-append}
+use Rattle.club_rows.proofs.Proved.{plies_in, scores_seated, seen-table-added}
+pub use Rattle.import_rows.proofs.Proved.{entry_rows_at}
 use Rattle.club_rows.specs.Scores.{meetings_in, scores_in}
-use Rattle.club_rows.specs.Tables.{number, game_row, entry_row, entry_rows, move_rows, at_start, with_entry}
+use Rattle.club_rows.specs.Tables.{number, game_row, entry_rows, move_rows, at_start, with_entry}
 use Rattle.club_rows.specs.Tables.{gathered_from, member_row, event_row, row_of_game, rows_of_moves, rows_of_seen}
 use Rattle.club_rows.specs.Tables.{tables_of}
-use Rattle.club_rows.proofs.ScoreLemmas.{scores_seated}
-use Rattle.club_rows.proofs.SeenLemmas.{seen-table-added}
 use Rattle.store_tables.specs.Changes.{put_rows}
-use Rattle.store_tables.proofs.AlterLemmas.{altered}
+use Rattle.store_tables.proofs.Proved.{altered}
 use Rattle.store_tables.specs.Contents.{Content, put_in, put_each}
 use Rattle.store_tables.specs.Content.{same_key, put}
 use Rattle.club_changes.specs.Steps.{AreSame, HaveSame}

@@ -1,7 +1,7 @@
 -- What is decided of a command, by what it is answered and the rows that are put.
-use Rattle.std.proofs.Common.{◌≡◌, ℕ, zero, suc, ◌+◌, List, [], ◌∷◌, ◌++◌, length, Option, Some, None, Bool, true}
+use Rattle.std.proofs.Common.{◌≡◌, ℕ, ◌+◌, List, [], ◌∷◌, ◌++◌, length, Option, Some, None, Bool, true}
 use Rattle.std.proofs.Common.{false, ◌&&◌, refl, ap, sym, subst, subst₂, ◌∙◌, true≢false, arith}
-use Rattle.std.specs.Prelude.{slice_get, max}
+use Rattle.std.specs.Prelude.{max}
 use Rattle.club_core.specs.declared.answers.Outcome as given
 use Rattle.club_core.specs.declared.answers.Outcome.TheVariants as given_is
 use Rattle.club_core.specs.declared.answers.Answer.TheVariants as answer_is
@@ -23,9 +23,7 @@ use Rattle.club_core.specs.Seats.{Pairing, KeyedGame, pair, seat_found, seat_ste
 use Rattle.club_core.specs.Seats.{has_member_name}
 use Rattle.club_core.specs.State.{state_after, is_accepted, add_member, add_event, seat, seated, seated_as, kind_at}
 use Rattle.club_core.specs.State.{place, with_members, with_events, with_new_game, game_under, caller_of, step_by}
-use Rattle.club_core.proofs.Folds.{unmoved}
-use Rattle.club_core.proofs.AddedSteps.{not-false}
-use Rattle.club_core.proofs.Legals.{none-holds}
+use Rattle.club_core.proofs.Proved.{unmoved, not-false, none-holds}
 use Rattle.club_rows.specs.Tables.{member_row, event_row}
 use Rattle.sqlite.specs.Order.{Row}
 use Rattle.store_tables.specs.declared.rows.Changes.{Changes}
@@ -37,7 +35,7 @@ use Rattle.club_changes.specs.Steps.{Puts, IsDecided, changed_if, no_rows}
 use Rattle.club_rules.specs.declared.names.GameKind.{GameKind}
 use Rattle.club_rules.specs.declared.names.GameKind.TheVariants.{Draughts, Shogi}
 use Rattle.club_rows.specs.Tables.{rows_of_seen}
-use Rattle.club_rows.proofs.SeenLemmas.{seen-start}
+use Rattle.club_rows.proofs.Proved.{seen-start}
 use Rattle.club_changes.proofs.PutSame.{same_itself}
 use Rattle.club_changes.proofs.NextRows.{puts_all, puts, member_next, event_next, seat_next}
 use Rattle.club_changes.proofs.SameLemmas.{all_changed}

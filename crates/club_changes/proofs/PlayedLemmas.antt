@@ -1,6 +1,6 @@
 -- What is decided of a command on a game, by the decision on that game.
-pub use Rattle.import_rows.proofs.RoomLemmas.{budget_most, increment_most, room_for}
-use Rattle.std.proofs.Common.{◌≡◌, ◌⊎◌, inl, inr, Bool, false, ℕ, suc, ◌+◌, ◌-◌, ◌<◌, ◌≤◌, ◌^◌, List, []}
+pub use Rattle.import_rows.proofs.Proved.{budget_most, increment_most, room_for}
+use Rattle.std.proofs.Common.{◌≡◌, ◌⊎◌, inl, inr, Bool, false, ℕ, suc, ◌+◌, ◌<◌, ◌≤◌, ◌^◌, List, []}
 use Rattle.std.proofs.Common.{◌∷◌, ◌++◌, length, map, Option, Some, None, Result, Ok, Err, true, refl, ap, sym, subst}
 use Rattle.std.proofs.Common.{subst₂, ◌∙◌, arith, length-append}
 use Rattle.std.specs.Prelude.{if◌then◌else◌, slice_get, IsTrue}
@@ -43,12 +43,11 @@ use Rattle.club_core.specs.Step.{checked, game_step, reply_of_move, move_tests, 
 use Rattle.club_core.specs.Step.{claim_tests}
 use Rattle.club_core.specs.declared.settling.Settled.{Settled}
 use Rattle.club_core.specs.View.{concluded, HasMade, IsConcluded, IsMade, IsRowOf, Stood, StoodAfter}
-use Rattle.club_core.proofs.Legals.{AreRules, checked-legal, none-holds}
-use Rattle.club_core.proofs.Played.{reply-played, moves_of-played, made-played}
+use Rattle.club_core.proofs.Proved.{AreRules, checked-legal, none-holds, reply-played, moves_of-played, made-played}
 use Rattle.club_rows.specs.Made.{made_row}
 use Rattle.club_rows.specs.Replay.{game_from}
 use Rattle.club_rows.specs.Tables.{game_row, move_rows, entry_row, entry_rows, with_entry, at_start}
-use Rattle.club_rows.proofs.MadeLemmas.{made-last}
+use Rattle.club_rows.proofs.Proved.{made-last, seen-row-stays, is_some-none}
 use Rattle.store_tables.specs.declared.rows.Changes.{Changes}
 use Rattle.club_changes.specs.declared.decided.Decided.{Decided}
 use Rattle.sqlite.specs.Order.{Row}
@@ -60,8 +59,6 @@ use Rattle.club_changes.specs.Steps.{seen_list, score_list, IsDecidedIn}
 use Rattle.store_tables.specs.Cells.{seen_cells}
 use Rattle.store_tables.specs.declared.rows.SeenRow.{SeenRow}
 use Rattle.club_rows.specs.Seen.{IsSeenRow}
-use Rattle.club_rows.proofs.SeenLemmas.{seen-row-stays}
-use Rattle.club_rows.proofs.ToldLemmas.{is_some-none}
 
 -- ---- what a command does
 

@@ -1,24 +1,24 @@
 -- Rows that are put into a table that has an id for each place of a list.
-use Rattle.std.proofs.Common.{◌≡◌, ℕ, zero, suc, ◌+◌, ◌<◌, List, [], ◌∷◌, ◌++◌, length, get_or, pos, Option, Some, None}
-use Rattle.std.proofs.Common.{true, false, not, ◌&&◌, refl, ap, sym, subst, subst₂, ◌∙◌, arith, inl, inr, ◌⊎◌}
+use Rattle.std.proofs.Common.{◌≡◌, ℕ, zero, suc, ◌+◌, ◌<◌, List, [], ◌∷◌, ◌++◌, length, get_or, pos, Some}
+use Rattle.std.proofs.Common.{true, false, refl, ap, sym, subst, subst₂, ◌∙◌, arith, inl, inr}
 use Rattle.std.proofs.Common.{true≢false}
 use Rattle.std.specs.Prelude.{slice_get, slice_set}
-use Rattle.std.proofs.lemmas.Bool.{cases_Bool, and_parts, not-true}
+use Rattle.std.proofs.lemmas.Bool.{cases_Bool, and_parts}
 use Rattle.std.proofs.lemmas.Option.{slice_get_within}
 use Rattle.sqlite.specs.Order.{Row, column}
 use Rattle.sqlite.specs.Collation.TheVariants.{Binary}
 use Rattle.sqlite_schema.specs.Rules.{equal}
 use Rattle.sqlite_value.specs.Keys.{first_key}
 use Rattle.sqlite_rules.specs.Lists.{Has}
-use Rattle.sqlite_rules.proofs.ListLemmas.{has_filtered, has_kept, has_either, has_left, has_right, has_got}
-use Rattle.club_core.proofs.Lists.{got-append, got-set, set-got, get-append, at-last, put-at}
+use Rattle.sqlite_rules.proofs.ListLemmas.{has_either, has_left, has_right}
+use Rattle.club_core.proofs.Proved.{got-append, got-set, set-got, get-append, at-last, put-at}
 use Rattle.club_rows.specs.Tables.{number, numbered_from, gathered_from}
 use Rattle.store_tables.specs.Content.{same_key, put}
-use Rattle.store_tables.proofs.Laws.{equal_ints}
-pub use Rattle.store_tables.proofs.Laws.{same_itself, same_by, put_had, put_kept}
-pub use Rattle.import_rows.proofs.PlacedRows.{same_list, had_at, AreAtPlaces, one_line}
-pub use Rattle.sweep_rows.proofs.PlacedIds.{pos_same, ids_agree, ids_same, numbered_had, numbered_has, numbered_length}
-pub use Rattle.sweep_rows.proofs.PlacedIds.{numbered_at, take_next}
+use Rattle.store_tables.proofs.Proved.{equal_ints}
+pub use Rattle.store_tables.proofs.Proved.{same_itself, same_by, put_had, put_kept}
+pub use Rattle.import_rows.proofs.Proved.{same_list, had_at, AreAtPlaces, one_line}
+pub use Rattle.sweep_rows.proofs.Proved.{pos_same, ids_agree, ids_same, numbered_had, numbered_has, numbered_length}
+pub use Rattle.sweep_rows.proofs.Proved.{numbered_at, take_next}
 use Rattle.club_changes.specs.Steps.{HaveSame}
 
 -- ---- keys

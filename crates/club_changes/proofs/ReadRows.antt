@@ -16,7 +16,7 @@ use Rattle.store_tables.specs.Cells.{member_cells, score_cells}
 use Rattle.store_tables.specs.Contents.{AreThose}
 use Rattle.store_tables.specs.declared.rows.ScoreRow.{ScoreRow}
 use Rattle.club_rows.specs.NextScores.{IsFound, pair_of, pair_cells}
-use Rattle.club_rows.proofs.ScoreLemmas.{found_none, found_some}
+use Rattle.club_rows.proofs.Proved.{found_none, found_some}
 use Rattle.store_tables.specs.declared.rows.MemberRow.{MemberRow}
 use Rattle.club_changes.proofs.PutSame.{numbered_at, numbered_length, at_get, take_next}
 

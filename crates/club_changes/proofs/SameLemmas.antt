@@ -14,7 +14,7 @@ use Rattle.store_tables.specs.Tables.{club_schema}
 use Rattle.store_tables.specs.declared.rows.MetaRow.{MetaRow}
 use Rattle.store_tables.specs.declared.rows.Changes.{Changes}
 use Rattle.store_tables.specs.Changed.{changed, put_maybe}
-use Rattle.club_changes.specs.Steps.{HaveSame, AreSame, Puts, no_rows}
+use Rattle.club_changes.specs.Steps.{HaveSame, AreSame, Puts}
 use Rattle.club_changes.proofs.NextRows.{puts_all, puts, meta_row}
 
 keeps_same : (table : Table) (db : Trees) (one other : List Row) → HaveSame one other → Keeps table db one

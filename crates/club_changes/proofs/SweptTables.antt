@@ -5,7 +5,7 @@ use Rattle.store_tables.specs.Cells.{game_cells, score_cells}
 use Rattle.store_tables.specs.Changes.{put_rows}
 use Rattle.store_tables.specs.Contents.{Content, put_each}
 use Rattle.store_tables.specs.declared.rows.Changes.{Changes}
-use Rattle.store_tables.proofs.Laws.{each_at}
+use Rattle.store_tables.proofs.Proved.{each_at}
 use Rattle.club_core.specs.declared.answers.Answer.TheVariants as answer_is
 use Rattle.club_core.specs.declared.answers.Outcome.TheVariants as given_is
 use Rattle.club_core.specs.declared.refusals.Refusal.TheVariants.{NotAllowed}
@@ -16,7 +16,7 @@ use Rattle.club_core.specs.State.{sweep, with_swept}
 use Rattle.club_rows.specs.Club.{both_games, ClubState, tables}
 use Rattle.sweep_rows.specs.Swept.{IsSwept, LeavesOthers}
 use Rattle.sweep_rows.specs.declared.swept.SweptRows.{SweptRows}
-use Rattle.sweep_rows.proofs.LateGames.{leaves_others}
+use Rattle.sweep_rows.proofs.Proved.{leaves_others}
 use Rattle.club_changes.specs.declared.decided.Decided.{Decided}
 use Rattle.club_changes.specs.Steps.{AreSame, HaveSame, Puts, caller_step, IsDecided, no_rows}
 use Rattle.club_changes.proofs.NextRows.{meta_row, puts}

@@ -1,6 +1,5 @@
 -- A later state has what an earlier one had: members, events and games stay at their places, games keep their entries,
--- and
--- challenges stand under their numbers.
+-- and challenges stand under their numbers.
 use Rattle.std.proofs.Common.{◌≡◌, ℕ, zero, suc, ◌+◌, ◌-◌, List, [], ◌∷◌, ◌++◌, length, Option, Some, None, Result, Ok}
 use Rattle.std.proofs.Common.{Err, Bool, true, false, ◌&&◌, not, refl, ap, sym, ◌∙◌, arith, append_assoc, append-nil}
 use Rattle.std.proofs.Common.{length-append, inl, inr}

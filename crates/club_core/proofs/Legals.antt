@@ -33,6 +33,18 @@ pub record AreRules {P M E T : Type 0} (laws : GameRules P M E T) : Type 0 where
   pub ends_at_limit : (ms : List M) → IsLegalLine laws laws.start ms → length ms ≡ ply_limit
       → IsSome (laws.judge laws.start ms)
 
+pub are_rules : {P M E T : Type 0} (laws : GameRules P M E T) → laws.turn laws.start ≡ First
+    → ((p : P) (m : M) → laws.check p m ≡ Ok tt → laws.turn (laws.play p m) ≡ other (laws.turn p))
+    → ((a b : M) → (laws.same a b ≡ true) ↔ (a ≡ b))
+    → ((ms : List M) → IsLegalLine laws laws.start ms → length ms ≡ ply_limit → IsSome (laws.judge laws.start ms))
+    → AreRules laws
+are_rules laws starts passes same ends = record {
+  first_starts = starts;
+  turn_passes = passes;
+  same_is = same;
+  ends_at_limit = ends;
+}
+
 -- one more move in time
 pub is_timely-append : (increment : ℕ) (side : Side) (ms : List ℕ) (m : ℕ) (c : Clocks) → IsTimely increment side ms c
     → (spend_all increment side ms c).since ≤ m

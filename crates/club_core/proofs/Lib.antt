@@ -14,6 +14,7 @@ pub mod Lists
 pub mod Offered
 pub mod Played
 pub mod PlayedLines
+pub mod Proved
 pub mod PutChallenges
 pub mod Repeats
 pub mod Room

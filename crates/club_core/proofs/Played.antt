@@ -12,7 +12,7 @@ use Rattle.squares.specs.declared.sides.Side.TheVariants.{First}
 use Rattle.squares.specs.Sides.{other, same_side}
 use Rattle.club_rules.specs.GameRules.{GameRules}
 use Rattle.club_rules.specs.Line.{position_after, IsLegalLine}
-use Rattle.club_rules.proofs.Lines.{position_after-append, position_after-take, check-at}
+use Rattle.club_rules.proofs.Proved.{position_after-append, position_after-take, check-at}
 use Rattle.club_core.specs.declared.rows.GameEnd.{GameEnd}
 use Rattle.club_core.specs.declared.rows.GameEnd.TheVariants.{Rule}
 use Rattle.club_core.specs.declared.rows.OutsideEnd.{OutsideEnd}

@@ -55,8 +55,7 @@ module _ {DP DM DE DT SP SM SE ST : Type 0} (rules : ClubRules DP DM DE DT SP SM
 
   -- An accepted command that comes again from the one who gave it, at any moment and whatever requests stand between,
   -- is repeated with the same answer: an offer of a draw so long as no move came since, a sweep never, every other
-  -- command
-  -- always.
+  -- command always.
   abbrev pub AnswersAgain : Type 0
   AnswersAgain =
       (s after : State DM SM) (r : Request) (reply : Reply) (between : List Request) (moment : ℕ) →

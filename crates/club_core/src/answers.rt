@@ -7,8 +7,7 @@ use squares::Score;
 use std::fmt;
 
 /// What a move is answered: its text as it is written, the mover's seconds left after it, the position after it as
-/// text,
-/// and the end that the rules gave at it.
+/// text, and the end that the rules gave at it.
 #[derive(Debug, Drop)]
 pub struct Moved {
     pub ply: u32,
@@ -51,10 +50,9 @@ pub enum Outcome {
 }
 
 /// Writes what is named, as `member 1`, `game 2` or `ply 3 32-28`, and after a move that ended the game ` end
-/// Repetition`.
-/// An offer of a draw is written as `offer ply 5`, an end from outside with its result, `end Agreed 1-1`, a sweep with
-/// the number of games that it ended, `sweep 3`, and a challenge with what became of it, `challenge 3 open` or
-/// `challenge 3 accepted game 7`.
+/// Repetition`. An offer of a draw is written as `offer ply 5`, an end from outside with its result, `end Agreed 1-1`,
+/// a sweep with the number of games that it ended, `sweep 3`, and a challenge with what became of it, `challenge 3
+/// open` or `challenge 3 accepted game 7`.
 impl fmt::Display for Answer {
     ghost use Rattle.std.specs.Prelude.{Some};
     ghost use Rattle.club_core.specs.AnswerText.{answer_text};

@@ -7,8 +7,7 @@ use club_rules::{MoveRefusal, RecordRefusal};
 use std::fmt;
 
 /// Why a command is refused. Of several reasons the first in this order is given, a repeat of an accepted command
-/// coming
-/// after `NotInThisGame` and before `GameOver`; those of a text or a move come last.
+/// coming after `NotInThisGame` and before `GameOver`; those of a text or a move come last.
 #[derive(Clone, Copy, Debug, PartialEq, Eq)]
 pub enum Refusal {
     /// No member has the key.

@@ -47,8 +47,7 @@ pub struct Seat {
 }
 
 /// Adds a game that was played elsewhere, from a part of a text of records, to an event, between two members, under a
-/// key
-/// of its own. Parts count from 1.
+/// key of its own. Parts count from 1.
 #[derive(Debug, Drop)]
 pub struct Import {
     pub key: String,

@@ -167,8 +167,7 @@ fn seat_found(
 }
 
 /// What a seating does, by the members and the events in the order of their ids, the game under its key if there is
-/// one,
-/// and the number of games. The officer alone seats. The new game's id is the next one.
+/// one, and the number of games. The officer alone seats. The new game's id is the next one.
 pub fn seat(
     members: &[Member],
     events: &[Event],

@@ -34,8 +34,7 @@ pub const LONGEST_BUDGET: u64 = 31_536_000;
 pub const GREATEST_INCREMENT: u64 = 2_592_000;
 
 /// Whether a text may be the name of a member or an event, or the key of a game: 1 to 24 ASCII letters, digits, `.`,
-/// `_`
-/// and `-`.
+/// `_` and `-`.
 pub fn is_name(text: &str) -> bool
     ensures { result ≡ is_name text.now }
 {

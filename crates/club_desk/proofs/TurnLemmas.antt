@@ -9,7 +9,7 @@ use Rattle.club_core.specs.State.{Request}
 use Rattle.club_rows.specs.Club.{ClubState}
 use Rattle.store.specs.Histories.{Session, IsReachable, IsHistory, cut_session}
 use Rattle.club_changes.specs.Steps.{KeepsClub, club_next}
-use Rattle.store.proofs.HistoryLemmas.{taken_session, one_leads, one_cut}
+use Rattle.store.proofs.Proved.{taken_session, one_leads, one_cut}
 use Rattle.club_desk.specs.Served.{served}
 use Rattle.club_desk.specs.Standing.{IsServed, IsLeft, MayLeave}
 use Rattle.club_desk.specs.Turns.{IsTurn, AreTurns, IsHistoryOn, IsReachableOn}

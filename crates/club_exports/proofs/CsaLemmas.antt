@@ -1,7 +1,5 @@
 -- Records of shogi, as the writer of CSA games promises them.
-use Rattle.std.proofs.Common.{◌≡◌, ℕ, List, [], ◌∷◌, ◌++◌, map, Option, refl, ap, sym, subst, ◌∙◌, append_assoc}
-use Rattle.std.specs.Io.KnownBytes.{Appends}
-use Rattle.record_writer.specs.Pieces.{AppendsSome}
+use Rattle.std.proofs.Common.{ℕ, List, [], ◌∷◌, ◌++◌, map, Option, subst, ◌∙◌, append_assoc}
 use Rattle.record_writer.specs.PieceLaws.{begun-whole}
 use Rattle.clocks.specs.Civil.{IsCivil}
 use Rattle.squares.specs.declared.shogi.moves.SMove.{SMove}
@@ -12,11 +10,11 @@ use Rattle.csa.specs.declared.head.CsaHead.{CsaHead}
 use Rattle.csa.specs.declared.game_writer.GameWriter.{GameWriter}
 use Rattle.csa.specs.Writing.{head_text, entries_text, end_text}
 use Rattle.csa.specs.WrittenGame.{IsGameText}
-use Rattle.csa.specs.Writer.{lines_text, text_up_to, HasBegun, HasWritten, AddsEntry, BeginsEntry, AddsGame, BeginsGame}
+use Rattle.csa.specs.Writer.{lines_text, text_up_to, HasBegun, AddsEntry, BeginsEntry, BeginsGame}
 use Rattle.csa.specs.Writer.{Finishes, BeginsEnd, LinesBeginGames, MovesBeginGames}
 use Rattle.club_exports.specs.Title.{Title}
 use Rattle.club_exports.specs.Written.{AddsRecord, BeginsRecord}
-use Rattle.club_exports.specs.CsaRecords.{IsCsaText, IsCsaHead, HasWrittenCsa, end_told}
+use Rattle.club_exports.specs.CsaRecords.{IsCsaText, IsCsaHead, HasWrittenCsa}
 
 -- the text of a game with the title's head is the record
 pub csa-text : (title : Title SEnd) (head : CsaHead) (plies : List (SMove × ℕ)) (text : List ℕ) → IsCsaHead title head

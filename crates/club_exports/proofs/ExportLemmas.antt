@@ -1,14 +1,14 @@
 -- An export, entry by entry.
-use Rattle.std.proofs.Common.{◌≡◌, ℕ, ◌+◌, ◌-◌, ◌<◌, ◌^◌, List, [], ◌∷◌, ◌++◌, length, map, Option, Some, Ok, refl, ap}
+use Rattle.std.proofs.Common.{◌≡◌, ℕ, ◌+◌, ◌-◌, ◌<◌, ◌^◌, List, [], ◌∷◌, ◌++◌, length, map, Option, Some, Ok, ap}
 use Rattle.std.proofs.Common.{sym, subst, ◌∙◌, arith}
 use Rattle.std.proofs.lemmas.List.{length-append, map-append}
 use Rattle.std.proofs.lemmas.Option.{same_Some}
 use Rattle.club_rules.specs.GameRules.{GameRules}
 use Rattle.club_rules.specs.Line.{position_after}
-use Rattle.club_rules.proofs.Lines.{position_after-append}
+use Rattle.club_rules.proofs.Proved.{position_after-append}
 use Rattle.club_core.specs.Game.{Entry}
 use Rattle.club_exports.specs.Title.{Title, timed, since_after}
-use Rattle.club_exports.specs.Written.{made_in, BeginsRecord, BeginsGames, MayFollowLegal}
+use Rattle.club_exports.specs.Written.{BeginsRecord, BeginsGames, MayFollowLegal}
 use Rattle.club_exports.specs.Exported.{IsWritten, IsUnderWay, IsNextText}
 use Rattle.club_exports.specs.declared.export.Export.{Export}
 use Rattle.club_exports.proofs.Timed.{timed-append, since-last, timed-made, timed-count}

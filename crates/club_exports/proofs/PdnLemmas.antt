@@ -1,7 +1,6 @@
 -- Records of draughts, as the writer of PDN games promises them.
-use Rattle.std.proofs.Common.{◌≡◌, ℕ, List, [], ◌∷◌, ◌++◌, map, Option, refl, ap, sym, subst, ◌∙◌, append_assoc}
+use Rattle.std.proofs.Common.{◌≡◌, ℕ, List, [], ◌∷◌, ◌++◌, Option, refl, sym, subst, ◌∙◌, append_assoc}
 use Rattle.std.proofs.lemmas.List.{map-append}
-use Rattle.std.specs.Io.KnownBytes.{Appends}
 use Rattle.record_writer.specs.Pieces.{AppendsSome}
 use Rattle.record_writer.specs.PieceLaws.{begun-whole}
 use Rattle.squares.specs.declared.draughts.moves.DMove.{DMove}

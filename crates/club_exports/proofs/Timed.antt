@@ -1,6 +1,5 @@
 -- Entries as moves with their seconds.
-use Rattle.std.proofs.Common.{◌≡◌, ℕ, suc, ◌+◌, ◌-◌, List, [], ◌∷◌, ◌++◌, length, map, refl, ap, ◌∙◌, arith}
-use Rattle.std.proofs.lemmas.List.{length-append}
+use Rattle.std.proofs.Common.{◌≡◌, ℕ, suc, ◌-◌, List, [], ◌∷◌, ◌++◌, length, map, refl, ap}
 use Rattle.club_core.specs.Game.{Entry}
 use Rattle.club_exports.specs.Title.{timed, since_after}
 use Rattle.club_exports.specs.Written.{made_in}

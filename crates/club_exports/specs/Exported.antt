@@ -1,5 +1,5 @@
 -- A game that is written entry by entry.
-use Rattle.std.specs.Prelude.{◌≡◌, ℕ, ◌∷◌, [], ◌++◌, List, length, map, Option, Ok}
+use Rattle.std.specs.Prelude.{◌≡◌, ℕ, List, length, map, Option, Ok}
 use Rattle.club_rules.specs.GameRules.{GameRules}
 use Rattle.club_rules.specs.Line.{position_after}
 use Rattle.club_core.specs.Game.{Entry}

@@ -1,15 +1,12 @@
 -- A move that is legal after those that are written may follow them.
-use Rattle.std.proofs.Common.{◌≡◌, ℕ, ◌<◌, ◌^◌, ◌+◌, List, length, map, Option, Ok, sym, subst, ap, ◌∙◌, arith}
+use Rattle.std.proofs.Common.{◌≡◌, length, sym, subst, ◌∙◌, arith}
 use Rattle.std.proofs.lemmas.List.{length-map}
-use Rattle.squares.specs.declared.draughts.moves.DMove.{DMove}
-use Rattle.squares.specs.declared.shogi.moves.SMove.{SMove}
 use Rattle.squares.specs.DraughtsOpening as draughts_opening
 use Rattle.squares.specs.ShogiOpening as shogi_opening
 use Rattle.draughts_moves.specs.Legal as draughts_legal
 use Rattle.shogi_moves.specs.Rules as shogi_legal
 use Rattle.pdn_games.specs.Writer as pdn
 use Rattle.csa.specs.Writer as csa
-use Rattle.club_rules.specs.Line.{position_after}
 use Rattle.club_games.specs.Draughts.{draughts}
 use Rattle.club_games.specs.DraughtsLaws as draughts_laws
 use Rattle.club_games.specs.Shogi.{shogi}

@@ -14,8 +14,7 @@ use Rattle.pdn_games.specs.TagGrammar.{IsTag}
 use Rattle.pdn_games.specs.Tokens.{number, move_by, TokenFront, tag_token, word_len, result_token, longest, token_front}
 use Rattle.pdn_games.specs.Tokens.{Front, ended, skipped, found, stuck, found_front, front_with, front_at, begins_feed}
 use Rattle.pdn_games.specs.Tokens.{lets_follow, Placed, Lexes, at_end, stops, skips, takes}
-use Rattle.pdn_games.proofs.SkipLemmas.{skipped-parts}
-use Rattle.pdn_games.proofs.TagGrammarLemmas.{tag-split}
+use Rattle.pdn_games.proofs.Proved.{skipped-parts, tag-split}
 use Rattle.club_games.specs.PdnReading.{with_token, after_front, lexed}
 
 -- what is skipped has a byte at least

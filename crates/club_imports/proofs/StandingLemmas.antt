@@ -10,7 +10,7 @@ use Rattle.club_rules.specs.Line.{position_after, IsPlayedLine, line_track}
 use Rattle.club_rules.proofs.Proved.{check-at, position_after-append}
 use Rattle.club_core.specs.Limits.{most_plies}
 use Rattle.club_core.specs.View.{CanGrow}
-use Rattle.club_core.proofs.Tracked.{line_track-append, line-grows}
+use Rattle.club_core.proofs.Proved.{line_track-append, line-grows}
 
 module _ {P M E T : Type 0} (rules : GameRules P M E T) (ms : List M) (i : ℕ) (m : M) (within : i < length ms)
     (is : m ≡ get_or ms i m) where

@@ -22,7 +22,7 @@ use Rattle.std.specs.Prelude.{IsTrue, ℤ}
 use Rattle.store_tables.specs.Rows.{HaveIds}
 use Rattle.store_tables.specs.declared.rows.Rows.{Rows}
 use Rattle.store_tables.specs.Tables.{club_schema, meta, members, events, games}
-use Rattle.store_tables.proofs.Laws.{one_shown, ids_of, apart_of}
+use Rattle.store_tables.proofs.Proved.{one_shown, ids_of, apart_of}
 use Rattle.store_tables.specs.declared.names.Table.{Table}
 use Rattle.club_opening.specs.declared.fault.OpenFault.{OpenFault}
 use Rattle.store_sql.specs.declared.fault.ReadFault.{ReadFault}

@@ -19,14 +19,12 @@ use Rattle.store_tables.specs.declared.names.Table.{Table}
 use Rattle.store_tables.specs.declared.names.Table.TheVariants.{Members, Events, Challenges, Moves, Games, Seen, Scores}
 use Rattle.store_tables.specs.declared.names.Table.TheVariants.{Meta}
 use Rattle.store_tables.specs.declared.rows.Rows.{Rows}
-use Rattle.store_tables.proofs.Laws.{in_order, one_list, places_rise}
+use Rattle.store_tables.proofs.Proved.{in_order, one_list, places_rise}
 use Rattle.club_rows.specs.Club.{ClubGame, both_games, ClubState, IsClub}
 use Rattle.club_rows.specs.Tables.{member_row, event_row, numbered_from, row_of_game, tables_of}
-use Rattle.club_rows.proofs.TextLemmas.{members-typed, events-typed, moves-typed, games-typed}
+use Rattle.club_rows.proofs.Proved.{members-typed, events-typed, moves-typed, games-typed, scores_typed, seen-typed}
 use Rattle.club_changes.proofs.Proved.{challenges_typed, moved}
 use Rattle.club_opening.proofs.OnceLemmas.{challenges_are}
-use Rattle.club_rows.proofs.ScoreLemmas.{scores_typed}
-use Rattle.club_rows.proofs.SeenLemmas.{seen-typed}
 use Rattle.club_opening.specs.Blames.{AreRead, HasTypes, NamesTable, NamesSchema}
 use Rattle.store_sql.specs.Read.{IsReadAs}
 use Rattle.club_opening.specs.Places.{ArePlaces, HasPlaces, IsRegisterOf, NamesRows}

@@ -12,7 +12,7 @@ use Rattle.sqlite.specs.State.{State, IsUnchanged}
 use Rattle.sqlite.specs.Tree.{Trees}
 use Rattle.sqlite.proofs.Callers.{unchanged_then}
 use Rattle.club_core.specs.LegalState.{IsLegalIn}
-use Rattle.club_core.proofs.Lists.{each-append, got-append}
+use Rattle.club_core.proofs.Proved.{each-append, got-append}
 use Rattle.store_tables.specs.Cells.{game_cells, move_cells, seen_cells}
 use Rattle.store_tables.specs.Club.{Holds}
 use Rattle.store_tables.specs.Content.{AreApart, cells}
@@ -22,13 +22,12 @@ use Rattle.store_tables.specs.declared.rows.GameRecord.{GameRecord}
 use Rattle.store_tables.specs.declared.rows.MoveRow.{MoveRow}
 use Rattle.store_tables.specs.declared.rows.Rows.{Rows}
 use Rattle.store_tables.specs.declared.rows.SeenRow.{SeenRow}
-use Rattle.store_tables.proofs.Laws.{same_by}
+use Rattle.store_tables.proofs.Proved.{same_by}
 use Rattle.store_sql.specs.Read.{AreCounted, AreReadOf, beginning_with}
 use Rattle.club_rows.specs.Club.{both_games, ClubGame, ClubState, IsClub, tables}
 use Rattle.club_rows.specs.Tables.{numbered_from, row_of_game, rows_of_moves, rows_of_seen}
 use Rattle.club_audit.specs.Audit.{AreAllOf, HasPeople}
-use Rattle.club_audit.proofs.AuditLemmas.{id-told, take-got}
-use Rattle.club_audit.proofs.PlacedLemmas.{numbered-append, numbered-at, numbered-length}
+use Rattle.club_audit.proofs.Proved.{id-told, take-got, numbered-append, numbered-at, numbered-length}
 use Rattle.club_opening.specs.Examined.{AreGamesFound, AreLeftAfter, IsFoundAs, IsGameFound, IsPlayExamined, NamesPlay}
 use Rattle.club_opening.specs.Examined.{WereFound, moves_in, past, seen_in}
 use Rattle.club_opening.specs.Blames.{NamesTable}

@@ -25,18 +25,14 @@ use Rattle.store_tables.specs.Contents.{Stores}
 use Rattle.store_tables.specs.Club.{Holds}
 use Rattle.store_tables.specs.Queries.{by_others}
 use Rattle.store_tables.specs.Tables.{club_schema, moves, seen}
-use Rattle.store_tables.proofs.Laws.{pairs_turned}
-use Rattle.store_tables.proofs.OrderLemmas.{has_index}
-use Rattle.store_tables.proofs.ReadLemmas.{has_map, has_mapped, has_turned}
+use Rattle.store_tables.proofs.Proved.{pairs_turned, has_index, has_map, has_mapped, has_turned}
 use Rattle.store_sql.specs.Read.{AreReadOf, beginning_with}
 use Rattle.club_rows.specs.Club.{ClubGame, both_games, ClubState, IsClub}
 use Rattle.club_rows.specs.EachOnce.{AreEachOnce}
 use Rattle.club_rows.specs.Tables.{number, rows_of_moves, rows_of_seen, tables_of}
-use Rattle.club_rows.proofs.SeenGame.{seen-id}
+use Rattle.club_rows.proofs.Proved.{seen-id, seen-typed, moves-typed}
 use Rattle.club_rows.specs.Seen.{texts_of}
 use Rattle.club_core.specs.State.{draughts, shogi}
-use Rattle.club_rows.proofs.SeenLemmas.{seen-typed}
-use Rattle.club_rows.proofs.TextLemmas.{moves-typed}
 use Rattle.club_opening.specs.Examined.{moves_in, seen_in, past}
 use Rattle.club_changes.specs.Steps.{HaveSame}
 use Rattle.club_opening.proofs.MoveOrderLemmas.{by, Apart, apart_back, rises, one_rising, stored_apart, game_rise}

@@ -39,11 +39,10 @@ use Rattle.store_tables.specs.Contents.{Stores}
 use Rattle.store_tables.specs.Club.{Holds}
 use Rattle.store_tables.specs.Reading.{by_columns, rising}
 use Rattle.store_tables.specs.Tables.{club_schema, moves}
-use Rattle.store_tables.proofs.Laws.{pairs_turned}
-use Rattle.store_tables.proofs.Laws.{differ_ints, equal_from}
+use Rattle.store_tables.proofs.Proved.{pairs_turned, differ_ints, equal_from}
 use Rattle.club_rows.specs.Club.{ClubGame, both_games, ClubState, IsClub}
 use Rattle.club_rows.specs.Tables.{entry_row, entry_rows, with_entry, gathered_from, rows_of_moves, tables_of}
-use Rattle.club_rows.proofs.TextLemmas.{moves-typed}
+use Rattle.club_rows.proofs.Proved.{moves-typed}
 use Rattle.store_sql.specs.Read.{IsReadAs}
 
 -- ---- the order by game and ply

@@ -28,11 +28,11 @@ use Rattle.store_tables.specs.Content.{AreApart, Keeps, cells}
 use Rattle.store_tables.specs.Contents.{Stores}
 use Rattle.store_tables.specs.Club.{Holds}
 use Rattle.store_tables.specs.Tables.{club_schema, challenges, seen, scores}
-use Rattle.store_tables.proofs.Laws.{pairs_turned, equal_from}
+use Rattle.store_tables.proofs.Proved.{pairs_turned, equal_from}
 use Rattle.club_rows.specs.Club.{both_games, ClubState, IsClub}
 use Rattle.club_rows.specs.EachOnce.{AreEachOnce}
 use Rattle.club_rows.specs.Tables.{tables_of}
-use Rattle.club_rows.proofs.ScoreLemmas.{scores_typed}
+use Rattle.club_rows.proofs.Proved.{scores_typed}
 use Rattle.store_sql.specs.Read.{IsReadAs}
 use Rattle.club_changes.proofs.Proved.{challenges_typed, moved}
 use Rattle.club_opening.proofs.MoveOrderLemmas.{and_first, not_true, one_rowid, turned}

@@ -20,17 +20,14 @@ use Rattle.store_tables.specs.declared.names.Table.TheVariants.{Scores}
 use Rattle.store_tables.specs.declared.rows.Rows.{Rows}
 use Rattle.store_tables.specs.declared.rows.ScoreRow.{ScoreRow}
 use Rattle.store_sql.specs.Read.{IsReadAs}
-use Rattle.store_tables.proofs.Laws.{leaves_of, same_by}
-use Rattle.store_tables.proofs.ReadLemmas.{has_map, has_mapped}
+use Rattle.store_tables.proofs.Proved.{leaves_of, same_by, has_map, has_mapped}
 use Rattle.club_rows.specs.Club.{both_games, ClubState, IsClub, tables}
 use Rattle.club_rows.specs.EachOnce.{AreEachOnce}
 use Rattle.club_rows.specs.Scores.{scores_in}
 use Rattle.club_rows.specs.Tables.{rows_of_moves, rows_of_seen, tables_of}
 use Rattle.club_audit.specs.Audit.{HaveRegister}
 use Rattle.club_audit.specs.Standings.{AreGamesOf}
-use Rattle.club_audit.proofs.ChallengeLemmas.{challenges-of, club-challenges}
-use Rattle.club_audit.proofs.AuditLemmas.{game-elsewhere, keys-in, keys-of}
-use Rattle.club_audit.proofs.PlacedLemmas.{numbered-length}
+use Rattle.club_audit.proofs.Proved.{challenges-of, club-challenges, game-elsewhere, keys-in, keys-of, numbered-length}
 use Rattle.club_opening.specs.Blames.{AreRead, NamesSchema, NamesTable}
 use Rattle.club_opening.specs.Examined.{AreScoresExamined, IsPlayExamined, NamesPlay, moves_in, past, seen_in}
 use Rattle.club_opening.specs.Places.{IsRegisterOf, NamesRows}

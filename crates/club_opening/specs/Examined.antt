@@ -63,8 +63,7 @@ NamesPlay rows db fault = (t : Table) × (fault ≡ Damaged t)
     × ((s : ClubState) → IsClub s → IsRegisterOf s rows → ¬ Holds db (tables s))
 
 -- What was read of a game's rows tells: how many are of its moves and of its positions, and that all of them are those
--- of a
--- legal game at its place, or a wrong table.
+-- of a legal game at its place, or a wrong table.
 pub record IsGameFound (rows : Rows) (place : ℕ) (game : GameRecord) (moves seen : ℕ) (wrong : Option Table)
     (old new : State) : Type 0 where
   pub same : IsUnchanged old new

@@ -17,20 +17,20 @@ use Rattle.sqlite_rules.specs.Lists.{Has}
 use Rattle.sqlite_rules.proofs.ListLemmas.{all_has, has_got}
 use Rattle.club_core.specs.Events.{Event, has_event_name}
 use Rattle.club_core.specs.Members.{find_id}
-use Rattle.club_core.proofs.Lists.{bytes_eq-same, same-bytes_eq, find_id-found, find_id-none}
+use Rattle.club_core.proofs.Proved.{bytes_eq-same, same-bytes_eq, find_id-found, find_id-none}
 use Rattle.club_rows.specs.Club.{both_games, ClubState, IsClub, tables}
 use Rattle.club_rows.specs.Scores.{scores_in}
 use Rattle.club_rows.specs.Tables.{number, event_row}
-use Rattle.club_rows.proofs.ScoreRows.{mapped_had, mapped_has}
+use Rattle.club_rows.proofs.Proved.{mapped_had, mapped_has}
 use Rattle.cross_tables.specs.declared.sums.Scored.{Scored}
 use Rattle.cross_tables.specs.Lines.{header_text}
 use Rattle.cross_tables.specs.Totals.{AreTotals}
-use Rattle.cross_tables.proofs.Alike.{only-one}
+use Rattle.cross_tables.proofs.Proved.{only-one}
 use Rattle.store_tables.specs.Cells.{score_cells}
 use Rattle.store_tables.specs.Content.{same_key}
 use Rattle.store_tables.specs.Contents.{AreThose}
 use Rattle.store_tables.specs.declared.rows.ScoreRow.{ScoreRow}
-use Rattle.store_tables.proofs.Laws.{equal_cmp, equal_from}
+use Rattle.store_tables.proofs.Proved.{equal_cmp, equal_from}
 use Rattle.club_reads.specs.CrossTable.{scored_row, lines_from, AreScoresIn, AreTableRows, ComesBefore, IsCrossTable}
 use Rattle.club_changes.proofs.Proved.{numbered_had, numbered_has, ids_agree, place_at}
 

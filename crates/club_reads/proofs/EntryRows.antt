@@ -17,7 +17,7 @@ use Rattle.std.proofs.lemmas.Option.{slice_get-map, same_Some}
 use Rattle.std.proofs.lemmas.List.{take-map}
 use Rattle.club_rules.specs.GameRules.{GameRules}
 use Rattle.club_rules.specs.Line.{position_after}
-use Rattle.club_rules.proofs.Lines.{check-at}
+use Rattle.club_rules.proofs.Proved.{check-at}
 use Rattle.club_core.specs.Events.{Terms}
 use Rattle.club_core.specs.Game.{Entry, Game, moves_of}
 use Rattle.club_core.specs.Legal.{IsLegalGame}
@@ -26,8 +26,7 @@ use Rattle.club_exports.specs.Written.{AddsRecord, BeginsRecord}
 use Rattle.club_exports.specs.Exported.{IsWritten, IsNextText}
 use Rattle.club_exports.specs.declared.export.Export.{Export}
 use Rattle.club_rows.specs.Tables.{move_rows, at_start}
-use Rattle.club_rows.proofs.NextLemmas.{six-parts}
-use Rattle.club_rows.proofs.WholeLemmas.{rows-from}
+use Rattle.club_rows.proofs.Proved.{six-parts, rows-from}
 use Rattle.store_tables.specs.Cells.{move_cells}
 use Rattle.store_tables.specs.declared.rows.MoveRow.{MoveRow}
 

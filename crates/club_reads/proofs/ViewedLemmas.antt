@@ -12,13 +12,13 @@ use Rattle.sqlite_rules.specs.Lists.{Has}
 use Rattle.club_rules.specs.declared.names.GameKind.{GameKind}
 use Rattle.club_rules.specs.GameRules.{GameRules}
 use Rattle.club_rules.specs.Line.{position_after}
-use Rattle.club_rules.proofs.Lines.{position_after-append}
+use Rattle.club_rules.proofs.Proved.{position_after-append}
 use Rattle.club_core.specs.Events.{Terms}
 use Rattle.club_core.specs.Game.{Entry, Game, moves_of, last_position}
 use Rattle.club_core.specs.State.{place, terms_at}
 use Rattle.club_rows.specs.Club.{ClubGame, both_games, ClubState, tables}
 use Rattle.club_rows.specs.Tables.{number, entry_rows, move_rows, rows_of_moves, at_start, with_entry}
-use Rattle.club_rows.proofs.KindLemmas.{Kind}
+use Rattle.club_rows.proofs.Proved.{Kind}
 use Rattle.store_tables.specs.Cells.{move_cells}
 use Rattle.store_tables.specs.Contents.{AreThose}
 use Rattle.store_tables.specs.declared.rows.MoveRow.{MoveRow}

@@ -18,14 +18,14 @@ use Rattle.club_core.specs.LegalState.{AreApart}
 use Rattle.club_core.specs.Seats.{Pairing}
 use Rattle.club_core.specs.State.{State, AnyGame, place, kind_at, seated_as, with_challenge, with_answer, with_imported}
 use Rattle.club_core.specs.State.{challenge_game}
-use Rattle.club_core.proofs.PutChallenges.{under-key, key-under, under-at, under-found, under-each, under-put, got-put}
-use Rattle.club_core.proofs.PutChallenges.{apart-put}
+use Rattle.club_core.proofs.Proved.{under-key, key-under, under-at, under-found, under-each, under-put, got-put}
+use Rattle.club_core.proofs.Proved.{apart-put}
 use Rattle.store_tables.specs.Cells.{challenge_cells}
 use Rattle.store_tables.specs.Changes.{Alters, HaveSame}
 use Rattle.store_tables.specs.Content.{same_key, put}
 use Rattle.store_tables.specs.Contents.{AreThose}
 use Rattle.store_tables.specs.declared.rows.ChallengeRow.{ChallengeRow}
-use Rattle.store_tables.proofs.Laws.{altered, unaltered}
+use Rattle.store_tables.proofs.Proved.{altered, unaltered}
 use Rattle.club_rows.specs.ChallengeRows.{IsChallengeFound, challenge_key}
 use Rattle.club_rows.specs.Scores.{meetings_in}
 use Rattle.club_rows.specs.Tables.{number, first_number, standing_number, game_started, challenge_row, rows_of_seen}

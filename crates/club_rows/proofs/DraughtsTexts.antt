@@ -15,7 +15,7 @@ use Rattle.pdn.specs.Forms.{Form, FormReading, quiet, capture, read_form}
 use Rattle.pdn.specs.Grammar.{IsSquareText, AreLandings, HasForm}
 use Rattle.pdn.specs.MoveValue.{move_reading, move_text, with_form}
 use Rattle.pdn.specs.SquareText.{square_text}
-use Rattle.pdn.proofs.GrammarLemmas.{read_form-text}
+use Rattle.pdn.proofs.Proved.{read_form-text}
 use Rattle.club_games.specs.Draughts.{draughts, move_read}
 use Rattle.club_games.specs.DraughtsLaws.{draughts-reads_back}
 use Rattle.club_rows.proofs.PlainTexts.{Plain, plain-append, ArePlain}

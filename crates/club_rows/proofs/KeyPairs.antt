@@ -8,7 +8,7 @@ use Rattle.sqlite_value.specs.Keys.{first_key}
 use Rattle.sqlite_value.proofs.OrderLemmas.{value_cmp_total, value_cmp-Text}
 use Rattle.sqlite.specs.Order.{Row, column}
 use Rattle.store_tables.specs.Content.{same_key}
-use Rattle.store_tables.proofs.Laws.{equal_cmp, equal_ints, equal_from}
+use Rattle.store_tables.proofs.Proved.{equal_cmp, equal_ints, equal_from}
 use Rattle.club_rows.specs.Tables.{number}
 
 pos_same : (m n : ℕ) → pos m ≡ pos n → m ≡ n

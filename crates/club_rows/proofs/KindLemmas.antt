@@ -18,7 +18,7 @@ use Rattle.club_core.specs.Seats.{Pairing}
 use Rattle.club_core.specs.State.{AnyGame, draughts, shogi, place, kind_at, terms_at, pairing_of, seated, seated_as}
 use Rattle.club_core.specs.State.{with_game, step_game}
 use Rattle.club_core.specs.Step.{GameCommand, game_step}
-use Rattle.club_core.proofs.Legals.{AreRules}
+use Rattle.club_core.proofs.Proved.{AreRules}
 use Rattle.club_rows.specs.Club.{both_games, ClubGame, ClubState}
 use Rattle.club_rows.specs.Seen.{seen_rows}
 use Rattle.club_rows.specs.Scores.{meetings_of, meetings_in}

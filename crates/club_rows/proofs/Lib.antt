@@ -22,6 +22,7 @@ pub mod WholeLemmas
 pub mod TallyLemmas
 pub mod GatheredLemmas
 pub mod KeyPairs
+pub mod Proved
 pub mod SeenAfter
 pub mod SeenClub
 pub mod SeenGame

@@ -2,8 +2,7 @@
 use Rattle.std.proofs.Common.{◌≡◌, [], ◌∷◌, ◌++◌, None, refl, ap, sym, ◌∙◌}
 use Rattle.club_rules.specs.GameRules.{GameRules}
 use Rattle.club_core.specs.Outcome.{Reply, MoveReply, moved}
-use Rattle.club_core.proofs.Legals.{AreRules}
-use Rattle.club_core.proofs.Played.{reply-played}
+use Rattle.club_core.proofs.Proved.{AreRules, reply-played}
 use Rattle.club_rows.specs.Tables.{entry_row, move_rows}
 use Rattle.club_rows.specs.Made.{made_row, MadeRowIsLast}
 use Rattle.club_rows.proofs.WholeLemmas.{rows-append, rows-alike}

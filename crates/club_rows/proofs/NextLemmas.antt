@@ -14,8 +14,7 @@ use Rattle.club_rules.proofs.Proved.{position_after-append}
 use Rattle.club_core.specs.Events.{Terms}
 use Rattle.club_core.specs.Game.{Entry, Game, Clocks, spend, clocks_of, moves_of, left_of, left_after, last_position}
 use Rattle.club_core.specs.Game.{turn_of}
-use Rattle.club_core.proofs.Legals.{AreRules}
-use Rattle.club_core.proofs.Played.{clocks-played}
+use Rattle.club_core.proofs.Proved.{AreRules, clocks-played}
 use Rattle.store_tables.specs.declared.rows.MoveRow.{MoveRow}
 use Rattle.club_rows.specs.Tables.{with_entry}
 use Rattle.club_rows.specs.Replay.{IsNext, Follows, Replays, left_in, clocks_replayed}

@@ -9,8 +9,7 @@ use Rattle.club_rules.specs.GameRules.{GameRules}
 use Rattle.club_rules.specs.Laws.{SamePositionIs, TextsTellPositions, TracksTellEnds, NumbersAreFew}
 use Rattle.club_rules.specs.Line.{IsPlayedLine, line_track, position_after}
 use Rattle.club_rules.proofs.Proved.{position_after-append, IsLegalLine-append}
-use Rattle.club_core.proofs.Tracked.{line_track-append}
-use Rattle.club_core.proofs.PlayedLines.{IsPlayedLine-append, IsPlayedLine-none}
+use Rattle.club_core.proofs.Proved.{line_track-append, IsPlayedLine-append, IsPlayedLine-none}
 use Rattle.club_rows.specs.declared.replay.Replayed.{Replayed}
 use Rattle.club_rows.specs.Tally.{IsTallyOf, HasStood, PositionText, same_text, seen_at, stood_then, stood_seldom}
 use Rattle.club_rows.specs.Replay.{IsCounted, IsReplayed, left_in}

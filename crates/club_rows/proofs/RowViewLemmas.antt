@@ -1,18 +1,17 @@
 -- What a game's row alone shows of it, and what the rows of one ply show of that ply.
-use Rattle.std.proofs.Common.{◌≡◌, ◌≢◌, ℕ, zero, suc, pos, ◌+◌, ◌-◌, ◌<◌, ◌≤◌, ◌^◌, List, [], ◌∷◌, ◌++◌, length, map}
-use Rattle.std.proofs.Common.{take, Option, Some, None, Result, Ok, true, false, refl, ap, sym, subst, ◌∙◌, arith}
-use Rattle.std.specs.Prelude.{string_bytes, slice_get, is_some, IsSome, IfSome, IsTrue}
+use Rattle.std.proofs.Common.{◌≡◌, ℕ, zero, suc, pos, ◌-◌, ◌<◌, ◌≤◌, ◌^◌, List, [], ◌∷◌, length, map}
+use Rattle.std.proofs.Common.{Option, Some, None, Result, Ok, true, false, refl, ap, sym, subst, ◌∙◌, arith}
+use Rattle.std.specs.Prelude.{string_bytes, slice_get, is_some, IsSome, IfSome}
 use Rattle.std.specs.Option.{option_map}
 use Rattle.std.proofs.lemmas.List.{length-map, take-map}
 use Rattle.std.proofs.lemmas.Option.{slice_get-map, slice_get_within, same_Some}
-use Rattle.sqlite.specs.Order.{Row}
 use Rattle.squares.specs.declared.sides.Side.{Side}
-use Rattle.squares.specs.declared.sides.Side.TheVariants.{First, Second}
+use Rattle.squares.specs.declared.sides.Side.TheVariants.{First}
 use Rattle.squares.specs.declared.sides.Score.{Score}
 use Rattle.squares.specs.Sides.{other, score_text}
 use Rattle.club_rules.specs.declared.refusals.MoveRefusal.{MoveRefusal}
 use Rattle.club_rules.specs.GameRules.{GameRules}
-use Rattle.club_rules.specs.Line.{position_after, line_numbers, line_track, IsLegalLine}
+use Rattle.club_rules.specs.Line.{position_after, line_numbers, IsLegalLine}
 use Rattle.club_rules.proofs.Proved.{check-at}
 use Rattle.club_rows.proofs.LineLemmas.{IsLegalLine-take}
 use Rattle.club_rules.specs.Laws.{TracksTellEnds, NumbersGiveTracks, NumbersAreFew, ReadsBack, WritesPositions}
@@ -22,26 +21,23 @@ use Rattle.club_core.specs.declared.rows.Offer.{Offer}
 use Rattle.club_core.specs.declared.rows.OutsideEnd.{OutsideEnd}
 use Rattle.club_core.specs.declared.rows.OutsideEnd.TheVariants.{Recorded}
 use Rattle.club_core.specs.OutsideEnd.{outside_text}
-use Rattle.club_core.specs.Limits.{last_moment, most_plies}
+use Rattle.club_core.specs.Limits.{last_moment}
 use Rattle.club_core.specs.Events.{Terms}
 use Rattle.club_core.specs.Game.{Entry, Game, Clocks, spend, spend_all, clocks_of, moves_of, left_of, side_after}
-use Rattle.club_core.specs.Game.{game_at, last_position, rule_end, end_of, end_with, turn_of}
+use Rattle.club_core.specs.Game.{game_at, last_position, rule_end}
 use Rattle.club_core.specs.Legal.{IsLegalGame, IsOffer}
 use Rattle.club_core.specs.LegalState.{Each}
 use Rattle.club_core.specs.Step.{move_at}
-use Rattle.club_core.specs.View.{IsAsked, CanGrow, clocks_in, track_of_game}
-use Rattle.club_core.proofs.Legals.{AreRules}
-use Rattle.club_core.proofs.Room.{room-for}
-use Rattle.club_core.proofs.Tracked.{tracked-end, line-grows}
-use Rattle.store_tables.specs.Cells.{game_cells, move_cells}
+use Rattle.club_core.specs.View.{IsAsked, track_of_game}
+use Rattle.club_core.proofs.Proved.{AreRules, room-for, tracked-end, line-grows}
+use Rattle.store_tables.specs.Cells.{move_cells}
 use Rattle.store_tables.specs.declared.rows.GameRecord.{GameRecord}
 use Rattle.store_tables.specs.declared.rows.MoveRow.{MoveRow}
-use Rattle.club_rows.specs.Tables.{game_row, move_rows, side_number}
-use Rattle.club_rows.specs.RowView.{HasCounts, AreCounts, HasLastStood, AreRowsAt, IsPlayed, row_at}
-use Rattle.club_rows.specs.Shown.{FitsTables, IsRecordOf}
+use Rattle.club_rows.specs.Tables.{move_rows, side_number}
+use Rattle.club_rows.specs.RowView.{HasCounts, AreCounts, HasLastStood, IsPlayed, row_at}
+use Rattle.club_rows.specs.Shown.{IsRecordOf}
 use Rattle.club_rows.specs.Told.{HasNumbers}
 use Rattle.club_rows.specs.declared.row_view.Counts.{Counts}
-use Rattle.club_rows.specs.declared.row_view.PlyRows.{PlyRows}
 use Rattle.club_rows.specs.declared.tally.Stood.{Stood}
 use Rattle.club_rows.proofs.NextLemmas.{six-parts}
 use Rattle.club_rows.proofs.SameLemmas.{seventeen-parts, same-int, same-bytes}

@@ -21,7 +21,7 @@ use Rattle.sfen.specs.SfenText.{gap_text, cells_text, rank_text, more_ranks, boa
 use Rattle.sfen.specs.SfenText.{hand_kinds, or_hyphen, hands_text, position_text}
 use Rattle.sfen.specs.UsiReading.{usi_reach, usi_reading}
 use Rattle.sfen.specs.UsiText.{square_text, promotion_text, usi_text, IsOnBoard}
-use Rattle.sfen.proofs.UsiTextLemmas.{usi_reading-sound}
+use Rattle.sfen.proofs.Proved.{usi_reading-sound}
 use Rattle.club_games.specs.Shogi.{shogi, move_read}
 use Rattle.club_games.specs.ShogiLaws.{shogi-reads_back}
 use Rattle.club_rows.proofs.PlainTexts.{Plain, plain-append, decimal-plain, ArePlain}

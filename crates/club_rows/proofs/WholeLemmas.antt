@@ -21,10 +21,8 @@ use Rattle.club_core.specs.Game.{Entry, Game, Clocks, spend, spend_all, turns, s
 use Rattle.club_core.specs.Game.{moments_of, opening_clocks, left_of, last_position, game_at, turn_of, result_of}
 use Rattle.club_core.specs.Game.{end_with, score_with}
 use Rattle.club_core.specs.Legal.{IsTimely, IsLegalGame}
-use Rattle.club_core.proofs.Legals.{AreRules, legal-played}
-use Rattle.club_core.proofs.Lists.{each-append}
-use Rattle.club_core.proofs.Played.{turn-of-game, running-before}
-use Rattle.club_core.proofs.PlayedLines.{IsPlayedLine-none}
+use Rattle.club_core.proofs.Proved.{AreRules, legal-played, each-append, turn-of-game, running-before}
+use Rattle.club_core.proofs.Proved.{IsPlayedLine-none}
 use Rattle.store_tables.specs.Cells.{move_cells}
 use Rattle.store_tables.specs.declared.rows.MoveRow.{MoveRow}
 use Rattle.club_rows.specs.Tables.{entry_row, entry_rows, move_rows, with_entry}

@@ -42,7 +42,7 @@ pub struct Replayed<R: Rules> {
     pub stood: Stood,
 }
 
-// A move that may be played next, and what stands after it.
+/// A move that may be played next, and what stands after it.
 #[derive(Drop)]
 pub struct Next<R: Rules> {
     pub made: R::Move,

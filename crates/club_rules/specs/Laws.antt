@@ -58,8 +58,7 @@ module _ {P M E T : Type 0} (rules : GameRules P M E T) where
       position_after rules rules.start ms ≡ position_after rules rules.start ns
 
   -- Of a line from the start that is played by the rules, the track, made ply by ply, tells the end: by the last
-  -- position,
-  -- the number of plies, how often that position stood, and after which ply first.
+  -- position, the number of plies, how often that position stood, and after which ply first.
   abbrev pub TracksTellEnds : Type 0
   TracksTellEnds =
       (ms : List M) (first : ℕ) → IsPlayedLine rules rules.start ms → FirstStands rules rules.start ms first →

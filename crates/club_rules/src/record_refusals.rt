@@ -12,8 +12,7 @@ use std::fmt;
 #[derive(Clone, Copy, Debug, PartialEq, Eq)]
 pub enum RecordRefusal {
     /// The text has not the form of a record: at this byte, counted from 0, of a PDN text, or on this line, counted
-    /// from
-    /// 1, of a CSA text.
+    /// from 1, of a CSA text.
     BadText(RecordFormat, usize),
     /// CSA: the text begins with no known version.
     Version,

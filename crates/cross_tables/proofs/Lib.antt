@@ -3,3 +3,4 @@ pub mod Orders
 pub mod Adding
 pub mod Showing
 pub mod OwnRows
+pub mod Proved

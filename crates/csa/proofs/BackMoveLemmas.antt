@@ -16,7 +16,7 @@ use Rattle.squares.specs.ShogiGeometry.{file_of, rank_of, shogi_number}
 use Rattle.squares.specs.ShogiPieces.{kind_of, promotes_to}
 use Rattle.squares.specs.ShogiSets.{ShogiPosition}
 use Rattle.shogi_moves.specs.Rules.{Legal, Goes, can_promote, arrived, dropped_role}
-use Rattle.shogi_moves.proofs.ReachLemmas.{Reach-on}
+use Rattle.shogi_moves.proofs.Proved.{Reach-on}
 use Rattle.csa.specs.declared.statements.Statement.TheVariants as statement
 use Rattle.csa.specs.declared.statements.WrittenMove.{WrittenMove}
 use Rattle.csa.specs.Codes.{code_of, role_of, is_digit, is_place, square_of}

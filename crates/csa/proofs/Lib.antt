@@ -10,3 +10,4 @@ pub mod BackLineLemmas
 pub mod BackMoveLemmas
 pub mod BackGameLemmas
 pub mod BackLemmas
+pub mod Proved

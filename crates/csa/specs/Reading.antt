@@ -83,8 +83,7 @@ IsBadOn placed line =
     ⊎ ((first_statement placed ≡ Some statement.Version) × (first_stray place.Start placed ≡ Some line))
 
 -- The refusals of statements: a text without any, a first one that is no version, the first that is out of order, and
--- then those
--- of the records, one after another.
+-- then those of the records, one after another.
 abbrev pub Refuses : List Placed → CsaFault → Type 0
 Refuses placed fault.Memory = Unit {0}
 Refuses placed (fault.BadText line) = IsBadOn placed line

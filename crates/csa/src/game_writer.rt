@@ -12,9 +12,8 @@ use std::alloc::Global;
 use std::io::Write;
 
 /// A game on its way to a writer, in the standard format of the Computer Shogi Association: what stands before the
-/// moves
-/// and so many of the moves are written. It holds the text of one move at a time. The writer is lent to each call, so
-/// that its owner has it also where a call fails; what was written then is a beginning of the game's text.
+/// moves and so many of the moves are written. It holds the text of one move at a time. The writer is lent to each
+/// call, so that its owner has it also where a call fails; what was written then is a beginning of the game's text.
 #[derive(Drop)]
 pub struct GameWriter {
     position: SPos,

@@ -18,8 +18,7 @@ pub enum CsaEnd {
 }
 
 /// What a record says beside the moves: the event, the players, the moment of the start, and the end, or none where the
-/// game
-/// goes on.
+/// game goes on.
 #[derive(Clone, Copy)]
 pub struct CsaHead<'a> {
     pub event: &'a str,

@@ -16,8 +16,7 @@ pub fn texts_are_read_in_one_way()
 }
 
 /// With names of one line each, what is written of a game that ended is the text of one game, with its moves and the
-/// score
-/// of its end, and so it is read as that. What is written of a game that goes on is refused as unfinished.
+/// score of its end, and so it is read as that. What is written of a game that goes on is refused as unfinished.
 pub fn written_games_are_read()
     ensures ended { WrittenIsRead }
     ensures running { RunningIsRefused }

@@ -1,8 +1,8 @@
 -- What follows of counts that are those of a line.
-use Rattle.std.proofs.Common.{◌≡◌, ℕ, zero, suc, ◌+◌, ◌<◌, ◌≤◌, ◌⊎◌, inl, inr, Bool, true, false, not, cond, nat_eq}
-use Rattle.std.proofs.Common.{nat_lt, nat_le, List, [], ◌∷◌, ◌++◌, length, take, drop, Option, Some, None, Result, Ok}
-use Rattle.std.proofs.Common.{Err, is_some, is_ok, refl, sym, ap, subst, ◌∙◌, arith, zero-add, length-append}
-use Rattle.std.specs.Prelude.{count_by, unwrap_or, slice_get, IsSome, IsOk, if◌then◌else◌}
+use Rattle.std.proofs.Common.{◌≡◌, ℕ, ◌+◌, ◌<◌, ◌≤◌, Bool, true, false, not, cond, nat_eq}
+use Rattle.std.proofs.Common.{nat_lt, nat_le, List, [], ◌∷◌, ◌++◌, length, take, drop, Option, Some, None}
+use Rattle.std.proofs.Common.{Err, is_some, refl, sym, ap, subst, ◌∙◌, arith, zero-add, length-append}
+use Rattle.std.specs.Prelude.{count_by, unwrap_or, slice_get, IsSome, if◌then◌else◌}
 use Rattle.std.specs.HashMap.{get}
 use Rattle.std.proofs.lemmas.Grind.{common_steps}
 use Rattle.std.proofs.lemmas.List.{take-append-le, take-append-drop}
@@ -19,17 +19,17 @@ use Rattle.draughts_moves.specs.Check.{check_of}
 use Rattle.draughts_moves.specs.Search.{has_move}
 use Rattle.draughts_draws.specs.declared.counts.Counts.{Counts}
 use Rattle.draughts_draws.specs.declared.ends.DEnd.{DEnd}
-use Rattle.draughts_draws.specs.declared.ends.DEnd.TheVariants.{NoMove, Repetition, KingMoves, ThreeToOne, TwoToOne}
+use Rattle.draughts_draws.specs.declared.ends.DEnd.TheVariants.{NoMove, Repetition, KingMoves}
 use Rattle.draughts_draws.specs.declared.ends.DEnd.TheVariants.{PlyLimit}
 use Rattle.draughts_draws.specs.declared.faults.Fault.{Fault}
 use Rattle.draughts_draws.specs.declared.faults.Fault.TheVariants.{Memory as memory, AfterEnd, Illegal as illegal}
 use Rattle.draughts_draws.specs.declared.tails.Class.{Class}
 use Rattle.draughts_draws.specs.declared.tails.Tail.{Tail}
 use Rattle.draughts_draws.specs.Line.{last_position, positions}
-use Rattle.draughts_draws.specs.Ends.{is_king_move, is_three_to_one, is_two_to_one, end_of}
+use Rattle.draughts_draws.specs.Ends.{is_king_move, end_of}
 use Rattle.draughts_draws.specs.Faults.{GoesOn, IsPlayed, HasFault}
-use Rattle.draughts_draws.specs.Tails.{in_class, class_of, tail_of, first_tail, count_on, next_tail, class_end, end_or}
-use Rattle.draughts_draws.specs.Tails.{end_by, times_stood}
+use Rattle.draughts_draws.specs.Tails.{in_class, class_of, first_tail, count_on, next_tail, class_end, end_or}
+use Rattle.draughts_draws.specs.Tails.{end_by}
 use Rattle.draughts_draws.specs.Counting.{Follows}
 use Rattle.draughts_draws.proofs.LineLemmas.{length-positions, last_position-append, positions-append}
 use Rattle.draughts_draws.proofs.TailLemmas.{tail-begins, tail-goes-on, ends-by-tail}

@@ -1,16 +1,10 @@
 -- A line that grows by one move, and its end.
-use Rattle.std.proofs.Common.{◌≡◌, ℕ, ◌+◌, ◌<◌, List, [], ◌∷◌, ◌++◌, length, take, get_or, Option, Some, None, refl}
-use Rattle.std.proofs.Common.{sym, ap, ◌∙◌, subst, arith}
-use Rattle.std.specs.Prelude.{slice_get}
-use Rattle.std.proofs.lemmas.List.{take_more}
-use Rattle.std.proofs.lemmas.Option.{slice_get_read}
+use Rattle.std.proofs.Common.{◌≡◌, ◌+◌, List, [], ◌∷◌, ◌++◌, length, refl}
+use Rattle.std.proofs.Common.{ap, arith}
 use Rattle.squares.specs.declared.draughts.moves.DMove.{DMove}
 use Rattle.squares.specs.DraughtsBoard.{Position}
-use Rattle.draughts_moves.specs.Legal.{Legal, play}
-use Rattle.draughts_draws.specs.declared.ends.DEnd.{DEnd}
+use Rattle.draughts_moves.specs.Legal.{play}
 use Rattle.draughts_draws.specs.Line.{last_position, positions}
-use Rattle.draughts_draws.specs.Ends.{first_end, end_of}
-use Rattle.draughts_draws.specs.Faults.{GoesOn}
 
 pub length-positions : (p : Position) (ms : List DMove) → length (positions p ms) ≡ length ms + 1
 length-positions p [] = refl

@@ -1,2 +1,3 @@
 -- What is proved of the ends of draughts, for the proofs of crates above.
-pub use Rattle.draughts_draws.proofs.TailLemmas.{tail-begins, tail-goes-on, ends-by-tail}
+pub use Rattle.draughts_draws.proofs.LineLemmas.{last_position-append}
+pub use Rattle.draughts_draws.proofs.TailLemmas.{ends-by-tail, tail-begins, tail-goes-on}

@@ -1,29 +1,27 @@
 -- The tail of a line is made ply by ply, and tells its end.
-use Rattle.std.proofs.Common.{◌≡◌, ◌⊎◌, inl, inr, ℕ, zero, suc, ◌+◌, ◌-◌, ◌*◌, ◌≤◌, Bool, true, false, ◌&&◌, ◌||◌, not}
+use Rattle.std.proofs.Common.{◌≡◌, ◌⊎◌, inl, inr, ℕ, zero, suc, ◌+◌, ◌-◌, ◌≤◌, Bool, true, false, ◌&&◌, ◌||◌, not}
 use Rattle.std.proofs.Common.{cond, nat_eq, nat_le, List, [], ◌∷◌, ◌++◌, length, drop, Option, Some, None, refl, sym}
 use Rattle.std.proofs.Common.{ap, ◌∙◌, arith}
-use Rattle.std.specs.Prelude.{count_by, if◌then◌else◌}
+use Rattle.std.specs.Prelude.{if◌then◌else◌}
 use Rattle.std.specs.List.{list_all, suffix_len, zip}
 use Rattle.std.proofs.lemmas.Grind.{common_steps}
 use Rattle.squares.specs.declared.sides.Side.TheVariants.{First, Second}
 use Rattle.squares.specs.declared.draughts.moves.DMove.{DMove}
 use Rattle.squares.specs.DraughtsBoard.{Position}
-use Rattle.squares.specs.RunLemmas.{end_so, end_so-run, suffix_len-more}
+use Rattle.squares.specs.RunLemmas.{end_so-run, suffix_len-more}
 use Rattle.draughts_moves.specs.Legal.{play}
 use Rattle.draughts_moves.specs.Search.{has_move}
-use Rattle.draughts_draws.specs.declared.ends.DEnd.{DEnd}
 use Rattle.draughts_draws.specs.declared.ends.DEnd.TheVariants.{NoMove, Repetition, KingMoves, ThreeToOne, TwoToOne}
 use Rattle.draughts_draws.specs.declared.ends.DEnd.TheVariants.{PlyLimit}
 use Rattle.draughts_draws.specs.declared.tails.Class.{Class}
 use Rattle.draughts_draws.specs.declared.tails.Class.TheVariants as class
-use Rattle.draughts_draws.specs.declared.tails.Tail.{Tail}
 use Rattle.draughts_draws.specs.Line.{last_position, positions}
-use Rattle.draughts_draws.specs.Ends.{is_king_move, count_of_pieces, count_of_kings, has_three, has_two, has_lone_king}
+use Rattle.draughts_draws.specs.Ends.{is_king_move, count_of_pieces}
 use Rattle.draughts_draws.specs.Ends.{is_three_to_one, is_two_to_one, stands_thrice, are_king_moves, ends_with}
 use Rattle.draughts_draws.specs.Ends.{first_end, end_of}
 use Rattle.draughts_draws.specs.Tails.{in_class, class_of, run_in, tail_of, first_count, first_tail, count_on}
-use Rattle.draughts_draws.specs.Tails.{class_count, next_tail, class_end, end_or, end_by, times_stood}
-use Rattle.draughts_draws.proofs.LineLemmas.{length-positions, last_position-append, positions-append}
+use Rattle.draughts_draws.specs.Tails.{class_count, next_tail, end_or, end_by, times_stood}
+use Rattle.draughts_draws.proofs.LineLemmas.{last_position-append, positions-append}
 
 -- ---- the classes are apart
 

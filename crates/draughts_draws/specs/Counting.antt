@@ -1,5 +1,5 @@
 -- When counts are those of a line.
-use Rattle.std.specs.Prelude.{◌≡◌, ℕ, List, [], ◌∷◌, ◌++◌, Option, length, count_by, unwrap_or}
+use Rattle.std.specs.Prelude.{◌≡◌, List, [], ◌∷◌, ◌++◌, Option, length, count_by, unwrap_or}
 use Rattle.std.specs.HashMap.{get}
 use Rattle.squares.specs.declared.draughts.moves.DMove.{DMove}
 use Rattle.squares.specs.DraughtsBoard.{Position}
@@ -13,8 +13,7 @@ use Rattle.draughts_draws.specs.Ends.{end_of}
 use Rattle.draughts_draws.specs.Faults.{IsPlayed, HasFault}
 
 -- The line is played by the rules, and the counts have its last position, its plies, its tail, and how often each
--- position
--- stood in it.
+-- position stood in it.
 pub record Follows (start : Position) (ms : List DMove) (counts : Counts) : Type 0 where
   pub played : IsPlayed start ms (length ms)
   pub last : counts.last ≡ last_position start ms

@@ -19,9 +19,8 @@ abbrev pub IsPlayed : Position → List DMove → ℕ → Type 0
 IsPlayed start ms n = (k : ℕ) → k < n → GoesOn start ms k
 
 -- Plies count from 1. A line has a fault at the first ply that is not played by the rules. It is that of a move after
--- the
--- end, where the game ended before that ply, whatever the move is. Otherwise it is that of an illegal move, with its
--- refusal.
+-- the end, where the game ended before that ply, whatever the move is. Otherwise it is that of an illegal move, with
+-- its refusal.
 abbrev pub HasFault : Position → List DMove → Fault → Type 0
 HasFault start ms Memory = Unit {0}
 HasFault start ms (AfterEnd ply) = (k : ℕ) × (ply ≡ k + 1) × (k < length ms) × IsPlayed start ms k

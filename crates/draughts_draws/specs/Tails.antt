@@ -29,8 +29,7 @@ run_in None ps = 0
 run_in (Some c) ps = suffix_len (in_class c) ps
 
 -- The plies in a row, up to the last, that kings made without taking (each move stands beside the position in which it
--- was
--- made), and the positions in a row, up to the last and with it, in the last one's class.
+-- was made), and the positions in a row, up to the last and with it, in the last one's class.
 unfoldable pub tail_of : Position → List DMove → Tail
 tail_of start ms =
     record {

@@ -47,8 +47,7 @@ impl Counts {
     }
 
     /// The line with one move more. It fails where the game has ended, or where the move is not legal, with the fault
-    /// that
-    /// `judge` has of that ply, or where memory is refused; then the line stays as it was.
+    /// that `judge` has of that ply, or where memory is refused; then the line stays as it was.
     pub fn push(&mut self, played: &DMove) -> Result<(), Fault>
         ensures follows { OnOk result (GrowsBy played.now self.old self.new) }
         ensures fault { IfErr result (IsRefused played.now self.old) }

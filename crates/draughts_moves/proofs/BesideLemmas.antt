@@ -17,7 +17,7 @@ use Rattle.squares.specs.DraughtsKept.{is_king}
 use Rattle.squares.specs.DraughtsSets.{Squares}
 use Rattle.squares.specs.DraughtsGeometry.{OnBoard, step, ray}
 use Rattle.squares.specs.DraughtsOnBoard.{step-on_board}
-use Rattle.squares.proofs.DraughtsEdge.{two_steps-apart}
+use Rattle.squares.proofs.Proved.{two_steps-apart}
 use Rattle.draughts_moves.specs.Capture.{Cells, is_enemy, without}
 use Rattle.draughts_moves.specs.Search.{takes, king_jumps, man_jumps, line_jumps, greatest, own_at, greatest_at}
 use Rattle.draughts_moves.specs.Search.{AreEnemies, next_in, next_before, is_beside}

@@ -16,7 +16,7 @@ use Rattle.squares.specs.DraughtsBoard.{Board, is_of}
 use Rattle.squares.specs.DraughtsSets.{Squares}
 use Rattle.squares.specs.DraughtsGeometry.{step, line, ray}
 use Rattle.squares.specs.DraughtsOnBoard.{ray-off}
-use Rattle.squares.proofs.DraughtsEdge.{ends_within, ray-ends, ends-next, line-ends}
+use Rattle.squares.proofs.Proved.{ends_within, ray-ends, ends-next, line-ends}
 use Rattle.draughts_moves.specs.Capture.{Cells, without}
 use Rattle.draughts_moves.specs.Search.{clear_front, is_prey, takes, king_jumps}
 use Rattle.std.proofs.lemmas.List.{append-nil}

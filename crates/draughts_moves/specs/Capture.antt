@@ -48,8 +48,8 @@ abbrev pub Jump : Cells → DPiece → Squares → ℕ → ℕ → ℕ → Type 
 Jump b p taken from over to = (d : Direction) × JumpAlong b p taken (ray d from) over to
 
 -- From a square, with what is taken, jumps that land on the squares of the list lead to the square `to`, with `all`
--- taken.
--- All jumps are over one board: what is taken still stands, and the square that the piece left at first is empty.
+-- taken. All jumps are over one board: what is taken still stands, and the square that the piece left at first is
+-- empty.
 abbrev pub Route : Cells → DPiece → Squares → ℕ → List ℕ → Squares → ℕ → Type 0
 Route b p taken from [] all to = (taken ≡ all) × (from ≡ to)
 Route b p taken from (l ∷ landings) all to = (over : ℕ) × Jump b p taken from over l

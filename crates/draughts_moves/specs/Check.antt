@@ -16,8 +16,7 @@ abbrev pub Answer : Type 0
 Answer = Result (Unit {0}) Illegal
 
 -- Legal moves pass. A quiet move where something can be taken, and a capture that takes fewer than the most, each have
--- a
--- refusal of their own; whatever else is refused is no move.
+-- a refusal of their own; whatever else is refused is no move.
 pub record IsCheck (p : Position) (m : DMove) (answer : Answer) : Type 0 where
   pub legal : IsOk answer ↔ Legal p m
   pub must_capture : (answer ≡ Err MustCapture) ↔ (IsQuiet p m × HasCapture p)

@@ -80,7 +80,6 @@ moved p m (Some q) = record {
 }
 
 -- The position after a move: the piece leaves its square, what it takes leaves the board, it stands on the square that
--- it
--- came to, and the turn passes.
+-- it came to, and the turn passes.
 abbrev pub play : Position → DMove → Position
 play p m = moved p m (map.get p.board m.from)

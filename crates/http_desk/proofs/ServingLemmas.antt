@@ -9,7 +9,7 @@ use Rattle.http_desk.specs.Served.{Club}
 use Rattle.http_desk.specs.declared.faults.ClubFault.{ClubFault}
 use Rattle.http_desk.specs.Desk.{IsReply, state_behind, shut_reply, IsShutReply}
 use Rattle.http_desk.specs.Serving.{HasRead, IsReplyTo, Serving, ShutServing}
-use Rattle.http_head.proofs.RequestLemmas.{sees_more, sees_once, asks_more}
+use Rattle.http_head.proofs.Proved.{sees_more, sees_once, asks_more}
 
 -- what holds of the bytes that were read holds of all of them
 pub record Lifts (input taken : List ℕ) (seen : Seen) : Type 0 where

@@ -4,4 +4,5 @@ pub mod HeadReading
 pub mod FramingLemmas
 pub mod RequestLemmas
 pub mod IntakeLemmas
+pub mod Proved
 pub mod StreamLemmas

@@ -14,16 +14,13 @@ use Rattle.club_core.specs.Events.{Terms}
 use Rattle.club_core.specs.Game.{Entry, Game, moves_of, clocks_of, last_position, left_of, spend, turn_of}
 use Rattle.club_core.specs.Imports.{imported}
 use Rattle.club_core.specs.Seats.{Pairing}
-use Rattle.club_core.proofs.ImportedGames.{made-again}
-use Rattle.club_core.proofs.Legals.{AreRules}
-use Rattle.club_core.proofs.Played.{clocks-played, last-played}
+use Rattle.club_core.proofs.Proved.{made-again, AreRules, clocks-played, last-played}
 use Rattle.club_imports.specs.OneMoment.{clocks_with}
 use Rattle.club_rules.specs.Records.{Recorded}
 use Rattle.club_rows.specs.Replay.{game_from}
 use Rattle.club_rows.specs.Seen.{rows_of_texts, seen_rows}
 use Rattle.club_rows.specs.Tables.{number, entry_row, move_rows, with_entry}
-use Rattle.club_rows.proofs.LineLemmas.{IsLegalLine-take}
-use Rattle.club_rows.proofs.WholeLemmas.{rows-append, rows-alike}
+use Rattle.club_rows.proofs.Proved.{IsLegalLine-take, rows-append, rows-alike}
 use Rattle.import_rows.specs.AtOnce.{entries_at_once, rows_at_once}
 
 module _ {P M E T : Type 0} (rules : GameRules P M E T) (ms : List M) (i : ℕ) (m : M) (within : i < length ms)

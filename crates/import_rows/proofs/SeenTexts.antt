@@ -11,7 +11,7 @@ use Rattle.sqlite.specs.Order.{Row}
 use Rattle.club_rules.specs.GameRules.{GameRules}
 use Rattle.club_rules.specs.Line.{position_after, positions}
 use Rattle.club_rows.specs.Seen.{times_in, stood_before, seen_row, rows_from, rows_of_texts}
-use Rattle.club_rows.proofs.TallyLemmas.{positions-append}
+use Rattle.club_rows.proofs.Proved.{positions-append}
 use Rattle.import_rows.specs.Texts.{bytes_of}
 use Rattle.import_rows.proofs.MoveLemmas.{one-more}
 

@@ -1,5 +1,5 @@
 -- What was played in a game, by its rows.
-use Rattle.std.proofs.Common.{◌≡◌, ℕ, ◌≤◌, List, length, map, take, pos, ℤ, Option, Some, None, refl, sym, ap, subst}
+use Rattle.std.proofs.Common.{◌≡◌, ℕ, List, length, map, take, pos, ℤ, Option, Some, None, refl, sym, ap, subst}
 use Rattle.std.proofs.Common.{◌∙◌}
 use Rattle.std.specs.Prelude.{string_bytes}
 use Rattle.std.specs.declared.alloc.Global.{Global}
@@ -16,9 +16,9 @@ use Rattle.club_core.specs.Events.{Terms}
 use Rattle.club_core.specs.Game.{Game, moves_of, result_of}
 use Rattle.club_rows.specs.Replay.{IsPlayedAs, WasReplayed, game_from}
 use Rattle.club_rows.specs.Shown.{IsRecordOf}
-use Rattle.club_rows.specs.Tables.{number, game_row, move_rows}
+use Rattle.club_rows.specs.Tables.{game_row, move_rows}
 use Rattle.club_rows.specs.declared.replay.Replayed.{Replayed}
-use Rattle.club_rows.proofs.WholeLemmas.{played-count}
+use Rattle.club_rows.proofs.Proved.{played-count}
 use Rattle.store_tables.specs.Cells.{game_cells, move_cells}
 use Rattle.store_tables.specs.declared.rows.GameRecord.{GameRecord}
 use Rattle.store_tables.specs.declared.rows.MoveRow.{MoveRow}

@@ -1,5 +1,5 @@
 -- The rows of moves that are all made at one moment.
-use Rattle.std.specs.Prelude.{ℕ, List, [], map}
+use Rattle.std.specs.Prelude.{ℕ, List, map}
 use Rattle.sqlite.specs.Order.{Row}
 use Rattle.club_rules.specs.GameRules.{GameRules}
 use Rattle.club_core.specs.Events.{Terms}

@@ -9,8 +9,7 @@ use Rattle.squares.specs.DraughtsOnBoard.{AllOnBoard, ray-on_board, ray-off}
 use Rattle.squares.specs.DraughtsGeometry.{OnBoard}
 use Rattle.draughts_moves.specs.Capture.{Capture, Route, without, LegalCapture}
 use Rattle.draughts_moves.specs.Legal.{QuietMove, Legal}
-use Rattle.draughts_moves.proofs.CheckLemmas.{is_positive}
-use Rattle.draughts_moves.proofs.MostLemmas.{Capture-len, own_at-own}
+use Rattle.draughts_moves.proofs.Proved.{is_positive, Capture-len, own_at-own}
 use Rattle.pdn.specs.Forms.{quiet, capture, read_form}
 use Rattle.pdn.specs.Subsequence.{IsSubsequence}
 use Rattle.pdn.specs.MoveText.{HasRival, IsFirstRoute, IsMoveText, quiet_text, capture_text, short, long}

@@ -18,7 +18,7 @@ use Rattle.squares.specs.DraughtsGeometry.{OnBoard}
 use Rattle.squares.specs.DraughtsMarks.{nat_eq_same, nat_eq_other}
 use Rattle.squares.specs.DraughtsSamePosition.{same_side-same, same_side-itself}
 use Rattle.squares.specs.In.{In, In-left, In-right, In-cases}
-use Rattle.draughts_moves.proofs.Prey.{In-range}
+use Rattle.draughts_moves.proofs.Proved.{In-range}
 use Rattle.pdn.specs.declared.items.Item.{Item}
 use Rattle.pdn.specs.FenText.{all_squares, fen_text}
 use Rattle.pdn.specs.ReadFen.{shares, repeated_after, repeated, put_on, put_item, IsFen}

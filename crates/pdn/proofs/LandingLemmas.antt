@@ -8,9 +8,9 @@ use Rattle.squares.specs.declared.draughts.piece.DPiece.{DPiece}
 use Rattle.squares.specs.DraughtsSets.{Squares}
 use Rattle.squares.specs.DraughtsGeometry.{OnBoard, IsMoved, ray}
 use Rattle.squares.specs.DraughtsOnBoard.{AllOnBoard, ray-on_board}
-use Rattle.squares.proofs.DraughtsRays.{ray-moved}
+use Rattle.squares.proofs.Proved.{ray-moved}
 use Rattle.draughts_moves.specs.Capture.{Cells, AllClear, is_enemy, Jump, Route}
-use Rattle.draughts_moves.proofs.MostLemmas.{Jump-from_on}
+use Rattle.draughts_moves.proofs.Proved.{Jump-from_on}
 
 inside : (xs ys : List ℕ) (y : ℕ) → AllOnBoard (xs ++ y ∷ ys) → OnBoard y
 inside [] ys y on = on.0

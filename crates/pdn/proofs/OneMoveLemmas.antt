@@ -7,7 +7,7 @@ use Rattle.draughts_moves.specs.declared.checking.Illegal.TheVariants.{NoSuchMov
 use Rattle.draughts_moves.specs.Legal.{Legal}
 use Rattle.draughts_moves.specs.Listing.{step_to}
 use Rattle.draughts_moves.specs.Check.{Answer, check_of}
-use Rattle.draughts_moves.proofs.CheckLemmas.{check_of-is}
+use Rattle.draughts_moves.proofs.Proved.{check_of-is}
 use Rattle.pdn.specs.declared.faults.MoveFault.{MoveFault}
 use Rattle.pdn.specs.declared.faults.MoveFault.TheVariants as fault
 use Rattle.pdn.specs.Forms.{Form, quiet, capture, read_form}

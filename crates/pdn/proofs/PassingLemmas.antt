@@ -16,8 +16,7 @@ use Rattle.squares.specs.In.{In, In-Contains, Contains-In, list_any-found, list_
 use Rattle.draughts_moves.specs.Capture.{Cells, Jump, Route, Capture, without}
 use Rattle.draughts_moves.specs.Search.{own_at, jumps}
 use Rattle.draughts_moves.specs.Routes.{lists_in}
-use Rattle.draughts_moves.proofs.JumpLemmas.{jumps-sound, jumps-complete}
-use Rattle.draughts_moves.proofs.MostLemmas.{own_at-own, own_at-is}
+use Rattle.draughts_moves.proofs.Proved.{jumps-sound, jumps-complete, own_at-own, own_at-is}
 use Rattle.pdn.specs.Subsequence.{IsSubsequence, past, is_subsequence}
 use Rattle.pdn.specs.Passing.{passes}
 use Rattle.pdn.specs.Reaching.{GoesTo, StepsTo}

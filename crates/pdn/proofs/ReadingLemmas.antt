@@ -11,7 +11,7 @@ use Rattle.squares.specs.In.{In, In-Contains, Contains-In}
 use Rattle.draughts_moves.specs.Capture.{IsMost}
 use Rattle.draughts_moves.specs.Legal.{IsCapture, Legal}
 use Rattle.draughts_moves.specs.Search.{most}
-use Rattle.draughts_moves.proofs.MostLemmas.{Capture-len, IsMost-most}
+use Rattle.draughts_moves.proofs.Proved.{Capture-len, IsMost-most}
 use Rattle.pdn.specs.declared.faults.MoveFault.{MoveFault}
 use Rattle.pdn.specs.declared.faults.MoveFault.TheVariants as fault
 use Rattle.pdn.specs.Forms.{Form, capture, read_form}

@@ -19,10 +19,8 @@ use Rattle.draughts_moves.specs.Legal.{Legal}
 use Rattle.draughts_moves.specs.Search.{routes_of}
 use Rattle.draughts_moves.specs.Listing.{captures_at, move_to, step_to}
 use Rattle.draughts_moves.specs.Check.{Answer, check_of}
-use Rattle.draughts_moves.proofs.CheckLemmas.{check_of-is}
-use Rattle.draughts_moves.proofs.MostLemmas.{own_at-own}
-use Rattle.draughts_moves.proofs.RouteLemmas.{routes_of-complete, greatest-bounds, greatest-fits}
-use Rattle.draughts_moves.proofs.Prey.{In-range}
+use Rattle.draughts_moves.proofs.Proved.{check_of-is, own_at-own, routes_of-complete, greatest-bounds, greatest-fits}
+use Rattle.draughts_moves.proofs.Proved.{In-range}
 use Rattle.pdn.specs.declared.faults.MoveFault.{MoveFault}
 use Rattle.pdn.specs.declared.faults.MoveFault.TheVariants as fault
 use Rattle.pdn.specs.Forms.{Form, FormReading, quiet, capture, read_form}

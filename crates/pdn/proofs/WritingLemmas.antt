@@ -17,7 +17,7 @@ use Rattle.squares.specs.In.{In, In-Contains, Contains-In, list_any-found, list_
 use Rattle.draughts_moves.specs.Capture.{Capture}
 use Rattle.draughts_moves.specs.Legal.{Legal}
 use Rattle.draughts_moves.specs.Routes.{route_cmp, lists_in}
-use Rattle.draughts_moves.proofs.RoutingLemmas.{route_cmp-total}
+use Rattle.draughts_moves.proofs.Proved.{route_cmp-total}
 use Rattle.pdn.specs.MoveText.{IsRival, HasRival, IsFirstRoute, is_like}
 
 and_true : (a b : Bool) → (a && b) ≡ true → (a ≡ true) × (b ≡ true)

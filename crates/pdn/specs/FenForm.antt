@@ -1,6 +1,5 @@
 -- The form of a position's text (FEN): the side to move, and two lists in either order, one of White's pieces and one
--- of
--- Black's, parted by colons, with a dot at the end or none.
+-- of Black's, parted by colons, with a dot at the end or none.
 use Rattle.std.specs.Prelude.{◌≡◌, ℕ, ◌-◌, ◌==◌, List, [], ◌∷◌, length, Option, Some, None, Result, Ok, Err}
 use Rattle.std.specs.Prelude.{if◌then◌else◌}
 use Rattle.squares.specs.declared.sides.Side.{Side}

@@ -26,8 +26,7 @@ abbrev pub IsItemText : Side → Item → List ℕ → Type 0
 IsItemText side i text = IsManText side i text ⊎ (IsKingText side i text ⊎ AreMenText side i text)
 
 -- The items of a side's list, parted by commas, where so many bytes stand before them. Each item is named by how many
--- stand
--- before it.
+-- stand before it.
 abbrev pub AreItemsText : Side → ℕ → List Item → List ℕ → Type 0
 AreItemsText side before [] text = text ≡ []
 AreItemsText side before (i ∷ []) text = (i.at ≡ before) × IsItemText side i text

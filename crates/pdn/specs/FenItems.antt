@@ -13,8 +13,7 @@ past_byte byte [] = None
 past_byte byte (c ∷ rest) = if c == byte then Some rest else None
 
 -- The last square of a range is not below the first. So a digit is read as the first of two where the number that it
--- begins
--- can still be as great.
+-- begins can still be as great.
 abbrev pub read_end_second : ℕ → ℕ → List ℕ → FrontReading
 read_end_second low first [] = if nat_le low first then Ok (record { square = first; rest = [] }) else Err 1
 read_end_second low first (c ∷ rest) =
@@ -42,8 +41,7 @@ pub record ItemFront : Type 0 where
   pub rest : List ℕ
 
 -- An item, or the length of the longest beginning of the whole text that begins a position's text. The whole text has
--- so
--- many bytes, and an item is named by how many stand before it.
+-- so many bytes, and an item is named by how many stand before it.
 abbrev pub ItemReading : Type 0
 ItemReading = Result ItemFront ℕ
 

@@ -45,8 +45,7 @@ pub record IsFirstRoute (p : Position) (m : DMove) (landings : List ℕ) : Type 
   pub first : (others : List ℕ) → Capture p m.from others m.taken m.to → route_cmp landings others ≢ Greater
 
 -- The written text of a legal move. A capture is short where no other legal move has its from and to; otherwise it has
--- all
--- landing squares of its first route.
+-- all landing squares of its first route.
 pub data IsMoveText (p : Position) (m : DMove) (text : List ℕ) : Type 0 where
   quiet : m.taken ≡ set.empty → text ≡ quiet_text m.from m.to → IsMoveText p m text
   short : m.taken ≢ set.empty → (HasRival p m → ⊥) → text ≡ capture_text m.from (m.to ∷ []) → IsMoveText p m text

@@ -14,8 +14,7 @@ use Rattle.pdn.specs.Forms.{Form, quiet, capture, read_form}
 use Rattle.pdn.specs.Subsequence.{IsSubsequence}
 
 -- The text of a capture fits a move of the same from and to, where the squares between are, in their order, among those
--- on
--- which the piece lands on one of its routes before it comes to the last.
+-- on which the piece lands on one of its routes before it comes to the last.
 pub record Fits (p : Position) (from : ℕ) (middle : List ℕ) (to : ℕ) (m : DMove) : Type 0 where
   pub leaves : m.from ≡ from
   pub comes : m.to ≡ to

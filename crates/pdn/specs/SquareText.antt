@@ -14,8 +14,7 @@ pub record Front : Type 0 where
   pub rest : List ℕ
 
 -- A reading of the front of a text gives a square and what follows it, or the number of bytes that still begin a
--- square's
--- text. A reader also takes one 0 before the number.
+-- square's text. A reader also takes one 0 before the number.
 abbrev pub FrontReading : Type 0
 FrontReading = Result Front ℕ
 

@@ -23,9 +23,9 @@ use Rattle.draughts_draws.specs.Line.{last_position, positions}
 use Rattle.draughts_draws.specs.Ends.{stands_thrice, are_king_moves, ends_with, is_three_to_one, is_two_to_one}
 use Rattle.draughts_draws.specs.Ends.{first_end, end_of}
 use Rattle.draughts_draws.specs.Faults.{GoesOn, IsPlayed}
-use Rattle.draughts_draws.proofs.LineLemmas.{last_position-append}
+use Rattle.draughts_draws.proofs.Proved.{last_position-append}
 use Rattle.pdn.specs.MoveValue.{move_text}
-use Rattle.pdn.proofs.OffsetLemmas.{le_or_more}
+use Rattle.pdn.proofs.Proved.{le_or_more}
 use Rattle.pdn_games.specs.declared.faults.PdnFault.{PdnFault}
 use Rattle.pdn_games.specs.declared.faults.PdnFault.TheVariants as fault
 use Rattle.pdn_games.specs.declared.game.PdnGame.{PdnGame}

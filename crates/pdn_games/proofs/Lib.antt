@@ -14,6 +14,7 @@ pub mod OneMoveLemmas
 pub mod OneTextLemmas
 pub mod OneTokenLemmas
 pub mod PlyLemmas
+pub mod Proved
 pub mod SkipLemmas
 pub mod TagGrammarLemmas
 pub mod TagLemmas

@@ -14,9 +14,7 @@ use Rattle.draughts_moves.specs.Listing.{step_to}
 use Rattle.pdn.specs.Forms.{quiet, read_form, read_landings, read_up_to}
 use Rattle.pdn.specs.ReadMove.{StandsFor, IsRead}
 use Rattle.pdn.specs.MoveValue.{move_text}
-use Rattle.pdn.proofs.GrammarLemmas.{read_form-text}
-use Rattle.pdn.proofs.BackLemmas.{reads-back}
-use Rattle.pdn.proofs.ValueLemmas.{text-is}
+use Rattle.pdn.proofs.Proved.{read_form-text, reads-back, text-is}
 use Rattle.pdn_games.specs.declared.order.Part.TheVariants as part
 use Rattle.pdn_games.specs.declared.results.ResultWord.{ResultWord}
 use Rattle.pdn_games.specs.declared.results.ResultWord.TheVariants as word

@@ -10,7 +10,7 @@ use Rattle.squares.specs.DraughtsMarks.{nat_eq-same}
 use Rattle.pdn.specs.SquareText.{is_digit, square_text}
 use Rattle.pdn.specs.Forms.{quiet, capture, is_cross}
 use Rattle.pdn.specs.Grammar.{IsSquareText, IsCross, IsLanding, AreLandings}
-use Rattle.pdn.proofs.GrammarLemmas.{one_digit, two_digits}
+use Rattle.pdn.proofs.Proved.{one_digit, two_digits}
 use Rattle.pdn_games.specs.Lengths.{both, either, with_second, plain_len, square_len, step_len, landing_len}
 use Rattle.pdn_games.specs.Lengths.{landings_within, landings_len, tail_len, move_len}
 use Rattle.pdn_games.specs.Replaying.{IsMoveForm}

@@ -25,8 +25,7 @@ pub record AreMoves (texts : List (List ℕ)) (ms : List DMove) : Type 0 where
   pub played : IsPlayed opening ms (length ms)
 
 -- After texts that mean these moves, the next is refused: the game has ended, whatever the text is, or the text fits
--- two captures or
--- names no legal move.
+-- two captures or names no legal move.
 abbrev pub RefusesNext : List DMove → List ℕ → PdnFault → Type 0
 RefusesNext ms text (fault.AfterEnd ply) = (ply ≡ length ms + 1) × IsSome (end_of opening ms)
 RefusesNext ms text (fault.Ambiguous ply) = (ply ≡ length ms + 1) × (end_of opening ms ≡ None)

@@ -30,9 +30,8 @@ pub data IsInner : List ℕ → Type 0 where
   brackets : (inside text : List ℕ) → IsInner inside → IsInner text → IsInner (40 ∷ inside ++ 41 ∷ text)
 
 -- Something that is skipped, and what follows it: a blank or a line's end, a comment in braces, `$` and as many digits
--- as there are,
--- brackets, as many `!` and `?` as there are, and the rest of a line from `;` on, or from `%` on where it begins the
--- line.
+-- as there are, brackets, as many `!` and `?` as there are, and the rest of a line from `;` on, or from `%` on where it
+-- begins the line.
 pub data IsSkipped (line : Bool) (text rest : List ℕ) : Type 0 where
   blank : (c : ℕ) → is_blank c ≡ true → text ≡ c ∷ rest → IsSkipped line text rest
   comment : (inside : List ℕ) → Lacks 125 inside → text ≡ 123 ∷ inside ++ 125 ∷ rest → IsSkipped line text rest

@@ -49,8 +49,7 @@ abbrev pub past_line : List ℕ → List ℕ
 past_line text = drop (prefix_len is_in_line text) text
 
 -- What follows what is skipped, if a text begins with such: a blank or a line's end, a comment in braces, `$` and
--- digits, brackets,
--- a run of `!` and `?`, the rest of a line from `;` on, or from `%` on where it begins the line.
+-- digits, brackets, a run of `!` and `?`, the rest of a line from `;` on, or from `%` on where it begins the line.
 unfoldable pub past_skipped : Bool → List ℕ → Option (List ℕ)
 past_skipped begins_line [] = None
 past_skipped begins_line (c ∷ rest) =

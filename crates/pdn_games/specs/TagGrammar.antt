@@ -10,8 +10,7 @@ pub data IsValue : List ℕ → Type 0 where
   escaped : (c : ℕ) (text : List ℕ) → IsValue text → IsValue (92 ∷ c ∷ text)
 
 -- What follows the bracket that begins a tag: a name of letters, digits and `_`, a value in quotes, and a bracket, with
--- blanks
--- before each of them.
+-- blanks before each of them.
 pub record IsTag (text name value rest : List ℕ) : Type 0 where
   pub first : List ℕ
   pub second : List ℕ

@@ -29,8 +29,7 @@ name_front text =
     (record { value = take (prefix_len is_name_byte text) text; rest = drop (prefix_len is_name_byte text) text })
 
 -- Whether the byte after this one is escaped, or none where this one is the quote that closes a value. A backslash
--- escapes the
--- byte after it.
+-- escapes the byte after it.
 abbrev pub quote_step : Bool → ℕ → Option Bool
 quote_step escaped c = if escaped then Some false else if c == 34 then None else Some (c == 92)
 

@@ -85,8 +85,7 @@ pub record Placed : Type 0 where
   pub token : Token
 
 -- The tokens from a place of a text on, which has so many bytes, and where they stop, if not at the text's end: at the
--- first byte
--- at which neither a token may stand and begins, nor something that is skipped.
+-- first byte at which neither a token may stand and begins, nor something that is skipped.
 pub data Lexes (total : ℕ) : Bool → Bool → List ℕ → List Placed → Option ℕ → Type 0 where
   at_end : (line free : Bool) (text : List ℕ) → front_at line free text ≡ ended → Lexes total line free text [] None
   stops : (line free : Bool) (text : List ℕ) → front_at line free text ≡ stuck

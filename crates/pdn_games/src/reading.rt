@@ -118,12 +118,9 @@ fn read_tokens(alloc: Global, placed: &[Placed<'_>]) -> Result<PdnGame, PdnFault
 /// The game of a text in Portable Draughts Notation.
 ///
 /// It refuses, in this order: a text that has not the form of a game's text, at the first byte where it has not;
-/// another
-/// kind of draughts; another opening; ply by ply a move after the end of the game, one whose text fits two captures,
-/// and one
-/// that is not legal; a text that does not say how the game ended; and an end that is not that of the rules, or not
-/// that of
-/// the text's own tag. It also fails where memory is refused, and then alone.
+/// another kind of draughts; another opening; ply by ply a move after the end of the game, one whose text fits two
+/// captures, and one that is not legal; a text that does not say how the game ended; and an end that is not that of the
+/// rules, or not that of the text's own tag. It also fails where memory is refused, and then alone.
 pub fn read_game(alloc: Global, text: &[u8]) -> Result<PdnGame, PdnFault>
     ensures game { IfOk result (IsTextOf text.now) }
     ensures fault { IfErr result (IsRefused text.now) }

@@ -6,8 +6,7 @@ ghost use Rattle.pdn_games.specs.Results.{word_text, score_of, begins_with, resu
 use squares::Score;
 
 /// A result as a text says it: White's score first, by the numbers of draughts or by those of chess, or a star for a
-/// game that
-/// goes on.
+/// game that goes on.
 #[derive(Clone, Copy, Debug, PartialEq, Eq)]
 pub enum ResultWord {
     TwoNil,

@@ -1,6 +1,5 @@
 -- How many lines of legal moves a position has, for any game: by which moves are legal, in which order they are listed,
--- and
--- what a move leaves.
+-- and what a move leaves.
 use Rattle.std.specs.Prelude.{◌≡◌, ◌↔◌, ℕ, ◌+◌, ◌-◌, ◌++◌, zero, suc, List, [], ◌∷◌, Option, Contains, codes, decimal}
 use Rattle.std.specs.Io.KnownBytes.{Appends}
 use Rattle.std.specs.List.Sorted.{IsStrictlySortedBy}

@@ -58,8 +58,7 @@ fn print_total<W: Write>(alloc: Global, total: u64, out: &mut W) -> Result<(), F
 }
 
 /// Prints the number of lines under each legal move, in the order of the list of legal moves, and then in all. The
-/// depth
-/// counts that move, and is at least 1.
+/// depth counts that move, and is at least 1.
 pub fn print_counts<G: Game, W: Write>(
     alloc: Global,
     position: &G::Position,

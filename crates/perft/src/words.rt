@@ -67,8 +67,7 @@ fn start_of(alloc: Global, game: &str, position: Option<&str>) -> Result<Start, 
 }
 
 /// What the words ask for: `draughts` or `shogi`, a depth of 1 to 99, and a position, as FEN or SFEN, where it is not
-/// the
-/// opening.
+/// the opening.
 pub fn read_words(alloc: Global, words: &[&str]) -> Result<Asked, BadWords> {
     let (game, depth, position) = match words {
         [game, depth] => (*game, *depth, None),

@@ -1,2 +1,3 @@
 pub mod EmptyLemmas
 pub mod FoundLemmas
+pub mod Proved

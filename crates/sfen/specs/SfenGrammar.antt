@@ -198,8 +198,7 @@ abbrev pub HasTooMany : SfenForm → Type 0
 HasTooMany form = (kind : HandKind) × (set_size kind < form_total form kind)
 
 -- Why a text is refused: it has no form, and so long is its longest beginning that begins one; or it has one with more
--- pieces
--- of a kind than a set has; or with no more, but not with one king on each side.
+-- pieces of a kind than a set has; or with no more, but not with one king on each side.
 abbrev pub IsRefused : List ℕ → SfenFault → Type 0
 IsRefused text (BadText bytes) = HasNoForm text × IsLongestBeginning text bytes
 IsRefused text TooManyPieces = (form : SfenForm) × HasSfenForm text form × HasTooMany form

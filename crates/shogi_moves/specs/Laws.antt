@@ -66,8 +66,7 @@ IsMoved side heading k n m = FileMoved heading k (file_of n) (file_of m)
     × RankMoved side heading k (rank_of n) (rank_of m)
 
 -- The line of at most so many squares from n has m at place k, counted from 0, exactly where m is the square of the
--- board
--- that stands k + 1 times on from n. So it ends where files or ranks leave the board.
+-- board that stands k + 1 times on from n. So it ends where files or ranks leave the board.
 abbrev pub LinesFollowCoordinates : Type 0
 LinesFollowCoordinates =
     (distance : ℕ) (side : Side) (heading : Heading) (n k m : ℕ) → n < 81 →

@@ -152,8 +152,7 @@ hands_after p (Step from to promote) = option_map_or
 hands_after p (Drop kind to) = with_held p.hands p.turn kind (held p.hands p.turn kind - 1)
 
 -- The position after a move: the piece stands on its square, promoted or not; what it took is in the hand, unpromoted,
--- and
--- what was dropped is out of it; the turn passes.
+-- and what was dropped is out of it; the turn passes.
 abbrev pub play : ShogiPosition → SMove → ShogiPosition
 play p m = record { board = board_after p m; hands = hands_after p m; turn = other p.turn }
 

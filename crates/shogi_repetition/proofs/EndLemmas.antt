@@ -14,8 +14,7 @@ use Rattle.squares.specs.ShogiSets.{ShogiPosition}
 use Rattle.squares.specs.ShogiSamePosition.{same_shogi_position, same_shogi_position-same, same_shogi_position-itself}
 use Rattle.shogi_moves.specs.Rules.{HasMove}
 use Rattle.shogi_moves.specs.Computed.{has_move}
-use Rattle.shogi_moves.proofs.MateLemmas.{has_move-is}
-use Rattle.shogi_moves.proofs.AttackLemmas.{king_attacked-is}
+use Rattle.shogi_moves.proofs.Proved.{has_move-is, king_attacked-is}
 use Rattle.shogi_repetition.specs.declared.ends.SEnd.{SEnd}
 use Rattle.shogi_repetition.specs.declared.ends.SEnd.TheVariants.{NoMove, PerpetualCheck, Fourfold, PlyLimit}
 use Rattle.shogi_repetition.specs.Line.{last_position, position_after, positions}

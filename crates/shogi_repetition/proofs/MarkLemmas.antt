@@ -1,5 +1,5 @@
 -- What follows of marks that are those of a line.
-use Rattle.std.proofs.Common.{◌≡◌, ℕ, zero, suc, ◌+◌, ◌-◌, ◌*◌, ◌<◌, ◌≤◌, Bool, true, false, not, cond, nat_eq, nat_lt}
+use Rattle.std.proofs.Common.{◌≡◌, ℕ, ◌+◌, ◌-◌, ◌<◌, ◌≤◌, Bool, true, false, not, cond, nat_eq, nat_lt}
 use Rattle.std.proofs.Common.{nat_le, List, [], ◌∷◌, ◌++◌, length, take, drop, get_or, Option, Some, None, refl, sym}
 use Rattle.std.proofs.Common.{ap, subst, ◌∙◌, arith, zero-add, length-append}
 use Rattle.std.specs.Prelude.{count_by, slice_get, min, if◌then◌else◌}
@@ -31,8 +31,7 @@ use Rattle.shogi_repetition.specs.Line.{last_position, position_after, positions
 use Rattle.shogi_repetition.specs.Ends.{FirstStands, EndsSo}
 use Rattle.shogi_repetition.specs.Computed.{is_in_check, end_of}
 use Rattle.shogi_repetition.specs.Faults.{GoesOn, IsPlayed, HasFault}
-use Rattle.shogi_repetition.specs.Tails.{tail_of, no_checks, count_on, tail_after, next_tail, repetition_by, end_by}
-use Rattle.shogi_repetition.specs.Tails.{times_stood}
+use Rattle.shogi_repetition.specs.Tails.{no_checks, count_on, tail_after, next_tail, repetition_by, end_by}
 use Rattle.shogi_repetition.specs.Counting.{FirstAt, HasStood, Follows, stood_again}
 use Rattle.shogi_repetition.proofs.LineLemmas.{length-positions, get-positions, last_position-append, positions-append}
 use Rattle.shogi_repetition.proofs.PlaceLemmas.{counted}

@@ -1,8 +1,8 @@
 -- The tail of a line is made ply by ply, and tells its end.
-use Rattle.std.proofs.Common.{◌≡◌, ℕ, zero, suc, ◌+◌, ◌-◌, ◌*◌, ◌<◌, ◌≤◌, Bool, true, false, ◌&&◌, ◌||◌, not, cond}
-use Rattle.std.proofs.Common.{nat_eq, nat_le, List, [], ◌∷◌, ◌++◌, length, drop, take, Option, Some, None, refl, sym}
-use Rattle.std.proofs.Common.{ap, ◌∙◌, subst, arith, length-append}
-use Rattle.std.specs.Prelude.{count_by, filter, if◌then◌else◌}
+use Rattle.std.proofs.Common.{◌≡◌, ℕ, zero, suc, ◌+◌, ◌-◌, ◌*◌, ◌≤◌, Bool, true, false, ◌&&◌, ◌||◌, not, cond}
+use Rattle.std.proofs.Common.{nat_eq, nat_le, List, [], ◌∷◌, ◌++◌, length, drop, take, Some, None, refl, sym}
+use Rattle.std.proofs.Common.{ap, ◌∙◌, arith, length-append}
+use Rattle.std.specs.Prelude.{filter, if◌then◌else◌}
 use Rattle.std.specs.List.{list_all, suffix_len, zip}
 use Rattle.std.proofs.lemmas.Grind.{common_steps}
 use Rattle.std.proofs.lemmas.List.{take-append-drop, length-drop}
@@ -13,10 +13,9 @@ use Rattle.squares.specs.declared.sides.Side.TheVariants.{First, Second}
 use Rattle.squares.specs.declared.shogi.moves.SMove.{SMove}
 use Rattle.squares.specs.Sides.{other, same_side}
 use Rattle.squares.specs.ShogiSets.{ShogiPosition}
-use Rattle.squares.specs.RunLemmas.{end_so, end_so-run, suffix_len-more}
+use Rattle.squares.specs.RunLemmas.{end_so-run, suffix_len-more}
 use Rattle.shogi_moves.specs.Rules.{play}
 use Rattle.shogi_moves.specs.Computed.{has_move}
-use Rattle.shogi_repetition.specs.declared.ends.SEnd.{SEnd}
 use Rattle.shogi_repetition.specs.declared.ends.SEnd.TheVariants.{NoMove, PlyLimit}
 use Rattle.shogi_repetition.specs.declared.tails.Tail.{Tail}
 use Rattle.shogi_repetition.specs.Line.{last_position, position_after, positions}
@@ -25,7 +24,7 @@ use Rattle.shogi_repetition.specs.Computed.{is_in_check, keeps_checking, checks_
 use Rattle.shogi_repetition.specs.Computed.{since_first, end_by_checks, repetition, first_end, end_of}
 use Rattle.shogi_repetition.specs.Tails.{led_to, checks_in_a_row, tail_of, no_checks, count_on, tail_after, next_tail}
 use Rattle.shogi_repetition.specs.Tails.{repetition_by, end_by, times_stood}
-use Rattle.shogi_repetition.proofs.LineLemmas.{length-positions, last_position-append, positions-append}
+use Rattle.shogi_repetition.proofs.LineLemmas.{positions-append}
 use Rattle.shogi_repetition.proofs.EndLemmas.{place, first-stands, since_first-is, one-first}
 
 -- ---- ply by ply

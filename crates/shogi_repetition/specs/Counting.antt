@@ -27,8 +27,7 @@ HasStood start ms p (Some s) = (s.times ≡ count_by (λ q. same_shogi_position 
     × FirstAt start ms p s.first
 
 -- The line is played by the rules, and the marks have its last position, its plies, its tail, and how often each
--- position
--- stood in it, and when first.
+-- position stood in it, and when first.
 pub record Follows (start : ShogiPosition) (ms : List SMove) (marks : Marks) : Type 0 where
   pub played : IsPlayed start ms (length ms)
   pub last : marks.last ≡ last_position start ms

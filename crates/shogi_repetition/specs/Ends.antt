@@ -52,8 +52,7 @@ pub record ChecksAlone (start : ShogiPosition) (ms : List SMove) (side : Side) :
   pub alone : GaveCheckThroughout start ms (other side) since → ⊥
 
 -- The end of a line, if its last ply ends it: the side to move has no move; else the position stands for the fourth
--- time, by
--- perpetual check of one side or not; else 600 plies were played.
+-- time, by perpetual check of one side or not; else 600 plies were played.
 abbrev pub EndsSo : ShogiPosition → List SMove → Option SEnd → Type 0
 EndsSo start ms (Some NoMove) = HasMove (last_position start ms) → ⊥
 EndsSo start ms (Some (PerpetualCheck side)) = HasMove (last_position start ms) × StandsFourTimes start ms
@@ -64,8 +63,7 @@ EndsSo start ms (Some PlyLimit) = HasMove (last_position start ms) × (StandsFou
 EndsSo start ms None = HasMove (last_position start ms) × (StandsFourTimes start ms → ⊥) × (length ms ≢ 600)
 
 -- The score of an end, by the side to move after it: a side without a move loses, and so does one that checks
--- perpetually. The
--- rest are draws.
+-- perpetually. The rest are draws.
 abbrev pub outcome_of : SEnd → Side → Score
 outcome_of NoMove turn = loses turn
 outcome_of (PerpetualCheck side) turn = loses side

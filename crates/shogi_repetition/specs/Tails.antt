@@ -51,8 +51,7 @@ abbrev pub next_tail : Tail → ShogiPosition → Tail
 next_tail tail after = tail_after tail (is_in_check after) after.turn
 
 -- A side made half of the moves since the position stood first. It checked throughout where so many of its moves, in a
--- row,
--- gave check.
+-- row, gave check.
 abbrev pub repetition_by : Tail → ℕ → SEnd
 repetition_by tail plies = end_by_checks (nat_le plies (2 * tail.first_checks)) (nat_le plies (2 * tail.second_checks))
 

@@ -9,8 +9,7 @@ use crate::repeating::{can_move, end_by_checks, is_in_check};
 use squares::{SPos, Side};
 
 /// What tells the end of a line's last ply, beside the last position, the number of plies, and how often and after
-/// which ply
-/// first that position stood.
+/// which ply first that position stood.
 #[derive(Clone, Copy, Debug, PartialEq, Eq)]
 pub struct Tail {
     /// The last moves of First, in a row, that gave check.
@@ -76,8 +75,7 @@ impl Tail {
     }
 
     /// The end that the rules give the line with this tail, whose last position stood so often after so many plies, and
-    /// first
-    /// after the ply `first`.
+    /// first after the ply `first`.
     #[tactic(auto, unfolding(crate::specs::Tails::end_by))]
     pub fn end(self, position: &SPos, plies: usize, times: usize, first: usize) -> Option<SEnd>
         ensures { result ≡ end_by self position.now plies times first }

@@ -28,8 +28,7 @@ abbrev pub entry_cmp : ℕ × SPiece → ℕ × SPiece → Ordering
 entry_cmp = then_cmp (flip_args (on (λ e. e.0) nat_cmp)) (on (λ e. e.1) piece_cmp)
 
 -- Boards are ordered by what stands on the first square where they differ. There nothing is less than a piece: so the
--- board
--- whose next piece stands on a later square is less, and one with no further piece is less than one that has one.
+-- board whose next piece stands on a later square is less, and one with no further piece is less than one that has one.
 unfoldable pub board_cmp : ShogiBoard → ShogiBoard → Ordering
 board_cmp = on map.entries (slice_cmp entry_cmp)
 

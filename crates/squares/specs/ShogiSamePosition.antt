@@ -1,6 +1,5 @@
 -- Two positions of shogi are the same exactly where they are one position: the same pieces on the same squares, the
--- same
--- hands, and the same turn.
+-- same hands, and the same turn.
 use Rattle.std.proofs.Common.{◌≡◌, ℕ, Bool, true, false, ◌&&◌, nat_eq, List, [], ◌∷◌, ◌∙◌, refl, sym, ap}
 use Rattle.std.specs.Cmp.{IsEquivalence, IsPartialEquivalence, partial_equiv_from_equiv, both_ways}
 use Rattle.std.specs.FinMap as map

@@ -15,7 +15,7 @@ use Rattle.club_core.specs.declared.answers.Outcome as given_outcome
 use Rattle.club_core.specs.Answer.{answered, outcome_of, request_of}
 use Rattle.club_core.specs.Outcome.{Outcome, accepted, repeated, refused}
 use Rattle.club_core.specs.State.{Request, opening_state, is_accepted}
-use Rattle.club_core.proofs.Folds.{folds-accepted}
+use Rattle.club_core.proofs.Proved.{folds-accepted}
 use Rattle.club_rows.specs.Club.{both_games, ClubState, IsClub, tables}
 use Rattle.store_tables.specs.Contents.{Content, IsEmpty, IsExactlyEmpty}
 use Rattle.store_tables.specs.Club.{IsExactly, Leaves}
@@ -23,7 +23,7 @@ use Rattle.store.specs.declared.club.run.Run.{Run}
 use Rattle.store.specs.declared.fault.StoreFault.{StoreFault}
 use Rattle.club_changes.specs.Steps.{club_step, club_next}
 use Rattle.store.specs.Runs.{club_fold, club_outcomes, club_accepted}
-use Rattle.store_sql.proofs.Laws.{opens_exactly, schema_once}
+use Rattle.store_sql.proofs.Proved.{opens_exactly, schema_once}
 use Rattle.store.specs.Histories.{Session, SessionReaches, Reaches, IsReachable, IsHistory, IsAfter, is_taken}
 use Rattle.store.specs.Histories.{session_of, answered_session, cut_session}
 

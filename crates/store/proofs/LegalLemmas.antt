@@ -2,12 +2,11 @@
 use Rattle.std.proofs.Common.{◌≤◌}
 use Rattle.club_core.specs.Limits.{last_moment}
 use Rattle.club_core.specs.State.{Request}
-use Rattle.club_core.proofs.ImportSteps.{import-kept}
-use Rattle.club_core.proofs.LegalSteps.{next-legal}
+use Rattle.club_core.proofs.Proved.{import-kept, next-legal}
 use Rattle.club_games.specs.CsaLaws.{shogi-reads_games}
 use Rattle.club_games.specs.PdnLaws.{draughts-reads_games}
 use Rattle.club_rows.specs.Club.{both_games, ClubState, IsClub}
-use Rattle.club_rows.proofs.KindLemmas.{draughts_laws, shogi_laws}
+use Rattle.club_rows.proofs.Proved.{draughts_laws, shogi_laws}
 use Rattle.club_changes.specs.Steps.{club_next}
 
 pub club_stays : (s : ClubState) (r : Request) → r.moment ≤ last_moment → IsClub s → IsClub (club_next s r)

@@ -1,4 +1,5 @@
 pub mod HistoryLemmas
 pub mod LegalLemmas
 pub mod OpeningLemmas
+pub mod Proved
 pub mod RunLemmas

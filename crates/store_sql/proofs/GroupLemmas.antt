@@ -25,13 +25,11 @@ use Rattle.store_tables.specs.Content.{cells, same_key}
 use Rattle.store_tables.specs.Put.{selects}
 use Rattle.store_tables.specs.Queries.{AreShownBy, Finds, by_others}
 use Rattle.store_tables.specs.Reading.{IsNoInput}
-use Rattle.store_tables.proofs.ApartLemmas.{each_shown}
-use Rattle.store_tables.proofs.Laws.{select_unchanged, no_input, same_length}
+use Rattle.store_tables.proofs.Proved.{each_shown, select_unchanged, no_input, same_length, sorted_rows, has_index}
+use Rattle.store_tables.proofs.Proved.{has_mapped, has_turned}
 use Rattle.sqlite_rules.specs.Lists.{Has}
 use Rattle.sqlite_rules.proofs.ListLemmas.{all_has, has_filtered}
 use Rattle.store_tables.specs.Content.{Keeps}
-use Rattle.store_tables.proofs.OrderLemmas.{sorted_rows, has_index}
-use Rattle.store_tables.proofs.ReadLemmas.{has_mapped, has_turned}
 use Rattle.store_sql.specs.declared.fault.ReadFault.{ReadFault}
 use Rattle.store_sql.specs.declared.fault.ReadFault.TheVariants.{Mistyped, Memory}
 use Rattle.store_sql.specs.Read.{AreReadOf, Blames, beginning_with}

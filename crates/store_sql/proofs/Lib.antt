@@ -1,5 +1,5 @@
 pub mod BoundLemmas
-pub mod Laws
-pub mod OpenLemmas
 pub mod GroupLemmas
+pub mod OpenLemmas
+pub mod Proved
 pub mod SelectLemmas

@@ -19,9 +19,9 @@ use Rattle.store_tables.specs.Content.{Keeps, AreApart, cells}
 use Rattle.store_tables.specs.Contents.{Content, Stores, IsExactly, AreThose}
 use Rattle.store_tables.specs.Queries.{AreShownBy, IsSelect, Finds, by_others}
 use Rattle.store_tables.specs.Reading.{by_columns, Tells, TellsIds, IsNoInput, KeepsMay, OnlyReads}
-use Rattle.store_tables.proofs.Laws.{select_unchanged, only_reads, unchanged_exactly, tells, tells_ids, tells_first}
-use Rattle.store_tables.proofs.Laws.{finds, no_input, ids_of, stored_at, all_alike, in_order, one_list, places_rise}
-use Rattle.store_tables.proofs.Laws.{same_length, got}
+use Rattle.store_tables.proofs.Proved.{select_unchanged, only_reads, unchanged_exactly, tells, tells_ids, tells_first}
+use Rattle.store_tables.proofs.Proved.{finds, no_input, ids_of, stored_at, all_alike, in_order, one_list, places_rise}
+use Rattle.store_tables.proofs.Proved.{same_length, got}
 use Rattle.sqlite.specs.Effect.{Database}
 use Rattle.store_sql.specs.declared.fault.ReadFault.{ReadFault}
 use Rattle.store_sql.specs.declared.fault.ReadFault.TheVariants.{Mistyped, Memory}

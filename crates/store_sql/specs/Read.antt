@@ -33,8 +33,7 @@ abbrev pub beginning_with : ℤ → List Row → List Row
 beginning_with n rows = filter (λ x. same_key (0 ∷ []) x (Int n ∷ [])) rows
 
 -- These are the rows of the table that begin with this number, each of them once, in the order of the rest of its key,
--- and
--- the connection is as it was.
+-- and the connection is as it was.
 pub record AreReadOf (table : Table) (width : ℕ) (n : ℤ) (rows : List Row) (old new : State) : Type 0 where
   pub once : IsPermutation (beginning_with n (map (cells table) (old.now.trees table.tree))) rows
   pub sorted : IsSorted (by_others width) rows

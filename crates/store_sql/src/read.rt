@@ -194,8 +194,7 @@ pub fn read_all<T: Select, S: Alter>(
 }
 
 /// The rows of a table whose first column is a given number, in the order of the rest of their key: of a database that
-/// is
-/// looked at for the first time.
+/// is looked at for the first time.
 pub fn read_by_first<T: Select, S: Alter>(
     alloc: Global,
     conn: &mut Connection<S>,
@@ -237,8 +236,7 @@ pub fn list<T: Select, S: Alter>(
 }
 
 /// The rows of a table whose first column is a given number, in the order of the rest of their key: by an id the one
-/// with
-/// it, if there is one.
+/// with it, if there is one.
 pub fn find_by_first<T: Select, S: Alter>(
     alloc: Global,
     conn: &mut Connection<S>,

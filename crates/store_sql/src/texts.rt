@@ -9,8 +9,8 @@ ghost use Rattle.store_tables.specs.Queries.{AreShownBy};
 ghost use Rattle.store_tables.specs.Tables.{club_schema, meta, members, events, challenges, moves, games, seen, scores};
 ghost use Rattle.store_tables.specs.Texts as texts;
 ghost use Rattle.std.proofs.Common.{true≢false, sym};
-ghost use Rattle.store_tables.proofs.Laws.{meta_read, members_read, events_read, challenges_read, moves_read};
-ghost use Rattle.store_tables.proofs.Laws.{games_read, seen_read, scores_read};
+ghost use Rattle.store_tables.proofs.Proved.{meta_read, members_read, events_read, challenges_read, moves_read};
+ghost use Rattle.store_tables.proofs.Proved.{games_read, seen_read, scores_read};
 
 use store_tables::{
     ChallengeRow, EventRow, GameRecord, MemberRow, MetaRow, MoveRow, ScoreRow, SeenRow, TableRow,

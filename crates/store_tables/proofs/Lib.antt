@@ -3,10 +3,10 @@ pub mod ApartLemmas
 pub mod ContentLemmas
 pub mod IdLemmas
 pub mod KeyLemmas
-pub mod Laws
 pub mod MakeLemmas
 pub mod Meanings
 pub mod OrderLemmas
+pub mod Proved
 pub mod PutLemmas
 pub mod PutMeanings
 pub mod QueryLemmas

@@ -1,14 +1,12 @@
 -- A SELECT changes nothing, whatever the schema.
-use Rattle.std.proofs.Common.{◌≡◌, ℕ, Bool, true, false, true≢false, List, [], ◌∷◌, Ok, Err, Result, Option, None, refl}
+use Rattle.std.proofs.Common.{◌≡◌, ℕ, Bool, true, false, true≢false, List, Ok, Err, Result, Option, None, refl}
 use Rattle.std.proofs.Common.{sym, ap, subst, ◌∙◌, inl, inr, ◌⊎◌, IsTrue, arith}
 use Rattle.std.specs.Prelude.{if◌then◌else◌, IfOk, IfErr, IsSome}
 use Rattle.std.proofs.lemmas.Bool.{cases_Bool}
 use Rattle.sqlite.specs.Order.{Row}
-use Rattle.sqlite.specs.Tree.{Trees}
 use Rattle.sqlite.specs.Schema.{Schema}
 use Rattle.sqlite.specs.Command.{Command}
 use Rattle.sqlite.specs.Clock.{timed}
-use Rattle.sqlite.specs.Effect.{Database}
 use Rattle.sqlite.specs.Listing.{understood, reads_listing, is_select as is_query, if_select, listing_schema}
 use Rattle.sqlite.specs.State.{State, Shown, ShowsRows, FailsToQuery, FailsToShow, IsNotRun, IsUnchanged, IsRolledBack}
 use Rattle.sqlite.specs.State.{Survives, CommitsShowing, HasCleanDisk}
@@ -20,8 +18,7 @@ use Rattle.sqlite_schema.specs.declared.command.Returning.{Returning}
 use Rattle.sqlite_resolve.specs.declared.compiled.Compiled.{Compiled}
 use Rattle.sqlite_resolve.specs.declared.error.CompileError.{CompileError}
 use Rattle.sqlite_resolve.specs.Lowering.{Checked, and_then}
-use Rattle.sqlite_resolve.specs.Compile.{first, compiled, planned, meaning, returning, command, with_command, small}
-use Rattle.sqlite_resolve.specs.Compile as compile
+use Rattle.sqlite_resolve.specs.Compile.{first, compiled, planned, meaning, returning, command}
 use Rattle.store_tables.specs.Queries.{is_select, is_read_as_select, IsSelect}
 use Rattle.store_tables.specs.Reading.{KeepsMay, OnlyReads}
 use Rattle.store_tables.proofs.UpsertLemmas.{same_value}

@@ -1,8 +1,7 @@
 -- What each SELECT means under the schema of a club, by computing.
-use Rattle.std.proofs.Common.{◌≡◌, ℕ, ℤ, List, [], ◌∷◌, Equal, refl, codes}
+use Rattle.std.proofs.Common.{ℕ, ℤ, List, [], ◌∷◌, Equal, refl, codes}
 use Rattle.sqlite.specs.Listing.{understood}
 use Rattle.sqlite.specs.Term.{Term, col, op2}
-use Rattle.sqlite.specs.Order.{Row}
 use Rattle.sqlite.specs.declared.types.Value.TheVariants.{Null, Int, Text}
 use Rattle.sqlite_sql.specs.declared.ops.BinaryOp.TheVariants.{Compare}
 use Rattle.sqlite_sql.specs.declared.ops.CompareOp.TheVariants.{Eq}

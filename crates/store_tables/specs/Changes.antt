@@ -17,8 +17,7 @@ abbrev pub AreSame : Schema → Content → Content → Type 0
 AreSame schema one other = AllByRecursion (λ t. HaveSame (one t.tree) (other t.tree)) schema.tables
 
 -- The changed rows are among the new; each new row is an old or a changed one; an old row stays, or a changed one has
--- its
--- key; and the new have one row for a key.
+-- its key; and the new have one row for a key.
 pub record Alters (key : List ℕ) (changed old new : List Row) : Type 0 where
   pub among : (row : Row) → Has changed row → Has new row
   pub from : (row : Row) → Has new row → Has old row ⊎ Has changed row

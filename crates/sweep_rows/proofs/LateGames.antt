@@ -22,15 +22,13 @@ use Rattle.club_core.specs.LegalState.{IsLegalIn}
 use Rattle.club_core.specs.Seats.{Pairing}
 use Rattle.club_core.specs.State.{draughts, shogi, place, terms_at, pairing_of, is_late_any, swept_any}
 use Rattle.club_core.specs.Step.{is_late, ended, swept}
-use Rattle.club_core.proofs.Legals.{AreRules, not-some, no-rule-end}
-use Rattle.club_core.proofs.Played.{turn-of-game, score-none}
+use Rattle.club_core.proofs.Proved.{AreRules, not-some, no-rule-end, turn-of-game, score-none}
 use Rattle.club_rows.specs.Club.{ClubGame, ClubState, both_games}
 use Rattle.club_rows.specs.Scores.{Meeting, meetings, meetings_of, meetings_in}
 use Rattle.club_rows.specs.Seen.{seen_rows}
 use Rattle.club_rows.specs.Tables.{end_name_text, at_start, with_entry, entry_row, entry_rows, move_rows, game_row}
 use Rattle.club_rows.specs.Tables.{row_of_game, rows_of_moves, rows_of_seen, gathered_from}
-use Rattle.club_rows.proofs.KindLemmas.{draughts_laws, shogi_laws}
-use Rattle.club_rows.proofs.ScoreLemmas.{met_running, met_ended}
+use Rattle.club_rows.proofs.Proved.{draughts_laws, shogi_laws, met_running, met_ended}
 use Rattle.store_tables.specs.Cells.{game_cells}
 use Rattle.store_tables.specs.declared.rows.GameRecord.{GameRecord}
 use Rattle.sweep_rows.specs.Ended.{cells_lost}

@@ -13,12 +13,12 @@ use Rattle.sqlite_schema.specs.Rules.{equal}
 use Rattle.sqlite_value.specs.Keys.{first_key}
 use Rattle.sqlite_value.proofs.OrderLemmas.{value_cmp_total}
 use Rattle.sqlite_rules.specs.Lists.{Has}
-use Rattle.club_core.proofs.Lists.{map-at, map-got}
+use Rattle.club_core.proofs.Proved.{map-at, map-got}
 use Rattle.club_rows.specs.Tables.{number, numbered_from, gathered_from}
-use Rattle.club_rows.proofs.GatheredLemmas.{gathered-had, gathered-has}
+use Rattle.club_rows.proofs.Proved.{gathered-had, gathered-has}
 use Rattle.store_tables.specs.Changes.{Alters}
 use Rattle.store_tables.specs.Content.{same_key}
-use Rattle.store_tables.proofs.Laws.{equal_ints, equal_from}
+use Rattle.store_tables.proofs.Proved.{equal_ints, equal_from}
 
 -- ---- keys
 

@@ -16,13 +16,13 @@ use Rattle.store_tables.specs.Changes.{Alters, HaveSame, put_rows}
 use Rattle.store_tables.specs.Content.{same_key, put}
 use Rattle.store_tables.specs.declared.rows.GameRecord.{GameRecord}
 use Rattle.store_tables.specs.declared.rows.ScoreRow.{ScoreRow}
-use Rattle.store_tables.proofs.Laws.{put_had, put_kept, altered}
+use Rattle.store_tables.proofs.Proved.{put_had, put_kept, altered}
 use Rattle.club_rows.specs.NextScores.{AreNext, IsFound, pair_of, pair_cells, row_with, sums_found}
 use Rattle.club_rows.specs.Scores.{Meeting, meetings, same_pair, score_rows}
 use Rattle.club_rows.specs.declared.scores.Pair.{Pair}
 use Rattle.club_rows.specs.declared.scores.ScorePair.{ScorePair}
 use Rattle.club_rows.specs.declared.scores.Sums.{Sums}
-use Rattle.club_rows.proofs.ScoreRows.{pair_key, pair_same, pair_itself, keys_same, keys_agree, rows_alter}
+use Rattle.club_rows.proofs.Proved.{pair_key, pair_same, pair_itself, keys_same, keys_agree, rows_alter}
 use Rattle.sweep_rows.specs.Standing.{AreStanding, HasPlayers, PutsRows}
 use Rattle.club_rows.specs.Pairs.{firsts_pair, pair_in, seconds_pair}
 use Rattle.sweep_rows.proofs.PlacedIds.{take_next}

@@ -17,7 +17,7 @@ use Rattle.store_tables.specs.Changes.{HaveSame, put_rows}
 use Rattle.store_tables.specs.Content.{put}
 use Rattle.store_tables.specs.declared.rows.GameRecord.{GameRecord}
 use Rattle.store_tables.specs.declared.rows.ScoreRow.{ScoreRow}
-use Rattle.store_tables.proofs.Laws.{same_itself, same_then, put_had, put_kept, altered}
+use Rattle.store_tables.proofs.Proved.{same_itself, same_then, put_had, put_kept, altered}
 use Rattle.club_core.specs.State.{draughts, shogi, pairing_of, is_late_any, swept_any, with_swept}
 use Rattle.club_rows.specs.Club.{ClubGame, ClubState, IsClub, both_games, tables}
 use Rattle.club_rows.specs.Scores.{Meeting, meetings, meetings_in, score_rows, scores_in}

@@ -7,8 +7,7 @@ use Rattle.club_rows.specs.Club.{ClubState, both_games, tables}
 use Rattle.sweep_rows.specs.declared.swept.SweptRows.{SweptRows}
 
 -- So many games end by time at that moment; the rows, put in their order, make of the tables of games and of scores
--- those of
--- the club in which these games have ended.
+-- those of the club in which these games have ended.
 pub record IsSwept (s : ClubState) (moment : ℕ) (rows : SweptRows) : Type 0 where
   pub count_is : rows.count ≡ count_by (is_late_any both_games s moment) s.games
   pub games_are : HaveSame (put_rows (0 ∷ []) (map game_cells rows.games.items) (tables s 10))

@@ -1,6 +1,5 @@
 //! Games of draughts with captures, each move with what it must come to. What is legal where, and how it is written,
-//! was
-//! worked out apart from these crates, by the rules.
+//! was worked out apart from these crates, by the rules.
 
 use crate::commands::{played, serve_at_once};
 use crate::tables::lines_of;

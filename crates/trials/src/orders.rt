@@ -48,8 +48,7 @@ fn done(
 }
 
 // Does the order of a line, `SECONDS WORDS = STATUS TEXT`, where `|` stands between the lines of the text, with that
-// record
-// as what standard input holds, and compares what is printed.
+// record as what standard input holds, and compares what is printed.
 fn says<R: Abort + AllocGlobal>(
     rt: &R,
     conn: Connection<MemStore>,

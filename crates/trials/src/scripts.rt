@@ -1,6 +1,5 @@
 //! Requests as lines of text, `SECONDS WHO COMMAND`, where WHO is `officer` or a member's key; in a script each line
-//! ends
-//! with what the request must come to, as `1000 officer move 1 1 32-28 = accepted`.
+//! ends with what the request must come to, as `1000 officer move 1 1 32-28 = accepted`.
 
 use clocks::Moment;
 use club_core::{
@@ -133,8 +132,7 @@ fn told_answer(alloc: Global, word: &str, answer: &Answer) -> Result<String, Fai
 }
 
 /// The outcome in a word, a sweep with the number of games that it ended, a challenge with its number and what became
-/// of
-/// it, a refusal with its number and name.
+/// of it, a refusal with its number and name.
 pub(crate) fn told(alloc: Global, outcome: &Outcome) -> Result<String, Fail> {
     match outcome {
         Outcome::Accepted(answer) => told_answer(alloc, "accepted", answer),

@@ -36,8 +36,7 @@ fn request(alloc: Global, key: &str, line: &str, body: &str) -> Result<Vec<u8>, 
 }
 
 // Gives the request of a line, `KEY | METHOD PATH | BODY | STATUS | BODY`, to the desk, whose reply begins with the
-// status and
-// ends with the body.
+// status and ends with the body.
 fn is_replied(alloc: Global, desk: &mut DeskClub<MemStore>, line: &str) -> Result<bool, Fail> {
     let parts: Vec<&str> = line.split('|').collect(alloc)?;
     let [key, asked, sent, status, body] = *parts.as_slice() else {

@@ -33,8 +33,7 @@ impl Dsq {
 }
 
 // The lines from the fifty squares, each as the bits of its squares: fifty for each direction, after one that stands
-// for no
-// square.
+// for no square.
 static LINES: [u64; 201] = [
     0,
     0x0,

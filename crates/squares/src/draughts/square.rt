@@ -119,8 +119,7 @@ impl Dsq {
 }
 
 // The next squares of the fifty squares, 0 where there is none: fifty numbers for each direction, after one that stands
-// for no
-// square.
+// for no square.
 static NEIGHBORS: [u8; 201] = [
     0, //
     0, 0, 0, 0, 0, 0, 1, 2, 3, 4, 6, 7, 8, 9, 10, 0, 11, 12, 13, 14, 16, 17, 18, 19, 20, 0, 21, 22,

@@ -16,8 +16,7 @@ use std::cmp::Ordering;
 use std::marker::Model;
 
 /// A shogi board. Contracts see it as a finite map from squares to pieces. Beside the cells it keeps the squares of
-/// each side
-/// and of each role as words of bits.
+/// each side and of each role as words of bits.
 #[derive(Drop)]
 pub struct SBoard {
     cells: [Option<SPiece>; 81],

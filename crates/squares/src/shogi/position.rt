@@ -15,10 +15,8 @@ use std::cmp::Ordering;
 use std::marker::Model;
 
 /// A board, the hands and the side to move. Each side has one king, and the board and the hands together hold at most
-/// 18
-/// pawns, 4 each of lances, knights, silvers and golds, 2 bishops and 2 rooks. Two positions with the same pieces on
-/// the same
-/// squares, the same hands and the same turn are one position.
+/// 18 pawns, 4 each of lances, knights, silvers and golds, 2 bishops and 2 rooks. Two positions with the same pieces on
+/// the same squares, the same hands and the same turn are one position.
 #[derive(Drop)]
 pub struct SPos {
     board: SBoard,
@@ -52,8 +50,8 @@ impl Model for SPos {
 
 impl SPos {
     /// The position in which a game begins: each side has a king, two golds, silvers, knights and lances on its back
-    /// rank, a
-    /// rook and a bishop before its knights, and nine pawns on its third rank; the hands are empty, and First moves.
+    /// rank, a rook and a bishop before its knights, and nine pawns on its third rank; the hands are empty, and First
+    /// moves.
     pub fn opening() -> SPos
         ensures { result ≡ opening }
     {

@@ -7,8 +7,8 @@ ghost use Rattle.squares.specs.ShogiGeometry.{OnShogiBoard, file_of, rank_of, sh
 use std::marker::Model;
 
 /// A square of the shogi board, by its file and its rank, 1 to 9 each. Files run from right to left and ranks from top
-/// to
-/// bottom, as Black sees the board. Squares are ordered by file, then rank; contracts see that order's number, 0 to 80.
+/// to bottom, as Black sees the board. Squares are ordered by file, then rank; contracts see that order's number, 0 to
+/// 80.
 #[derive(Clone, Copy, Debug, PartialEq, Eq, PartialOrd, Ord, Hash)]
 pub struct Ssq {
     number: u8,

@@ -1,6 +1,6 @@
 use Rattle.std.proofs.Common.{◌≡◌}
 use Rattle.std.proofs.Math.Logic.{∥∥₁_elim, ∥∥₁_map}
-use Rattle.sessions.proofs.FoundLemmas.{was_clean}
+use Rattle.sessions.proofs.Proved.{was_clean}
 use Rattle.club.proofs.desk.stretch.Goals as goal
 
 pub returns-clause-led : goal.returns-clause-led

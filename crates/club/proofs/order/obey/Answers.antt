@@ -1,7 +1,7 @@
 use Rattle.std.proofs.Common.{◌≡◌}
 use Rattle.std.proofs.Math.Logic.{∥∥₁_elim, ∥∥₁_map}
 use Rattle.sqlite.specs.Files.{file_state}
-use Rattle.sessions.proofs.FoundLemmas.{was_clean}
+use Rattle.sessions.proofs.Proved.{was_clean}
 use Rattle.club.proofs.order.obey.Goals as goal
 
 pub returns-clause-begun : goal.returns-clause-begun

@@ -7,7 +7,7 @@ use Rattle.club_rows.specs.Club.{both_games}
 use Rattle.club_rows.specs.EachOnce.{AreEachOnce}
 use Rattle.club_rows.specs.Seen.{seen_rows}
 use Rattle.club_rows.specs.Tables.{move_rows}
-use Rattle.club_rows.proofs.KindLemmas.{in_draughts, in_shogi}
+use Rattle.club_rows.proofs.Proved.{in_draughts, in_shogi}
 use Rattle.club_audit.proofs.GameLemmas.{HasKind, any-id, any-kind, any-names, seen-in}
 use Rattle.club_audit.proofs.audit.are_seen_in.Goals as goal
 

@@ -6,8 +6,7 @@ use Rattle.club_rules.specs.declared.names.GameKind.TheVariants.{Draughts, Shogi
 use Rattle.club_rows.specs.Club.{both_games}
 use Rattle.club_rows.specs.Replay.{terms_with}
 use Rattle.club_audit.proofs.GameLemmas.{HasKind, game-shown, any-names, any-gives, any-kind, rows-in}
-use Rattle.club_rows.proofs.KindLemmas.{in_draughts, in_shogi}
-use Rattle.club_rows.proofs.ToldLemmas.{same-pos}
+use Rattle.club_rows.proofs.Proved.{in_draughts, in_shogi, same-pos}
 use Rattle.club_audit.proofs.audit.wrong_by_game.Goals as goal
 
 pub returns-in-None-clause-complete : goal.returns-in-None-clause-complete

@@ -1,4 +1,4 @@
-use Rattle.std.proofs.Common.{not, false, true, sym, ap, subst, inl, inr}
+use Rattle.std.proofs.Common.{not, sym, ap, subst, inl, inr}
 use Rattle.std.proofs.lemmas.Bool.{cases_Bool, not-true}
 use Rattle.club_core.specs.LegalState.{AreApart, Each}
 use Rattle.club_audit.specs.ChallengeAudit.{IsChallengeOf}

@@ -1,4 +1,4 @@
-use Rattle.std.proofs.Common.{true, arith}
+use Rattle.std.proofs.Common.{arith}
 use Rattle.club_audit.specs.ChallengeAudit.{IsChallengeOf}
 use Rattle.club_audit.proofs.NumberLemmas.{got-at}
 use Rattle.club_audit.proofs.PlacedLemmas.{below-none, below-more, below-all}

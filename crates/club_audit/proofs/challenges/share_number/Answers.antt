@@ -1,4 +1,4 @@
-use Rattle.std.proofs.Common.{false, sym, ◌∙◌, arith}
+use Rattle.std.proofs.Common.{sym, ◌∙◌, arith}
 use Rattle.std.proofs.lemmas.Bool.{not-true, not-false}
 use Rattle.club_audit.specs.ChallengeKeys.{key_in, same_number}
 use Rattle.club_audit.proofs.NumberLemmas.{got-at, numbered-more, numbered-clash, numbered-all, numbers-decide}

@@ -1,5 +1,4 @@
 use Rattle.std.proofs.Common.{◌≡◌, ◌+◌, drop, true, false, sym, ◌∙◌, rules}
-use Rattle.std.specs.Prelude.{string_bytes}
 use Rattle.club_core.specs.Answer.{event_of, events_of}
 use Rattle.club_core.specs.Events.{event_kind, has_event_name}
 use Rattle.club_changes.proofs.ImportLemmas.{kind_at_place, kind_here, kind_later}

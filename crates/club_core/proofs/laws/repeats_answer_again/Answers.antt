@@ -1,5 +1,5 @@
 use Rattle.club_core.specs.ClubRules.{both}
-use Rattle.club_core.proofs.Legals.{AreRules}
+use Rattle.club_core.proofs.Legals.{are_rules}
 use Rattle.club_core.proofs.ImportRepeats.{import-again}
 use Rattle.club_core.proofs.Repeats.{answers-again}
 use Rattle.club_core.proofs.laws.repeats_answer_again.Goals as goal
@@ -7,19 +7,10 @@ use Rattle.club_core.proofs.laws.repeats_answer_again.Goals as goal
 pub returns : goal.returns
 returns g c =
     let kinds = both g.D.Rules.rules g.S.Rules.rules g.D.Records.records g.S.Records.records in
-    let first : AreRules g.D.Rules.rules = record {
-      first_starts = g.met.D.Rules.first_starts;
-      turn_passes = g.met.D.Rules.turn_passes;
-      same_is = g.met.D.Rules.same_is;
-      ends_at_limit =
-          g.met.D.Rules.ends_at_limit;
-    } in
-    let second : AreRules g.S.Rules.rules = record {
-      first_starts = g.met.S.Rules.first_starts;
-      turn_passes = g.met.S.Rules.turn_passes;
-      same_is = g.met.S.Rules.same_is;
-      ends_at_limit =
-          g.met.S.Rules.ends_at_limit;
-    } in
+    let draughts = g.met.D.Rules in
+    let first =
+    are_rules g.D.Rules.rules draughts.first_starts draughts.turn_passes draughts.same_is draughts.ends_at_limit in
+    let shogi = g.met.S.Rules in
+    let second = are_rules g.S.Rules.rules shogi.first_starts shogi.turn_passes shogi.same_is shogi.ends_at_limit in
     answers-again kinds first second
     (import-again kinds first second g.met.D.Records.reads_games g.met.S.Records.reads_games)

@@ -1,7 +1,7 @@
 use Rattle.std.proofs.Common.{sym, subst}
 use Rattle.sqlite.specs.State.{HasCleanDisk}
 use Rattle.sqlite.specs.Held.{state}
-use Rattle.store.proofs.HistoryLemmas.{still_stands}
+use Rattle.store.proofs.Proved.{still_stands}
 use Rattle.club_desk.specs.Turns.{IsReachableOn}
 use Rattle.club_desk.proofs.TurnLemmas.{reads_led}
 use Rattle.club_desk.proofs.stretch.serve_stretch.Goals as goal

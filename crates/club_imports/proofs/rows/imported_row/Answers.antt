@@ -4,8 +4,7 @@ use Rattle.club_rules.specs.Records.{recorded_of}
 use Rattle.club_core.specs.Answer.{pairing_of}
 use Rattle.club_core.specs.Game.{spend_all}
 use Rattle.club_core.specs.Limits.{most_plies}
-use Rattle.club_core.proofs.Legals.{AreRules}
-use Rattle.club_core.proofs.ImportedGames.{within-limit}
+use Rattle.club_core.proofs.Proved.{are_rules, within-limit}
 use Rattle.squares.specs.declared.sides.Side.TheVariants.{First}
 use Rattle.club_imports.specs.OneMoment.{at_moment, clocks_with}
 use Rattle.club_imports.proofs.RowLemmas.{row-plies, row-clocks, row-track, row-position, row-end, row-result}
@@ -13,37 +12,22 @@ use Rattle.club_imports.proofs.rows.imported_row.Goals as goal
 
 pub standing_after-standing-requires-clause-few : goal.standing_after-standing-requires-clause-few
 standing_after-standing-requires-clause-few g c =
-    let are : AreRules g.R.Rules.rules = record {
-      first_starts = g.met.R.Rules.first_starts;
-      turn_passes = g.met.R.Rules.turn_passes;
-      same_is = g.met.R.Rules.same_is;
-      ends_at_limit =
-          g.met.R.Rules.ends_at_limit;
-    } in
+    let met = g.met.R.Rules in
+    let are = are_rules g.R.Rules.rules met.first_starts met.turn_passes met.same_is met.ends_at_limit in
     subst (λ ms. length ms ≤ most_plies) (sym c.as_slice-moves.ensures.value)
     (within-limit g.R.Rules.rules are c.args.recorded.now.moves.items c.requires.by_rules.line)
 
 pub left_after-left-requires-clause-few : goal.left_after-left-requires-clause-few
 left_after-left-requires-clause-few g c =
-    let are : AreRules g.R.Rules.rules = record {
-      first_starts = g.met.R.Rules.first_starts;
-      turn_passes = g.met.R.Rules.turn_passes;
-      same_is = g.met.R.Rules.same_is;
-      ends_at_limit =
-          g.met.R.Rules.ends_at_limit;
-    } in
+    let met = g.met.R.Rules in
+    let are = are_rules g.R.Rules.rules met.first_starts met.turn_passes met.same_is met.ends_at_limit in
     subst (λ ms. length ms ≤ most_plies) (sym c.as_slice-moves.ensures.value)
     (within-limit g.R.Rules.rules are c.args.recorded.now.moves.items c.requires.by_rules.line)
 
 pub overflow_cast-result : goal.overflow_cast-result
 overflow_cast-result g c =
-    let are : AreRules g.R.Rules.rules = record {
-      first_starts = g.met.R.Rules.first_starts;
-      turn_passes = g.met.R.Rules.turn_passes;
-      same_is = g.met.R.Rules.same_is;
-      ends_at_limit =
-          g.met.R.Rules.ends_at_limit;
-    } in
+    let met = g.met.R.Rules in
+    let are = are_rules g.R.Rules.rules met.first_starts met.turn_passes met.same_is met.ends_at_limit in
     let few : length c.as_slice-moves.result.now ≤ most_plies =
     subst (λ ms. length ms ≤ most_plies) (sym c.as_slice-moves.ensures.value)
     (within-limit g.R.Rules.rules are c.args.recorded.now.moves.items c.requires.by_rules.line) in

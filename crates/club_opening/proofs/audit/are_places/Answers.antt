@@ -1,5 +1,5 @@
 use Rattle.std.proofs.Common.{◌≡◌, ◌≢◌, ◌<◌, ◌+◌, pos, map, get_or, length, arith, rules, sym, ap, ◌∙◌}
-use Rattle.store_tables.proofs.Laws.{got, same_length}
+use Rattle.store_tables.proofs.Proved.{got, same_length}
 use Rattle.club_opening.proofs.PlaceLemmas.{one_more_place}
 use Rattle.club_opening.proofs.audit.are_places.Goals as goal
 

@@ -6,7 +6,7 @@ use Rattle.sqlite.specs.Held.{state}
 use Rattle.sqlite.specs.State.{HasCleanDisk}
 use Rattle.sqlite.proofs.StateLemmas.{unchanged}
 use Rattle.store_tables.specs.Tables.{club_schema}
-use Rattle.store_tables.proofs.Laws.{reads_nothing, reads_then}
+use Rattle.store_tables.proofs.Proved.{reads_nothing, reads_then}
 use Rattle.club_opening.specs.Examined.{AreLeftAfter}
 use Rattle.club_opening.proofs.ExaminedLemmas.{IsOneOf, NamesLeft, blamed_before, left_all, left_blamed, left_more, left_start}
 use Rattle.club_opening.proofs.games.examine_games.Goals as goal

@@ -2,7 +2,7 @@ use Rattle.std.proofs.Common.{arith, inl, inr}
 use Rattle.sqlite.specs.Held.{state}
 use Rattle.sqlite.specs.State.{HasCleanDisk}
 use Rattle.sqlite.proofs.Callers.{unchanged_then}
-use Rattle.store_tables.proofs.Laws.{reads_then}
+use Rattle.store_tables.proofs.Proved.{reads_then}
 use Rattle.club_opening.proofs.BlameLemmas.{have_ids, still}
 use Rattle.club_opening.proofs.ClubLemmas.{club_read}
 use Rattle.club_opening.proofs.RegisterLemmas.{examined_club, play_blamed}

@@ -8,7 +8,7 @@ use Rattle.club_rows.specs.Club.{tables}
 use Rattle.cross_tables.specs.Lines.{header_text}
 use Rattle.cross_tables.specs.Totals.{AreTotals}
 use Rattle.club_reads.specs.CrossTable.{lines_from}
-use Rattle.store_sql.proofs.Laws.{always}
+use Rattle.store_sql.proofs.Proved.{always}
 use Rattle.club_reads.proofs.cross_table.event_table.Goals as goal
 
 pub returns-clause-kept : goal.returns-clause-kept

@@ -6,7 +6,7 @@ use Rattle.club_exports.specs.Exported.{IsWritten}
 use Rattle.club_rows.specs.RowView.{row_at}
 use Rattle.store_tables.specs.Cells.{move_cells}
 use Rattle.store_tables.specs.Tables.{club_schema}
-use Rattle.store_tables.proofs.Laws.{reads_nothing, reads_then}
+use Rattle.store_tables.proofs.Proved.{reads_nothing, reads_then}
 use Rattle.club_reads.proofs.EntryRows.{so-far, take-none, take-whole, keeps-all}
 use Rattle.club_reads.proofs.exported.write_plies.Goals as goal
 

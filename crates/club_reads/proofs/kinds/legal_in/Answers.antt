@@ -1,6 +1,6 @@
 use Rattle.std.proofs.Common.{map, string_bytes, sym, subst}
 use Rattle.std.proofs.lemmas.Result.{IfOk-weaker}
-use Rattle.club_rows.proofs.KindLemmas.{in_draughts, in_shogi}
+use Rattle.club_rows.proofs.Proved.{in_draughts, in_shogi}
 use Rattle.club_rows.specs.Club.{both_games, tables}
 use Rattle.club_changes.specs.Steps.{TellsSeen}
 use Rattle.club_changes.specs.Stored.{AreMovesOf}

@@ -1,6 +1,6 @@
 use Rattle.std.proofs.Common.{sym, subst, subst₂}
 use Rattle.std.proofs.lemmas.Result.{IfOk-weaker}
-use Rattle.club_rows.proofs.KindLemmas.{in_draughts, in_shogi}
+use Rattle.club_rows.proofs.Proved.{in_draughts, in_shogi}
 use Rattle.club_rows.specs.Club.{both_games, tables}
 use Rattle.club_changes.specs.Steps.{TellsLine, TellsSeen}
 use Rattle.club_reads.specs.Viewed.{IsPlayed, IsPlayedIn}

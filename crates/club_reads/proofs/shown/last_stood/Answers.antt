@@ -5,7 +5,7 @@ use Rattle.store_tables.specs.Contents.{AreThose}
 use Rattle.club_core.specs.Game.{last_position}
 use Rattle.club_rows.specs.Replay.{terms_given}
 use Rattle.club_rows.specs.Seen.{IsFound}
-use Rattle.club_rows.proofs.RowViewLemmas.{position-text}
+use Rattle.club_rows.proofs.Proved.{position-text}
 use Rattle.club_reads.proofs.shown.last_stood.Goals as goal
 
 pub returns-in-Some-clause-stood : goal.returns-in-Some-clause-stood

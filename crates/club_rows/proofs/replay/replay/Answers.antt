@@ -3,7 +3,7 @@ use Rattle.std.specs.Prelude.{IfSome, ℕ, ◌+◌, length, Some, slice_get}
 use Rattle.std.proofs.lemmas.Option.{slice_get_read}
 use Rattle.club_rules.specs.Line.{position_after}
 use Rattle.club_core.specs.Game.{Game, Entry}
-use Rattle.club_core.proofs.Legals.{AreRules}
+use Rattle.club_core.proofs.Proved.{are_rules}
 use Rattle.club_rows.specs.Tables.{with_entry}
 use Rattle.club_rows.specs.Replay.{IsReplayed, Replays, Follows, game_from, terms_with, terms_given}
 use Rattle.club_rows.proofs.WholeLemmas.{was-start, was-more, was-none, played-count}
@@ -26,13 +26,8 @@ returns-then-rows-clause-none g c = λ none budget increment game is.
 pub loop-row-init : goal.loop-row-init
 loop-row-init g c =
     let laws = g.R.Rules.rules in
-    let are : AreRules laws = record {
-      first_starts = g.met.R.Rules.first_starts;
-      turn_passes = g.met.R.Rules.turn_passes;
-      same_is = g.met.R.Rules.same_is;
-      ends_at_limit =
-          g.met.R.Rules.ends_at_limit;
-    } in
+    let met = g.met.R.Rules in
+    let are = are_rules laws met.first_starts met.turn_passes met.same_is met.ends_at_limit in
     let safe = c.in_ok-game.ensures.safe c.args.terms.increment in (
       safe,
       was-start laws (terms_given c.args.terms) c.args.id are c.args.from c.args.rows.now c.in_ok-game.game (record {
@@ -45,13 +40,8 @@ loop-row-init g c =
 pub returns-in-None-clause-none : goal.returns-in-None-clause-none
 returns-in-None-clause-none g c = λ none budget increment game is.
     let laws = g.R.Rules.rules in
-    let are : AreRules laws = record {
-      first_starts = g.met.R.Rules.first_starts;
-      turn_passes = g.met.R.Rules.turn_passes;
-      same_is = g.met.R.Rules.same_is;
-      ends_at_limit =
-          g.met.R.Rules.ends_at_limit;
-    } in
+    let met = g.met.R.Rules in
+    let are = are_rules laws met.first_starts met.turn_passes met.same_is met.ends_at_limit in
     let was = c.loop-row.invariant.1 in
     let at : slice_get c.args.rows.now c.loop-row.row-index ≡ Some c.row-item.result =
     slice_get_read c.args.rows.now (length c.args.rows.now) c.loop-row.row-index c.row-item.result refl
@@ -64,13 +54,8 @@ returns-in-None-clause-none g c = λ none budget increment game is.
 pub loop-row-preserved : goal.loop-row-preserved
 loop-row-preserved g c =
     let laws = g.R.Rules.rules in
-    let are : AreRules laws = record {
-      first_starts = g.met.R.Rules.first_starts;
-      turn_passes = g.met.R.Rules.turn_passes;
-      same_is = g.met.R.Rules.same_is;
-      ends_at_limit =
-          g.met.R.Rules.ends_at_limit;
-    } in
+    let met = g.met.R.Rules in
+    let are = are_rules laws met.first_starts met.turn_passes met.same_is met.ends_at_limit in
     let was = c.loop-row.invariant.1 in
     let old = c.loop-row.invariant.0 in
     let k = c.loop-row.row-index in

@@ -1,7 +1,7 @@
 use Rattle.std.proofs.Common.{◌≡◌, ◌≤◌, ◌+◌, length, subst, sym, arith, ◌∙◌}
 use Rattle.std.specs.Prelude.{IfSome, string_bytes}
 use Rattle.club_rules.specs.Line.{IsLegalLine}
-use Rattle.club_core.proofs.Legals.{AreRules}
+use Rattle.club_core.proofs.Proved.{are_rules}
 use Rattle.club_rows.specs.Replay.{IsNext, terms_with, left_in}
 use Rattle.club_rows.proofs.NextLemmas.{follows-next, next-follows, replays-more}
 use Rattle.club_rows.proofs.ReplayLemmas.{replayed-more}
@@ -39,13 +39,8 @@ returns-in_ok-new-in-Some-clause-safe g c =
 pub returns-in_ok-new-in-Some-clause-some : goal.returns-in_ok-new-in-Some-clause-some
 returns-in_ok-new-in-Some-clause-some g c = λ budget game replays.
     let laws = g.R.Rules.rules in
-    let are : AreRules laws = record {
-      first_starts = g.met.R.Rules.first_starts;
-      turn_passes = g.met.R.Rules.turn_passes;
-      same_is = g.met.R.Rules.same_is;
-      ends_at_limit =
-          g.met.R.Rules.ends_at_limit;
-    } in
+    let met = g.met.R.Rules in
+    let are = are_rules laws met.first_starts met.turn_passes met.same_is met.ends_at_limit in
     let old = c.args.game in
     let made = c.in_ok-new-in-Some.ensures in
     let next : IsNext laws c.args.increment c.args.id old c.args.row.now c.in-Some.next.made c.in-Some.next.moment
@@ -71,13 +66,8 @@ returns-in_ok-new-in-Some-clause-some g c = λ budget game replays.
 pub returns-in-None-clause-none : goal.returns-in-None-clause-none
 returns-in-None-clause-none g c = λ none budget game replays e follows.
     let laws = g.R.Rules.rules in
-    let are : AreRules laws = record {
-      first_starts = g.met.R.Rules.first_starts;
-      turn_passes = g.met.R.Rules.turn_passes;
-      same_is = g.met.R.Rules.same_is;
-      ends_at_limit =
-          g.met.R.Rules.ends_at_limit;
-    } in
+    let met = g.met.R.Rules in
+    let are = are_rules laws met.first_starts met.turn_passes met.same_is met.ends_at_limit in
     let line = subst (IsLegalLine laws laws.start) replays.line c.requires.game.line.legal in
     c.in_ok-next.ensures.none c.in-None.is e.made e.moment _
     (next-follows laws are (terms_with budget c.args.increment) c.args.id game line c.args.game replays

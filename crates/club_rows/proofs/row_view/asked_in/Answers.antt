@@ -1,5 +1,5 @@
-use Rattle.std.proofs.Common.{◌≡◌, Ok, refl, sym, ◌∙◌, subst, pos}
-use Rattle.std.specs.Prelude.{IfSome, string_bytes}
+use Rattle.std.proofs.Common.{◌≡◌, Ok, refl, sym, ◌∙◌, subst}
+use Rattle.std.specs.Prelude.{IfSome}
 use Rattle.club_rows.proofs.RowViewLemmas.{one-text}
 use Rattle.club_rows.proofs.ToldLemmas.{same-pos}
 use Rattle.club_rows.proofs.row_view.asked_in.Goals as goal

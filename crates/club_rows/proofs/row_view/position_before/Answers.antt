@@ -1,25 +1,15 @@
-use Rattle.std.proofs.Common.{◌≡◌, ℕ, suc, ◌-◌, Some, None, ap, sym, ◌∙◌, subst, arith}
-use Rattle.std.specs.Prelude.{IsSome, slice_get}
+use Rattle.std.proofs.Common.{ap, sym, ◌∙◌, arith}
 use Rattle.std.specs.Option.{option_map}
-use Rattle.club_core.specs.Game.{game_at, moves_of, last_position}
-use Rattle.club_core.specs.Step.{move_at}
-use Rattle.club_core.proofs.Legals.{AreRules}
+use Rattle.club_core.proofs.Proved.{are_rules}
 use Rattle.store_tables.specs.Cells.{move_cells}
-use Rattle.club_rows.specs.RowView.{row_at}
-use Rattle.club_rows.specs.Tables.{move_rows}
 use Rattle.club_rows.proofs.RowViewLemmas.{before-none, before-some}
 use Rattle.club_rows.proofs.row_view.position_before.Goals as goal
 
 pub returns-in_ok-found-in-Some : goal.returns-in_ok-found-in-Some
 returns-in_ok-found-in-Some g c = λ terms id game legal rows some.
     let rules = g.R.Rules.rules in
-    let are : AreRules rules = record {
-      first_starts = g.met.R.Rules.first_starts;
-      turn_passes = g.met.R.Rules.turn_passes;
-      same_is = g.met.R.Rules.same_is;
-      ends_at_limit =
-          g.met.R.Rules.ends_at_limit;
-    } in
+    let met = g.met.R.Rules in
+    let are = are_rules rules met.first_starts met.turn_passes met.same_is met.ends_at_limit in
     before-some rules are terms id game legal g.R.Rules.StandsFor g.met.R.Rules.writes_positions
     g.met.R.Rules.stands_for_one c.args.ply (omega arith) c.in-Some.row
     (ap (option_map move_cells) (sym c.in-Some.is) ∙ rows.before)
@@ -28,13 +18,8 @@ returns-in_ok-found-in-Some g c = λ terms id game legal rows some.
 pub returns-in-None : goal.returns-in-None
 returns-in-None g c = λ terms id game legal rows some.
     let rules = g.R.Rules.rules in
-    let are : AreRules rules = record {
-      first_starts = g.met.R.Rules.first_starts;
-      turn_passes = g.met.R.Rules.turn_passes;
-      same_is = g.met.R.Rules.same_is;
-      ends_at_limit =
-          g.met.R.Rules.ends_at_limit;
-    } in
+    let met = g.met.R.Rules in
+    let are = are_rules rules met.first_starts met.turn_passes met.same_is met.ends_at_limit in
     absurd
     (before-none rules are terms id game legal c.args.ply (omega arith) c.args.rows.now.before rows.before
     c.in-None.is some)

@@ -1,4 +1,4 @@
-use Rattle.std.proofs.Common.{◌≡◌, is_some, refl, ap, sym, ◌∙◌}
+use Rattle.std.proofs.Common.{◌≡◌, ap, ◌∙◌}
 use Rattle.club_core.specs.Game.{end_with, rule_end, score_with}
 use Rattle.club_rows.proofs.RowViewLemmas.{ruled-is, outside-is, offer-is, key-told, position-text, numbers-same}
 use Rattle.club_rows.proofs.RowViewLemmas.{clocks-are, plies-are, numbers-are}

@@ -1,4 +1,4 @@
-use Rattle.std.proofs.Common.{Some, refl, ap, sym, ◌∙◌}
+use Rattle.std.proofs.Common.{refl, sym, ◌∙◌}
 use Rattle.club_core.specs.Game.{moves_of}
 use Rattle.club_rows.specs.Replay.{terms_given}
 use Rattle.club_rows.proofs.RowViewLemmas.{counts_of, counts-are, counts-fit, numbers-told, position-text}

@@ -1,6 +1,6 @@
 use Rattle.std.proofs.Common.{◌-◌, length, drop, arith, length-drop}
 use Rattle.std.proofs.lemmas.List.{length-take}
-use Rattle.http_head.proofs.StreamLemmas.{appends_slice, appends_still}
+use Rattle.http_head.proofs.Proved.{appends_slice, appends_still}
 use Rattle.http_desk.proofs.serve.write_reply.Goals as goal
 use Rattle.http_desk.proofs.serve.write_reply.Goals.{in-Ok+else-n-eq0, in-Err+else-not-is_interrupted}
 

@@ -6,8 +6,7 @@ use Rattle.club_core.specs.Answer.{pairing_of}
 use Rattle.club_core.specs.Imports.{imported}
 use Rattle.club_core.specs.Limits.{most_plies}
 use Rattle.club_core.specs.View.{IsRowOf}
-use Rattle.club_core.proofs.ImportedGames.{within-limit}
-use Rattle.club_core.proofs.Legals.{AreRules}
+use Rattle.club_core.proofs.Proved.{within-limit, are_rules}
 use Rattle.club_rows.specs.Replay.{terms_given}
 use Rattle.club_rows.specs.Seen.{rows_of_texts}
 use Rattle.import_rows.specs.AtOnce.{rows_at_once}
@@ -17,26 +16,16 @@ use Rattle.import_rows.proofs.added.new_rows.Goals as goal
 
 pub move_rows-requires-clause-few : goal.move_rows-requires-clause-few
 move_rows-requires-clause-few g c =
-    let are : AreRules g.R.Rules.rules = record {
-      first_starts = g.met.R.Rules.first_starts;
-      turn_passes = g.met.R.Rules.turn_passes;
-      same_is = g.met.R.Rules.same_is;
-      ends_at_limit =
-          g.met.R.Rules.ends_at_limit;
-    } in
+    let met = g.met.R.Rules in
+    let are = are_rules g.R.Rules.rules met.first_starts met.turn_passes met.same_is met.ends_at_limit in
     subst (λ ms. length ms ≤ most_plies) (sym c.as_slice-moves.ensures.value)
     (within-limit g.R.Rules.rules are c.args.new.now.recorded.moves.items c.requires.by_rules.line)
 
 pub returns : goal.returns
 returns g c =
     let laws = g.R.Rules.rules in
-    let are : AreRules laws = record {
-      first_starts = g.met.R.Rules.first_starts;
-      turn_passes = g.met.R.Rules.turn_passes;
-      same_is = g.met.R.Rules.same_is;
-      ends_at_limit =
-          g.met.R.Rules.ends_at_limit;
-    } in
+    let met = g.met.R.Rules in
+    let are = are_rules laws met.first_starts met.turn_passes met.same_is met.ends_at_limit in
     let r = recorded_of c.args.new.now.recorded in
     let key = Some c.args.key.now in
     let pairing = pairing_of c.args.new.now.pairing in

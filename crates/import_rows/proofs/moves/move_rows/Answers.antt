@@ -1,8 +1,7 @@
-use Rattle.std.proofs.Common.{◌≡◌, ◌≤◌, ◌<◌, ◌+◌, ◌*◌, ℕ, [], ◌∷◌, map, length, sym, ap, subst, ◌∙◌, arith}
+use Rattle.std.proofs.Common.{◌≤◌, ◌+◌, ◌*◌, ℕ, [], ◌∷◌, map, ap, ◌∙◌, arith}
 use Rattle.std.proofs.lemmas.Bool.Decides.{nat_tests}
 use Rattle.std.proofs.lemmas.List.{map-append}
-use Rattle.club_core.specs.Game.{left_of}
-use Rattle.club_core.proofs.Legals.{AreRules}
+use Rattle.club_core.proofs.Proved.{are_rules}
 use Rattle.club_imports.specs.OneMoment.{clocks_with}
 use Rattle.club_rows.specs.Replay.{terms_given}
 use Rattle.store_tables.specs.Cells.{move_cells}
@@ -44,13 +43,8 @@ ply_row-requires-clause-left g c =
 pub loop-i-preserved : goal.loop-i-preserved
 loop-i-preserved g c =
     let laws = g.R.Rules.rules in
-    let are : AreRules laws = record {
-      first_starts = g.met.R.Rules.first_starts;
-      turn_passes = g.met.R.Rules.turn_passes;
-      same_is = g.met.R.Rules.same_is;
-      ends_at_limit =
-          g.met.R.Rules.ends_at_limit;
-    } in
+    let met = g.met.R.Rules in
+    let are = are_rules laws met.first_starts met.turn_passes met.same_is met.ends_at_limit in
     let now = c.loop-i.invariant in
     let ms = c.args.moves.now in
     let i = c.loop-i.i in

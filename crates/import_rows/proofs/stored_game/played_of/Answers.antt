@@ -1,4 +1,4 @@
-use Rattle.std.proofs.Common.{◌≡◌, length, pos, sym, subst, ◌∙◌}
+use Rattle.std.proofs.Common.{length, subst}
 use Rattle.std.specs.Prelude.{IfSome}
 use Rattle.club_rows.specs.Replay.{WasReplayed, terms_given}
 use Rattle.import_rows.proofs.StoredLemmas.{start-same, is-played, rows-are, line-is}

@@ -5,8 +5,7 @@ use Rattle.squares.specs.DraughtsBoard.{Position}
 use Rattle.squares.specs.In.{In, In-get_or, In-take_more}
 use Rattle.draughts_moves.specs.Capture.{without}
 use Rattle.draughts_moves.specs.Search.{jumps, prey_left}
-use Rattle.draughts_moves.proofs.JumpLemmas.{jumps-sound}
-use Rattle.draughts_moves.proofs.Prey.{prey_left-falls}
+use Rattle.draughts_moves.proofs.Proved.{jumps-sound, prey_left-falls}
 use Rattle.draughts_moves.specs.declared.mover.Mover.{Mover}
 use Rattle.pdn.specs.Subsequence.{past}
 use Rattle.pdn.specs.Reaching.{GoesTo, StepsTo}

@@ -5,8 +5,7 @@ use Rattle.squares.specs.ShogiOpening.{opening}
 use Rattle.shogi_moves.specs.Rules.{Legal}
 use Rattle.shogi_repetition.specs.Line.{last_position}
 use Rattle.csa.specs.Writer.{HasWritten, AddsGame, BeginsGame}
-use Rattle.csa.proofs.EntryLemmas.{next-legal}
-use Rattle.csa.proofs.WriterLemmas.{lines-begin, taken-next, move-begins}
+use Rattle.csa.proofs.Proved.{next-legal, lines-begin, taken-next, move-begins}
 use Rattle.rules_trials.proofs.csa_records.write_entries.Goals as goal
 
 pub returns-in_err-game-clause-begun : goal.returns-in_err-game-clause-begun

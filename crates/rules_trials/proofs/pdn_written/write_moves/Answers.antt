@@ -5,7 +5,7 @@ use Rattle.record_writer.specs.Pieces.{AppendsSome}
 use Rattle.squares.specs.declared.draughts.moves.DMove.{DMove}
 use Rattle.draughts_moves.specs.Legal.{Legal}
 use Rattle.pdn_games.specs.Writer.{whole_text, HasWritten}
-use Rattle.pdn_games.proofs.WriterLemmas.{tags-begin, next-legal, taken-next, move-begins}
+use Rattle.pdn_games.proofs.Proved.{tags-begin, next-legal, taken-next, move-begins}
 use Rattle.rules_trials.proofs.pdn_written.write_moves.Goals as goal
 
 pub returns-in_err-game-clause-begun : goal.returns-in_err-game-clause-begun

@@ -1,5 +1,5 @@
 use Rattle.std.proofs.Common.{arith}
-use Rattle.squares.proofs.ShogiCounts.{keeps_sets_lem}
+use Rattle.squares.proofs.Proved.{keeps_sets_lem}
 use Rattle.sfen.proofs.reading.exceeds_sets.Goals as goal
 
 pub returns : goal.returns

@@ -1,5 +1,5 @@
 use Rattle.std.proofs.Common.{◌≡◌, ◌∙◌, ap, sym, subst, arith}
-use Rattle.club_core.proofs.Legals.{AreRules}
+use Rattle.club_core.proofs.Proved.{are_rules}
 use Rattle.club_core.specs.Answer.{game_command_of}
 use Rattle.club_core.specs.Game.{clocks_of}
 use Rattle.club_core.specs.Step.{game_step}
@@ -13,13 +13,8 @@ returns-clause-step g c clean content old k tells budget increment legal shows a
     let d = c.in_ok-put_decision.field-0 in
     let step = c.in_ok-put_decision.ensures.step in
     let laws = g.R.Rules.rules in
-    let are : AreRules laws = record {
-      first_starts = g.met.R.Rules.first_starts;
-      turn_passes = g.met.R.Rules.turn_passes;
-      same_is = g.met.R.Rules.same_is;
-      ends_at_limit =
-          g.met.R.Rules.ends_at_limit;
-    } in
+    let met = g.met.R.Rules in
+    let are = are_rules laws met.first_starts met.turn_passes met.same_is met.ends_at_limit in
     let view = c.args.view.now in
     let terms = terms_of view in
     let command = game_command_of c.args.command.now in

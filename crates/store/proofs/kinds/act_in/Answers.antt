@@ -1,6 +1,6 @@
 use Rattle.std.proofs.lemmas.Result.{IfOk-weaker}
 use Rattle.club_core.specs.Answer.{game_command_of}
-use Rattle.club_rows.proofs.KindLemmas.{in_draughts, in_shogi}
+use Rattle.club_rows.proofs.Proved.{in_draughts, in_shogi}
 use Rattle.club_rows.specs.Club.{tables}
 use Rattle.club_changes.proofs.Proved.{stored_decided}
 use Rattle.store.proofs.kinds.act_in.Goals as goal

@@ -4,7 +4,7 @@ use Rattle.club_rules.specs.declared.names.GameKind.TheVariants.{Draughts, Shogi
 use Rattle.club_core.specs.Answer.{events_of, import_of}
 use Rattle.club_core.specs.Events.{event_kind}
 use Rattle.club_core.specs.State.{any_under, draughts_in, shogi_in}
-use Rattle.club_rows.proofs.KindLemmas.{in_draughts, in_shogi}
+use Rattle.club_rows.proofs.Proved.{in_draughts, in_shogi}
 use Rattle.club_rows.specs.Club.{tables}
 use Rattle.club_changes.proofs.Proved.{imports_draughts, imports_shogi, under_of_kind, import_decided}
 use Rattle.store.proofs.kinds.import_in.Goals as goal

@@ -8,7 +8,7 @@ use Rattle.sqlite.proofs.Callers.{survives_begin}
 use Rattle.store_tables.specs.Contents.{Content}
 use Rattle.store_tables.specs.Club.{Holds, IsExactly, Leaves}
 use Rattle.store_tables.specs.Changed.{changed}
-use Rattle.store_tables.proofs.Laws.{commits, leaves_of}
+use Rattle.store_tables.proofs.Proved.{commits, leaves_of}
 use Rattle.store_sql.proofs.commit.commit_changes.Goals as goal
 
 pub returns-clause-stored : goal.returns-clause-stored

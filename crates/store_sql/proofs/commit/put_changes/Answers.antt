@@ -1,7 +1,7 @@
 use Rattle.store_tables.specs.Tables.{club_schema}
 use Rattle.std.proofs.Common.{arith}
 use Rattle.sqlite.specs.Held.{state}
-use Rattle.store_tables.proofs.Laws.{steps_then}
+use Rattle.store_tables.proofs.Proved.{steps_then}
 use Rattle.store_sql.proofs.commit.put_changes.Goals as goal
 
 pub returns-clause-put : goal.returns-clause-put

@@ -4,7 +4,7 @@ use Rattle.sqlite.specs.Held.{state}
 use Rattle.store_tables.specs.Cells.{game_cells, move_cells}
 use Rattle.store_tables.specs.Contents.{put_each}
 use Rattle.store_tables.specs.Club.{Steps}
-use Rattle.store_tables.proofs.Laws.{steps_then}
+use Rattle.store_tables.proofs.Proved.{steps_then}
 use Rattle.store_sql.proofs.commit.put_play.Goals as goal
 
 pub returns-clause-put : goal.returns-clause-put

@@ -1,7 +1,7 @@
 use Rattle.std.proofs.Common.{arith}
 use Rattle.sqlite.specs.Held.{state}
-use Rattle.store_tables.proofs.Laws.{makes_then}
-use Rattle.store_tables.proofs.Laws.{fills}
+use Rattle.store_tables.proofs.Proved.{makes_then}
+use Rattle.store_tables.proofs.Proved.{fills}
 use Rattle.store_sql.proofs.make.create_inside.Goals as goal
 
 pub returns-clause-filled : goal.returns-clause-filled

@@ -7,7 +7,7 @@ use Rattle.sqlite.proofs.Callers.{survives_begin}
 use Rattle.store_tables.specs.Contents.{IsExactlyEmpty, opening}
 use Rattle.store_tables.specs.Club.{IsExactly, Leaves}
 use Rattle.store_tables.specs.Tables.{club_schema}
-use Rattle.store_tables.proofs.Laws.{commits, leaves_of}
+use Rattle.store_tables.proofs.Proved.{commits, leaves_of}
 use Rattle.store_sql.proofs.make.create_tables.Goals as goal
 
 pub returns-clause-stored : goal.returns-clause-stored

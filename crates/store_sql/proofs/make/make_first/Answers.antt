@@ -1,6 +1,7 @@
 use Rattle.std.proofs.Common.{arith, refl}
 use Rattle.sqlite.specs.Held.{state}
-use Rattle.store_tables.proofs.Laws.{makes_meta, makes_members, makes_events, makes_challenges, makes_then, never_made}
+use Rattle.store_tables.proofs.Proved.{makes_meta, makes_members, makes_events}
+use Rattle.store_tables.proofs.Proved.{makes_challenges, makes_then, never_made}
 use Rattle.store_sql.proofs.make.make_first.Goals as goal
 
 pub returns-clause-made : goal.returns-clause-made

@@ -1,6 +1,6 @@
 use Rattle.std.proofs.Common.{arith, refl}
 use Rattle.sqlite.specs.Held.{state}
-use Rattle.store_tables.proofs.Laws.{makes_moves, makes_games, makes_seen, makes_scores, makes_then}
+use Rattle.store_tables.proofs.Proved.{makes_moves, makes_games, makes_seen, makes_scores, makes_then}
 use Rattle.store_sql.proofs.make.make_last.Goals as goal
 
 pub returns-clause-made : goal.returns-clause-made

@@ -4,7 +4,7 @@ use Rattle.sqlite.specs.Held.{state}
 use Rattle.store_tables.specs.Queries.{IsSelect}
 use Rattle.store_tables.specs.Tables.{club_schema}
 use Rattle.store_tables.specs.Reading.{OnlyReads}
-use Rattle.store_tables.proofs.Laws.{only_reads}
+use Rattle.store_tables.proofs.Proved.{only_reads}
 use Rattle.store_sql.proofs.SelectLemmas.{all_told, all_known, select_keeps}
 use Rattle.store_sql.proofs.read.show_all.Goals as goal
 

@@ -6,7 +6,7 @@ use Rattle.sqlite.specs.declared.types.Value.TheVariants.{Int}
 use Rattle.store_tables.specs.Queries.{IsSelect}
 use Rattle.store_tables.specs.Tables.{club_schema}
 use Rattle.store_tables.specs.Reading.{OnlyReads}
-use Rattle.store_tables.proofs.Laws.{only_reads}
+use Rattle.store_tables.proofs.Proved.{only_reads}
 use Rattle.store_sql.proofs.GroupLemmas.{group_told, group_known, ids_number}
 use Rattle.store_sql.proofs.SelectLemmas.{all_told, all_known, ids_told, ids_known, some_found, counted, select_keeps}
 use Rattle.store_sql.proofs.read.show_ids.Goals as goal

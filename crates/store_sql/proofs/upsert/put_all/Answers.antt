@@ -5,7 +5,7 @@ use Rattle.sqlite.specs.Held.{state}
 use Rattle.sqlite.proofs.StateLemmas.{survives_then}
 use Rattle.store_tables.specs.Contents.{put_each}
 use Rattle.store_tables.specs.Club.{Steps}
-use Rattle.store_tables.proofs.Laws.{one_more}
+use Rattle.store_tables.proofs.Proved.{one_more}
 use Rattle.store_sql.proofs.upsert.put_all.Goals as goal
 
 pub rows-preserved : goal.rows-preserved

@@ -1,6 +1,6 @@
 use Rattle.std.proofs.Common.{sym, arith}
 use Rattle.squares.specs.declared.sides.Side.TheVariants.{First}
-use Rattle.club_core.proofs.Turns.{turns-even, turns-odd}
+use Rattle.club_core.proofs.Proved.{turns-even, turns-odd}
 use Rattle.sweep_rows.proofs.late.side_after.Goals as goal
 
 pub returns-then-plies-eq0 : goal.returns-then-plies-eq0

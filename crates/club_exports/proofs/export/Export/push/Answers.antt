@@ -1,4 +1,4 @@
-use Rattle.std.proofs.Common.{◌≡◌, ◌<◌, ◌^◌, ◌-◌, ◌∷◌, Ok, refl, subst, ◌∙◌, arith}
+use Rattle.std.proofs.Common.{◌≡◌, ◌<◌, ◌^◌, ◌-◌, ◌∷◌, Ok, refl, subst, arith}
 use Rattle.std.specs.Prelude.{IfSome}
 use Rattle.club_exports.proofs.ExportLemmas.{entries-begin, made-is, push-writes, push-begins, follows}
 use Rattle.club_exports.proofs.export.Export.push.Goals as goal

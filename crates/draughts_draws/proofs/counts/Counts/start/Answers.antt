@@ -1,6 +1,5 @@
 use Rattle.std.proofs.Common.{refl, ◌∙◌, ap}
-use Rattle.std.specs.Prelude.{Some, None, cond}
-use Rattle.std.specs.HashMap.{get}
+use Rattle.std.specs.Prelude.{Some, cond}
 use Rattle.std.specs.Map.{lookup}
 use Rattle.squares.specs.DraughtsSamePosition.{same_position}
 use Rattle.draughts_draws.proofs.CountLemmas.{start-follows}

@@ -1,5 +1,4 @@
-use Rattle.std.proofs.Common.{◌≡◌, ◌+◌, ◌-◌, arith}
-use Rattle.std.specs.Int.{w64, leading_zeros}
+use Rattle.std.proofs.Common.{arith}
 use Rattle.std.proofs.lemmas.Nat.{leading_top}
 use Rattle.masks.proofs.BitLemmas.{positive}
 use Rattle.masks.proofs.EndLemmas.{greatest_is}

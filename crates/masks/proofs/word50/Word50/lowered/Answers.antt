@@ -1,4 +1,4 @@
-use Rattle.std.proofs.Common.{◌≡◌, ◌+◌, ◌<◌, ◌/◌, ◌^◌, ◌∙◌, ap, arith}
+use Rattle.std.proofs.Common.{◌≡◌, ◌+◌, ◌∙◌, ap, arith}
 use Rattle.std.specs.FinSet as set
 use Rattle.masks.proofs.ShiftLemmas.{lowered_at, lowered_small}
 use Rattle.masks.proofs.word50.Word50.lowered.Goals as goal

@@ -1,4 +1,4 @@
-use Rattle.std.proofs.Common.{◌≡◌, Bool, true, false, ◌&&◌, refl, sym, ◌∙◌}
+use Rattle.std.proofs.Common.{◌≡◌, Bool, true, false, refl, sym, ◌∙◌}
 use Rattle.std.specs.Prelude.{not}
 use Rattle.shogi_moves.specs.Layouts.{position_of}
 use Rattle.shogi_moves.specs.Computed.{is_drop}

@@ -1,5 +1,5 @@
 use Rattle.std.proofs.Common.{refl, ◌∙◌, ap}
-use Rattle.std.specs.Prelude.{Some, None, cond}
+use Rattle.std.specs.Prelude.{Some, cond}
 use Rattle.std.specs.Ordering.{eq_by_cmp}
 use Rattle.std.specs.BTreeMap.{get}
 use Rattle.std.specs.Map.{lookup}

@@ -5,7 +5,7 @@ use Rattle.sqlite.specs.Held.{state}
 use Rattle.store_tables.specs.Club.{IsExactly}
 use Rattle.club_rows.specs.Club.{tables}
 use Rattle.store.specs.Histories.{IsHistory}
-use Rattle.store_sql.proofs.Laws.{opens_exactly}
+use Rattle.store_sql.proofs.Proved.{opens_exactly}
 use Rattle.store.proofs.HistoryLemmas.{opens_led, still_stands, stops_led}
 use Rattle.store.proofs.club.sessions.resume.Goals as goal
 

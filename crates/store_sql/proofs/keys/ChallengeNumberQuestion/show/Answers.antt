@@ -6,8 +6,8 @@ use Rattle.sqlite.specs.declared.types.Value.TheVariants.{Null, Int, Text}
 use Rattle.store_tables.specs.Tables.{club_schema, challenges}
 use Rattle.store_tables.specs.Texts.{challenges_by_number}
 use Rattle.store_tables.specs.Reading.{OnlyReads}
-use Rattle.store_tables.proofs.Laws.{only_reads, finds, survives_given, shown_given, challenges_by_number_finds}
-use Rattle.store_tables.proofs.Laws.{challenges_by_number_select}
+use Rattle.store_tables.proofs.Proved.{only_reads, finds, survives_given, shown_given, challenges_by_number_finds}
+use Rattle.store_tables.proofs.Proved.{challenges_by_number_select}
 use Rattle.store_sql.proofs.SelectLemmas.{select_keeps}
 use Rattle.store_sql.proofs.keys.ChallengeNumberQuestion.show.Goals as goal
 

@@ -6,8 +6,8 @@ use Rattle.sqlite.specs.declared.types.Value.TheVariants.{Null, Int, Text}
 use Rattle.store_tables.specs.Tables.{club_schema, events}
 use Rattle.store_tables.specs.Texts.{events_by_name}
 use Rattle.store_tables.specs.Reading.{OnlyReads}
-use Rattle.store_tables.proofs.Laws.{only_reads, finds, survives_given, shown_given, events_by_name_finds}
-use Rattle.store_tables.proofs.Laws.{events_by_name_select}
+use Rattle.store_tables.proofs.Proved.{only_reads, finds, survives_given, shown_given, events_by_name_finds}
+use Rattle.store_tables.proofs.Proved.{events_by_name_select}
 use Rattle.store_sql.proofs.SelectLemmas.{select_keeps}
 use Rattle.store_sql.proofs.keys.EventNameQuestion.show.Goals as goal
 

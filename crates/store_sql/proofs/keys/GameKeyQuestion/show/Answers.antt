@@ -6,8 +6,8 @@ use Rattle.sqlite.specs.declared.types.Value.TheVariants.{Null, Int, Text}
 use Rattle.store_tables.specs.Tables.{club_schema, games}
 use Rattle.store_tables.specs.Texts.{games_by_key}
 use Rattle.store_tables.specs.Reading.{OnlyReads}
-use Rattle.store_tables.proofs.Laws.{only_reads, finds, survives_given, shown_given, games_by_key_finds}
-use Rattle.store_tables.proofs.Laws.{games_by_key_select}
+use Rattle.store_tables.proofs.Proved.{only_reads, finds, survives_given, shown_given, games_by_key_finds}
+use Rattle.store_tables.proofs.Proved.{games_by_key_select}
 use Rattle.store_sql.proofs.SelectLemmas.{select_keeps}
 use Rattle.store_sql.proofs.keys.GameKeyQuestion.show.Goals as goal
 

@@ -6,8 +6,8 @@ use Rattle.sqlite.specs.declared.types.Value.TheVariants.{Null, Int, Text}
 use Rattle.store_tables.specs.Tables.{club_schema, members}
 use Rattle.store_tables.specs.Texts.{members_by_name}
 use Rattle.store_tables.specs.Reading.{OnlyReads}
-use Rattle.store_tables.proofs.Laws.{only_reads, finds, survives_given, shown_given, members_by_name_finds}
-use Rattle.store_tables.proofs.Laws.{members_by_name_select}
+use Rattle.store_tables.proofs.Proved.{only_reads, finds, survives_given, shown_given, members_by_name_finds}
+use Rattle.store_tables.proofs.Proved.{members_by_name_select}
 use Rattle.store_sql.proofs.SelectLemmas.{select_keeps}
 use Rattle.store_sql.proofs.keys.MemberNameQuestion.show.Goals as goal
 

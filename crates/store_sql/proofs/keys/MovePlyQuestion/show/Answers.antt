@@ -6,8 +6,8 @@ use Rattle.sqlite.specs.declared.types.Value.TheVariants.{Null, Int, Text}
 use Rattle.store_tables.specs.Tables.{club_schema, moves}
 use Rattle.store_tables.specs.Texts.{moves_by_ply}
 use Rattle.store_tables.specs.Reading.{OnlyReads}
-use Rattle.store_tables.proofs.Laws.{only_reads, finds, survives_given, shown_given, moves_by_ply_finds}
-use Rattle.store_tables.proofs.Laws.{moves_by_ply_select}
+use Rattle.store_tables.proofs.Proved.{only_reads, finds, survives_given, shown_given, moves_by_ply_finds}
+use Rattle.store_tables.proofs.Proved.{moves_by_ply_select}
 use Rattle.store_sql.proofs.SelectLemmas.{select_keeps}
 use Rattle.store_sql.proofs.keys.MovePlyQuestion.show.Goals as goal
 

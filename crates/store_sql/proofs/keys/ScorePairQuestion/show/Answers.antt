@@ -6,8 +6,8 @@ use Rattle.sqlite.specs.declared.types.Value.TheVariants.{Null, Int, Text}
 use Rattle.store_tables.specs.Tables.{club_schema, scores}
 use Rattle.store_tables.specs.Texts.{scores_by_pair}
 use Rattle.store_tables.specs.Reading.{OnlyReads}
-use Rattle.store_tables.proofs.Laws.{only_reads, finds, survives_given, shown_given, scores_by_pair_finds}
-use Rattle.store_tables.proofs.Laws.{scores_by_pair_select}
+use Rattle.store_tables.proofs.Proved.{only_reads, finds, survives_given, shown_given, scores_by_pair_finds}
+use Rattle.store_tables.proofs.Proved.{scores_by_pair_select}
 use Rattle.store_sql.proofs.SelectLemmas.{select_keeps}
 use Rattle.store_sql.proofs.keys.ScorePairQuestion.show.Goals as goal
 

@@ -6,8 +6,8 @@ use Rattle.sqlite.specs.declared.types.Value.TheVariants.{Null, Int, Text}
 use Rattle.store_tables.specs.Tables.{club_schema, seen}
 use Rattle.store_tables.specs.Texts.{seen_by_position}
 use Rattle.store_tables.specs.Reading.{OnlyReads}
-use Rattle.store_tables.proofs.Laws.{only_reads, finds, survives_given, shown_given, seen_by_position_finds}
-use Rattle.store_tables.proofs.Laws.{seen_by_position_select}
+use Rattle.store_tables.proofs.Proved.{only_reads, finds, survives_given, shown_given, seen_by_position_finds}
+use Rattle.store_tables.proofs.Proved.{seen_by_position_select}
 use Rattle.store_sql.proofs.SelectLemmas.{select_keeps}
 use Rattle.store_sql.proofs.keys.SeenPositionQuestion.show.Goals as goal
 

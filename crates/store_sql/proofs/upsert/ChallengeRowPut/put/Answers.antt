@@ -1,6 +1,6 @@
 use Rattle.std.proofs.Common.{rules, refl}
 use Rattle.sqlite.specs.Held.{state}
-use Rattle.store_tables.proofs.Laws.{challenge_put_of}
+use Rattle.store_tables.proofs.Proved.{challenge_put_of}
 use Rattle.store_sql.proofs.upsert.ChallengeRowPut.put.Goals as goal
 
 pub returns-clause-put : goal.returns-clause-put

@@ -1,6 +1,6 @@
 use Rattle.std.proofs.Common.{rules, refl, string_bytes}
 use Rattle.sqlite.specs.Held.{state}
-use Rattle.store_tables.proofs.Laws.{game_put_of}
+use Rattle.store_tables.proofs.Proved.{game_put_of}
 use Rattle.store_sql.proofs.BoundLemmas.{cons_is, maybe_int, maybe_text}
 use Rattle.store_sql.proofs.upsert.GameRecordPut.put.Goals as goal
 

@@ -1,6 +1,6 @@
 use Rattle.std.proofs.Common.{rules, refl}
 use Rattle.sqlite.specs.Held.{state}
-use Rattle.store_tables.proofs.Laws.{meta_put_of}
+use Rattle.store_tables.proofs.Proved.{meta_put_of}
 use Rattle.store_sql.proofs.upsert.MetaRowPut.put.Goals as goal
 
 pub returns-clause-put : goal.returns-clause-put

@@ -30,3 +30,6 @@ pub use Rattle.store_tables.proofs.AlterLemmas.{each_at, tables_altered}
 -- Tables that are made.
 pub use Rattle.store_tables.proofs.MakeLemmas.{makes_meta, makes_members, makes_events, makes_challenges, makes_moves}
 pub use Rattle.store_tables.proofs.MakeLemmas.{makes_games, makes_seen, makes_scores, makes_then, never_made}
+pub use Rattle.store_tables.proofs.ApartLemmas.{each_shown}
+pub use Rattle.store_tables.proofs.OrderLemmas.{has_index, sorted_rows}
+pub use Rattle.store_tables.proofs.ReadLemmas.{has_map, has_mapped, has_turned}

@@ -1,0 +1,27 @@
+-- What is proved of the rows of a club's games, members and challenges, for the proofs of crates above.
+pub use Rattle.club_rows.proofs.ChallengeLemmas.{challenge-had, challenge-not-shown, challenge-put, challenge-shown}
+pub use Rattle.club_rows.proofs.ChallengeLemmas.{challenge-told, challenges-alike, challenges-unaltered}
+pub use Rattle.club_rows.proofs.ChallengeLemmas.{no-challenge-told, seated-added}
+pub use Rattle.club_rows.proofs.GatheredLemmas.{gathered-added, gathered-had, gathered-has}
+pub use Rattle.club_rows.proofs.KindLemmas.{Kind, draughts_laws, event_in, in_draughts, in_shogi, kinds-alike, plies_in}
+pub use Rattle.club_rows.proofs.KindLemmas.{shogi_laws}
+pub use Rattle.club_rows.proofs.LineLemmas.{IsLegalLine-take}
+pub use Rattle.club_rows.proofs.MadeLemmas.{made-last}
+pub use Rattle.club_rows.proofs.NextLemmas.{six-parts}
+pub use Rattle.club_rows.proofs.RowViewLemmas.{position-text}
+pub use Rattle.club_rows.proofs.ScoreAfter.{fit, gained, scores_few}
+pub use Rattle.club_rows.proofs.ScoreLemmas.{found_none, found_some, met_ended, met_running, scores_added, scores_next}
+pub use Rattle.club_rows.proofs.ScoreLemmas.{scores_seated, scores_stay, scores_typed}
+pub use Rattle.club_rows.proofs.ScoreRows.{keys_agree, keys_same, mapped_had, mapped_has, pair_itself, pair_key}
+pub use Rattle.club_rows.proofs.ScoreRows.{pair_same, pairs_of, rows_alter, rows_had, rows_has, scores_append}
+pub use Rattle.club_rows.proofs.ScoreRows.{scores_none}
+pub use Rattle.club_rows.proofs.SeenAfter.{times-none}
+pub use Rattle.club_rows.proofs.SeenGame.{map-more, seen-id}
+pub use Rattle.club_rows.proofs.SeenLemmas.{entry-alters, same-numbers, seen-added, seen-found, seen-row-stays}
+pub use Rattle.club_rows.proofs.SeenLemmas.{seen-start, seen-stay, seen-table-added, seen-table-set, seen-typed}
+pub use Rattle.club_rows.proofs.SeenTexts.{Texts, first-more, first-new, one-first, one-row, row-had, row-has}
+pub use Rattle.club_rows.proofs.SeenTexts.{times-new, times-other}
+pub use Rattle.club_rows.proofs.TallyLemmas.{positions-append}
+pub use Rattle.club_rows.proofs.TextLemmas.{events-typed, games-typed, members-typed, moves-typed}
+pub use Rattle.club_rows.proofs.ToldLemmas.{IsToldBy, columns-told, is_some-none, same-pos, since-rises, spend-since}
+pub use Rattle.club_rows.proofs.WholeLemmas.{played-count, rows-alike, rows-append, rows-count, rows-from, take-got}
