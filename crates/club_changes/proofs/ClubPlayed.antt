@@ -1,8 +1,9 @@
 -- What is decided of a command on a game of the club, and the rows of a game that starts.
 use Rattle.std.proofs.Common.{◌≡◌, inl, inr, ℕ, zero, suc, ◌+◌, ◌-◌, ◌<◌, ◌≤◌, ◌^◌, List, []}
 use Rattle.std.proofs.Common.{◌∷◌, ◌++◌, length, Option, Some, None, refl, ap, sym, subst}
-use Rattle.std.proofs.Common.{subst₂, pos, ◌∙◌, arith}
+use Rattle.std.proofs.Common.{subst₂, ℤ, pos, ◌∙◌, arith}
 use Rattle.std.specs.Prelude.{slice_get, slice_set, IsTrue}
+use Rattle.squares.specs.declared.sides.Score.{Score}
 use Rattle.squares.specs.declared.sides.Side.TheVariants.{First}
 use Rattle.club_rules.specs.declared.names.GameKind.{GameKind}
 use Rattle.club_rules.specs.declared.names.GameKind.TheVariants.{Draughts, Shogi}
@@ -19,18 +20,20 @@ use Rattle.club_core.specs.Game.{Game, clocks_of}
 use Rattle.club_core.specs.Game.{result_of}
 use Rattle.club_core.specs.Legal.{IsLegalGame}
 use Rattle.club_core.specs.LegalState.{IsLegalEvent, IsLegalIn, IsGameOf}
-use Rattle.club_core.specs.Step.{GameCommand, move}
+use Rattle.club_core.specs.Step.{GameCommand}
 use Rattle.club_core.specs.Step.{no_game_refusal}
 use Rattle.club_core.specs.Step.{game_step}
 use Rattle.club_core.specs.Seats.{Pairing}
 use Rattle.club_core.specs.State.{seated, seated_as, state_after, place, kind_at, terms_at, with_game, step_game}
 use Rattle.club_core.specs.State.{on_game}
 use Rattle.club_core.specs.View.{IsRowOf}
-use Rattle.club_core.proofs.LegalSteps.{in-place}
+use Rattle.club_core.proofs.Proved.{in-place}
 use Rattle.club_rows.specs.Made.{made_row}
+use Rattle.club_rows.specs.Scores.{meetings_if}
 use Rattle.club_rows.specs.Tables.{game_row, move_rows, number}
 use Rattle.club_rows.specs.Tables.{row_of_game, rows_of_moves, rows_of_seen}
-use Rattle.club_rows.proofs.KindLemmas.{Kind}
+use Rattle.club_rows.proofs.Proved.{Kind, met_running, met_ended, scores_next, scores_stay, entry-alters, seen-stay}
+use Rattle.club_rows.proofs.Proved.{seen-table-set}
 use Rattle.store_tables.specs.Cells.{game_cells}
 use Rattle.store_tables.specs.declared.rows.GameRecord.{GameRecord}
 use Rattle.store_tables.specs.declared.rows.Changes.{Changes}
@@ -45,10 +48,8 @@ use Rattle.club_changes.specs.Steps.{started, started_seen}
 use Rattle.squares.specs.declared.sides.Score.{Score}
 use Rattle.store_tables.specs.Cells.{score_cells}
 use Rattle.store_tables.specs.Changes.{Alters, put_rows}
-use Rattle.store_tables.proofs.AlterLemmas.{altered}
+use Rattle.store_tables.proofs.Proved.{altered}
 use Rattle.club_rows.specs.Scores.{Meeting, meetings, meetings_in, scores_in}
-use Rattle.club_rows.proofs.ScoreLemmas.{met_running, met_ended, scores_next, scores_stay}
-use Rattle.club_rows.proofs.SeenLemmas.{entry-alters, seen-stay, seen-table-set}
 use Rattle.club_changes.proofs.PutSame.{same_by}
 use Rattle.club_changes.proofs.NextRows.{AreFew, play_next, change_next}
 use Rattle.club_changes.proofs.OutcomeLemmas.{none_decided, answered_mapped, same_content}
@@ -252,6 +253,12 @@ seated_cells {P} {M} laws r row terms p id key moment legal shows cells =
     let second : row.left_second ≡ terms.budget = ap (λ c. c.left_second) is_row.clocks in
     let start : Game M = seated key p moment in
     cells (omega (arith, first, budget)) (omega (arith, second, budget)) terms start is_row
+
+-- a game is no meeting so long as it has no result
+pub none_met : (event first second : ℤ) (result : Option Score) → meetings_if event first second result ≡ []
+    → result ≡ None
+none_met event first second None none = refl
+none_met event first second (Some score) none = cc
 
 pub started_first : (events : List Event) (p : Pairing) (id : ℕ) (key : Option (List ℕ)) (moment : ℕ) (kind : GameKind)
     → kind_at (place events p.event) ≡ kind → started events id key p moment

@@ -2,6 +2,8 @@
 use Rattle.std.specs.Prelude.{◌≡◌, ◌+◌, ℕ, List, [], ◌∷◌, None, Bool, true, false, ⊤}
 use Rattle.sqlite.specs.Order.{Row}
 use Rattle.club_core.specs.declared.challenges.Challenge.{Challenge}
+use Rattle.club_core.specs.declared.challenges.ChallengeDecision.{ChallengeDecision}
+use Rattle.club_core.specs.declared.challenges.ChallengeDecision.TheVariants as decision
 use Rattle.club_core.specs.declared.challenges.Standing.{Standing}
 use Rattle.club_core.specs.declared.challenges.Standing.TheVariants.{Open, Withdrawn, Refused, Accepted}
 use Rattle.club_core.specs.Challenges.{pairing_for}
@@ -9,7 +11,7 @@ use Rattle.club_core.specs.Events.{Event}
 use Rattle.club_core.specs.Outcome.{Outcome, accepted, repeated, refused}
 use Rattle.club_rows.specs.Scores.{Meeting}
 use Rattle.store_tables.specs.declared.rows.Changes.{Changes}
-use Rattle.club_changes.specs.Steps.{Puts, started, started_seen, started_scores, no_rows}
+use Rattle.club_changes.specs.Steps.{Puts, NoneStarts, started, started_seen, started_scores, no_rows}
 
 -- the row of the game that it starts, those of its positions, and the meetings that it is: it has no key
 abbrev pub begun_games : List Event → ℕ → Challenge → Standing → List Row
@@ -51,3 +53,9 @@ abbrev pub AnswersTo : ℕ → Bool → Outcome Challenge → Type 0
 AnswersTo games accept (accepted c reply) = c.standing ≡ standing_after games accept
 AnswersTo games accept (repeated reply) = ⊤
 AnswersTo games accept (refused refusal) = ⊤
+
+-- the game of an accepted challenge does not start
+abbrev pub NoneBegins : List Event → ℕ → ChallengeDecision → Type 0
+NoneBegins events moment (decision.Accepted c answer) = NoneStarts events None (pairing_for c) moment
+NoneBegins events moment (decision.Repeated answer) = ⊥
+NoneBegins events moment (decision.Refused refusal) = ⊥

@@ -1,8 +1,14 @@
--- How a fault of making rows is written.
+-- How a fault of making rows is written, and what one of a sweep's comes to.
 use Rattle.std.specs.Prelude.{ℕ, List, codes}
 use Rattle.club_changes.specs.declared.fault.ChangeFault.{ChangeFault}
 use Rattle.club_changes.specs.declared.fault.ChangeFault.TheVariants as fault
+use Rattle.sweep_rows.specs.declared.fault.SweepFault.{SweepFault}
+use Rattle.sweep_rows.specs.declared.fault.SweepFault.TheVariants as sweep
 
 abbrev pub fault_text : ChangeFault → List ℕ
 fault_text fault.Memory = codes "out of memory"
 fault_text fault.Unfit = codes "the rows are those of no club"
+
+abbrev pub fault_of_sweep : SweepFault → ChangeFault
+fault_of_sweep sweep.Memory = fault.Memory
+fault_of_sweep sweep.Unfit = fault.Unfit

@@ -84,8 +84,7 @@ imported_by laws records known caller given old =
     known.games)
 
 -- What is put of an ended game that is added: its row, those of its moves and of its positions, and those of its
--- players'
--- scores, by what the table had of these.
+-- players' scores, by what the table had of these.
 pub record PutsNewGame {P M E T : Type 0} (laws : GameRules P M E T) (terms : Terms) (id moment : ℕ) (table : List Row)
     (new : Game M) (changes : Changes) : Type 0 where
   pub score : Score

@@ -1,5 +1,5 @@
 -- The club as a machine, and what is decided of a request by rows of its tables.
-use Rattle.std.specs.Prelude.{◌≡◌, ◌≢◌, ◌⊎◌, ◌≤◌, ◌+◌, ◌++◌, ℕ, List, [], ◌∷◌, length, map, Option, Some, None, IsTrue}
+use Rattle.std.specs.Prelude.{◌≡◌, ◌≢◌, ◌⊎◌, ◌≤◌, ◌+◌, ◌++◌, ℕ, List, [], ◌∷◌, length, map, Option, Some, None}
 use Rattle.std.specs.Prelude.{slice_get}
 use Rattle.std.specs.Option.{option_map}
 use Rattle.sqlite.specs.Order.{Row}
@@ -18,7 +18,6 @@ use Rattle.sqlite.specs.declared.types.Value.TheVariants.{Text}
 use Rattle.club_core.specs.declared.answers.Decision.{Decision}
 use Rattle.club_core.specs.declared.answers.Decision.TheVariants as decision
 use Rattle.club_core.specs.Game.{Game, Entry, last_position, result_of}
-use Rattle.club_core.specs.Legal.{IsLegalGame}
 use Rattle.club_core.specs.Outcome.{MoveReply, Outcome, accepted, repeated, refused}
 use Rattle.club_core.specs.declared.answers.Answer.{Answer}
 use Rattle.club_core.specs.declared.answers.Answer.TheVariants as answer
@@ -152,6 +151,11 @@ first_meetings kind key pairing moment = meetings_in both_games (seated_as kind 
 abbrev pub started_scores : List Event → Option (List ℕ) → Pairing → ℕ → List Meeting
 started_scores events key pairing moment = first_meetings (kind_at (place events pairing.event)) key pairing moment
 
+-- No game starts so: there is no such event, or the game has ended before its first move.
+abbrev pub NoneStarts : List Event → Option (List ℕ) → Pairing → ℕ → Type 0
+NoneStarts events key pairing moment =
+    (event : Event) → place events pairing.event ≡ Some event → started_scores events key pairing moment ≢ []
+
 -- the row of a game of one of these events that was just seated
 abbrev pub started : List Event → ℕ → Option (List ℕ) → Pairing → ℕ → Row
 started events id key pairing moment = row_of_game both_games events id
@@ -237,8 +241,7 @@ AreScoresAfter table (decision.Repeated answer) scores = Unit {0}
 AreScoresAfter table (decision.Refused refusal) scores = Unit {0}
 
 -- What is put of a move that was played in a running game: the game's row, the move's, which is the last of its moves,
--- that
--- of the position after it, and where the game has ended those of the scores.
+-- that of the position after it, and where the game has ended those of the scores.
 pub record PutsMove {P M E T : Type 0} (laws : GameRules P M E T) (terms : Terms) (id moment : ℕ) (table : List Row)
     (old new : Game M) (changes : Changes) : Type 0 where
   pub event : new.event ≡ old.event
@@ -262,8 +265,7 @@ pub record PutsMove {P M E T : Type 0} (laws : GameRules P M E T) (terms : Terms
   pub grown : move_rows laws terms id new ≡ move_rows laws terms id old ++ made_row id reply moment ∷ []
 
 -- What is put of a running game that changes where no move is played: its row, and where the game has ended those of
--- the
--- scores.
+-- the scores.
 pub record PutsRow {P M E T : Type 0} (laws : GameRules P M E T) (terms : Terms) (id moment : ℕ) (table : List Row)
     (old new : Game M) (changes : Changes) : Type 0 where
   pub event : new.event ≡ old.event

@@ -1,15 +1,16 @@
 //! What a command about a challenge does to the tables.
 
-ghost use Rattle.std.specs.Prelude.{◌≡◌, ◌<◌, ℕ, Bool, List, [], ◌∷◌, length, Some, IfOk};
+ghost use Rattle.std.specs.Prelude.{◌≡◌, ◌<◌, ℕ, Bool, List, [], ◌∷◌, length, Some, None, IfOk, IsErrOf};
 ghost use Rattle.sqlite.specs.Order.{Row};
 ghost use Rattle.club_core.specs.Answer.{events_of, challenge_outcome_of};
+ghost use Rattle.club_core.specs.Challenges.{pairing_for};
 ghost use Rattle.club_core.specs.LegalState.{Each, IsLegalEvent};
 ghost use Rattle.club_core.specs.Outcome.{map_outcome};
 ghost use Rattle.club_core.specs.State.{with_challenge, with_answer};
 ghost use Rattle.club_rows.specs.Club.{ClubState, IsClub};
 ghost use Rattle.club_rows.specs.Tables.{challenge_row};
-ghost use Rattle.club_changes.specs.Challenged.{PutsBegun, AnswersTo};
-ghost use Rattle.club_changes.specs.Steps.{Puts, IsDecided, no_rows};
+ghost use Rattle.club_changes.specs.Challenged.{PutsBegun, AnswersTo, NoneBegins};
+ghost use Rattle.club_changes.specs.Steps.{Puts, IsDecided, NoneStarts, no_rows};
 ghost use Rattle.club_changes.specs.Whole.{IsWhole};
 
 use crate::decided::{Decided, at, unchanged};
@@ -18,11 +19,12 @@ use crate::seats::seated_rows;
 use clocks::Moment;
 use club_core::{Challenge, ChallengeDecision, Event, KeyedGame, Outcome, Standing};
 use club_rows::challenge_row;
+use club_rules::Memory;
 use std::alloc::Global;
 use store_tables::Changes;
 
 // The row of a challenge is put with these.
-fn with_challenge(changes: Changes, challenge: Challenge) -> Result<Changes, ChangeFault>
+fn with_challenge(changes: Changes, challenge: Challenge) -> Result<Changes, Memory>
     ensures { IfOk result (λ new. (moment : ℕ) (games seen : List Row) →
         Puts changes moment (record no_rows { games = games; seen = seen }) →
         Puts new moment (record no_rows { challenges = challenge_row challenge ∷ []; games = games; seen = seen })) }
@@ -37,7 +39,7 @@ pub fn put_challenge(
     alloc: Global,
     decision: ChallengeDecision,
     moment: Moment,
-) -> Result<Decided, ChangeFault>
+) -> Result<Decided, Memory>
     ensures acts { IfOk result IsWhole }
     ensures step { IfOk result (λ d. (s : ClubState) → IsClub s →
         IsDecided s (map_outcome (with_challenge s moment) (challenge_outcome_of decision)) d) }
@@ -62,8 +64,10 @@ fn begun_rows(
     challenge: Challenge,
     moment: Moment,
 ) -> Result<Changes, ChangeFault>
-    ensures { IfOk result (λ changes. Each IsLegalEvent (events_of events.now) →
+    ensures puts { IfOk result (λ changes. Each IsLegalEvent (events_of events.now) →
         PutsBegun (events_of events.now) moment challenge [] changes) }
+    ensures unfit { IsErrOf result ChangeFault.Unfit →
+        NoneStarts (events_of events.now) None (pairing_for challenge) moment }
 {
     match challenge.standing {
         Standing::Accepted { game } => {
@@ -81,11 +85,13 @@ fn answered_rows(
     challenge: Challenge,
     moment: Moment,
 ) -> Result<Changes, ChangeFault>
-    ensures { IfOk result (λ changes. Each IsLegalEvent (events_of events.now) →
+    ensures puts { IfOk result (λ changes. Each IsLegalEvent (events_of events.now) →
         PutsBegun (events_of events.now) moment challenge (challenge_row challenge ∷ []) changes) }
+    ensures unfit { IsErrOf result ChangeFault.Unfit →
+        NoneStarts (events_of events.now) None (pairing_for challenge) moment }
 {
     let changes = begun_rows(alloc, events, challenge, moment)?;
-    with_challenge(changes, challenge)
+    Ok(with_challenge(changes, challenge)?)
 }
 
 /// What an answer to a challenge does: its row, and where it was accepted those of the game that it starts.
@@ -99,6 +105,8 @@ pub fn put_answered(
     ensures step { IfOk result (λ d. (s : ClubState) (accept : Bool) → IsClub s → events_of events.now ≡ s.events →
         AnswersTo (length s.games) accept (challenge_outcome_of decision) →
         IsDecided s (map_outcome (with_answer s moment accept) (challenge_outcome_of decision)) d) }
+    // A challenge of a club has an event, and no game of it ends before its first move.
+    ensures unfit { IsErrOf result ChangeFault.Unfit → NoneBegins (events_of events.now) moment decision }
 {
     match decision {
         ChallengeDecision::Accepted { challenge, answer } => {

@@ -14,7 +14,9 @@ use store_tables::{Changes, MetaRow};
 /// An outcome, and the rows to put where it is accepted.
 #[derive(Drop)]
 pub struct Decided {
+    /// What the request is answered.
     pub outcome: Outcome,
+    /// The rows to put. None where the request was refused or repeated.
     pub changes: Option<Changes>,
 }
 

@@ -1,7 +1,7 @@
 //! What may go wrong where the rows of a command are made.
 
 use club_rules::Memory;
-use std::alloc::{AllocError, AllocFailed};
+use std::alloc::AllocFailed;
 use std::error::Error;
 use std::fmt;
 use sweep_rows::SweepFault;
@@ -32,24 +32,33 @@ impl fmt::Display for ChangeFault {
 impl Error for ChangeFault {}
 
 impl From<Memory> for ChangeFault {
+    ghost use Rattle.std.specs.Prelude.{◌≡◌};
+    ghost use Rattle.club_changes.specs.declared.fault.ChangeFault.TheVariants as fault;
+
+    ghost from_gives = { λ _ e. e ≡ fault.Memory };
+
     fn from(_refused: Memory) -> ChangeFault {
         ChangeFault::Memory
     }
 }
 
 impl<T: Drop> From<AllocFailed<T>> for ChangeFault {
+    ghost use Rattle.std.specs.Prelude.{◌≡◌};
+    ghost use Rattle.club_changes.specs.declared.fault.ChangeFault.TheVariants as fault;
+
+    ghost from_gives = { λ _ e. e ≡ fault.Memory };
+
     fn from(_refused: AllocFailed<T>) -> ChangeFault {
         ChangeFault::Memory
     }
 }
 
-impl From<AllocError> for ChangeFault {
-    fn from(_refused: AllocError) -> ChangeFault {
-        ChangeFault::Memory
-    }
-}
-
 impl From<SweepFault> for ChangeFault {
+    ghost use Rattle.std.specs.Prelude.{◌≡◌};
+    ghost use Rattle.club_changes.specs.Faults.{fault_of_sweep};
+
+    ghost from_gives = { λ sweep e. e ≡ fault_of_sweep sweep };
+
     fn from(fault: SweepFault) -> ChangeFault {
         match fault {
             SweepFault::Memory => ChangeFault::Memory,

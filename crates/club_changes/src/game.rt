@@ -18,18 +18,19 @@ ghost use Rattle.store_tables.specs.Cells.{seen_cells, score_cells};
 ghost use Rattle.store_tables.specs.declared.rows.SeenRow.{SeenRow};
 
 use crate::decided::{Decided, at, unchanged};
-use crate::fault::ChangeFault;
 use clocks::Moment;
 use club_core::{Answer, Caller, Decision, GameRow, Outcome};
 use club_rows::{ScorePair, move_row, record_of};
-use club_rules::Rules;
+use club_rules::{Memory, Rules};
 use std::alloc::Global;
 use store_tables::{Changes, MoveRow, ScoreRow, SeenRow};
 
 /// The rows of the positions and of the scores that a decision puts.
 #[derive(Drop)]
 pub struct Counts {
+    /// The row of the position after a move. None where no move was made.
     pub seen: Option<SeenRow>,
+    /// The rows of both players where the game has ended.
     pub scores: Option<ScorePair>,
 }
 
@@ -39,7 +40,7 @@ fn answered_moves(
     game: u32,
     answer: &Answer,
     moment: Moment,
-) -> Result<Vec<MoveRow>, ChangeFault>
+) -> Result<Vec<MoveRow>, Memory>
     // Seconds that 63 bits hold are stored as they are.
     ensures { IfOk result (λ rows. left_answered answer.now < 2 ^ 63 →
         map move_cells rows.items ≡ answered_rows game answer.now moment) }
@@ -62,7 +63,7 @@ fn answered_moves(
 }
 
 // The row as a list.
-pub(crate) fn listed_seen(alloc: Global, seen: Option<SeenRow>) -> Result<Vec<SeenRow>, ChangeFault>
+pub(crate) fn listed_seen(alloc: Global, seen: Option<SeenRow>) -> Result<Vec<SeenRow>, Memory>
     ensures { IfOk result (λ rows. map seen_cells rows.items ≡ seen_list seen) }
 {
     let mut rows = Vec::new(alloc);
@@ -77,7 +78,7 @@ pub(crate) fn listed_seen(alloc: Global, seen: Option<SeenRow>) -> Result<Vec<Se
 pub(crate) fn listed_scores(
     alloc: Global,
     scores: Option<ScorePair>,
-) -> Result<Vec<ScoreRow>, ChangeFault>
+) -> Result<Vec<ScoreRow>, Memory>
     ensures { IfOk result (λ rows. map score_cells rows.items ≡ score_list scores) }
 {
     let mut rows = Vec::new(alloc);
@@ -99,7 +100,7 @@ fn changed_rows<R: Rules>(
     answer: &Answer,
     counts: Counts,
     moment: Moment,
-) -> Result<Changes, ChangeFault>
+) -> Result<Changes, Memory>
     // Seconds that 63 bits hold are stored as they are.
     ensures { IfOk result (λ changes. (terms : core.Terms) (new : Game R.Move) → row.now.left_first < 2 ^ 63 →
         row.now.left_second < 2 ^ 63 → left_answered answer.now < 2 ^ 63 → IsRowOf R.rules terms new row.now →
@@ -126,7 +127,7 @@ pub fn put_decision<R: Rules>(
     shown: Decision<R>,
     counts: Counts,
     moment: Moment,
-) -> Result<Decided, ChangeFault>
+) -> Result<Decided, Memory>
     ensures acts { IfOk result IsWhole }
     ensures step { IfOk result (λ d. (terms : core.Terms) (old : Game R.Move) (who : Caller)
         (command : machine.GameCommand)

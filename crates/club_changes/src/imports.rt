@@ -7,13 +7,12 @@ ghost use Rattle.store_tables.specs.Cells.{game_cells, move_cells, seen_cells};
 ghost use Rattle.club_changes.specs.Steps.{Puts, score_list, no_rows};
 
 use crate::decided::at;
-use crate::fault::ChangeFault;
 use crate::game::listed_scores;
 use crate::stored::StoredGame;
 use clocks::Moment;
 use club_core::{Event, KeyedGame, Member};
 use club_rows::ScorePair;
-use club_rules::GameKind;
+use club_rules::{GameKind, Memory};
 use import_rows::NewRows;
 use std::alloc::Global;
 use store_tables::Changes;
@@ -22,10 +21,15 @@ use store_tables::Changes;
 /// many games there are.
 #[derive(Drop)]
 pub struct Known {
+    /// The members, by id.
     pub members: Vec<Member>,
+    /// The events, by id.
     pub events: Vec<Event>,
+    /// The number and the pairing of the game under the key.
     pub keyed: Option<KeyedGame>,
+    /// That game as it is stored.
     pub under: Option<StoredGame>,
+    /// How many games the club has.
     pub games: u32,
 }
 
@@ -48,7 +52,7 @@ pub fn put_rows(
     rows: NewRows,
     scores: ScorePair,
     moment: Moment,
-) -> Result<Changes, ChangeFault>
+) -> Result<Changes, Memory>
     ensures { IfOk result
         (λ changes.
         Puts changes moment

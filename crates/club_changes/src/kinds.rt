@@ -1,6 +1,6 @@
 //! The kinds of games: a game starts by the rules of its event's kind.
 
-ghost use Rattle.std.specs.Prelude.{◌≡◌, [], ◌∷◌, IfOk, IsTrue};
+ghost use Rattle.std.specs.Prelude.{◌≡◌, ◌≢◌, [], ◌∷◌, IfOk, IsErrOf, IsTrue};
 ghost use Rattle.std.specs.Option.{option_map};
 ghost use Rattle.club_core.specs.Answer.{pairing_of};
 ghost use Rattle.club_core.specs.Limits.{is_budget};
@@ -37,6 +37,8 @@ pub(crate) fn seat_in(
         })) }
     ensures running { IfOk result (λ changes.
         first_meetings kind (option_map (λ k. k.now) key.entry) (pairing_of new.pairing) moment ≡ []) }
+    ensures unfit { IsErrOf result ChangeFault.Unfit →
+        first_meetings kind (option_map (λ k. k.now) key.entry) (pairing_of new.pairing) moment ≢ [] }
 {
     match kind {
         GameKind::Draughts => start::<Draughts>(alloc, terms, new, key, moment),

@@ -12,16 +12,16 @@ ghost use Rattle.club_changes.specs.Steps.{IsDecided};
 ghost use Rattle.club_changes.specs.Whole.{IsWhole};
 
 use crate::decided::{Decided, at, is_accepted, unchanged};
-use crate::fault::ChangeFault;
 use clocks::Moment;
 use club_core::{AddEvent, AddMember, Caller, Event, Member, add_event, add_member};
 use club_rows::kind_number;
 use club_rows::numbers::stored;
+use club_rules::Memory;
 use std::alloc::Global;
 use store_tables::{EventRow, MemberRow};
 
 // The row of a member that is added.
-fn member_row(id: u32, command: &AddMember) -> Result<MemberRow, ChangeFault>
+fn member_row(id: u32, command: &AddMember) -> Result<MemberRow, Memory>
     ensures { IfOk result (λ row. member_cells row ≡ member_row id
         (record { name = string_bytes command.now.name; key = string_bytes command.now.key })) }
 {
@@ -41,7 +41,7 @@ pub fn on_member(
     caller: Caller,
     command: &AddMember,
     moment: Moment,
-) -> Result<Decided, ChangeFault>
+) -> Result<Decided, Memory>
     requires { length members.now ≤ 200 }
     ensures acts { IfOk result IsWhole }
     ensures step { IfOk result (λ d. (s : ClubState) → members_of members.now ≡ s.members →
@@ -63,7 +63,7 @@ pub fn on_member(
 }
 
 // The row of an event that is added.
-fn event_row(id: u32, command: &AddEvent) -> Result<EventRow, ChangeFault>
+fn event_row(id: u32, command: &AddEvent) -> Result<EventRow, Memory>
     // Seconds that 63 bits hold are stored as they are.
     ensures { IfOk result (λ row. command.now.budget < 2 ^ 63 → command.now.increment < 2 ^ 63 →
         event_cells row ≡ event_row id (added_event command.now)) }
@@ -85,7 +85,7 @@ pub fn on_event(
     caller: Caller,
     command: &AddEvent,
     moment: Moment,
-) -> Result<Decided, ChangeFault>
+) -> Result<Decided, Memory>
     requires { length events.now ≤ 50 }
     ensures acts { IfOk result IsWhole }
     ensures step { IfOk result (λ d. (s : ClubState) → IsClub s → events_of events.now ≡ s.events →

@@ -1,6 +1,6 @@
 //! The rows of a game that starts in an event.
 
-ghost use Rattle.std.specs.Prelude.{◌≡◌, ◌<◌, [], ◌∷◌, Some, None, IfOk};
+ghost use Rattle.std.specs.Prelude.{◌≡◌, ◌<◌, [], ◌∷◌, Some, None, IfOk, IsErrOf};
 ghost use Rattle.std.specs.Option.{option_map};
 ghost use Rattle.club_core.specs.Answer.{event_of, events_of};
 ghost use Rattle.club_core.specs.Answer.{pairing_of};
@@ -8,7 +8,7 @@ ghost use Rattle.club_core.specs.State.{place};
 ghost use Rattle.club_core.specs.LegalState.{Each, IsLegalEvent};
 ghost use Rattle.club_rows.specs.Replay.{terms_given};
 ghost use Rattle.club_changes.specs.Steps.{started, started_seen, started_scores};
-ghost use Rattle.club_changes.specs.Steps.{Puts, no_rows};
+ghost use Rattle.club_changes.specs.Steps.{Puts, NoneStarts, no_rows};
 
 use crate::fault::ChangeFault;
 use crate::kinds::seat_in;
@@ -20,7 +20,8 @@ use store_tables::Changes;
 
 /// The event of this id, from 1.
 pub fn event_at(events: &[Event], event: u32) -> Result<&Event, ChangeFault>
-    ensures { IfOk result (λ e. place (events_of events.now) event ≡ Some (event_of e.now)) }
+    ensures at { IfOk result (λ e. place (events_of events.now) event ≡ Some (event_of e.now)) }
+    ensures unfit { IsErrOf result ChangeFault.Unfit → place (events_of events.now) event ≡ None }
 {
     if event == 0 {
         return Err(ChangeFault::Unfit);
@@ -62,6 +63,8 @@ pub fn seated_rows(
     ensures running { IfOk result (λ changes.
         started_scores (events_of events.now) (option_map (λ k. k.now) key.entry) (pairing_of new.pairing) moment
         ≡ []) }
+    ensures unfit { IsErrOf result ChangeFault.Unfit →
+        NoneStarts (events_of events.now) (option_map (λ k. k.now) key.entry) (pairing_of new.pairing) moment }
 {
     let event = event_at(events, new.pairing.event)?;
     seat_in(alloc, event.game, terms_of(event), new, key, moment)

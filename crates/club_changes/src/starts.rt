@@ -1,6 +1,6 @@
 //! The rows of a game that starts, by its rules.
 
-ghost use Rattle.std.specs.Prelude.{◌≡◌, ◌<◌, ℕ, [], ◌∷◌, Some, None, IfOk, IsTrue};
+ghost use Rattle.std.specs.Prelude.{◌≡◌, ◌≢◌, ◌<◌, ℕ, [], ◌∷◌, Some, None, IfOk, IsErrOf, IsTrue};
 ghost use Rattle.std.specs.Option.{option_map};
 ghost use Rattle.club_core.specs.Answer.{pairing_of};
 ghost use Rattle.club_core.specs.Game.{result_of};
@@ -58,6 +58,8 @@ pub(crate) fn start<R: Rules>(
         })) }
     ensures running { IfOk result (λ changes.
         result_of R.rules (seated (option_map (λ k. k.now) key.entry) (pairing_of new.pairing) moment) ≡ None) }
+    ensures unfit { IsErrOf result ChangeFault.Unfit →
+        result_of R.rules (seated (option_map (λ k. k.now) key.entry) (pairing_of new.pairing) moment) ≢ None }
 {
     let row = first_row::<R>(alloc, key, new.pairing, terms.budget, moment)?;
     // No game ends before its first move.

@@ -7,8 +7,12 @@ use store_tables::GameRecord;
 /// A game as it is stored, with the kind and the terms of its event.
 #[derive(Drop)]
 pub struct StoredGame {
+    /// Its number in the club, from 1.
     pub id: u32,
+    /// The kind of its event.
     pub kind: GameKind,
+    /// The seconds of its event.
     pub terms: Terms,
+    /// Its row in the table of games.
     pub row: GameRecord,
 }

@@ -1,6 +1,6 @@
 //! What a sweep does to the tables.
 
-ghost use Rattle.std.specs.Prelude.{◌≡◌, map, IfOk};
+ghost use Rattle.std.specs.Prelude.{◌≡◌, map, IfOk, IsErrOf};
 ghost use Rattle.club_core.specs.State.{sweep};
 ghost use Rattle.club_core.specs.declared.requests.Caller.TheVariants.{Officer};
 ghost use Rattle.club_rows.specs.Club.{ClubState, IsClub, tables};
@@ -43,6 +43,9 @@ pub fn sweep_games(
     ensures acts { IfOk result IsWhole }
     ensures step { IfOk result (λ d. (s : ClubState) → IsClub s → map game_cells games.now ≡ tables s 10 →
         HaveSame (map score_cells scores.now) (tables s 14) → IsDecided s (caller_step s moment Officer sweep) d) }
+    // No rows of a club are unfit: memory alone may be refused for them.
+    ensures unfit { IsErrOf result ChangeFault.Unfit → (s : ClubState) → IsClub s →
+        map game_cells games.now ≡ tables s 10 → ¬ HaveSame (map score_cells scores.now) (tables s 14) }
 {
     let rows = swept_rows(alloc, games, scores, moment)?;
     Ok(put_swept(alloc, rows, moment))

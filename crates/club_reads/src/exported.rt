@@ -44,7 +44,9 @@ use store_tables::MoveRow;
 /// Why the writing of a record stopped: a call of the club's failed, or the writer did.
 #[derive(Debug, Clone, Copy, PartialEq, Eq, Drop)]
 pub enum Stopped {
+    /// Reading the tables failed so.
     Call(CallFault),
+    /// The writer to which the record goes failed.
     Output,
 }
 
@@ -76,8 +78,11 @@ impl From<WriteFault> for Stopped {
 /// The names that a record has of a game's event and of its players.
 #[derive(Drop)]
 pub struct Names {
+    /// The name of the event.
     pub event: String,
+    /// The name of the player who has the first move.
     pub first: String,
+    /// The name of the other.
     pub second: String,
 }
 

@@ -37,8 +37,9 @@ use store_tables::MoveRow;
 pub struct Played {
     /// How many plies were played.
     pub ply: u32,
-    /// The seconds that each player has left, as the last move left them.
+    /// The seconds that First has left, as First's last move left them.
     pub left_first: u64,
+    /// The same of Second.
     pub left_second: u64,
     /// The last position, as it is written.
     pub position: String,
@@ -46,6 +47,7 @@ pub struct Played {
     pub moves: Vec<String>,
     /// The player who offers a draw.
     pub offer: Option<Side>,
+    /// How the game ended. None while it is running.
     pub end: Option<GameEnd<EndName>>,
     /// None while the game is running.
     pub result: Option<Score>,
@@ -54,10 +56,13 @@ pub struct Played {
 /// A game of the club.
 #[derive(Drop)]
 pub struct ViewedGame {
-    /// The name of its event, and those of its players.
+    /// The name of its event.
     pub event: String,
+    /// The name of the player who has the first move.
     pub first: String,
+    /// The name of the other.
     pub second: String,
+    /// What was played.
     pub played: Played,
 }
 

@@ -19,7 +19,7 @@ returns-in_ok-changes-in-Accepted-clause-step c s accept is_club es leaves =
     let begun =
     subst
     (λ e. PutsBegun e c.args.moment challenge (challenge_row challenge ∷ []) c.in_ok-changes-in-Accepted.changes) es
-    (c.in_ok-changes-in-Accepted.ensures legal) in
+    (c.in_ok-changes-in-Accepted.ensures.puts legal) in
     let d : Decided = record {
       outcome = given.Accepted c.in-Accepted.answer;
       changes = Some c.in_ok-changes-in-Accepted.changes;

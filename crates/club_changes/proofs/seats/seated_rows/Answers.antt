@@ -1,4 +1,4 @@
-use Rattle.std.proofs.Common.{◌≡◌, [], ◌∷◌, Some, ap, sym, subst, subst₂, ◌∙◌}
+use Rattle.std.proofs.Common.{◌≡◌, ◌≢◌, [], ◌∷◌, Some, ap, sym, subst, subst₂, ◌∙◌}
 use Rattle.std.specs.Option.{option_map}
 use Rattle.std.specs.Prelude.{IsTrue}
 use Rattle.std.proofs.lemmas.Result.{IfOk-weaker}
@@ -6,7 +6,7 @@ use Rattle.club_core.specs.Answer.{event_of, events_of, pairing_of}
 use Rattle.club_core.specs.LegalState.{IsLegalEvent}
 use Rattle.club_core.specs.Limits.{is_budget}
 use Rattle.club_core.specs.State.{place, kind_at, terms_at}
-use Rattle.club_core.proofs.LegalSteps.{in-place}
+use Rattle.club_core.proofs.Proved.{in-place}
 use Rattle.club_rows.specs.Replay.{terms_given}
 use Rattle.club_changes.specs.Steps.{first_row, first_seen_rows, first_meetings, started_seen, Puts, no_rows}
 use Rattle.club_changes.proofs.ClubPlayed.{started_first, started_seen_first}
@@ -20,7 +20,7 @@ returns-clause-puts c =
     let event = event_of c.in_ok-event.event.now in
     let pairing = pairing_of c.args.new.pairing in
     let id = c.args.new.game in
-    let at : place events pairing.event ≡ Some event = c.in_ok-event.ensures in
+    let at : place events pairing.event ≡ Some event = c.in_ok-event.ensures.at in
     let terms : terms_given c.terms_of.result ≡ terms_at (place events pairing.event) = c.terms_of.ensures
     ∙ ap terms_at (sym at) in
     let budget = (in-place IsLegalEvent events pairing.event event legal at).budget in
@@ -37,4 +37,10 @@ returns-clause-running c =
     let key = option_map (λ k. k.now) c.args.key in
     IfOk-weaker c.seat_in.result _ _ (λ changes running.
     ap (λ kind. first_meetings kind key (pairing_of c.args.new.pairing) c.args.moment)
-    (ap kind_at c.in_ok-event.ensures) ∙ running) c.seat_in.ensures.running
+    (ap kind_at c.in_ok-event.ensures.at) ∙ running) c.seat_in.ensures.running
+
+pub returns-clause-unfit : goal.returns-clause-unfit
+returns-clause-unfit c = λ unfit event at.
+    let key = option_map (λ k. k.now) c.args.key in
+    subst (λ kind. first_meetings kind key (pairing_of c.args.new.pairing) c.args.moment ≢ [])
+    (sym (ap kind_at c.in_ok-event.ensures.at)) (c.seat_in.ensures.unfit unfit)

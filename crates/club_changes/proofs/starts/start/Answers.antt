@@ -33,3 +33,8 @@ pub returns-clause-running : goal.returns-clause-running
 returns-clause-running g c =
     let none : c.in_ok-row.row.result ≡ None = search rules in
     sym (c.in_ok-row.ensures 0).result ∙ none
+
+pub returns-then-is_some-clause-unfit : goal.returns-then-is_some-clause-unfit
+returns-then-is_some-clause-unfit g c = λ unfit ended.
+    let none : c.in_ok-row.row.result ≡ None = (c.in_ok-row.ensures 0).result ∙ ended in
+    search rules

@@ -3,7 +3,7 @@ use Rattle.club_rules.specs.Records.{recorded_of}
 use Rattle.club_core.specs.Answer.{event_of, events_of, pairing_of}
 use Rattle.club_core.specs.Imports.{imported}
 use Rattle.club_core.specs.State.{place, terms_at}
-use Rattle.club_core.proofs.ImportedGames.{imported-result}
+use Rattle.club_core.proofs.Proved.{imported-result}
 use Rattle.club_rows.specs.Replay.{terms_given}
 use Rattle.import_rows.specs.NewGames.{AreNewRows}
 use Rattle.club_changes.specs.Steps.{Puts, score_list, no_rows}
@@ -21,7 +21,7 @@ returns-clause-puts g c clean content k apart =
     let pairing = pairing_of new.pairing in
     let game = imported laws key pairing c.args.moment r in
     let terms : terms_given c.terms_of-terms.result ≡ terms_at (place (events_of c.args.events.now) new.pairing.event) =
-    c.terms_of-terms.ensures ∙ ap terms_at (sym c.in_ok-event.ensures) in
+    c.terms_of-terms.ensures ∙ ap terms_at (sym c.in_ok-event.ensures.at) in
     let rows = subst (λ t. AreNewRows laws t new.game game c.in_ok-rows.rows) terms c.in_ok-rows.ensures in
     record {
       score = new.recorded.score;
