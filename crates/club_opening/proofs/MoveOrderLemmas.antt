@@ -4,7 +4,7 @@ use Rattle.std.proofs.Common.{[], ◌∷◌, ◌++◌, length, map, refl, ap, sy
 use Rattle.std.proofs.Common.{Equal, Greater, Ordering, true≢false, IsTrue, length-append, get_or}
 use Rattle.std.specs.Cmp.{IsTotalOrder}
 use Rattle.std.specs.List.{AllByRecursion, list_any}
-use Rattle.std.specs.List.Sorted.{IsSorted, IsPermutation}
+use Rattle.std.specs.List.Sorted.{IsSorted}
 use Rattle.std.specs.Ordering.{int_cmp, is_lt, ordering_then, ordering_reverse}
 use Rattle.std.proofs.lemmas.Bool.Decides.{Decides-ltb}
 use Rattle.std.proofs.lemmas.Cmp.{tied_itself, tied_back}
@@ -15,7 +15,6 @@ use Rattle.sqlite_value.specs.Order.{value_cmp}
 use Rattle.sqlite_value.proofs.OrderLemmas.{value_cmp_total, value_cmp-Int}
 use Rattle.sqlite.specs.Collation.TheVariants.{Binary}
 use Rattle.sqlite.specs.Order.{Row, column}
-use Rattle.sqlite.specs.State.{State}
 use Rattle.sqlite.specs.Tree.{Trees}
 use Rattle.sqlite.specs.Values.{IsInt}
 use Rattle.sqlite_catalog.specs.Listing.{IsSound}
@@ -33,17 +32,12 @@ use Rattle.club_rules.specs.GameRules.{GameRules}
 use Rattle.club_core.specs.Events.{Event, Terms}
 use Rattle.club_core.specs.Game.{Entry, Game}
 use Rattle.club_core.specs.State.{draughts, shogi, place, terms_at}
-use Rattle.store_tables.specs.Cells.{IsMove}
 use Rattle.store_tables.specs.Content.{AreApart, cells}
-use Rattle.store_tables.specs.Contents.{Stores}
-use Rattle.store_tables.specs.Club.{Holds}
 use Rattle.store_tables.specs.Reading.{by_columns, rising}
 use Rattle.store_tables.specs.Tables.{club_schema, moves}
-use Rattle.store_tables.proofs.Proved.{pairs_turned, differ_ints, equal_from}
-use Rattle.club_rows.specs.Club.{ClubGame, both_games, ClubState, IsClub}
-use Rattle.club_rows.specs.Tables.{entry_row, entry_rows, with_entry, gathered_from, rows_of_moves, tables_of}
-use Rattle.club_rows.proofs.Proved.{moves-typed}
-use Rattle.store_sql.specs.Read.{IsReadAs}
+use Rattle.store_tables.proofs.Proved.{differ_ints, equal_from}
+use Rattle.club_rows.specs.Club.{ClubGame, both_games}
+use Rattle.club_rows.specs.Tables.{entry_row, entry_rows, with_entry, gathered_from, rows_of_moves}
 
 -- ---- the order by game and ply
 

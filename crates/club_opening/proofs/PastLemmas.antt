@@ -12,7 +12,6 @@ use Rattle.sqlite_trees.proofs.ListLemmas.{filter-filter}
 use Rattle.sqlite_rules.specs.Lists.{Has}
 use Rattle.sqlite_rules.proofs.ListLemmas.{has_filtered, has_kept}
 use Rattle.store_tables.specs.Content.{same_key}
-use Rattle.store_tables.specs.Contents.{AreThose}
 use Rattle.store_tables.proofs.Proved.{equal_cmp, equal_from, equal_ints}
 use Rattle.club_rows.specs.Tables.{number, gathered_from}
 use Rattle.store_sql.specs.Read.{beginning_with}

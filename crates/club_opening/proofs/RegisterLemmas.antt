@@ -1,5 +1,5 @@
 -- The rows of a club that are read whole, and the club that they and its games are.
-use Rattle.std.proofs.Common.{◌≡◌, true, false, true≢false, ℕ, ◌==◌, ◌≤◌, List, [], ◌∷◌, length, map, refl, ap, sym}
+use Rattle.std.proofs.Common.{◌≡◌, true, false, true≢false, ◌==◌, ◌≤◌, List, [], ◌∷◌, length, map, refl, ap, sym}
 use Rattle.std.proofs.Common.{subst, ◌∙◌, ◌⊎◌, arith, inl, inr}
 use Rattle.std.specs.Prelude.{if◌then◌else◌}
 use Rattle.std.proofs.lemmas.List.{take_all}

@@ -1,5 +1,5 @@
 -- Ids that are places, and what a fault says of the rows of all tables.
-use Rattle.std.specs.Prelude.{◌≡◌, ◌⊎◌, ℕ, ◌+◌, ◌<◌, ℤ, pos, ⊤, List, [], map, length, get_or}
+use Rattle.std.specs.Prelude.{◌≡◌, ◌⊎◌, ℕ, ◌+◌, ◌<◌, ℤ, pos, ⊤, List, map, length, get_or}
 use Rattle.sqlite.specs.Effect.{Database}
 use Rattle.store_tables.specs.Club.{Holds}
 use Rattle.store_tables.specs.declared.rows.Rows.{Rows}

@@ -1,5 +1,5 @@
 -- The rows of the tables of a club begin with their places.
-use Rattle.std.proofs.Common.{◌≡◌, ℕ, zero, suc, ◌+◌, ◌-◌, List}
+use Rattle.std.proofs.Common.{◌≡◌, ℕ, zero, suc, ◌+◌, List}
 use Rattle.std.proofs.Common.{refl, ap, ◌∙◌, arith}
 use Rattle.sqlite.specs.Order.{Row, column}
 use Rattle.club_core.specs.Members.{Member}

@@ -1,8 +1,8 @@
 -- Whether the machine finds a member by a key.
-use Rattle.std.proofs.Common.{◌≡◌, ℕ, List, Option, Some, None, Bool, true, false, refl, sym, subst, ◌∙◌, true≢false}
+use Rattle.std.proofs.Common.{◌≡◌, ℕ, List, Option, Some, None, refl, sym, subst, ◌∙◌, true≢false}
 use Rattle.std.specs.Prelude.{◌↔◌, IsTrue, is_some}
-use Rattle.club_core.specs.Members.{Member, find_id}
-use Rattle.club_core.specs.State.{place, caller_found, has_member_key}
+use Rattle.club_core.specs.Members.{find_id}
+use Rattle.club_core.specs.State.{caller_found, has_member_key}
 use Rattle.club_core.specs.declared.requests.Caller.{Caller}
 use Rattle.club_core.proofs.Proved.{bytes_eq-same, same-bytes_eq, find_id-found, find_id-none}
 use Rattle.club_rows.specs.Club.{ClubState}

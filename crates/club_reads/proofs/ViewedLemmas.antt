@@ -1,14 +1,12 @@
 -- The rows of a game's moves, and what they tell of the game.
-use Rattle.std.proofs.Common.{◌≡◌, ℕ, zero, suc, ◌+◌, ◌<◌, ◌≤◌, List, [], ◌∷◌, ◌++◌, length, map, take, ℤ, pos, Option}
-use Rattle.std.proofs.Common.{Some, None, ◌==◌, refl, ap, sym, subst, subst₂, ◌∙◌, arith, inl, inr, true≢false}
-use Rattle.std.specs.Prelude.{slice_get, string_bytes, IsSome, is_some}
-use Rattle.std.specs.Option.{option_map}
+use Rattle.std.proofs.Common.{◌≡◌, ℕ, zero, suc, ◌+◌, ◌<◌, List, [], ◌∷◌, ◌++◌, map, take, ℤ, pos}
+use Rattle.std.proofs.Common.{Some, ◌==◌, refl, ap, sym, ◌∙◌, arith, inl, inr, true≢false}
+use Rattle.std.specs.Prelude.{slice_get, string_bytes}
 use Rattle.std.proofs.lemmas.Bool.{cases_Bool, eqb-true, eq-eqb}
-use Rattle.std.proofs.lemmas.Option.{slice_get-map, same_Some}
+use Rattle.std.proofs.lemmas.Option.{same_Some}
 use Rattle.std.proofs.lemmas.List.{map-append}
-use Rattle.sqlite.specs.declared.types.Value.TheVariants.{Int, Text}
+use Rattle.sqlite.specs.declared.types.Value.TheVariants.{Int}
 use Rattle.sqlite.specs.Order.{Row, column}
-use Rattle.sqlite_rules.specs.Lists.{Has}
 use Rattle.club_rules.specs.declared.names.GameKind.{GameKind}
 use Rattle.club_rules.specs.GameRules.{GameRules}
 use Rattle.club_rules.specs.Line.{position_after}
@@ -16,16 +14,15 @@ use Rattle.club_rules.proofs.Proved.{position_after-append}
 use Rattle.club_core.specs.Events.{Terms}
 use Rattle.club_core.specs.Game.{Entry, Game, moves_of, last_position}
 use Rattle.club_core.specs.State.{place, terms_at}
-use Rattle.club_rows.specs.Club.{ClubGame, both_games, ClubState, tables}
+use Rattle.club_rows.specs.Club.{both_games, ClubState, tables}
 use Rattle.club_rows.specs.Tables.{number, entry_rows, move_rows, rows_of_moves, at_start, with_entry}
 use Rattle.club_rows.proofs.Proved.{Kind}
 use Rattle.store_tables.specs.Cells.{move_cells}
-use Rattle.store_tables.specs.Contents.{AreThose}
 use Rattle.store_tables.specs.declared.rows.MoveRow.{MoveRow}
 use Rattle.club_changes.specs.Steps.{HaveSame, TellsLine}
 use Rattle.club_reads.specs.Viewed.{written_from}
 use Rattle.club_changes.proofs.Proved.{of_game, in_table, id_of, ply_is, ids_agree, ids_same, gathered_had, one_line}
-use Rattle.club_changes.proofs.Proved.{take_next, AreAtPlaces, moves_had, entry_rows_at, place_at}
+use Rattle.club_changes.proofs.Proved.{take_next, AreAtPlaces, moves_had}
 
 -- ---- the rows of a game's moves
 

@@ -1,4 +1,4 @@
-use Rattle.std.proofs.Common.{◌≤◌, map, ap, sym, ◌∙◌, arith}
+use Rattle.std.proofs.Common.{map, ap, sym, ◌∙◌, arith}
 use Rattle.club_core.specs.Challenges.{challenge_by}
 use Rattle.store_tables.specs.Cells.{challenge_cells}
 use Rattle.club_rows.specs.Club.{tables}

@@ -1,4 +1,4 @@
-use Rattle.std.proofs.Common.{◌≡◌, ◌∙◌}
+use Rattle.std.proofs.Common.{◌∙◌}
 use Rattle.cross_tables.specs.Lines.{line_text}
 use Rattle.club_reads.proofs.cross_table.line_at.Goals as goal
 

@@ -1,9 +1,8 @@
-use Rattle.std.proofs.Common.{◌≡◌, inl, inr, [], length, Err, refl, sym, ap, subst, ◌∙◌, arith}
-use Rattle.std.proofs.lemmas.Result.{on_ok_weaker}
+use Rattle.std.proofs.Common.{inl, inr, Err, refl, arith}
 use Rattle.sqlite.specs.Held.{state}
 use Rattle.sqlite.specs.State.{HasCleanDisk}
 use Rattle.club_rows.specs.Replay.{terms_given}
-use Rattle.club_exports.specs.Title.{title_of, timed}
+use Rattle.club_exports.specs.Title.{timed}
 use Rattle.store_tables.specs.Tables.{club_schema}
 use Rattle.club_reads.proofs.EntryRows.{keeps-all, keeps-then, titled, begins-from, adds-from}
 use Rattle.club_reads.proofs.exported.write_record.Goals as goal

@@ -1,4 +1,4 @@
-use Rattle.std.proofs.Common.{refl, ◌≡◌, length, arith}
+use Rattle.std.proofs.Common.{refl, arith}
 use Rattle.club_rows.specs.Club.{tables}
 use Rattle.club_changes.specs.Steps.{game_in}
 use Rattle.club_changes.proofs.Proved.{numbered_length}

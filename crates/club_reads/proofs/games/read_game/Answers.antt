@@ -1,8 +1,6 @@
-use Rattle.store_tables.specs.Tables.{club_schema}
-use Rattle.std.proofs.Common.{◌≡◌, Some, ap, sym, subst, ◌∙◌}
+use Rattle.std.proofs.Common.{◌≡◌, Some, ap, sym, ◌∙◌}
 use Rattle.club_core.specs.Answer.{event_of, keyed_of}
 use Rattle.club_core.specs.State.{place, kind_at, terms_at, pairing_of}
-use Rattle.club_rows.specs.Club.{tables}
 use Rattle.club_changes.proofs.Proved.{ids_read, event_stands}
 use Rattle.club_reads.proofs.games.read_game.Goals as goal
 

@@ -1,12 +1,12 @@
-use Rattle.std.proofs.Common.{◌≡◌, Some, ap, sym, ◌∙◌, arith}
+use Rattle.std.proofs.Common.{Some, ap, sym, ◌∙◌, arith}
 use Rattle.std.specs.Option.{option_map}
 use Rattle.sqlite.specs.Held.{state}
 use Rattle.sqlite.specs.State.{HasCleanDisk}
 use Rattle.store_tables.specs.Tables.{club_schema}
-use Rattle.club_core.specs.Answer.{event_of, keyed_of}
+use Rattle.club_core.specs.Answer.{keyed_of}
 use Rattle.club_core.specs.Events.{Event}
 use Rattle.club_core.specs.Members.{Member}
-use Rattle.club_core.specs.State.{place, pairing_of}
+use Rattle.club_core.specs.State.{place}
 use Rattle.club_rows.specs.Club.{tables}
 use Rattle.club_changes.proofs.Proved.{event_stands, players_stand, pairing_same}
 use Rattle.club_reads.proofs.reading.viewed.Goals as goal
