@@ -1,4 +1,4 @@
-use Rattle.std.proofs.Common.{◌≡◌, inl, inr}
+use Rattle.std.proofs.Common.{inl, inr}
 use Rattle.sqlite.specs.Held.{state}
 use Rattle.store.proofs.OpeningLemmas.{opening-exactly, opening-left}
 use Rattle.store.proofs.HistoryLemmas.{opening_led, opening_stands}

@@ -1,9 +1,9 @@
-use Rattle.std.proofs.Common.{◌≡◌, ◌∙◌, ap, sym, subst, arith}
+use Rattle.std.proofs.Common.{◌≡◌, ap, subst, arith}
 use Rattle.club_core.proofs.Proved.{are_rules}
 use Rattle.club_core.specs.Answer.{game_command_of}
 use Rattle.club_core.specs.Game.{clocks_of}
 use Rattle.club_core.specs.Step.{game_step}
-use Rattle.club_core.specs.View.{IsConcluded, concluded, settled_of, terms_of}
+use Rattle.club_core.specs.View.{terms_of}
 use Rattle.club_changes.specs.Steps.{IsDecidedIn}
 use Rattle.club_changes.proofs.Proved.{decided_players}
 use Rattle.store.proofs.game.on_view.Goals as goal

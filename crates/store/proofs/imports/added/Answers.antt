@@ -1,12 +1,12 @@
-use Rattle.std.proofs.Common.{◌≡◌, [], ◌∷◌, Some, ap, sym, subst, ◌∙◌}
+use Rattle.std.proofs.Common.{◌≡◌, Some, ap, sym, subst, ◌∙◌}
 use Rattle.club_rules.specs.Records.{recorded_of}
-use Rattle.club_core.specs.Answer.{event_of, events_of, pairing_of}
+use Rattle.club_core.specs.Answer.{events_of, pairing_of}
 use Rattle.club_core.specs.Imports.{imported}
 use Rattle.club_core.specs.State.{place, terms_at}
 use Rattle.club_core.proofs.Proved.{imported-result}
 use Rattle.club_rows.specs.Replay.{terms_given}
 use Rattle.import_rows.specs.NewGames.{AreNewRows}
-use Rattle.club_changes.specs.Steps.{Puts, score_list, no_rows}
+use Rattle.club_changes.specs.Steps.{score_list}
 use Rattle.club_changes.proofs.Proved.{put_as}
 use Rattle.store.proofs.imports.added.Goals as goal
 

@@ -1,4 +1,4 @@
-use Rattle.std.proofs.Common.{◌≡◌, Some, refl, ap, sym, subst, subst₂, ◌∙◌, arith}
+use Rattle.std.proofs.Common.{Some, ap, sym, subst₂, ◌∙◌, arith}
 use Rattle.std.specs.Option.{option_map}
 use Rattle.sqlite.specs.Held.{state}
 use Rattle.sqlite.specs.State.{HasCleanDisk}

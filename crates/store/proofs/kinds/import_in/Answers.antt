@@ -1,4 +1,4 @@
-use Rattle.std.proofs.Common.{◌≡◌, ap, sym, subst, ◌∙◌}
+use Rattle.std.proofs.Common.{◌≡◌, sym, ◌∙◌}
 use Rattle.std.proofs.lemmas.Result.{IfOk-weaker}
 use Rattle.club_rules.specs.declared.names.GameKind.TheVariants.{Draughts, Shogi}
 use Rattle.club_core.specs.Answer.{events_of, import_of}

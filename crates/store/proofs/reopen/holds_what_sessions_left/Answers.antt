@@ -1,4 +1,3 @@
-use Rattle.std.proofs.Common.{◌≡◌}
 use Rattle.sqlite.specs.Held.{state}
 use Rattle.store.proofs.HistoryLemmas.{opens_led}
 use Rattle.store.proofs.reopen.holds_what_sessions_left.Goals as goal

@@ -1,14 +1,12 @@
-use Rattle.std.proofs.Common.{rules, arith, ◌≡◌, ◌≤◌, ◌+◌, false, length, map, take, refl, sym, ap, inl, inr, ◌∙◌}
-use Rattle.std.proofs.Common.{subst}
+use Rattle.std.proofs.Common.{rules, arith, length, ap, inl, inr, ◌∙◌}
 use Rattle.sqlite.specs.State.{HasCleanDisk}
 use Rattle.sqlite.specs.Held.{state}
-use Rattle.sqlite_trees.specs.View.{doubt}
-use Rattle.store_tables.specs.Club.{IsExactly, Leaves}
-use Rattle.club_core.specs.Answer.{answered, outcome_of, request_of}
-use Rattle.club_rows.specs.Club.{ClubState, IsClub, tables}
-use Rattle.club_changes.specs.Steps.{club_step, club_next}
-use Rattle.store.specs.Runs.{club_fold, club_outcomes}
-use Rattle.store.proofs.RunLemmas.{Served, count-more, first_of, served-none, served-next, served-outcomes}
+use Rattle.store_tables.specs.Club.{IsExactly}
+use Rattle.club_core.specs.Answer.{request_of}
+use Rattle.club_rows.specs.Club.{tables}
+use Rattle.club_changes.specs.Steps.{club_next}
+use Rattle.store.specs.Runs.{club_fold}
+use Rattle.store.proofs.RunLemmas.{count-more, first_of, served-none, served-next, served-outcomes}
 use Rattle.store.proofs.RunLemmas.{served-leaves, served-all, legal-all, after-served, after-next}
 use Rattle.store.proofs.club.Club.run.Goals as goal
 

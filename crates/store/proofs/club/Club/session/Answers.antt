@@ -1,4 +1,3 @@
-use Rattle.std.proofs.Common.{◌≡◌}
 use Rattle.sqlite.specs.Held.{state}
 use Rattle.store.proofs.HistoryLemmas.{session_leads, session_stands}
 use Rattle.store.proofs.club.Club.session.Goals as goal

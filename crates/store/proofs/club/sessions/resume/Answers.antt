@@ -1,5 +1,5 @@
 use Rattle.store_tables.specs.Tables.{club_schema}
-use Rattle.std.proofs.Common.{arith, ◌≡◌}
+use Rattle.std.proofs.Common.{arith}
 use Rattle.sqlite.specs.State.{HasCleanDisk}
 use Rattle.sqlite.specs.Held.{state}
 use Rattle.store_tables.specs.Club.{IsExactly}
