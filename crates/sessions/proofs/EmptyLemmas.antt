@@ -1,6 +1,6 @@
 -- Files that hold no database yet, and what an opening finds in them.
-use Rattle.std.proofs.Common.{rules, ◌⊎◌, Bool, true, false, ◌-◌, ◌*◌, ◌∙◌, ◌≡◌, ℕ, List, [], length, take, slice_index}
-use Rattle.std.proofs.Common.{get_or-take, ap, ◌<◌, ◌≤◌, ◌+◌, Some, Option, unwrap_or, refl, sym, subst, inl, inr}
+use Rattle.std.proofs.Common.{◌-◌, ◌*◌, ◌∙◌, ◌≡◌, ℕ, List, [], length, take, slice_index}
+use Rattle.std.proofs.Common.{get_or-take, ap, ◌<◌, ◌≤◌, Some, Option, unwrap_or, refl, sym, subst, inl, inr}
 use Rattle.std.proofs.Common.{arith}
 use Rattle.std.proofs.Math.Logic.{∥∥₁_elim}
 use Rattle.std.proofs.lemmas.List.{length-take}

@@ -3,7 +3,6 @@ use Rattle.std.proofs.Math.Logic.{∥∥₁_map}
 use Rattle.sqlite.specs.Files.{file_state}
 use Rattle.sqlite_trees.specs.View.{doubt}
 use Rattle.sqlite_store.specs.FileStore.{view as store_view}
-use Rattle.store.specs.Histories.{IsReachable}
 use Rattle.sessions.proofs.end.Goals as goal
 
 pub returns-clause-clean : goal.returns-clause-clean
