@@ -1,5 +1,5 @@
 -- What sessions led to, over a connection that was only read.
-use Rattle.std.proofs.Common.{◌≡◌, List, [], ◌++◌, append-nil, sym, subst}
+use Rattle.std.proofs.Common.{List, [], ◌++◌, append-nil, sym, subst}
 use Rattle.sqlite.specs.Tree.{Trees}
 use Rattle.sqlite.specs.State.{State}
 use Rattle.store_tables.specs.Contents.{Content}

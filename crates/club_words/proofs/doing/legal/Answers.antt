@@ -1,9 +1,9 @@
-use Rattle.std.proofs.Common.{◌≡◌, arith, sym, subst}
+use Rattle.std.proofs.Common.{arith, sym, subst}
 use Rattle.sqlite.specs.State.{HasCleanDisk}
 use Rattle.sqlite.specs.Held.{state}
 use Rattle.store_tables.specs.Tables.{club_schema}
 use Rattle.club_rows.specs.Club.{tables}
-use Rattle.store.specs.Histories.{IsReachable, IsHistory}
+use Rattle.store.specs.Histories.{IsHistory}
 use Rattle.club_words.proofs.SessionLemmas.{stands_still}
 use Rattle.club_words.proofs.doing.legal.Goals as goal
 

@@ -1,8 +1,8 @@
-use Rattle.std.proofs.Common.{◌≡◌, ◌++◌, arith, sym, subst}
+use Rattle.std.proofs.Common.{◌++◌, arith, sym, subst}
 use Rattle.sqlite.specs.State.{HasCleanDisk}
 use Rattle.sqlite.specs.Held.{state}
 use Rattle.club_rows.specs.Club.{tables}
-use Rattle.store.specs.Histories.{IsReachable, IsHistory}
+use Rattle.store.specs.Histories.{IsHistory}
 use Rattle.club_words.specs.declared.report.Report.TheVariants.{Answered}
 use Rattle.club_words.specs.Report.{given, request_sessions}
 use Rattle.club_words.proofs.SessionLemmas.{led_still, stands_still}

@@ -1,7 +1,7 @@
-use Rattle.std.proofs.Common.{◌≡◌, sym, subst}
+use Rattle.std.proofs.Common.{sym, subst}
 use Rattle.sqlite.specs.State.{HasCleanDisk}
 use Rattle.sqlite.specs.Held.{state}
-use Rattle.club_rows.specs.Club.{ClubState, IsClub, tables}
+use Rattle.club_rows.specs.Club.{tables}
 use Rattle.store_tables.specs.Club.{IsExactly}
 use Rattle.store.specs.Histories.{IsHistory}
 use Rattle.club_words.proofs.SessionLemmas.{stands_still}
