@@ -22,7 +22,7 @@ use Rattle.club_core.specs.Legal.{IsTimely, IsLegalGame}
 use Rattle.club_core.specs.LegalState.{Each, IsGameOf}
 use Rattle.club_core.specs.State.{draughts, shogi, place, kind_at, terms_at}
 use Rattle.club_core.specs.View.{IsRowOf, Shows, clocks_in, terms_of}
-use Rattle.club_core.proofs.Proved.{in-place}
+use Rattle.club_laws.proofs.Proved.{in-place}
 use Rattle.store_tables.specs.Cells.{event_cells, move_cells}
 use Rattle.store_tables.specs.declared.rows.EventRow.{EventRow}
 use Rattle.store_tables.specs.declared.rows.GameRecord.{GameRecord}

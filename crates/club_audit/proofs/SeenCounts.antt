@@ -11,7 +11,7 @@ use Rattle.sqlite_value.specs.declared.value.Value.{Value}
 use Rattle.sqlite_value.specs.declared.value.Value.TheVariants.{Text}
 use Rattle.sqlite.specs.Order.{Row, column}
 use Rattle.sqlite_rules.specs.Lists.{Has}
-use Rattle.club_core.proofs.Proved.{same-bytes_eq, bytes_eq-same, got-append}
+use Rattle.club_laws.proofs.Proved.{same-bytes_eq, bytes_eq-same, got-append}
 use Rattle.store_tables.specs.Cells.{seen_cells}
 use Rattle.store_tables.specs.declared.rows.SeenRow.{SeenRow}
 use Rattle.club_rows.specs.Seen.{FirstAt, times_in, seen_row, rows_of_texts}

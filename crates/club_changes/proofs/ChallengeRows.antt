@@ -11,7 +11,7 @@ use Rattle.club_core.specs.declared.challenges.Standing.{Standing}
 use Rattle.club_core.specs.declared.challenges.Standing.TheVariants.{Open, Withdrawn, Refused, Accepted}
 use Rattle.club_core.specs.Challenges.{challenge_under}
 use Rattle.club_core.specs.LegalState.{IsLegalChallenge}
-use Rattle.club_core.proofs.Proved.{le-true, under-each, under-found, under-key}
+use Rattle.club_laws.proofs.Proved.{le-true, under-each, under-found, under-key}
 use Rattle.club_rows.specs.ChallengeRows.{challenge_key}
 use Rattle.club_rows.specs.Club.{ClubState, IsClub, tables}
 use Rattle.club_rows.specs.Tables.{challenge_row}

@@ -27,7 +27,7 @@ use Rattle.club_core.specs.Seats.{Pairing}
 use Rattle.club_core.specs.State.{seated, seated_as, state_after, place, kind_at, terms_at, with_game, step_game}
 use Rattle.club_core.specs.State.{on_game}
 use Rattle.club_core.specs.View.{IsRowOf}
-use Rattle.club_core.proofs.Proved.{in-place}
+use Rattle.club_laws.proofs.Proved.{in-place}
 use Rattle.club_rows.specs.Made.{made_row}
 use Rattle.club_rows.specs.Scores.{meetings_if}
 use Rattle.club_rows.specs.Tables.{game_row, move_rows, number}

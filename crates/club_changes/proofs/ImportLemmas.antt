@@ -35,7 +35,8 @@ use Rattle.club_core.specs.Outcome.{unless_repeat, game_seated}
 use Rattle.club_core.specs.Seats.{KeyedGame, has_member_name, are_two}
 use Rattle.club_core.specs.State.{draughts, shogi, place, kind_at, terms_at, any_under, draughts_in, shogi_in}
 use Rattle.club_core.specs.State.{state_after, with_imported, import_looked_up, import_as, import_record}
-use Rattle.club_core.proofs.Proved.{none-holds, three-true, not-false, not-true, false-true, in-place}
+use Rattle.club_core.proofs.Proved.{none-holds}
+use Rattle.club_laws.proofs.Proved.{three-true, not-false, not-true, false-true, in-place}
 use Rattle.club_rows.specs.Club.{ClubGame, both_games, ClubState, IsClub, tables}
 use Rattle.club_rows.specs.Scores.{meetings, meetings_in}
 use Rattle.club_rows.specs.Seen.{seen_rows}

@@ -13,7 +13,7 @@ use Rattle.club_core.specs.Events.{Event, Terms}
 use Rattle.club_core.specs.Game.{Game}
 use Rattle.club_core.specs.LegalState.{AreApart}
 use Rattle.club_core.specs.State.{AnyGame, draughts, shogi, State, place, terms_at, with_imported}
-use Rattle.club_core.proofs.Proved.{got-append, get-append, at-last}
+use Rattle.club_laws.proofs.Proved.{got-append, get-append, at-last}
 use Rattle.club_rows.specs.Scores.{meetings, meetings_in, scores_in}
 use Rattle.club_rows.specs.Tables.{number, at_start, move_rows, member_row, event_row, challenge_row, numbered_from}
 use Rattle.club_rows.specs.Tables.{row_of_game, rows_of_moves, rows_of_seen, tables_of}

@@ -15,7 +15,7 @@ use Rattle.club_core.specs.Game.{Game, Entry}
 use Rattle.club_core.specs.LegalState.{Each, IsLegalIn}
 use Rattle.club_core.specs.State.{AnyGame, draughts, shogi, State, place, kind_at, terms_at, seated_as, with_members}
 use Rattle.club_core.specs.State.{with_events, with_new_game}
-use Rattle.club_core.proofs.Proved.{place-append}
+use Rattle.club_laws.proofs.Proved.{place-append}
 use Rattle.club_rows.proofs.Proved.{plies_in, scores_seated, seen-table-added}
 pub use Rattle.import_rows.proofs.Proved.{entry_rows_at}
 use Rattle.club_rows.specs.Scores.{meetings_in, scores_in}

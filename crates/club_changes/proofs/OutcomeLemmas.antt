@@ -23,7 +23,8 @@ use Rattle.club_core.specs.Seats.{Pairing, KeyedGame, pair, seat_found, seat_ste
 use Rattle.club_core.specs.Seats.{has_member_name}
 use Rattle.club_core.specs.State.{state_after, is_accepted, add_member, add_event, seat, seated, seated_as, kind_at}
 use Rattle.club_core.specs.State.{place, with_members, with_events, with_new_game, game_under, caller_of, step_by}
-use Rattle.club_core.proofs.Proved.{unmoved, not-false, none-holds}
+use Rattle.club_core.proofs.Proved.{none-holds}
+use Rattle.club_laws.proofs.Proved.{unmoved, not-false}
 use Rattle.club_rows.specs.Tables.{member_row, event_row}
 use Rattle.sqlite.specs.Order.{Row}
 use Rattle.store_tables.specs.declared.rows.Changes.{Changes}

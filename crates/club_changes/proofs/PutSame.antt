@@ -11,7 +11,7 @@ use Rattle.sqlite_schema.specs.Rules.{equal}
 use Rattle.sqlite_value.specs.Keys.{first_key}
 use Rattle.sqlite_rules.specs.Lists.{Has}
 use Rattle.sqlite_rules.proofs.ListLemmas.{has_either, has_left, has_right}
-use Rattle.club_core.proofs.Proved.{got-append, got-set, set-got, get-append, at-last, put-at}
+use Rattle.club_laws.proofs.Proved.{got-append, got-set, set-got, get-append, at-last, put-at}
 use Rattle.club_rows.specs.Tables.{number, numbered_from, gathered_from}
 use Rattle.store_tables.specs.Content.{same_key, put}
 use Rattle.store_tables.proofs.Proved.{equal_ints}

@@ -16,4 +16,3 @@ pub mod Answer
 pub mod AnswerText
 pub mod View
 pub mod LegalState
-pub mod Laws

@@ -9,7 +9,6 @@ mod endings;
 pub mod ends;
 pub mod events;
 mod ids;
-pub mod laws;
 pub mod members;
 mod moves;
 mod players;

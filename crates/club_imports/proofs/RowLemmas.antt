@@ -10,7 +10,7 @@ use Rattle.club_core.specs.Game.{clocks_of, last_position, end_of, end_with, res
 use Rattle.club_core.specs.Imports.{recorded_end, imported}
 use Rattle.club_core.specs.Seats.{Pairing}
 use Rattle.club_core.specs.View.{track_of_game}
-use Rattle.club_core.proofs.Proved.{made-again, imported-result}
+use Rattle.club_laws.proofs.Proved.{made-again, imported-result}
 use Rattle.club_imports.specs.OneMoment.{at_moment, clocks_with}
 use Rattle.club_imports.proofs.LeftLemmas.{moments-at}
 

@@ -12,7 +12,7 @@ use Rattle.sqlite.specs.State.{State, IsUnchanged}
 use Rattle.sqlite.specs.Tree.{Trees}
 use Rattle.sqlite.proofs.Callers.{unchanged_then}
 use Rattle.club_core.specs.LegalState.{IsLegalIn}
-use Rattle.club_core.proofs.Proved.{each-append, got-append}
+use Rattle.club_laws.proofs.Proved.{each-append, got-append}
 use Rattle.store_tables.specs.Cells.{game_cells, move_cells, seen_cells}
 use Rattle.store_tables.specs.Club.{Holds}
 use Rattle.store_tables.specs.Content.{AreApart, cells}

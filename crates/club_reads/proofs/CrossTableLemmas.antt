@@ -17,7 +17,7 @@ use Rattle.sqlite_rules.specs.Lists.{Has}
 use Rattle.sqlite_rules.proofs.ListLemmas.{all_has, has_got}
 use Rattle.club_core.specs.Events.{Event, has_event_name}
 use Rattle.club_core.specs.Members.{find_id}
-use Rattle.club_core.proofs.Proved.{bytes_eq-same, same-bytes_eq, find_id-found, find_id-none}
+use Rattle.club_laws.proofs.Proved.{bytes_eq-same, same-bytes_eq, find_id-found, find_id-none}
 use Rattle.club_rows.specs.Club.{ClubState, IsClub, tables}
 use Rattle.club_rows.specs.Tables.{number, event_row}
 use Rattle.club_rows.proofs.Proved.{mapped_had, mapped_has}

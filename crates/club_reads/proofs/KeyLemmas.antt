@@ -4,7 +4,7 @@ use Rattle.std.specs.Prelude.{◌↔◌, IsTrue, is_some}
 use Rattle.club_core.specs.Members.{find_id}
 use Rattle.club_core.specs.State.{caller_found, has_member_key}
 use Rattle.club_core.specs.declared.requests.Caller.{Caller}
-use Rattle.club_core.proofs.Proved.{bytes_eq-same, same-bytes_eq, find_id-found, find_id-none}
+use Rattle.club_laws.proofs.Proved.{bytes_eq-same, same-bytes_eq, find_id-found, find_id-none}
 use Rattle.club_rows.specs.Club.{ClubState}
 use Rattle.club_reads.specs.Keys.{HasKey}
 use Rattle.club_changes.proofs.Proved.{place_at}

@@ -18,8 +18,8 @@ use Rattle.club_core.specs.LegalState.{AreApart}
 use Rattle.club_core.specs.Seats.{Pairing}
 use Rattle.club_core.specs.State.{State, AnyGame, place, kind_at, seated_as, with_challenge, with_answer, with_imported}
 use Rattle.club_core.specs.State.{challenge_game}
-use Rattle.club_core.proofs.Proved.{under-key, key-under, under-at, under-found, under-each, under-put, got-put}
-use Rattle.club_core.proofs.Proved.{apart-put}
+use Rattle.club_laws.proofs.Proved.{under-key, key-under, under-at, under-found, under-each, under-put, got-put}
+use Rattle.club_laws.proofs.Proved.{apart-put}
 use Rattle.store_tables.specs.Cells.{challenge_cells}
 use Rattle.store_tables.specs.Changes.{Alters, HaveSame}
 use Rattle.store_tables.specs.Content.{same_key, put}

@@ -29,7 +29,8 @@ use Rattle.club_core.specs.Legal.{IsLegalGame, IsOffer}
 use Rattle.club_core.specs.LegalState.{Each}
 use Rattle.club_core.specs.Step.{move_at}
 use Rattle.club_core.specs.View.{IsAsked, track_of_game}
-use Rattle.club_core.proofs.Proved.{AreRules, room-for, tracked-end, line-grows}
+use Rattle.club_core.proofs.Proved.{AreRules, tracked-end, line-grows}
+use Rattle.club_laws.proofs.Proved.{room-for}
 use Rattle.store_tables.specs.Cells.{move_cells}
 use Rattle.store_tables.specs.declared.rows.GameRecord.{GameRecord}
 use Rattle.store_tables.specs.declared.rows.MoveRow.{MoveRow}

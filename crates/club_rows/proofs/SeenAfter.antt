@@ -12,7 +12,7 @@ use Rattle.sqlite.specs.Order.{Row, column}
 use Rattle.sqlite_rules.specs.Lists.{Has}
 use Rattle.club_rules.specs.GameRules.{GameRules}
 use Rattle.club_core.specs.Game.{Entry, Game, last_position}
-use Rattle.club_core.proofs.Proved.{same-bytes_eq}
+use Rattle.club_laws.proofs.Proved.{same-bytes_eq}
 use Rattle.store_tables.specs.Cells.{seen_cells}
 use Rattle.store_tables.specs.declared.rows.SeenRow.{SeenRow}
 use Rattle.club_rows.specs.Seen.{times_in, stood_before, seen_row, rows_of_texts, texts_of, seen_rows, IsSeenRow}

@@ -12,7 +12,7 @@ use Rattle.store_tables.specs.Content.{same_key}
 use Rattle.club_rules.specs.GameRules.{GameRules}
 use Rattle.club_rules.specs.Line.{position_after, positions}
 use Rattle.club_core.specs.Game.{Entry, Game, moves_of, last_position}
-use Rattle.club_core.proofs.Proved.{same-bytes_eq, bytes_eq-same}
+use Rattle.club_laws.proofs.Proved.{same-bytes_eq, bytes_eq-same}
 use Rattle.club_rows.specs.Tables.{number}
 use Rattle.club_rows.specs.Seen.{times_in, seen_row, rows_of_texts, texts_of, seen_rows, IsSeenRow}
 use Rattle.club_rows.proofs.KeyPairs.{same-texts, pairs-agree}

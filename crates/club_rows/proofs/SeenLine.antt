@@ -12,7 +12,7 @@ use Rattle.club_rules.specs.GameRules.{GameRules}
 use Rattle.club_rules.specs.Laws.{SamePositionIs, TextsTellPositions}
 use Rattle.club_rules.specs.Line.{position_after, positions, IsLegalLine, times_stood, FirstStands}
 use Rattle.club_core.specs.Game.{Game, moves_of, last_position}
-use Rattle.club_core.proofs.Proved.{same-bytes_eq, bytes_eq-same}
+use Rattle.club_laws.proofs.Proved.{same-bytes_eq, bytes_eq-same}
 use Rattle.store_tables.specs.Cells.{seen_cells}
 use Rattle.store_tables.specs.declared.rows.SeenRow.{SeenRow}
 use Rattle.club_rows.specs.Seen.{times_in, texts_of, IsSeenRow}

@@ -21,7 +21,8 @@ use Rattle.club_core.specs.Game.{Entry, Game, Clocks, spend, spend_all, turns, s
 use Rattle.club_core.specs.Game.{moments_of, opening_clocks, left_of, last_position, game_at, turn_of, result_of}
 use Rattle.club_core.specs.Game.{end_with, score_with}
 use Rattle.club_core.specs.Legal.{IsTimely, IsLegalGame}
-use Rattle.club_core.proofs.Proved.{AreRules, legal-played, each-append, turn-of-game, running-before}
+use Rattle.club_core.proofs.Proved.{AreRules, legal-played, turn-of-game, running-before}
+use Rattle.club_laws.proofs.Proved.{each-append}
 use Rattle.club_core.proofs.Proved.{IsPlayedLine-none}
 use Rattle.store_tables.specs.Cells.{move_cells}
 use Rattle.store_tables.specs.declared.rows.MoveRow.{MoveRow}

@@ -15,7 +15,7 @@ use Rattle.club_core.specs.declared.answers.Outcome as given_outcome
 use Rattle.club_core.specs.Answer.{answered, outcome_of, request_of}
 use Rattle.club_core.specs.Outcome.{Outcome, accepted, repeated, refused}
 use Rattle.club_core.specs.State.{Request, opening_state, is_accepted}
-use Rattle.club_core.proofs.Proved.{folds-accepted}
+use Rattle.club_laws.proofs.Proved.{folds-accepted}
 use Rattle.club_rows.specs.Club.{both_games, ClubState, IsClub, tables}
 use Rattle.store_tables.specs.Contents.{Content, IsEmpty, IsExactlyEmpty}
 use Rattle.store_tables.specs.Club.{IsExactly, Leaves}

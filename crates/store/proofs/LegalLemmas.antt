@@ -2,7 +2,7 @@
 use Rattle.std.proofs.Common.{◌≤◌}
 use Rattle.club_core.specs.Limits.{last_moment}
 use Rattle.club_core.specs.State.{Request}
-use Rattle.club_core.proofs.Proved.{import-kept, next-legal}
+use Rattle.club_laws.proofs.Proved.{import-kept, next-legal}
 use Rattle.club_games.specs.CsaLaws.{shogi-reads_games}
 use Rattle.club_games.specs.PdnLaws.{draughts-reads_games}
 use Rattle.club_rows.specs.Club.{both_games, ClubState, IsClub}

@@ -13,7 +13,7 @@ use Rattle.sqlite_schema.specs.Rules.{equal}
 use Rattle.sqlite_value.specs.Keys.{first_key}
 use Rattle.sqlite_value.proofs.OrderLemmas.{value_cmp_total}
 use Rattle.sqlite_rules.specs.Lists.{Has}
-use Rattle.club_core.proofs.Proved.{map-at, map-got}
+use Rattle.club_laws.proofs.Proved.{map-at, map-got}
 use Rattle.club_rows.specs.Tables.{number, numbered_from, gathered_from}
 use Rattle.club_rows.proofs.Proved.{gathered-had, gathered-has}
 use Rattle.store_tables.specs.Changes.{Alters}

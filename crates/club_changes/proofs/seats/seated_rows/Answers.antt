@@ -6,7 +6,7 @@ use Rattle.club_core.specs.Answer.{event_of, events_of, pairing_of}
 use Rattle.club_core.specs.LegalState.{IsLegalEvent}
 use Rattle.club_core.specs.Limits.{is_budget}
 use Rattle.club_core.specs.State.{place, kind_at, terms_at}
-use Rattle.club_core.proofs.Proved.{in-place}
+use Rattle.club_laws.proofs.Proved.{in-place}
 use Rattle.club_rows.specs.Replay.{terms_given}
 use Rattle.club_changes.specs.Steps.{first_row, first_seen_rows, first_meetings, started_seen, Puts, no_rows}
 use Rattle.club_changes.proofs.ClubPlayed.{started_first, started_seen_first}

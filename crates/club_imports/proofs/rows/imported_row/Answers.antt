@@ -4,7 +4,8 @@ use Rattle.club_rules.specs.Records.{recorded_of}
 use Rattle.club_core.specs.Answer.{pairing_of}
 use Rattle.club_core.specs.Game.{spend_all}
 use Rattle.club_core.specs.Limits.{most_plies}
-use Rattle.club_core.proofs.Proved.{are_rules, within-limit}
+use Rattle.club_core.proofs.Proved.{are_rules}
+use Rattle.club_laws.proofs.Proved.{within-limit}
 use Rattle.squares.specs.declared.sides.Side.TheVariants.{First}
 use Rattle.club_imports.specs.OneMoment.{at_moment, clocks_with}
 use Rattle.club_imports.proofs.RowLemmas.{row-plies, row-clocks, row-track, row-position, row-end, row-result}

@@ -6,7 +6,8 @@ use Rattle.club_core.specs.Answer.{pairing_of}
 use Rattle.club_core.specs.Imports.{imported}
 use Rattle.club_core.specs.Limits.{most_plies}
 use Rattle.club_core.specs.View.{IsRowOf}
-use Rattle.club_core.proofs.Proved.{within-limit, are_rules}
+use Rattle.club_core.proofs.Proved.{are_rules}
+use Rattle.club_laws.proofs.Proved.{within-limit}
 use Rattle.club_rows.specs.Replay.{terms_given}
 use Rattle.club_rows.specs.Seen.{rows_of_texts}
 use Rattle.import_rows.specs.AtOnce.{rows_at_once}

@@ -3,7 +3,7 @@ use Rattle.club_rules.specs.Records.{recorded_of}
 use Rattle.club_core.specs.Answer.{events_of, pairing_of}
 use Rattle.club_core.specs.Imports.{imported}
 use Rattle.club_core.specs.State.{place, terms_at}
-use Rattle.club_core.proofs.Proved.{imported-result}
+use Rattle.club_laws.proofs.Proved.{imported-result}
 use Rattle.club_rows.specs.Replay.{terms_given}
 use Rattle.import_rows.specs.NewGames.{AreNewRows}
 use Rattle.club_changes.specs.Steps.{score_list}

@@ -20,14 +20,14 @@ use Rattle.club_core.specs.Imports.{Import, Imported, imported, is_record_of, re
 use Rattle.club_core.specs.Imports.{import_tests, import_refusal, import_between, import_found}
 use Rattle.club_core.specs.State.{AnyGame, draughts, shogi, State, has_key, is_key, pairing_of, game_under, any_under}
 use Rattle.club_core.specs.State.{at_found, draughts_in, shogi_in, with_imported, import_looked_up, import_as}
-use Rattle.club_core.proofs.Lists.{bytes_eq-same, at-last}
-use Rattle.club_core.proofs.Legals.{AreRules, none-holds}
-use Rattle.club_core.proofs.Accepts.{unless-accepted, accepted-same}
-use Rattle.club_core.proofs.Later.{IsLater}
-use Rattle.club_core.proofs.Kept.{IsOver, KeepsOver}
-use Rattle.club_core.proofs.ImportedGames.{imported-result, record-of-itself}
-use Rattle.club_core.proofs.Repeats.{and-true, find-later, map-accepted, officer-accepted, added-found, keyed-later}
-use Rattle.club_core.proofs.Repeats.{RepeatsImport}
+use Rattle.club_laws.proofs.Lists.{bytes_eq-same, at-last}
+use Rattle.club_core.proofs.Proved.{AreRules, none-holds}
+use Rattle.club_laws.proofs.Accepts.{unless-accepted, accepted-same}
+use Rattle.club_laws.proofs.Later.{IsLater}
+use Rattle.club_laws.proofs.Kept.{IsOver, KeepsOver}
+use Rattle.club_laws.proofs.ImportedGames.{imported-result, record-of-itself}
+use Rattle.club_laws.proofs.Repeats.{and-true, find-later, map-accepted, officer-accepted, added-found, keyed-later}
+use Rattle.club_laws.proofs.Repeats.{RepeatsImport}
 
 -- an import that was accepted found its event and its members, read its record, and found no game under its key
 record WasImported {M : Type 0} (event first second : Option ℕ) (under_key : Option KeyedGame) (games : ℕ)

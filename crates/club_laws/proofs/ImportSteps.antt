@@ -23,11 +23,11 @@ use Rattle.club_core.specs.State.{AnyGame, draughts, shogi, State, state_after, 
 use Rattle.club_core.specs.State.{draughts_in, shogi_in, with_imported, import_as}
 use Rattle.club_core.specs.Outcome.{map_outcome, by_officer}
 use Rattle.club_core.specs.LegalState.{IsGameOf, IsLegalIn, IsLegalState}
-use Rattle.club_core.proofs.Legals.{AreRules, none-holds}
-use Rattle.club_core.proofs.ImportedGames.{each-at, imported-legal, not-timed}
-use Rattle.club_core.proofs.AddedSteps.{kept-unless, three-true, not-false, not-true, false-true, nat_le-false}
-use Rattle.club_core.proofs.AddedSteps.{fresh-key, found-some, game-added}
-use Rattle.club_core.proofs.LegalSteps.{KeepsByImport}
+use Rattle.club_core.proofs.Proved.{AreRules, none-holds}
+use Rattle.club_laws.proofs.ImportedGames.{each-at, imported-legal, not-timed}
+use Rattle.club_laws.proofs.AddedSteps.{kept-unless, three-true, not-false, not-true, false-true, nat_le-false}
+use Rattle.club_laws.proofs.AddedSteps.{fresh-key, found-some, game-added}
+use Rattle.club_laws.proofs.LegalSteps.{KeepsByImport}
 
 -- the event that is found by a name is of the kind that the name is of
 pub kind-found : (name : List ℕ) (es : List Event) (id : ℕ) → find_id (has_event_name name) es ≡ Some id → (e : Event)

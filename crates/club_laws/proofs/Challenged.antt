@@ -13,9 +13,9 @@ use Rattle.club_core.specs.Challenges.{is_open, standing_as, repeat_of_opening, 
 use Rattle.club_core.specs.Challenges.{opening_found, repeat_of_withdrawal, withdrawal_tests, withdrawal_refusal}
 use Rattle.club_core.specs.Challenges.{withdrawal_step, repeat_of_answer, answer_tests, answer_refusal, answers}
 use Rattle.club_core.specs.Challenges.{answer_step}
-use Rattle.club_core.proofs.Lists.{both-true}
-use Rattle.club_core.proofs.Legals.{none-holds, not-some}
-use Rattle.club_core.proofs.Accepts.{unless-accepted, accepted-same, if-accepted}
+use Rattle.club_laws.proofs.Lists.{both-true}
+use Rattle.club_core.proofs.Proved.{none-holds, not-some}
+use Rattle.club_laws.proofs.Accepts.{unless-accepted, accepted-same, if-accepted}
 
 -- a closed challenge stays as it is, and of an open one all but how it stands
 pub record IsLaterChallenge (c new : Challenge) : Type 0 where

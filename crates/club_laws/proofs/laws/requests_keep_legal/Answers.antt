@@ -1,8 +1,8 @@
 use Rattle.club_core.specs.ClubRules.{both}
-use Rattle.club_core.proofs.Legals.{are_rules}
-use Rattle.club_core.proofs.ImportSteps.{import-kept}
-use Rattle.club_core.proofs.LegalSteps.{next-legal}
-use Rattle.club_core.proofs.laws.requests_keep_legal.Goals as goal
+use Rattle.club_core.proofs.Proved.{are_rules}
+use Rattle.club_laws.proofs.ImportSteps.{import-kept}
+use Rattle.club_laws.proofs.LegalSteps.{next-legal}
+use Rattle.club_laws.proofs.laws.requests_keep_legal.Goals as goal
 
 pub returns : goal.returns
 returns g c =

@@ -1,8 +1,8 @@
 use Rattle.club_core.specs.ClubRules.{both}
-use Rattle.club_core.proofs.Legals.{are_rules}
-use Rattle.club_core.proofs.ImportRepeats.{import-again}
-use Rattle.club_core.proofs.Repeats.{answers-again}
-use Rattle.club_core.proofs.laws.repeats_answer_again.Goals as goal
+use Rattle.club_core.proofs.Proved.{are_rules}
+use Rattle.club_laws.proofs.ImportRepeats.{import-again}
+use Rattle.club_laws.proofs.Repeats.{answers-again}
+use Rattle.club_laws.proofs.laws.repeats_answer_again.Goals as goal
 
 pub returns : goal.returns
 returns g c =

@@ -50,19 +50,18 @@ use Rattle.club_core.specs.State.{game_under, seated_as, kind_at, caller_of, cal
 use Rattle.club_core.specs.State.{with_events, with_new_game, with_imported, with_game, with_challenge, challenge_game}
 use Rattle.club_core.specs.State.{with_answer, import_as, step_game, step_command, step_by, step, next, fold}
 use Rattle.club_core.specs.LegalState.{IsGameOf, IsLegalIn, IsLegalState}
-use Rattle.club_core.specs.Laws.{StillRepeats, StillRepeatsOn}
-use Rattle.club_core.proofs.Lists.{bytes_eq-same, find_id-append, find_id-new, find_id-pointwise, place-append}
-use Rattle.club_core.proofs.Lists.{get-append, put-at_same, at-last}
-use Rattle.club_core.proofs.Legals.{AreRules, none-holds}
-use Rattle.club_core.proofs.Played.{turn-of-game, made-played, take-before, take-whole}
-use Rattle.club_core.proofs.AddedSteps.{no-game-under, not-false}
-use Rattle.club_core.proofs.LegalSteps.{in-place}
-use Rattle.club_core.proofs.Kept.{KeepsOver, fold-over}
-use Rattle.club_core.proofs.Accepts.{unless-accepted, accepted-same, if-accepted}
-use Rattle.club_core.proofs.PutChallenges.{under-key, key-under, under-same, under-found, under-put, found-by}
-use Rattle.club_core.proofs.Challenged.{IsLaterChallenge, WasOpened, was-opened, was-withdrawn, was-answered}
-use Rattle.club_core.proofs.Later.{Begins, IsLater, IsLaterAny, IsLaterGame, later-trans, next-later, fold-later}
-use Rattle.club_core.proofs.Later.{is-next, offer-accepts, accept-accepts, resign-accepts, claim-accepts, caller-later}
+use Rattle.club_laws.specs.Laws.{StillRepeats, StillRepeatsOn}
+use Rattle.club_laws.proofs.Lists.{bytes_eq-same, find_id-append, find_id-new, find_id-pointwise, place-append}
+use Rattle.club_laws.proofs.Lists.{get-append, put-at_same, at-last}
+use Rattle.club_core.proofs.Proved.{AreRules, none-holds, turn-of-game, made-played, take-before, take-whole}
+use Rattle.club_laws.proofs.AddedSteps.{no-game-under, not-false}
+use Rattle.club_laws.proofs.LegalSteps.{in-place}
+use Rattle.club_laws.proofs.Kept.{KeepsOver, fold-over}
+use Rattle.club_laws.proofs.Accepts.{unless-accepted, accepted-same, if-accepted}
+use Rattle.club_laws.proofs.PutChallenges.{under-key, key-under, under-same, under-found, under-put, found-by}
+use Rattle.club_laws.proofs.Challenged.{IsLaterChallenge, WasOpened, was-opened, was-withdrawn, was-answered}
+use Rattle.club_laws.proofs.Later.{Begins, IsLater, IsLaterAny, IsLaterGame, later-trans, next-later, fold-later}
+use Rattle.club_laws.proofs.Later.{is-next, offer-accepts, accept-accepts, resign-accepts, claim-accepts, caller-later}
 
 none-found : (f : ℕ → Reply) (o : Option ℕ) → option_map f o ≡ None → o ≡ None
 none-found f None is = refl

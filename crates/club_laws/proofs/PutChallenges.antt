@@ -6,7 +6,7 @@ use Rattle.std.proofs.lemmas.Bool.{eqb-true, eq-eqb}
 use Rattle.club_core.specs.declared.challenges.Challenge.{Challenge}
 use Rattle.club_core.specs.Challenges.{goes_by, is_under, challenge_under, challenge_by, put_challenge}
 use Rattle.club_core.specs.LegalState.{Each, AreApart}
-use Rattle.club_core.proofs.Lists.{both-true}
+use Rattle.club_laws.proofs.Lists.{both-true}
 
 pub under-key : (member number : ℕ) (c : Challenge) → is_under member number c ≡ true → (c.member ≡ member)
     × (c.number ≡ number)

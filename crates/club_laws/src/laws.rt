@@ -6,9 +6,9 @@ ghost use Rattle.club_core.specs.ClubRules.{both};
 ghost use Rattle.club_core.specs.Game.{Game};
 ghost use Rattle.club_core.specs.Legal.{IsLegalGame};
 ghost use Rattle.club_core.specs.View.{Shows, ShowsPly, IsSound, terms_of};
-ghost use Rattle.club_core.specs.Laws.{FoldsAccepted, LeavesState, NeverFalls, KeepsLegal, AnswersAgain};
+ghost use Rattle.club_laws.specs.Laws.{FoldsAccepted, LeavesState, NeverFalls, KeepsLegal, AnswersAgain};
 
-use crate::rows::GameView;
+use club_core::GameView;
 use club_rules::{Records, Rules};
 
 /// The requests that were accepted lead alone to the same state.

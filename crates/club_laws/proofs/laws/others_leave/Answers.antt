@@ -1,7 +1,7 @@
 use Rattle.club_core.specs.ClubRules.{both}
 use Rattle.club_core.specs.State.{step}
-use Rattle.club_core.proofs.Folds.{unmoved}
-use Rattle.club_core.proofs.laws.others_leave.Goals as goal
+use Rattle.club_laws.proofs.Folds.{unmoved}
+use Rattle.club_laws.proofs.laws.others_leave.Goals as goal
 
 pub returns : goal.returns
 returns g c =

@@ -26,10 +26,10 @@ use Rattle.club_core.specs.State.{state_after, place, terms_at, game_under, any_
 use Rattle.club_core.specs.State.{with_members, with_events, with_new_game, with_imported, with_game, with_challenge}
 use Rattle.club_core.specs.State.{challenge_game, with_answer, swept_any, with_swept, import_looked_up, import_as}
 use Rattle.club_core.specs.State.{step_game, step_command, step_by, next, fold}
-use Rattle.club_core.proofs.Lists.{get-append, set-got, map-at}
-use Rattle.club_core.proofs.Legals.{none-holds}
-use Rattle.club_core.proofs.Accepts.{unless-accepted, if-accepted, outcome-later, officer-later}
-use Rattle.club_core.proofs.Later.{offer-accepts, accept-accepts, resign-accepts, claim-accepts}
+use Rattle.club_laws.proofs.Lists.{get-append, set-got, map-at}
+use Rattle.club_core.proofs.Proved.{none-holds}
+use Rattle.club_laws.proofs.Accepts.{unless-accepted, if-accepted, outcome-later, officer-later}
+use Rattle.club_laws.proofs.Later.{offer-accepts, accept-accepts, resign-accepts, claim-accepts}
 use Rattle.club_rules.specs.declared.names.GameKind.{GameKind}
 use Rattle.club_rules.specs.declared.names.GameKind.TheVariants.{Draughts, Shogi}
 

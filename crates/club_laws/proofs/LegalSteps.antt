@@ -52,19 +52,19 @@ use Rattle.club_core.specs.State.{challenge_game, with_answer, terms_at, swept_a
 use Rattle.club_core.specs.State.{step_command, step_by, next}
 use Rattle.club_core.specs.LegalState.{Each, IsGameOf, IsLegalIn, IsLegalChallenge}
 use Rattle.club_core.specs.LegalState.{IsLegalState}
-use Rattle.club_core.proofs.Played.{outside-alone, score-none}
-use Rattle.club_core.proofs.Lists.{place-append, each-append}
-use Rattle.club_core.proofs.Lists.{at-last, find_id-found, map-got, map-at}
-use Rattle.club_core.proofs.Legals.{AreRules, NoneHolds, none-holds, not-some, allowed-running, allowed-in_time}
-use Rattle.club_core.proofs.Legals.{checked-legal, legal-played, running-alone, legal-offered, legal-ended}
-use Rattle.club_core.proofs.Accepts.{outcome-later, accepted-same}
-use Rattle.club_core.proofs.PutChallenges.{under-each, found-by}
-use Rattle.club_core.proofs.Challenged.{was-opened, was-withdrawn, was-answered}
-use Rattle.club_core.proofs.Later.{is-next}
-use Rattle.club_core.proofs.AddedSteps.{kept-unless, kept-if, kept-officer, not-false, some-same, nat_le-false}
-use Rattle.club_core.proofs.AddedSteps.{later-game, challenge-stays, restanding, since-within, members-added}
-use Rattle.club_core.proofs.AddedSteps.{events-added, any-seated, any-added, challenge-put, found-some, seat-kept}
-use Rattle.club_core.proofs.AddedSteps.{game-changed}
+use Rattle.club_core.proofs.Proved.{outside-alone, score-none, AreRules, NoneHolds, none-holds, not-some}
+use Rattle.club_core.proofs.Proved.{allowed-running, allowed-in_time, checked-legal, legal-played, running-alone}
+use Rattle.club_core.proofs.Proved.{legal-offered, legal-ended}
+use Rattle.club_laws.proofs.Lists.{place-append, each-append}
+use Rattle.club_laws.proofs.Lists.{at-last, find_id-found, map-got, map-at}
+use Rattle.club_laws.proofs.Accepts.{outcome-later, accepted-same}
+use Rattle.club_laws.proofs.PutChallenges.{under-each, found-by}
+use Rattle.club_laws.proofs.Challenged.{was-opened, was-withdrawn, was-answered}
+use Rattle.club_laws.proofs.Later.{is-next}
+use Rattle.club_laws.proofs.AddedSteps.{kept-unless, kept-if, kept-officer, not-false, some-same, nat_le-false}
+use Rattle.club_laws.proofs.AddedSteps.{later-game, challenge-stays, restanding, since-within, members-added}
+use Rattle.club_laws.proofs.AddedSteps.{events-added, any-seated, any-added, challenge-put, found-some, seat-kept}
+use Rattle.club_laws.proofs.AddedSteps.{game-changed}
 
 some-offer : (offer : Option Offer) (side : Side) (ply : ℕ) → has_offer offer side ply ≡ true → IsSome offer
 some-offer None side ply is = cc

@@ -35,12 +35,12 @@ use Rattle.club_core.specs.State.{with_members, with_events, with_new_game, with
 use Rattle.club_core.specs.LegalState.{Each, IsLegalMember, IsLegalEvent, IsGameOf, IsLegalIn, IsLegalChallenge}
 use Rattle.club_core.specs.LegalState.{IsLegalState}
 use Rattle.club_rules.proofs.Proved.{IsPlayedLine-none}
-use Rattle.club_core.proofs.ImportedGames.{spend-since}
-use Rattle.club_core.proofs.Lists.{both-true, bytes_eq-same, place-append, is_some-append, each-append, each-set}
-use Rattle.club_core.proofs.Lists.{set-got, find_id-found, find_id-none, list_any-false}
-use Rattle.club_core.proofs.Lists.{are_apart-append, are_apart_if_any-append, are_apart_if_any-set}
-use Rattle.club_core.proofs.Legals.{none-holds, not-some}
-use Rattle.club_core.proofs.PutChallenges.{each-put, apart-put}
+use Rattle.club_laws.proofs.ImportedGames.{spend-since}
+use Rattle.club_laws.proofs.Lists.{both-true, bytes_eq-same, place-append, is_some-append, each-append, each-set}
+use Rattle.club_laws.proofs.Lists.{set-got, find_id-found, find_id-none, list_any-false}
+use Rattle.club_laws.proofs.Lists.{are_apart-append, are_apart_if_any-append, are_apart_if_any-set}
+use Rattle.club_core.proofs.Proved.{none-holds, not-some}
+use Rattle.club_laws.proofs.PutChallenges.{each-put, apart-put}
 
 -- an outcome that is not accepted leaves a legal state, and an accepted one is legal where nothing is refused
 pub kept-unless : {S T : Type 0} (IsSo : S → Type 0) (s : S) (f : T → S) (reply : Option Reply)

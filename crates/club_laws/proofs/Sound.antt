@@ -13,9 +13,8 @@ use Rattle.club_core.specs.Legal.{IsLegalGame}
 use Rattle.club_core.specs.Step.{move_at}
 use Rattle.club_core.specs.View.{IsAsked, Shows, ShowsPly, IsSound, terms_of}
 use Rattle.club_rules.specs.Laws.{NumbersAreFew}
-use Rattle.club_core.proofs.Played.{asked-legal}
-use Rattle.club_core.proofs.Room.{le-true, budget-at-most, left-at-most}
-use Rattle.club_core.proofs.Tracked.{line-grows}
+use Rattle.club_core.proofs.Proved.{asked-legal, line-grows}
+use Rattle.club_laws.proofs.Room.{le-true, budget-at-most, left-at-most}
 
 asked-sound : {R P M E T : Type 0} (laws : GameRules P M E T) (terms : Terms) (game : Game M)
     → IsLegalGame laws terms game → (ply : ℕ) (o : Option (Asked R P M E T))

@@ -18,7 +18,7 @@ use Rattle.club_core.specs.Seats.{Pairing}
 use Rattle.club_core.specs.Game.{Entry, Clocks, spend, end_with, score_with, result_of}
 use Rattle.club_core.specs.Imports.{same_score, recorded_end, has_score, same_moves, is_record_of, imported}
 use Rattle.club_core.specs.Legal.{IsTimely, IsLegalGame}
-use Rattle.club_core.proofs.Legals.{AreRules}
+use Rattle.club_core.proofs.Proved.{AreRules}
 
 -- the moves of a record, all at one moment
 abbrev pub entries_at : {M : Type 0} → ℕ → List M → List (Entry M)

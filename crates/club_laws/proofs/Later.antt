@@ -46,13 +46,12 @@ use Rattle.club_core.specs.State.{state_after, place, terms_at, game_under, any_
 use Rattle.club_core.specs.State.{with_members, with_events, with_new_game, with_imported, with_game, with_challenge}
 use Rattle.club_core.specs.State.{challenge_game, with_answer, swept_any, with_swept, import_looked_up, import_as}
 use Rattle.club_core.specs.State.{step_game, step_command, step_by, next, fold}
-use Rattle.club_core.proofs.Lists.{get-append, set-got, map-at}
-use Rattle.club_core.proofs.Legals.{NoneHolds, none-holds, not-some}
-use Rattle.club_core.proofs.Accepts.{outcome-later, officer-later, unless-accepted, accepted-same, if-accepted}
-use Rattle.club_core.proofs.PutChallenges.{under-key, under-same, under-found, under-put, found-by}
-use Rattle.club_core.proofs.Challenged.{IsLaterChallenge, later-challenge-refl, later-challenge-trans, closed-later}
-use Rattle.club_core.proofs.Challenged.{was-opened, was-withdrawn, was-answered}
-use Rattle.club_core.proofs.Played.{outside-alone, score-none}
+use Rattle.club_laws.proofs.Lists.{get-append, set-got, map-at}
+use Rattle.club_core.proofs.Proved.{NoneHolds, none-holds, not-some, outside-alone, score-none}
+use Rattle.club_laws.proofs.Accepts.{outcome-later, officer-later, unless-accepted, accepted-same, if-accepted}
+use Rattle.club_laws.proofs.PutChallenges.{under-key, under-same, under-found, under-put, found-by}
+use Rattle.club_laws.proofs.Challenged.{IsLaterChallenge, later-challenge-refl, later-challenge-trans, closed-later}
+use Rattle.club_laws.proofs.Challenged.{was-opened, was-withdrawn, was-answered}
 
 -- one list begins with the other
 abbrev pub Begins : {A : Type 0} → List A → List A → Type 0

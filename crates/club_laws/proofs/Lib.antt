@@ -1,0 +1,16 @@
+pub mod Accepts
+pub mod AddedSteps
+pub mod Challenged
+pub mod Folds
+pub mod ImportRepeats
+pub mod ImportSteps
+pub mod ImportedGames
+pub mod Kept
+pub mod Later
+pub mod LegalSteps
+pub mod Lists
+pub mod Proved
+pub mod PutChallenges
+pub mod Repeats
+pub mod Room
+pub mod Sound
