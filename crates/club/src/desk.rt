@@ -6,14 +6,15 @@ ghost use Rattle.sqlite_wal.specs.Recovery.{Image};
 ghost use Rattle.sqlite_store.specs.FileStore.{state as store_state, view as store_view};
 ghost use Rattle.sqlite_trees.specs.View.{IsClean};
 ghost use Rattle.sessions.specs.Finds.{AreReachable};
-ghost use Rattle.club_words.specs.declared.report.Report.TheVariants.{InUse, NotOpened};
+ghost use Rattle.club_orders.specs.declared.report.Report.TheVariants.{InUse, NotOpened};
 ghost use Rattle.club.specs.ReachableOn.{AreReachableOn};
 
 use crate::order::unopened;
 use crate::port::Callers;
 use crate::{PAUSE_MILLISECONDS, TURNS};
 use club_desk::{Visits, serve_closed, serve_stretch};
-use club_words::{DONE, Report, Service};
+use club_orders::{DONE, Report};
+use club_words::Service;
 use http_desk::ClubFault;
 use sessions::close;
 use sqlite::{Connection, FileFrom, FileStore};

@@ -7,9 +7,8 @@ mod order;
 mod port;
 mod times;
 
-use club_words::{
-    BAD_WORDS, BadWords, DONE, Order, Report, Service, Task, Words, print, read_words,
-};
+use club_orders::{BAD_WORDS, DONE, Report, print};
+use club_words::{BadWords, Order, Service, Task, Words, read_words};
 use desk::serve;
 use order::obey;
 use port::Callers;

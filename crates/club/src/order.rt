@@ -12,12 +12,13 @@ ghost use Rattle.club_rows.specs.Club.{ClubState, IsClub, tables};
 ghost use Rattle.club_changes.specs.Steps.{club_step};
 ghost use Rattle.sessions.specs.Finds.{IsFoundIn, AreReachable, AreVoid};
 ghost use Rattle.club_words.specs.declared.words.Task.TheVariants.{Init};
-ghost use Rattle.club_words.specs.declared.report.Report.TheVariants.{InUse, NotOpened};
-ghost use Rattle.club_words.specs.Report.{given, Answers, IfRequest, IfLegal, IfTable, IfExport, IfVerify};
-ghost use Rattle.club_words.specs.Report.{ListsMoves, ListsTable, WritesRecord, IsPassed, IsBegun, task_sessions};
+ghost use Rattle.club_orders.specs.declared.report.Report.TheVariants.{InUse, NotOpened};
+ghost use Rattle.club_orders.specs.Report.{given, Answers, IfRequest, IfLegal, IfTable, IfExport, IfVerify};
+ghost use Rattle.club_orders.specs.Report.{ListsMoves, ListsTable, WritesRecord, IsPassed, IsBegun, task_sessions};
 
 use clocks::Moment;
-use club_words::{Order, Report, act};
+use club_orders::{Report, act};
+use club_words::Order;
 use sessions::close;
 use sqlite::{Connection, Error, ErrorCode, FileFrom, FileStore};
 use sqlite_disk::Start;

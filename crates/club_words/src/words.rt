@@ -1,7 +1,7 @@
 //! The program's words, read as one order.
 
 ghost use Rattle.std.specs.Prelude.{◌≡◌};
-ghost use Rattle.club_words.specs.Report.{with_text, task_with};
+ghost use Rattle.club_words.specs.Imports.{with_text, task_with};
 
 use clap::error::ErrorKind;
 use clap::{Arg, ArgAction, ArgMatches, value_parser};

@@ -1,4 +1,5 @@
-use club_words::{BadWords, DONE, Words, act, print, read_words};
+use club_orders::{DONE, act, print};
+use club_words::{BadWords, Words, read_words};
 use sqlite::{Connection, MemStore};
 use std::alloc::Global;
 use std::collections::VecDeque;

@@ -3,10 +3,10 @@ use Rattle.sqlite.specs.State.{HasCleanDisk}
 use Rattle.sqlite.specs.Held.{state}
 use Rattle.club_rows.specs.Club.{tables}
 use Rattle.store.specs.Histories.{IsHistory}
-use Rattle.club_words.specs.declared.report.Report.TheVariants.{Answered}
-use Rattle.club_words.specs.Report.{given, request_sessions}
-use Rattle.club_words.proofs.SessionLemmas.{led_still, stands_still}
-use Rattle.club_words.proofs.doing.request.Goals as goal
+use Rattle.club_orders.specs.declared.report.Report.TheVariants.{Answered}
+use Rattle.club_orders.specs.Report.{given, request_sessions}
+use Rattle.club_orders.proofs.SessionLemmas.{led_still, stands_still}
+use Rattle.club_orders.proofs.doing.request.Goals as goal
 
 pub returns-in-Err-clause-answer : goal.returns-in-Err-clause-answer
 returns-in-Err-clause-answer g c clean opens live s is_club left =

@@ -4,8 +4,8 @@ use Rattle.sqlite.specs.Held.{state}
 use Rattle.store_tables.specs.Tables.{club_schema}
 use Rattle.club_rows.specs.Club.{tables}
 use Rattle.store.specs.Histories.{IsHistory}
-use Rattle.club_words.proofs.SessionLemmas.{stands_still}
-use Rattle.club_words.proofs.doing.table.Goals as goal
+use Rattle.club_orders.proofs.SessionLemmas.{stands_still}
+use Rattle.club_orders.proofs.doing.table.Goals as goal
 
 pub returns-in-Err-clause-table : goal.returns-in-Err-clause-table
 returns-in-Err-clause-table g c clean opens live s is_club left =

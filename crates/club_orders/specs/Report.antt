@@ -26,10 +26,10 @@ use Rattle.club_changes.specs.Steps.{request}
 use Rattle.club_reads.specs.CrossTable.{AreTableRows}
 use Rattle.club_reads.specs.Exported.{IsExported, IsWrittenSome}
 use Rattle.club_changes.specs.Stored.{AreLegalRows}
-use Rattle.club_words.specs.declared.report.Report.{Report}
-use Rattle.club_words.specs.declared.report.Report.TheVariants.{Ready, Sound, Answered, Listed, Exported, Unwritten}
-use Rattle.club_words.specs.declared.report.Report.TheVariants.{Unopened, Stopped, InUse, NotOpened, NoMoment, Unread}
-use Rattle.club_words.specs.declared.report.Report.TheVariants.{Listening, Unbound, NoMemory}
+use Rattle.club_orders.specs.declared.report.Report.{Report}
+use Rattle.club_orders.specs.declared.report.Report.TheVariants.{Ready, Sound, Answered, Listed, Exported, Unwritten}
+use Rattle.club_orders.specs.declared.report.Report.TheVariants.{Unopened, Stopped, InUse, NotOpened, NoMoment, Unread}
+use Rattle.club_orders.specs.declared.report.Report.TheVariants.{Listening, Unbound, NoMemory}
 use Rattle.club_words.specs.declared.words.Task.{Task}
 use Rattle.club_words.specs.declared.words.Task.TheVariants as task
 
@@ -78,28 +78,6 @@ report_status Unread = 3
 report_status (Listening port) = 0
 report_status Unbound = 3
 report_status NoMemory = 3
-
--- ---- the text of an import
-
--- the command with that text, if it is an import
-abbrev pub with_text : Vec ℕ Global → Command → Command
-with_text text (command.AddMember c) = command.AddMember c
-with_text text (command.AddEvent c) = command.AddEvent c
-with_text text (command.Seat c) = command.Seat c
-with_text text (command.Import c) = command.Import (record c { text = text })
-with_text text (command.OnGame c) = command.OnGame c
-with_text text command.Sweep = command.Sweep
-with_text text (command.Challenge c) = command.Challenge c
-with_text text (command.Withdraw c) = command.Withdraw c
-with_text text (command.Answer c) = command.Answer c
-
-abbrev pub task_with : Vec ℕ Global → Task → Task
-task_with text task.Init = task.Init
-task_with text (task.Request command) = task.Request (with_text text command)
-task_with text (task.Legal game) = task.Legal game
-task_with text (task.Table name) = task.Table name
-task_with text (task.Export game) = task.Export game
-task_with text task.Verify = task.Verify
 
 -- ---- what it adds to the history of a club
 

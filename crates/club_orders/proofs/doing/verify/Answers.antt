@@ -4,8 +4,8 @@ use Rattle.sqlite.specs.Held.{state}
 use Rattle.club_rows.specs.Club.{tables}
 use Rattle.store_tables.specs.Club.{IsExactly}
 use Rattle.store.specs.Histories.{IsHistory}
-use Rattle.club_words.proofs.SessionLemmas.{stands_still}
-use Rattle.club_words.proofs.doing.verify.Goals as goal
+use Rattle.club_orders.proofs.SessionLemmas.{stands_still}
+use Rattle.club_orders.proofs.doing.verify.Goals as goal
 
 pub returns-in-Ok-clause-sound : goal.returns-in-Ok-clause-sound
 returns-in-Ok-clause-sound g c clean opened is =

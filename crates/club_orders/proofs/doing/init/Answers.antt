@@ -2,7 +2,7 @@ use Rattle.std.proofs.Common.{[], sym, subst}
 use Rattle.sqlite.specs.State.{HasCleanDisk}
 use Rattle.store.specs.Histories.{IsHistory}
 use Rattle.sqlite.specs.Held.{state}
-use Rattle.club_words.proofs.doing.init.Goals as goal
+use Rattle.club_orders.proofs.doing.init.Goals as goal
 
 pub returns-in-Ok-clause-begun : goal.returns-in-Ok-clause-begun
 returns-in-Ok-clause-begun g c clean opens live empty db left =

@@ -2,7 +2,7 @@
 
 ghost use Rattle.std.specs.Prelude.{◌≡◌, ◌≢◌, ◌⊎◌, ◌++◌, ◌∷◌, [], OnOk, map, string_bytes};
 ghost use Rattle.std.specs.Io.KnownBytes.{Appends};
-ghost use Rattle.club_words.specs.Report.{report_status, report_text, lines};
+ghost use Rattle.club_orders.specs.Report.{report_status, report_text, lines};
 
 use club_core::Outcome;
 use std::alloc::AllocError;

@@ -3,9 +3,9 @@ use Rattle.std.proofs.lemmas.Result.{IfOk-weaker, IfErr-weaker}
 use Rattle.sqlite.specs.State.{HasCleanDisk}
 use Rattle.sqlite.specs.Held.{state}
 use Rattle.club_rows.specs.Club.{tables}
-use Rattle.club_words.specs.Report.{WritesRecord}
-use Rattle.club_words.proofs.RecordLemmas.{writes_record}
-use Rattle.club_words.proofs.doing.export.Goals as goal
+use Rattle.club_orders.specs.Report.{WritesRecord}
+use Rattle.club_orders.proofs.RecordLemmas.{writes_record}
+use Rattle.club_orders.proofs.doing.export.Goals as goal
 
 pub returns-in-Err-clause-record_of : goal.returns-in-Err-clause-record_of
 returns-in-Err-clause-record_of g c clean opens live s is_club left =

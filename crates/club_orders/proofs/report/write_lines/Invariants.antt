@@ -1,6 +1,6 @@
 use Rattle.std.specs.Prelude.{◌≡◌, ◌++◌, map, drop, string_bytes}
-use Rattle.club_words.specs.Report.{lines}
-use Rattle.club_words.proofs.report.write_lines.Given as goal
+use Rattle.club_orders.specs.Report.{lines}
+use Rattle.club_orders.proofs.report.write_lines.Given as goal
 
 abbrev pub invariant-loop-line : goal.invariant-loop-line
 invariant-loop-line l =

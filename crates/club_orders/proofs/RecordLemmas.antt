@@ -6,7 +6,7 @@ use Rattle.store.specs.declared.fault.ExportFault.{ExportFault}
 use Rattle.store.specs.declared.fault.ExportFault.TheVariants as export_fault
 use Rattle.store.specs.declared.fault.StoreFault.TheVariants as store_fault
 use Rattle.club_reads.specs.Exported.{IsExported, IsWrittenSome}
-use Rattle.club_words.specs.Report.{WritesRecord, export_report}
+use Rattle.club_orders.specs.Report.{WritesRecord, export_report}
 
 -- a club that was open tells no fault of an earlier call
 not_reopen : (export_fault.Club store_fault.Reopen ≡ export_fault.Output)
