@@ -14,11 +14,7 @@ mod first_path;
 #[cfg(test)]
 mod histories;
 #[cfg(test)]
-mod opening;
-#[cfg(test)]
 mod orders;
-#[cfg(test)]
-mod parsed_rows;
 #[cfg(test)]
 mod records;
 #[cfg(test)]
