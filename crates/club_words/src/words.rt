@@ -274,22 +274,13 @@ fn serve_words<'a>(alloc: Global) -> Result<clap::Command<'a>, AllocError> {
         ))
 }
 
-// The program's words, as the parser takes them.
-fn club_words<'a>(alloc: Global) -> Result<clap::Command<'a>, AllocError> {
+// The program with the moment and the file that may come before its words.
+fn program<'a>(alloc: Global) -> Result<clap::Command<'a>, AllocError> {
     let now = Arg::new(alloc, "SECONDS")
         .long("now")
         .help("The moment that counts, in Unix seconds, in place of the machine's clock")
         .action(ArgAction::Set)
         .value_parser(value_parser!(u64).range(0..=253_402_300_799));
-    let init = clap::Command::new(alloc, "init").about(
-        "Makes the tables of a club in an empty file",
-    );
-    let sweep = clap::Command::new(alloc, "sweep").about(
-        "Ends by time every running game whose side to move has used more seconds than it has left",
-    );
-    let verify = clap::Command::new(alloc, "verify").about(
-        "Reads and replays the whole file, and says that it is sound, or which table is damaged",
-    );
     clap::Command::new(alloc, "club")
         .about(
             "Keeps a club's games of draughts and shogi in one file.\nStatus: 0 done, 1 refused, 2 bad words (and help), 3 a fault",
@@ -300,24 +291,64 @@ fn club_words<'a>(alloc: Global) -> Result<clap::Command<'a>, AllocError> {
             alloc,
             "FILE",
             "The club's file; beside it may lie FILE-wal, which belongs to it",
-        ))?
+        ))
+}
+
+// With the words that make a club and bring in what it is to have.
+fn with_entries<'a>(
+    alloc: Global,
+    program: clap::Command<'a>,
+) -> Result<clap::Command<'a>, AllocError> {
+    let init = clap::Command::new(alloc, "init").about(
+        "Makes the tables of a club in an empty file",
+    );
+    let import_pdn = import_words(
+        alloc,
+        "import-pdn",
+        "Adds an ended game of an event of draughts from a PDN record, under a key",
+    )?;
+    program
         .subcommand(init)?
         .subcommand(member_words(alloc)?)?
         .subcommand(event_words(alloc)?)?
         .subcommand(seat_words(alloc)?)?
-        .subcommand(import_words(
-            alloc,
-            "import-pdn",
-            "Adds an ended game of an event of draughts from a PDN record, under a key",
-        )?)?
-        .subcommand(import_csa_words(alloc)?)?
+        .subcommand(import_pdn)?
+        .subcommand(import_csa_words(alloc)?)
+}
+
+// With the words on games that are played, and those that end games by time.
+fn with_games<'a>(
+    alloc: Global,
+    program: clap::Command<'a>,
+) -> Result<clap::Command<'a>, AllocError> {
+    let sweep = clap::Command::new(alloc, "sweep").about(
+        "Ends by time every running game whose side to move has used more seconds than it has left",
+    );
+    program
         .subcommand(move_words(alloc)?)?
         .subcommand(sweep)?
         .subcommand(legal_words(alloc)?)?
-        .subcommand(export_words(alloc)?)?
+        .subcommand(export_words(alloc)?)
+}
+
+// With the words that show what the club has, and serve it.
+fn with_views<'a>(
+    alloc: Global,
+    program: clap::Command<'a>,
+) -> Result<clap::Command<'a>, AllocError> {
+    let verify = clap::Command::new(alloc, "verify").about(
+        "Reads and replays the whole file, and says that it is sound, or which table is damaged",
+    );
+    program
         .subcommand(table_words(alloc)?)?
         .subcommand(verify)?
         .subcommand(serve_words(alloc)?)
+}
+
+// The program's words, as the parser takes them and help shows them.
+fn club_words<'a>(alloc: Global) -> Result<clap::Command<'a>, AllocError> {
+    let program = with_entries(alloc, program(alloc)?)?;
+    with_views(alloc, with_games(alloc, program)?)
 }
 
 // A copy of a word that has to be there.
