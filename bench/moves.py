@@ -18,8 +18,8 @@ import time
 
 from opening import TOP, begin, club, multiply
 
-ABOVE = ("club", "club_words", "sessions", "trials", "rules_trials", "club_trials", "desk_trials", "http_head", "http_desk",
-         "club_desk", "perft")
+ABOVE = ("club", "club_orders", "club_words", "sessions", "trials", "opening_trials", "row_trials", "rules_trials",
+         "club_trials", "desk_trials", "http_head", "http_bodies", "http_desk", "club_desk", "perft")
 RUNS = 5
 MEASURED = 20
 

@@ -2,7 +2,8 @@
 
 use clocks::Moment;
 use club_desk::Exchange;
-use http_desk::{DeskFault, status_of};
+use http_bodies::status_of;
+use http_desk::DeskFault;
 use http_head::{Seen, read_request};
 use std::alloc::{AllocError, Global};
 use std::io::Write;

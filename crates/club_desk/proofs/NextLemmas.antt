@@ -12,8 +12,8 @@ use Rattle.http_desk.specs.Routes.{Asked, game_view, legal_moves, cross_table, o
 use Rattle.http_desk.specs.Routes.{asked_of}
 use Rattle.http_desk.specs.Desk.{Due, serve, serve_asked, serve_known, serve_page, serve_command, command_given}
 use Rattle.http_desk.specs.Desk.{state_behind}
-use Rattle.http_desk.specs.Bodies.{json_of, challenge_with, challenge_in, challenge_of, answer_with, answer_in}
-use Rattle.http_desk.specs.Bodies.{answer_of}
+use Rattle.http_bodies.specs.Bodies.{json_of, challenge_with, challenge_in, challenge_of, answer_with, answer_in}
+use Rattle.http_bodies.specs.Bodies.{answer_of}
 use Rattle.club_desk.specs.Served.{served}
 use Rattle.club_desk.specs.Turns.{IsMembers, IsTurn}
 

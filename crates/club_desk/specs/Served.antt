@@ -12,8 +12,8 @@ use Rattle.club_changes.specs.Steps.{club_step, club_next}
 use Rattle.club_changes.specs.Stored.{AreLegalRows}
 use Rattle.club_reads.specs.Viewed.{IsViewed}
 use Rattle.http_desk.specs.Served.{Club}
-use Rattle.http_desk.specs.Shown.{GameShown}
-use Rattle.http_desk.specs.ShownViews.{texts_view}
+use Rattle.http_bodies.specs.Shown.{GameShown}
+use Rattle.http_bodies.specs.ShownViews.{texts_view}
 
 -- the machine takes one who shows the key for a member
 abbrev pub has_key : ClubState → List ℕ → Bool

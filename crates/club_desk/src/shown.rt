@@ -2,10 +2,11 @@
 
 ghost use Rattle.std.specs.Prelude.{◌≡◌, IfErr, IfOk, string_bytes};
 ghost use Rattle.std.specs.Option.{option_map};
-ghost use Rattle.http_desk.specs.ShownViews.{found_view, game_view};
+ghost use Rattle.http_bodies.specs.ShownViews.{found_view, game_view};
 ghost use Rattle.club_desk.specs.Served.{named, shown_of};
 
-use http_desk::{ClubFault, GameShown};
+use http_bodies::GameShown;
+use http_desk::ClubFault;
 use squares::Side;
 use std::alloc::{AllocError, Global};
 use store::ViewedGame;

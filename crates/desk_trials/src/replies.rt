@@ -3,10 +3,8 @@ use club_core::{
     Answer, AnswerChallenge, Command, GameCommand, GameEnd, Moved, OnGame, OpenChallenge, Outcome,
     OutsideEnd, Refusal, Who, Withdraw,
 };
-use http_desk::{
-    Closed, ClubFault, Countdown, Deadline, DeskFault, GameShown, ServedClub, answer, serve_one,
-    status_of,
-};
+use http_bodies::{GameShown, status_of};
+use http_desk::{Closed, ClubFault, Countdown, Deadline, DeskFault, ServedClub, answer, serve_one};
 use squares::Score;
 use std::alloc::Global;
 use std::io;

@@ -1,3 +1,2 @@
 pub mod RouteLemmas
-pub mod BodyLemmas
 pub mod ServingLemmas

@@ -8,17 +8,17 @@ use Rattle.club_core.specs.Outcome.{Outcome, accepted, repeated, refused as decl
 use Rattle.club_core.specs.State.{Command, key_holder, withdraw_challenge, on_game as game_command}
 use Rattle.club_core.specs.Step as play
 use Rattle.http_head.specs.Request.{Request, Seen, unfinished, refused, whole, Sees, asks_head}
-use Rattle.http_desk.specs.declared.refusals.Method.{Method}
-use Rattle.http_desk.specs.declared.refusals.Method.TheVariants.{Get, Post}
-use Rattle.http_desk.specs.declared.refusals.Refusal.{Refusal}
-use Rattle.http_desk.specs.declared.refusals.Refusal.TheVariants.{Head, NoRoute, WrongMethod, BadBody, Club as OfClub}
+use Rattle.http_bodies.specs.declared.refusals.Method.{Method}
+use Rattle.http_bodies.specs.declared.refusals.Method.TheVariants.{Get, Post}
+use Rattle.http_bodies.specs.declared.refusals.Refusal.{Refusal}
+use Rattle.http_bodies.specs.declared.refusals.Refusal.TheVariants.{Head, NoRoute, WrongMethod, BadBody, Club as OfClub}
 use Rattle.http_desk.specs.declared.faults.ClubFault.{ClubFault}
 use Rattle.http_desk.specs.Faults.{club_fault_number, club_fault_name}
 use Rattle.http_desk.specs.Routes.{Turn, make_move, offer_draw, accept_draw, resign, claim_time, Asked, game_view}
 use Rattle.http_desk.specs.Routes.{legal_moves, cross_table, on_game, challenge, withdraw, answer, asked_of, method_of}
-use Rattle.http_desk.specs.Reply.{refusal_reply, json_text_reply, plain_reply, fault_reply}
-use Rattle.http_desk.specs.Shown.{GameShown}
-use Rattle.http_desk.specs.Bodies.{game_data, moves_data, reply_data, lined, move_text, challenge_of, answer_of}
+use Rattle.http_bodies.specs.Reply.{refusal_reply, json_text_reply, plain_reply, fault_reply}
+use Rattle.http_bodies.specs.Shown.{GameShown}
+use Rattle.http_bodies.specs.Bodies.{game_data, moves_data, reply_data, lined, move_text, challenge_of, answer_of}
 use Rattle.http_desk.specs.Served.{Club, Serves}
 
 -- what a reply shows: JSON is its text

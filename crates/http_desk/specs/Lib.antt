@@ -1,12 +1,7 @@
 pub mod Faults
-pub mod Refusals
-pub mod Reply
 pub mod Routes
 pub mod RouteViews
-pub mod Shown
-pub mod ShownViews
 pub mod Served
-pub mod Bodies
 pub mod Desk
 pub mod DeskViews
 pub mod Serving

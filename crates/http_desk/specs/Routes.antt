@@ -11,8 +11,8 @@ use Rattle.matchit.specs.declared.error.InsertError.{InsertError}
 use Rattle.http_desk.specs.declared.routes.Page.{Page}
 use Rattle.http_desk.specs.declared.routes.Page.TheVariants.{GameView, LegalMoves, CrossTable, MakeMove, OfferDraw}
 use Rattle.http_desk.specs.declared.routes.Page.TheVariants.{AcceptDraw, Resign, ClaimTime, Challenge, Withdraw, Answer}
-use Rattle.http_desk.specs.declared.refusals.Method.{Method}
-use Rattle.http_desk.specs.declared.refusals.Method.TheVariants.{Get, Post}
+use Rattle.http_bodies.specs.declared.refusals.Method.{Method}
+use Rattle.http_bodies.specs.declared.refusals.Method.TheVariants.{Get, Post}
 use Rattle.http_head.specs.Head.{number_of}
 
 abbrev pub slash : ℕ

@@ -2,7 +2,7 @@
 use Rattle.std.specs.Prelude.{ℕ, Bool, List, Option, Result, Ok, Err}
 use Rattle.club_core.specs.Outcome.{Outcome}
 use Rattle.club_core.specs.State.{Request}
-use Rattle.http_desk.specs.Shown.{GameShown}
+use Rattle.http_bodies.specs.Shown.{GameShown}
 
 -- what is asked of a club in a state: what it shows are relations, what it does are functions
 pub record Club (S : Type 0) : Type 1 where

@@ -1,9 +1,10 @@
 //! A club that cannot be taken over.
 
 use crate::faults::ClubFault;
-use crate::served::{GameShown, ServedClub};
+use crate::served::ServedClub;
 use clocks::Moment;
 use club_core::{Command, Outcome, Who};
+use http_bodies::GameShown;
 use std::alloc::Global;
 
 /// A club whose file could not be taken over: it answers every call with the reason.

@@ -4,18 +4,16 @@ ghost use Rattle.serde_json.specs.Written.{compact_text};
 ghost use Rattle.club_core.specs.Answer.{command_of, game_command_of, outcome_of, reply_of, who_of};
 ghost use Rattle.club_core.specs.State.{key_holder, on_game, withdraw_challenge};
 ghost use Rattle.http_desk.specs.RouteViews.{turn_view};
-ghost use Rattle.http_desk.specs.Bodies.{reply_data};
+ghost use Rattle.http_bodies.specs.Bodies.{reply_data};
 ghost use Rattle.http_desk.specs.Desk.{shows, command_given, outcome_answer, serve_command, ServesDue};
 ghost use Rattle.http_desk.specs.DeskViews.{answer_view, command_view};
 
-use crate::asks::move_text;
-use crate::bodies::answer_text;
 use crate::desk::{Fault, Shown};
-use crate::refusals::Refusal;
 use crate::routes::Turn;
 use crate::served::ServedClub;
 use clocks::Moment;
 use club_core::{Answer, Command, GameCommand, OnGame, Outcome, Who, Withdraw};
+use http_bodies::{Refusal, answer_text, move_text};
 use std::alloc::{AllocError, Global};
 
 // What a path and a body give to do in a game.

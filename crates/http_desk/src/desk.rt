@@ -9,16 +9,17 @@ ghost use Rattle.http_desk.specs.Desk.{RepliesTo, Answers, shut_known, shut_aske
 ghost use Rattle.http_desk.specs.Desk.{IsShutReply};
 ghost use Rattle.http_desk.specs.DeskViews.{answer_view, IsShutBy};
 
-use crate::asks::{answer_of, challenge_of};
 use crate::commands::{serve_command, turn_given, withdrawal};
 use crate::faults::{ClubFault, DeskFault};
 use crate::pages::{serve_game, serve_legal, serve_table};
-use crate::refusals::{Method, Refusal};
-use crate::reply::{fault_reply, json_text_reply, plain_reply, refusal_reply};
 use crate::routes::{Asked, asked_of, text_of};
 use crate::served::ServedClub;
 use clocks::Moment;
 use club_core::Refusal as ClubRefusal;
+use http_bodies::{
+    Method, Refusal, answer_of, challenge_of, fault_reply, json_text_reply, plain_reply,
+    refusal_reply,
+};
 use http_head::{Request, Seen, read_request};
 use matchit::InsertError;
 use std::alloc::{AllocError, Global};

@@ -3,11 +3,10 @@ ghost use Rattle.std.specs.Prelude.{◌≡◌};
 ghost use Rattle.http_desk.specs.Desk.{game_page, legal_page, table_page, ServesDue};
 ghost use Rattle.http_desk.specs.DeskViews.{answer_view};
 
-use crate::bodies::{game_text, lined, moves_text};
 use crate::desk::{Fault, Shown};
-use crate::refusals::Refusal;
 use crate::served::ServedClub;
 use club_core::Refusal as ClubRefusal;
+use http_bodies::{Refusal, game_text, lined, moves_text};
 use std::alloc::Global;
 
 // A game as it stands.

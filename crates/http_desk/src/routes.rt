@@ -9,7 +9,7 @@ ghost use Rattle.http_desk.specs.Routes.{cross_table, turn_asked, ply_asked, ans
 ghost use Rattle.http_desk.specs.Routes.{asked_of_path, asked_of, method_of};
 ghost use Rattle.http_desk.specs.RouteViews.{turn_view, asked_view};
 
-use crate::refusals::Method;
+use http_bodies::Method;
 use http_head::number_of;
 use matchit::{InsertError, Router};
 use std::alloc::Global;

@@ -1,44 +1,14 @@
 //! What the desk asks of a club.
 ghost use Rattle.std.specs.Prelude.{◌≡◌, Err};
 ghost use Rattle.club_core.specs.Answer.{command_of, outcome_of, who_of};
-ghost use Rattle.http_desk.specs.Shown.{end_name};
-ghost use Rattle.http_desk.specs.ShownViews.{found_view, rows_view};
+ghost use Rattle.http_bodies.specs.ShownViews.{found_view, rows_view};
 ghost use Rattle.http_desk.specs.Served.{Club, Serves};
 
 use crate::faults::ClubFault;
 use clocks::Moment;
-use club_core::{Command, GameEnd, Outcome, Who};
-use club_rules::EndName;
-use squares::Score;
+use club_core::{Command, Outcome, Who};
+use http_bodies::GameShown;
 use std::alloc::Global;
-
-/// A game as any member may see it: its event and its players by their names, its moves and its position as they are
-/// written, and the seconds that each side has left.
-#[derive(Drop)]
-pub struct GameShown {
-    pub event: String,
-    pub first: String,
-    pub second: String,
-    pub moves: Vec<String>,
-    pub position: String,
-    pub left_first: u64,
-    pub left_second: u64,
-    /// The name of the member whose offer of a draw stands.
-    pub offer: Option<String>,
-    pub end: Option<GameEnd<EndName>>,
-    /// None while the game is running.
-    pub result: Option<Score>,
-}
-
-/// The name of an end, as it is printed and stored, without its side.
-pub fn end_name(end: GameEnd<EndName>) -> &'static str
-    ensures { result.now ≡ end_name end }
-{
-    match end {
-        GameEnd::Rule(end) => end.name(),
-        GameEnd::Outside(end) => end.name(),
-    }
-}
 
 /// A club that stands in a state. A call that fails leaves the state before it or the one after it. A club that is shut
 /// by a fault answers every call with it.

@@ -1,7 +1,7 @@
 use Rattle.std.proofs.Common.{ap, ◌∙◌}
 use Rattle.sqlite.specs.Held.{state}
 use Rattle.club_changes.specs.Stored.{AreLegalRows}
-use Rattle.http_desk.specs.ShownViews.{rows_view}
+use Rattle.http_bodies.specs.ShownViews.{rows_view}
 use Rattle.club_desk.proofs.ServeLemmas.{clean_before, told_shut, read_serves, if_ok}
 use Rattle.club_desk.proofs.desk_club.DeskClubServedClub.legal_rows.Goals as goal
 

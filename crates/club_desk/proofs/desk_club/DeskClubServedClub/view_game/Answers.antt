@@ -1,5 +1,5 @@
 use Rattle.sqlite.specs.Held.{state}
-use Rattle.http_desk.specs.ShownViews.{found_view}
+use Rattle.http_bodies.specs.ShownViews.{found_view}
 use Rattle.club_desk.specs.Served.{IsGame}
 use Rattle.club_desk.proofs.ServeLemmas.{if_ok, made_serves, read_left}
 use Rattle.club_desk.proofs.desk_club.DeskClubServedClub.view_game.Goals as goal

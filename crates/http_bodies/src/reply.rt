@@ -3,9 +3,9 @@ ghost use Rattle.std.specs.Prelude.{◌≡◌, ◌++◌, IfOk, string_bytes, Som
 ghost use Rattle.http.specs.StatusCode.{IsStatusCode, reason_phrase};
 ghost use Rattle.serde_json.specs.Written.{compact_text, has_float};
 ghost use Rattle.serde_json.specs.View.{view};
-ghost use Rattle.http_desk.specs.Reply.{json_kind, status_line, type_line, length_line, reply_head, reply_text};
-ghost use Rattle.http_desk.specs.Reply.{key_lines, further_lines, refusal_reply, error_data, fault_reply};
-ghost use Rattle.http_desk.specs.Reply.{json_text_reply, plain_reply};
+ghost use Rattle.http_bodies.specs.Reply.{json_kind, status_line, type_line, length_line, reply_head, reply_text};
+ghost use Rattle.http_bodies.specs.Reply.{key_lines, further_lines, refusal_reply, error_data, fault_reply};
+ghost use Rattle.http_bodies.specs.Reply.{json_text_reply, plain_reply};
 
 use crate::refusals::{Method, Refusal};
 use club_core::Refusal as ClubRefusal;

@@ -1,6 +1,6 @@
 //! What a request is refused for.
 ghost use Rattle.std.specs.Prelude.{◌≡◌};
-ghost use Rattle.http_desk.specs.Refusals.{club_status, refusal_number, refusal_name, refusal_status};
+ghost use Rattle.http_bodies.specs.Refusals.{club_status, refusal_number, refusal_name, refusal_status};
 
 use club_core::Refusal as ClubRefusal;
 use http_head::HeadRefusal;

@@ -4,8 +4,8 @@ use Rattle.http_head.specs.Refusals.{head_number, head_name, head_status}
 use Rattle.club_core.specs.declared.refusals.Refusal as of_club
 use Rattle.club_core.specs.declared.refusals.Refusal.TheVariants as club
 use Rattle.club_core.specs.Refusal as core
-use Rattle.http_desk.specs.declared.refusals.Refusal.{Refusal}
-use Rattle.http_desk.specs.declared.refusals.Refusal.TheVariants.{Head, NoRoute, WrongMethod, BadBody, Club}
+use Rattle.http_bodies.specs.declared.refusals.Refusal.{Refusal}
+use Rattle.http_bodies.specs.declared.refusals.Refusal.TheVariants.{Head, NoRoute, WrongMethod, BadBody, Club}
 
 abbrev pub club_status : of_club.Refusal → ℕ
 club_status club.UnknownKey = 401

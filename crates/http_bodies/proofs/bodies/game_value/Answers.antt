@@ -1,7 +1,7 @@
 use Rattle.std.proofs.Common.{◌≡◌, ◌∙◌, length, rules}
-use Rattle.http_desk.specs.ShownViews.{game_view}
-use Rattle.http_desk.proofs.BodyLemmas.{game_from, as_many, view_text}
-use Rattle.http_desk.proofs.bodies.game_value.Goals as goal
+use Rattle.http_bodies.specs.ShownViews.{game_view}
+use Rattle.http_bodies.proofs.BodyLemmas.{game_from, as_many, view_text}
+use Rattle.http_bodies.proofs.bodies.game_value.Goals as goal
 
 pub returns : goal.returns
 returns c =

@@ -2,8 +2,8 @@
 use Rattle.std.specs.Prelude.{ℕ, List, map, Option, option_map, String, string_bytes}
 use Rattle.std.specs.declared.alloc.Global.{Global}
 use Rattle.std.specs.declared.vec.Vec.{Vec}
-use Rattle.http_desk.specs.declared.served.GameShown as given
-use Rattle.http_desk.specs.Shown.{GameShown}
+use Rattle.http_bodies.specs.declared.shown.GameShown as given
+use Rattle.http_bodies.specs.Shown.{GameShown}
 
 abbrev pub texts_view : List (String Global) → List (List ℕ)
 texts_view texts = map string_bytes texts

@@ -5,12 +5,12 @@ use Rattle.http_head.specs.Head.{number_of}
 use Rattle.http.specs.StatusCode.{reason_phrase}
 use Rattle.serde_json.specs.Data.{Data, number, unsigned, string, object, member, no_members}
 use Rattle.serde_json.specs.Written.{compact_text}
-use Rattle.http_desk.specs.declared.refusals.Method.TheVariants.{Get, Post}
-use Rattle.http_desk.specs.declared.refusals.Refusal.{Refusal}
-use Rattle.http_desk.specs.declared.refusals.Refusal.TheVariants.{Head, NoRoute, WrongMethod, BadBody, Club}
+use Rattle.http_bodies.specs.declared.refusals.Method.TheVariants.{Get, Post}
+use Rattle.http_bodies.specs.declared.refusals.Refusal.{Refusal}
+use Rattle.http_bodies.specs.declared.refusals.Refusal.TheVariants.{Head, NoRoute, WrongMethod, BadBody, Club}
 use Rattle.club_core.specs.declared.refusals.Refusal as of_club
 use Rattle.club_core.specs.declared.refusals.Refusal.TheVariants as club
-use Rattle.http_desk.specs.Refusals.{refusal_number, refusal_name, refusal_status}
+use Rattle.http_bodies.specs.Refusals.{refusal_number, refusal_name, refusal_status}
 
 abbrev pub line_end : List ℕ
 line_end = 13 ∷ 10 ∷ []

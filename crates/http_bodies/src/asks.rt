@@ -3,8 +3,8 @@ ghost use Rattle.std.specs.Prelude.{◌≡◌, ◌↔◌, IsTrue, IfOk, option_m
 ghost use Rattle.serde_json.specs.View.{view};
 ghost use Rattle.serde_json.specs.Errors.{IsMemory};
 ghost use Rattle.club_core.specs.Answer.{command_of};
-ghost use Rattle.http_desk.specs.Bodies.{json_of, text_in, bool_in, move_text, challenge_in, challenge_of, answer_in};
-ghost use Rattle.http_desk.specs.Bodies.{answer_of};
+ghost use Rattle.http_bodies.specs.Bodies.{json_of, text_in, bool_in, move_text, challenge_in, challenge_of};
+ghost use Rattle.http_bodies.specs.Bodies.{answer_in, answer_of};
 
 use club_core::{AnswerChallenge, Command, OpenChallenge};
 use serde_json::{Category, Error, Value};

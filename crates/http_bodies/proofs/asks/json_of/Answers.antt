@@ -1,6 +1,6 @@
 use Rattle.std.proofs.Common.{sym, rules}
-use Rattle.http_desk.proofs.BodyLemmas.{none_read, some_read}
-use Rattle.http_desk.proofs.asks.json_of.Goals as goal
+use Rattle.http_bodies.proofs.BodyLemmas.{none_read, some_read}
+use Rattle.http_bodies.proofs.asks.json_of.Goals as goal
 
 pub returns-in-Ok : goal.returns-in-Ok
 returns-in-Ok c = sym (some_read c.args.body.now _ c.in-Ok.ensures.ok.0 c.in-Ok.ensures.ok.1)

@@ -17,10 +17,10 @@ use Rattle.club_rules.specs.EndName.{end_text}
 use Rattle.club_core.specs.Outcome.{MoveReply, Reply, member_added, event_added, game_seated, moved, draw_offered}
 use Rattle.club_core.specs.Outcome.{game_ended, games_swept, challenge_opened, challenge_withdrawn, challenge_refused}
 use Rattle.club_core.specs.Outcome.{challenge_accepted}
-use Rattle.http_desk.specs.Shown.{GameShown, end_name}
-use Rattle.http_desk.specs.ShownViews.{texts_view}
-use Rattle.http_desk.specs.Bodies.{texts, text_or_null, moves_data, number_data, lefts, game_front, game_object}
-use Rattle.http_desk.specs.Bodies.{game_data, moved_data, reply_data, json_of}
+use Rattle.http_bodies.specs.Shown.{GameShown, end_name}
+use Rattle.http_bodies.specs.ShownViews.{texts_view}
+use Rattle.http_bodies.specs.Bodies.{texts, text_or_null, moves_data, number_data, lefts, game_front, game_object}
+use Rattle.http_bodies.specs.Bodies.{game_data, moved_data, reply_data, json_of}
 
 pub view_text : (t : String Global) → view (variants.String t) ≡ string (string_bytes t)
 view_text t = search (rules, the_lemmas)

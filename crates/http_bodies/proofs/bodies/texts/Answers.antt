@@ -2,8 +2,8 @@ use Rattle.std.proofs.Common.{◌∙◌, ap, map, List}
 use Rattle.serde_json.specs.Data.{array}
 use Rattle.serde_json.specs.View.{view, items_of}
 use Rattle.serde_json.specs.declared.value.Value.{Value}
-use Rattle.http_desk.proofs.BodyLemmas.{texts_are, view_list}
-use Rattle.http_desk.proofs.bodies.texts.Goals as goal
+use Rattle.http_bodies.proofs.BodyLemmas.{texts_are, view_list}
+use Rattle.http_bodies.proofs.bodies.texts.Goals as goal
 
 pub returns : goal.returns
 returns c = view_list c.in_ok-values.values

@@ -13,7 +13,7 @@ use Rattle.club_core.specs.Outcome.{MoveReply, Reply, member_added, event_added,
 use Rattle.club_core.specs.Outcome.{game_ended, games_swept, challenge_opened, challenge_withdrawn, challenge_refused}
 use Rattle.club_core.specs.Outcome.{challenge_accepted}
 use Rattle.club_core.specs.State.{Command, open_challenge, answer_challenge}
-use Rattle.http_desk.specs.Shown.{GameShown, end_name}
+use Rattle.http_bodies.specs.Shown.{GameShown, end_name}
 
 -- ---- replies: the keys of an object stand in byte order
 

@@ -1,0 +1,5 @@
+pub mod Refusals
+pub mod Reply
+pub mod Shown
+pub mod ShownViews
+pub mod Bodies

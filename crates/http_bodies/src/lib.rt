@@ -1,0 +1,16 @@
+//! The bodies of requests and replies: what the body of a request asks for, and the replies that carry the others.
+#![tactic(auto)]
+
+mod asks;
+mod bodies;
+pub mod refusals;
+mod reply;
+pub mod shown;
+pub mod status;
+
+pub use asks::{answer_of, challenge_of, move_text};
+pub use bodies::{answer_text, game_text, lined, moves_text};
+pub use refusals::{Method, Refusal};
+pub use reply::{fault_reply, json_text_reply, plain_reply, refusal_reply};
+pub use shown::{GameShown, end_name};
+pub use status::status_of;
