@@ -294,6 +294,14 @@ fn program<'a>(alloc: Global) -> Result<clap::Command<'a>, AllocError> {
         ))
 }
 
+// The command with that word more, which may not have been made for want of memory.
+fn with<'a>(
+    command: clap::Command<'a>,
+    word: Result<clap::Command<'a>, AllocError>,
+) -> Result<clap::Command<'a>, AllocError> {
+    command.subcommand(word?)
+}
+
 // With the words that make a club and bring in what it is to have.
 fn with_entries<'a>(
     alloc: Global,
@@ -302,18 +310,16 @@ fn with_entries<'a>(
     let init = clap::Command::new(alloc, "init").about(
         "Makes the tables of a club in an empty file",
     );
+    let program = with(program, Ok(init))?;
+    let program = with(program, member_words(alloc))?;
+    let program = with(program, event_words(alloc))?;
+    let program = with(program, seat_words(alloc))?;
     let import_pdn = import_words(
         alloc,
         "import-pdn",
         "Adds an ended game of an event of draughts from a PDN record, under a key",
-    )?;
-    program
-        .subcommand(init)?
-        .subcommand(member_words(alloc)?)?
-        .subcommand(event_words(alloc)?)?
-        .subcommand(seat_words(alloc)?)?
-        .subcommand(import_pdn)?
-        .subcommand(import_csa_words(alloc)?)
+    );
+    with(with(program, import_pdn)?, import_csa_words(alloc))
 }
 
 // With the words on games that are played, and those that end games by time.
@@ -324,11 +330,10 @@ fn with_games<'a>(
     let sweep = clap::Command::new(alloc, "sweep").about(
         "Ends by time every running game whose side to move has used more seconds than it has left",
     );
-    program
-        .subcommand(move_words(alloc)?)?
-        .subcommand(sweep)?
-        .subcommand(legal_words(alloc)?)?
-        .subcommand(export_words(alloc)?)
+    let program = with(program, move_words(alloc))?;
+    let program = with(program, Ok(sweep))?;
+    let program = with(program, legal_words(alloc))?;
+    with(program, export_words(alloc))
 }
 
 // With the words that show what the club has, and serve it.
@@ -339,10 +344,9 @@ fn with_views<'a>(
     let verify = clap::Command::new(alloc, "verify").about(
         "Reads and replays the whole file, and says that it is sound, or which table is damaged",
     );
-    program
-        .subcommand(table_words(alloc)?)?
-        .subcommand(verify)?
-        .subcommand(serve_words(alloc)?)
+    let program = with(program, table_words(alloc))?;
+    let program = with(program, Ok(verify))?;
+    with(program, serve_words(alloc))
 }
 
 // The program's words, as the parser takes them and help shows them.
