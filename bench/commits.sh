@@ -12,8 +12,8 @@ work=$(mktemp -d)
 trap 'rm -rf "$work"' EXIT
 count=200
 
-above='club|club_orders|club_words|sessions|trials|opening_trials|row_trials|rules_trials|club_trials|desk_trials'
-above="$above|http_head|http_bodies|http_desk|club_desk|perft"
+above='club|club_files|club_orders|club_words|sessions|trials|stop_trials|trial_scripts|opening_trials|row_trials'
+above="$above|rules_trials|club_trials|desk_trials|http_head|http_bodies|http_desk|club_desk|perft"
 
 cp -a "$top/crates" "$work/crates"
 for crate in ${above//|/ }; do rm -rf "${work:?}/crates/$crate"; done
@@ -21,7 +21,7 @@ mkdir -p "$work/crates/commits/src"
 cp "$top/bench/commits.rt.txt" "$work/crates/commits/src/main.rt"
 cp "$top/HANDLES" "$work/"
 grep -vE "^($above):" "$top/crates.txt" > "$work/crates.txt"
-echo 'commits: store club_core club_rules clocks sqlite sqlite_disk anyhow' >> "$work/crates.txt"
+echo 'commits: store club_requests club_rules clocks sqlite sqlite_disk anyhow' >> "$work/crates.txt"
 git init -q "$work"
 (cd "$work/crates/commits" && rt run -- unknown "$work/first.db" 1) > "$work/build.log" 2>&1 || { cat "$work/build.log" >&2; exit 70; }
 

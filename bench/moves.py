@@ -18,8 +18,9 @@ import time
 
 from opening import TOP, begin, club, multiply
 
-ABOVE = ("club", "club_orders", "club_words", "sessions", "trials", "opening_trials", "row_trials", "rules_trials",
-         "club_trials", "desk_trials", "http_head", "http_bodies", "http_desk", "club_desk", "perft")
+ABOVE = ("club", "club_files", "club_orders", "club_words", "sessions", "trials", "stop_trials", "trial_scripts",
+         "opening_trials", "row_trials", "rules_trials", "club_trials", "desk_trials", "http_head", "http_bodies",
+         "http_desk", "club_desk", "perft")
 RUNS = 5
 MEASURED = 20
 
@@ -33,7 +34,7 @@ def build(work):
     shutil.copy(os.path.join(TOP, "HANDLES"), work)
     with open(os.path.join(TOP, "crates.txt")) as it, open(os.path.join(work, "crates.txt"), "w") as out:
         out.writelines(line for line in it if line.split(":")[0] not in ABOVE)
-        out.write("moves: store club_core clocks sqlite sqlite_disk anyhow\n")
+        out.write("moves: store club_requests clocks sqlite sqlite_disk anyhow\n")
     subprocess.run(["git", "init", "-q", work], check=True)
     ran = subprocess.run(["rt", "run"], cwd=crate, capture_output=True, text=True)
     program = os.path.join(crate, "out", "moves")

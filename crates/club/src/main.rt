@@ -3,14 +3,13 @@
 
 mod desk;
 mod log_lines;
-mod order;
 mod port;
 mod times;
 
+use club_files::{give_up, obey};
 use club_orders::{BAD_WORDS, DONE, Report, print};
 use club_words::{BadWords, Order, Service, Task, Words, read_words};
 use desk::serve;
-use order::obey;
 use port::Callers;
 use sqlite_disk::Wary;
 use std::alloc::AllocError;
@@ -115,9 +114,9 @@ fn obey_in_turn(rt: &HostRuntime, order: &Order) -> Report {
     make_files(rt, order.file.as_str());
     let mut out = rt.stdout();
     for _ in 0..TURNS {
-        match obey(rt, order, moment, Wary, &mut out) {
-            (Report::InUse, _) => sleep(rt, Duration::from_millis(PAUSE_MILLISECONDS)),
-            (report, _) => return report,
+        match give_up(obey(rt, order, moment, Wary, &mut out)) {
+            Report::InUse => sleep(rt, Duration::from_millis(PAUSE_MILLISECONDS)),
+            report => return report,
         }
     }
     Report::InUse

@@ -4,8 +4,8 @@ use Rattle.std.specs.Option.{option_map}
 use Rattle.club_rules.specs.GameRules.{GameRules}
 use Rattle.club_core.specs.declared.rows.GameEnd.TheVariants.{Outside}
 use Rattle.club_core.specs.declared.rows.GameView.{GameView}
-use Rattle.club_core.specs.declared.rows.OutsideEnd.TheVariants.{Time}
-use Rattle.club_core.specs.Limits.{last_moment, most_members, most_events, most_games, is_budget, is_increment}
+use Rattle.club_requests.specs.declared.outside_end.OutsideEnd.TheVariants.{Time}
+use Rattle.club_requests.specs.Limits.{last_moment, most_members, most_events, most_games, is_budget, is_increment}
 use Rattle.club_core.specs.Members.{Member}
 use Rattle.club_core.specs.Events.{Event, Terms}
 use Rattle.club_core.specs.Game.{Game, clocks_of, left_of, turn_of}

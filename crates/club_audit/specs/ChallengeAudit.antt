@@ -4,7 +4,7 @@ use Rattle.club_core.specs.declared.challenges.Challenge.{Challenge}
 use Rattle.club_core.specs.declared.challenges.Standing.TheVariants.{Accepted}
 use Rattle.club_core.specs.Challenges.{goes_by, pairing_for}
 use Rattle.club_core.specs.LegalState.{Each, AreApart}
-use Rattle.club_core.specs.Limits.{is_challenge_number}
+use Rattle.club_requests.specs.Limits.{is_challenge_number}
 use Rattle.club_core.specs.Seats.{Pairing}
 use Rattle.club_core.specs.State.{place}
 use Rattle.store_tables.specs.Cells.{challenge_cells}

@@ -7,7 +7,7 @@ use Rattle.squares.specs.Sides.{score_text}
 use Rattle.store_tables.specs.Cells.{game_cells}
 use Rattle.store_tables.specs.declared.rows.GameRecord.{GameRecord}
 use Rattle.store_tables.specs.declared.rows.ScoreRow.{ScoreRow}
-use Rattle.club_core.specs.Limits.{most_games}
+use Rattle.club_requests.specs.Limits.{most_games}
 use Rattle.club_rows.specs.Club.{ClubState, both_games}
 use Rattle.club_rows.specs.Tables.{numbered_from, row_of_game}
 use Rattle.club_rows.specs.NextScores.{no_sums, sums_found, sums_over}

@@ -5,13 +5,14 @@ ghost use Rattle.std.specs.Option.{option_map};
 ghost use Rattle.club_core.specs.declared.challenges.Challenge as core;
 ghost use Rattle.club_core.specs.Answer.{pairing_of};
 ghost use Rattle.club_core.specs.LegalState.{Each, AreApart};
-ghost use Rattle.club_core.specs.Limits.{most_members, most_events, most_games};
+ghost use Rattle.club_requests.specs.Limits.{most_members, most_events, most_games};
 ghost use Rattle.club_core.specs.State.{place};
 ghost use Rattle.club_audit.specs.ChallengeAudit.{AreChallenges, HasItsGame, IsChallengeAmong, IsChallengeOf};
 ghost use Rattle.club_audit.specs.ChallengeAudit.{IsRowOfPairing};
 ghost use Rattle.club_audit.specs.ChallengeKeys.{key_in};
 
-use club_core::{Challenge, Pairing, Standing, is_challenge_number};
+use club_core::{Challenge, Pairing, Standing};
+use club_requests::is_challenge_number;
 use club_rows::challenge_of;
 use club_rules::Memory;
 use std::alloc::Global;

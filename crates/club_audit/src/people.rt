@@ -7,8 +7,8 @@ ghost use Rattle.club_core.specs.LegalState.{Each};
 ghost use Rattle.club_audit.specs.Audit.{IsOtherMember, IsMemberAt, AreMembers, GivesTerms, IsOtherEvent, IsEventAt};
 ghost use Rattle.club_audit.specs.Audit.{AreEvents};
 
-use club_core::values::{MOST_EVENTS, MOST_MEMBERS, is_budget, is_increment};
-use club_core::{is_member_key, is_name};
+use club_requests::values::{MOST_EVENTS, MOST_MEMBERS, is_budget, is_increment};
+use club_requests::{is_member_key, is_name};
 use club_rows::kinds::kind_of;
 use club_rows::numbers::counted;
 use club_rows::replay::Terms;

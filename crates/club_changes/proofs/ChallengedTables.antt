@@ -3,24 +3,24 @@ use Rattle.std.proofs.Common.{◌≡◌, ℕ, ◌+◌, ◌==◌, List, [], ◌�
 use Rattle.std.proofs.Common.{sym, subst, subst₂, ◌∙◌, ◌≢◌, arith}
 use Rattle.std.specs.Prelude.{if◌then◌else◌}
 use Rattle.sqlite.specs.Order.{Row}
-use Rattle.club_core.specs.declared.answers.Outcome as given
-use Rattle.club_core.specs.declared.answers.Outcome.TheVariants as given_is
-use Rattle.club_core.specs.declared.answers.Answer.{Answer}
+use Rattle.club_requests.specs.declared.answers.Outcome as given
+use Rattle.club_requests.specs.declared.answers.Outcome.TheVariants as given_is
+use Rattle.club_requests.specs.declared.answers.Answer.{Answer}
 use Rattle.club_core.specs.declared.challenges.Challenge.{Challenge}
 use Rattle.club_core.specs.declared.challenges.ChallengeDecision.TheVariants as decision
 use Rattle.club_core.specs.declared.challenges.Standing.{Standing}
 use Rattle.club_core.specs.declared.challenges.Standing.TheVariants.{Open, Withdrawn, Refused, Accepted}
-use Rattle.club_core.specs.declared.refusals.Refusal.{Refusal}
-use Rattle.club_core.specs.declared.refusals.Refusal.TheVariants.{UnknownChallenge}
-use Rattle.club_core.specs.declared.requests.Caller.{Caller}
-use Rattle.club_core.specs.declared.requests.Caller.TheVariants.{Officer, Member}
+use Rattle.club_requests.specs.declared.refusals.Refusal.{Refusal}
+use Rattle.club_requests.specs.declared.refusals.Refusal.TheVariants.{UnknownChallenge}
+use Rattle.club_requests.specs.declared.requests.Caller.{Caller}
+use Rattle.club_requests.specs.declared.requests.Caller.TheVariants.{Officer, Member}
 use Rattle.club_core.specs.Answer.{outcome_of, answered, challenge_outcome_of, reply_of}
 use Rattle.club_core.specs.Challenges.{goes_by, pairing_for, answer_step, answers, answer_refusal, repeat_of_answer}
 use Rattle.club_core.specs.ClubRules.{ClubRules}
 use Rattle.club_core.specs.Events.{Event}
 use Rattle.club_core.specs.LegalState.{AreApart}
-use Rattle.club_core.specs.Outcome.{Outcome, Reply, accepted, repeated, refused, map_outcome, by_member, unless}
-use Rattle.club_core.specs.Outcome.{unless_repeat}
+use Rattle.club_requests.specs.Outcome.{Outcome, Reply, accepted, repeated, refused, map_outcome, by_member, unless}
+use Rattle.club_requests.specs.Outcome.{unless_repeat}
 use Rattle.club_core.specs.Seats.{Pairing}
 use Rattle.club_core.specs.State.{AnyGame, State, place, kind_at, seated_as, is_accepted, with_challenge, with_answer}
 use Rattle.club_core.specs.State.{with_imported, challenge_game}

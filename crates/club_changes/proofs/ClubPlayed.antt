@@ -8,12 +8,12 @@ use Rattle.squares.specs.declared.sides.Side.TheVariants.{First}
 use Rattle.club_rules.specs.declared.names.GameKind.{GameKind}
 use Rattle.club_rules.specs.declared.names.GameKind.TheVariants.{Draughts, Shogi}
 use Rattle.club_rules.specs.GameRules.{GameRules}
-use Rattle.club_core.specs.declared.answers.Outcome.TheVariants as given_is
+use Rattle.club_requests.specs.declared.answers.Outcome.TheVariants as given_is
 use Rattle.club_core.specs.declared.rows.GameRow.{GameRow}
-use Rattle.club_core.specs.declared.requests.Caller.{Caller}
-use Rattle.club_core.specs.Limits.{is_budget, is_increment}
-use Rattle.club_core.specs.Outcome.{Outcome, accepted, repeated}
-use Rattle.club_core.specs.Outcome.{refused, map_outcome}
+use Rattle.club_requests.specs.declared.requests.Caller.{Caller}
+use Rattle.club_requests.specs.Limits.{is_budget, is_increment}
+use Rattle.club_requests.specs.Outcome.{Outcome, accepted, repeated}
+use Rattle.club_requests.specs.Outcome.{refused, map_outcome}
 use Rattle.club_core.specs.Answer.{answered}
 use Rattle.club_core.specs.Events.{Event, Terms}
 use Rattle.club_core.specs.Game.{Game, clocks_of}

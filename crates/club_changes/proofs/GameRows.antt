@@ -24,10 +24,10 @@ use Rattle.club_core.specs.Seats.{KeyedGame}
 use Rattle.club_core.specs.Game.{Game, clocks_of}
 use Rattle.club_core.specs.LegalState.{IsLegalIn}
 use Rattle.club_core.specs.Step.{GameCommand, game_step}
-use Rattle.club_core.specs.declared.requests.Caller.{Caller}
+use Rattle.club_requests.specs.declared.requests.Caller.{Caller}
 use Rattle.club_laws.proofs.Proved.{in-place, bytes_eq-same, same-bytes_eq, find_id-found, find_id-none}
 use Rattle.club_rows.specs.Replay.{terms_given}
-use Rattle.club_core.specs.Limits.{last_moment}
+use Rattle.club_requests.specs.Limits.{last_moment}
 use Rattle.club_core.specs.State as club
 use Rattle.club_core.specs.State.{AnyGame, place, terms_at, key_of, is_key, has_key, at_found, any_under, keyed_at}
 use Rattle.club_core.specs.State.{keyed_game, game_under, pairing_of, on_game}

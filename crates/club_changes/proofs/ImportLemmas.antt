@@ -15,23 +15,23 @@ use Rattle.club_rules.specs.Records as record_is
 use Rattle.club_rules.specs.Records.{Reading, GameRecords}
 use Rattle.club_games.specs.CsaReading.{shogi_records}
 use Rattle.club_games.specs.PdnReading.{draughts_records}
-use Rattle.club_core.specs.declared.answers.Answer.TheVariants as answer_is
-use Rattle.club_core.specs.declared.answers.Outcome.TheVariants as given_is
+use Rattle.club_requests.specs.declared.answers.Answer.TheVariants as answer_is
+use Rattle.club_requests.specs.declared.answers.Outcome.TheVariants as given_is
 use Rattle.club_core.specs.declared.events.Event as given_event
 use Rattle.club_core.specs.declared.members.Member as given_member
-use Rattle.club_core.specs.declared.refusals.Refusal.{Refusal}
-use Rattle.club_core.specs.declared.requests.Caller.{Caller}
-use Rattle.club_core.specs.declared.requests.Caller.TheVariants.{Officer, Member}
+use Rattle.club_requests.specs.declared.refusals.Refusal.{Refusal}
+use Rattle.club_requests.specs.declared.requests.Caller.{Caller}
+use Rattle.club_requests.specs.declared.requests.Caller.TheVariants.{Officer, Member}
 use Rattle.club_core.specs.Answer.{members_of, event_of, events_of, keyed_of, outcome_of, answered}
 use Rattle.club_core.specs.Events.{Terms, Event, event_kind, has_event_name}
 use Rattle.club_core.specs.Game.{Game}
 use Rattle.club_core.specs.Imports.{Import, Imported, imported, has_part, reading_of_import, repeat_of_import}
 use Rattle.club_core.specs.Imports.{import_tests, import_refusal, import_between, import_found}
 use Rattle.club_core.specs.LegalState.{IsLegalIn}
-use Rattle.club_core.specs.Limits.{is_name}
+use Rattle.club_requests.specs.Limits.{is_name}
 use Rattle.club_core.specs.Members.{find_id}
-use Rattle.club_core.specs.Outcome.{Reply, Outcome, accepted, repeated, refused, map_outcome, by_officer, unless}
-use Rattle.club_core.specs.Outcome.{unless_repeat, game_seated}
+use Rattle.club_requests.specs.Outcome.{Reply, Outcome, accepted, repeated, refused, map_outcome, by_officer, unless}
+use Rattle.club_requests.specs.Outcome.{unless_repeat, game_seated}
 use Rattle.club_core.specs.Seats.{KeyedGame, has_member_name, are_two}
 use Rattle.club_core.specs.State.{draughts, shogi, place, kind_at, terms_at, any_under, draughts_in, shogi_in}
 use Rattle.club_core.specs.State.{state_after, with_imported, import_looked_up, import_as, import_record}

@@ -2,21 +2,21 @@
 use Rattle.std.proofs.Common.{◌≡◌, ℕ, ◌+◌, List, [], ◌∷◌, ◌++◌, length, Option, Some, None, Bool, true}
 use Rattle.std.proofs.Common.{false, ◌&&◌, refl, ap, sym, subst, subst₂, ◌∙◌, true≢false, arith}
 use Rattle.std.specs.Prelude.{max}
-use Rattle.club_core.specs.declared.answers.Outcome as given
-use Rattle.club_core.specs.declared.answers.Outcome.TheVariants as given_is
-use Rattle.club_core.specs.declared.answers.Answer.TheVariants as answer_is
-use Rattle.club_core.specs.declared.requests.Who as given_who
-use Rattle.club_core.specs.declared.requests.Command as given_command
-use Rattle.club_core.specs.declared.requests.Caller.{Caller}
-use Rattle.club_core.specs.declared.requests.Caller.TheVariants.{Officer, Member}
-use Rattle.club_core.specs.declared.refusals.Refusal.{Refusal}
-use Rattle.club_core.specs.declared.refusals.Refusal.TheVariants.{UnknownKey}
-use Rattle.club_core.specs.Outcome.{Reply, Outcome, accepted, repeated, refused, map_outcome, by_officer, unless}
-use Rattle.club_core.specs.Outcome.{unless_repeat, member_added, event_added, game_seated}
+use Rattle.club_requests.specs.declared.answers.Outcome as given
+use Rattle.club_requests.specs.declared.answers.Outcome.TheVariants as given_is
+use Rattle.club_requests.specs.declared.answers.Answer.TheVariants as answer_is
+use Rattle.club_requests.specs.declared.requests.Who as given_who
+use Rattle.club_requests.specs.declared.requests.Command as given_command
+use Rattle.club_requests.specs.declared.requests.Caller.{Caller}
+use Rattle.club_requests.specs.declared.requests.Caller.TheVariants.{Officer, Member}
+use Rattle.club_requests.specs.declared.refusals.Refusal.{Refusal}
+use Rattle.club_requests.specs.declared.refusals.Refusal.TheVariants.{UnknownKey}
+use Rattle.club_requests.specs.Outcome.{Reply, Outcome, accepted, repeated, refused, map_outcome, by_officer, unless}
+use Rattle.club_requests.specs.Outcome.{unless_repeat, member_added, event_added, game_seated}
 use Rattle.club_core.specs.Answer.{outcome_of, answered, who_of, command_of}
 use Rattle.club_core.specs.Members as core_members
 use Rattle.club_core.specs.Members.{find_id, member_step, same_member, member_refusal}
-use Rattle.club_core.specs.Limits.{is_name, is_budget, is_increment}
+use Rattle.club_requests.specs.Limits.{is_name, is_budget, is_increment}
 use Rattle.club_core.specs.Events.{Event, has_event_name, has_good_values, event_step, same_event, event_refusal}
 use Rattle.club_core.specs.Events.{event_tests}
 use Rattle.club_core.specs.Seats.{Pairing, KeyedGame, pair, seat_found, seat_step, same_seats, seat_refusal}

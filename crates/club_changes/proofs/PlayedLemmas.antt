@@ -13,22 +13,22 @@ use Rattle.club_rules.specs.declared.refusals.MoveRefusal.{MoveRefusal}
 use Rattle.club_rules.specs.GameRules.{GameRules}
 use Rattle.club_rules.specs.Line.{IsLegalLine, times_stood, FirstStands}
 use Rattle.club_rules.proofs.Proved.{IsLegalLine-append}
-use Rattle.club_core.specs.declared.answers.Answer.{Answer}
-use Rattle.club_core.specs.declared.answers.Answer.TheVariants as answer_is
-use Rattle.club_core.specs.declared.answers.Moved.{Moved}
-use Rattle.club_core.specs.declared.answers.Decision.{Decision}
-use Rattle.club_core.specs.declared.answers.Decision.TheVariants as decision
-use Rattle.club_core.specs.declared.answers.Outcome.TheVariants as given_is
+use Rattle.club_requests.specs.declared.answers.Answer.{Answer}
+use Rattle.club_requests.specs.declared.answers.Answer.TheVariants as answer_is
+use Rattle.club_requests.specs.declared.answers.Moved.{Moved}
+use Rattle.club_core.specs.declared.decided.Decision.{Decision}
+use Rattle.club_core.specs.declared.decided.Decision.TheVariants as decision
+use Rattle.club_requests.specs.declared.answers.Outcome.TheVariants as given_is
 use Rattle.club_core.specs.declared.rows.GameRow.{GameRow}
 use Rattle.club_core.specs.declared.rows.Made.{Made}
-use Rattle.club_core.specs.declared.requests.Caller.{Caller}
-use Rattle.club_core.specs.declared.refusals.Refusal.{Refusal}
+use Rattle.club_requests.specs.declared.requests.Caller.{Caller}
+use Rattle.club_requests.specs.declared.refusals.Refusal.{Refusal}
 use Rattle.club_core.specs.declared.rows.Offer.{Offer}
-use Rattle.club_core.specs.declared.rows.OutsideEnd.{OutsideEnd}
-use Rattle.club_core.specs.declared.rows.OutsideEnd.TheVariants.{Resigned, Agreed, Time}
-use Rattle.club_core.specs.Limits.{is_budget, is_increment, most_plies}
-use Rattle.club_core.specs.Outcome.{Reply, MoveReply, moved, draw_offered, Outcome, accepted, repeated}
-use Rattle.club_core.specs.Outcome.{refused, unless, unless_repeat}
+use Rattle.club_requests.specs.declared.outside_end.OutsideEnd.{OutsideEnd}
+use Rattle.club_requests.specs.declared.outside_end.OutsideEnd.TheVariants.{Resigned, Agreed, Time}
+use Rattle.club_requests.specs.Limits.{is_budget, is_increment, most_plies}
+use Rattle.club_requests.specs.Outcome.{Reply, MoveReply, moved, draw_offered, Outcome, accepted, repeated}
+use Rattle.club_requests.specs.Outcome.{refused, unless, unless_repeat}
 use Rattle.club_core.specs.Answer.{outcome_of, answered, reply_of, move_reply_of}
 use Rattle.club_core.specs.Events.{Terms}
 use Rattle.club_core.specs.Game.{Game, Entry, Clocks, moves_of, spend, spend_all, clocks_of, left_of, turn_of}

@@ -6,11 +6,11 @@ use Rattle.store_tables.specs.Changes.{put_rows}
 use Rattle.store_tables.specs.Contents.{Content, put_each}
 use Rattle.store_tables.specs.declared.rows.Changes.{Changes}
 use Rattle.store_tables.proofs.Proved.{each_at}
-use Rattle.club_core.specs.declared.answers.Answer.TheVariants as answer_is
-use Rattle.club_core.specs.declared.answers.Outcome.TheVariants as given_is
-use Rattle.club_core.specs.declared.refusals.Refusal.TheVariants.{NotAllowed}
-use Rattle.club_core.specs.declared.requests.Caller.{Caller}
-use Rattle.club_core.specs.declared.requests.Caller.TheVariants.{Officer, Member}
+use Rattle.club_requests.specs.declared.answers.Answer.TheVariants as answer_is
+use Rattle.club_requests.specs.declared.answers.Outcome.TheVariants as given_is
+use Rattle.club_requests.specs.declared.refusals.Refusal.TheVariants.{NotAllowed}
+use Rattle.club_requests.specs.declared.requests.Caller.{Caller}
+use Rattle.club_requests.specs.declared.requests.Caller.TheVariants.{Officer, Member}
 use Rattle.club_core.specs.Answer.{outcome_of}
 use Rattle.club_core.specs.State.{sweep, with_swept}
 use Rattle.club_rows.specs.Club.{both_games, ClubState, tables}

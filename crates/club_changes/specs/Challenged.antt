@@ -8,7 +8,7 @@ use Rattle.club_core.specs.declared.challenges.Standing.{Standing}
 use Rattle.club_core.specs.declared.challenges.Standing.TheVariants.{Open, Withdrawn, Refused, Accepted}
 use Rattle.club_core.specs.Challenges.{pairing_for}
 use Rattle.club_core.specs.Events.{Event}
-use Rattle.club_core.specs.Outcome.{Outcome, accepted, repeated, refused}
+use Rattle.club_requests.specs.Outcome.{Outcome, accepted, repeated, refused}
 use Rattle.club_rows.specs.Scores.{Meeting}
 use Rattle.store_tables.specs.declared.rows.Changes.{Changes}
 use Rattle.club_changes.specs.Steps.{Puts, NoneStarts, started, started_seen, started_scores, no_rows}

@@ -6,13 +6,13 @@ use Rattle.squares.specs.declared.sides.Score.{Score}
 use Rattle.club_rules.specs.declared.names.GameKind.{GameKind}
 use Rattle.club_rules.specs.GameRules.{GameRules}
 use Rattle.club_rules.specs.Records.{GameRecords}
-use Rattle.club_core.specs.declared.requests.Caller.{Caller}
+use Rattle.club_requests.specs.declared.requests.Caller.{Caller}
 use Rattle.club_core.specs.Answer.{members_of, events_of, keyed_of, outcome_of, answered}
 use Rattle.club_core.specs.Events.{Terms, Event, has_event_name}
 use Rattle.club_core.specs.Game.{Game, result_of}
 use Rattle.club_core.specs.Imports.{Import, Imported, imported, import_found}
 use Rattle.club_core.specs.Members.{find_id}
-use Rattle.club_core.specs.Outcome.{Outcome, accepted, repeated, refused, by_officer}
+use Rattle.club_requests.specs.Outcome.{Outcome, accepted, repeated, refused, by_officer}
 use Rattle.club_core.specs.Seats.{has_member_name}
 use Rattle.club_core.specs.State.{place, terms_at, any_under, game_under, keyed_game}
 use Rattle.club_rows.specs.Club.{ClubGame, ClubState}

@@ -8,19 +8,19 @@ pub use Rattle.store_tables.specs.Changes.{HaveSame}
 use Rattle.club_rules.specs.declared.names.GameKind.{GameKind}
 use Rattle.club_rules.specs.declared.names.GameKind.TheVariants.{Draughts, Shogi}
 use Rattle.club_rules.specs.GameRules.{GameRules}
-use Rattle.club_core.specs.declared.requests.Who as given_who
-use Rattle.club_core.specs.declared.requests.Command as given_command
-use Rattle.club_core.specs.declared.requests.Caller.{Caller}
-use Rattle.club_core.specs.Limits.{last_moment}
+use Rattle.club_requests.specs.declared.requests.Who as given_who
+use Rattle.club_requests.specs.declared.requests.Command as given_command
+use Rattle.club_requests.specs.declared.requests.Caller.{Caller}
+use Rattle.club_requests.specs.Limits.{last_moment}
 use Rattle.club_core.specs.Events.{Terms, Event}
 use Rattle.squares.specs.declared.sides.Score.{Score}
 use Rattle.sqlite.specs.declared.types.Value.TheVariants.{Text}
-use Rattle.club_core.specs.declared.answers.Decision.{Decision}
-use Rattle.club_core.specs.declared.answers.Decision.TheVariants as decision
+use Rattle.club_core.specs.declared.decided.Decision.{Decision}
+use Rattle.club_core.specs.declared.decided.Decision.TheVariants as decision
 use Rattle.club_core.specs.Game.{Game, Entry, last_position, result_of}
-use Rattle.club_core.specs.Outcome.{MoveReply, Outcome, accepted, repeated, refused}
-use Rattle.club_core.specs.declared.answers.Answer.{Answer}
-use Rattle.club_core.specs.declared.answers.Answer.TheVariants as answer
+use Rattle.club_requests.specs.Outcome.{MoveReply, Outcome, accepted, repeated, refused}
+use Rattle.club_requests.specs.declared.answers.Answer.{Answer}
+use Rattle.club_requests.specs.declared.answers.Answer.TheVariants as answer
 use Rattle.club_core.specs.Answer.{answered, outcome_of, move_reply_of, who_of, command_of}
 use Rattle.club_core.specs.Seats.{Pairing}
 use Rattle.club_core.specs.State.{Command, Request, place, kind_at, seated, seated_as, state_after, step, step_command}

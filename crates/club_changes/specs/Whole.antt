@@ -1,7 +1,7 @@
 -- What is decided of a request, as a whole: rows to put only where it is accepted.
 use Rattle.std.specs.Prelude.{⊤, IfSome}
-use Rattle.club_core.specs.declared.answers.Outcome.{Outcome}
-use Rattle.club_core.specs.declared.answers.Outcome.TheVariants.{Accepted, Repeated, Refused}
+use Rattle.club_requests.specs.declared.answers.Outcome.{Outcome}
+use Rattle.club_requests.specs.declared.answers.Outcome.TheVariants.{Accepted, Repeated, Refused}
 use Rattle.club_changes.specs.declared.decided.Decided.{Decided}
 
 abbrev pub IsAccepted : Outcome → Type 0

@@ -6,7 +6,7 @@ ghost use Rattle.club_core.specs.State.{is_accepted};
 ghost use Rattle.club_changes.specs.Steps.{Puts, no_rows};
 
 use clocks::Moment;
-use club_core::Outcome;
+use club_requests::Outcome;
 use club_rows::numbers::stored;
 use std::alloc::Global;
 use store_tables::{Changes, MetaRow};

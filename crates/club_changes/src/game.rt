@@ -4,7 +4,7 @@ ghost use Rattle.std.specs.Prelude.{◌≡◌, ◌<◌, ◌^◌, List, [], ◌�
 ghost use Rattle.club_core.specs.Events as core;
 ghost use Rattle.club_core.specs.Game.{Game};
 ghost use Rattle.club_core.specs.Legal.{IsLegalGame};
-ghost use Rattle.club_core.specs.Limits.{is_budget, is_increment};
+ghost use Rattle.club_requests.specs.Limits.{is_budget, is_increment};
 ghost use Rattle.club_core.specs.Step as machine;
 ghost use Rattle.club_core.specs.Step.{game_step};
 ghost use Rattle.club_core.specs.View.{IsConcluded, IsRowOf};
@@ -19,7 +19,8 @@ ghost use Rattle.store_tables.specs.declared.rows.SeenRow.{SeenRow};
 
 use crate::decided::{Decided, at, unchanged};
 use clocks::Moment;
-use club_core::{Answer, Caller, Decision, GameRow, Outcome};
+use club_core::{Decision, GameRow};
+use club_requests::{Answer, Caller, Outcome};
 use club_rows::{ScorePair, move_row, record_of};
 use club_rules::{Memory, Rules};
 use std::alloc::Global;

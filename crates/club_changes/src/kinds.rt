@@ -3,7 +3,7 @@
 ghost use Rattle.std.specs.Prelude.{◌≡◌, ◌≢◌, [], ◌∷◌, IfOk, IsErrOf, IsTrue};
 ghost use Rattle.std.specs.Option.{option_map};
 ghost use Rattle.club_core.specs.Answer.{pairing_of};
-ghost use Rattle.club_core.specs.Limits.{is_budget};
+ghost use Rattle.club_requests.specs.Limits.{is_budget};
 ghost use Rattle.club_rows.specs.Replay.{terms_given};
 ghost use Rattle.club_changes.specs.Steps.{first_row, first_seen_rows, first_meetings, Puts, no_rows};
 

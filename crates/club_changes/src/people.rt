@@ -13,7 +13,8 @@ ghost use Rattle.club_changes.specs.Whole.{IsWhole};
 
 use crate::decided::{Decided, at, is_accepted, unchanged};
 use clocks::Moment;
-use club_core::{AddEvent, AddMember, Caller, Event, Member, add_event, add_member};
+use club_core::{Event, Member, add_event, add_member};
+use club_requests::{AddEvent, AddMember, Caller};
 use club_rows::kind_number;
 use club_rows::numbers::stored;
 use club_rules::Memory;

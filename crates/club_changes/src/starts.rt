@@ -4,7 +4,7 @@ ghost use Rattle.std.specs.Prelude.{◌≡◌, ◌≢◌, ◌<◌, ℕ, [], ◌�
 ghost use Rattle.std.specs.Option.{option_map};
 ghost use Rattle.club_core.specs.Answer.{pairing_of};
 ghost use Rattle.club_core.specs.Game.{result_of};
-ghost use Rattle.club_core.specs.Limits.{is_budget};
+ghost use Rattle.club_requests.specs.Limits.{is_budget};
 ghost use Rattle.club_core.specs.State.{seated};
 ghost use Rattle.club_core.specs.View.{IsRowOf};
 ghost use Rattle.club_rows.specs.Replay.{terms_given};

@@ -2,7 +2,7 @@
 
 ghost use Rattle.std.specs.Prelude.{◌≡◌, map, IfOk, IsErrOf};
 ghost use Rattle.club_core.specs.State.{sweep};
-ghost use Rattle.club_core.specs.declared.requests.Caller.TheVariants.{Officer};
+ghost use Rattle.club_requests.specs.declared.requests.Caller.TheVariants.{Officer};
 ghost use Rattle.club_rows.specs.Club.{ClubState, IsClub, tables};
 ghost use Rattle.store_tables.specs.Cells.{game_cells, score_cells};
 ghost use Rattle.club_changes.specs.Steps.{caller_step, HaveSame, IsDecided};
@@ -12,7 +12,7 @@ ghost use Rattle.sweep_rows.specs.Swept.{IsSwept};
 use crate::decided::{Decided, at};
 use crate::fault::ChangeFault;
 use clocks::Moment;
-use club_core::{Answer, Outcome};
+use club_requests::{Answer, Outcome};
 use std::alloc::Global;
 use store_tables::{GameRecord, ScoreRow};
 use sweep_rows::{SweptRows, swept_rows};

@@ -12,12 +12,12 @@ use Rattle.squares.specs.Sides.{other}
 use Rattle.club_rules.specs.declared.refusals.MoveRefusal.{MoveRefusal}
 use Rattle.club_rules.specs.GameRules.{GameRules, ply_limit}
 use Rattle.club_rules.specs.Line.{IsLegalLine}
-use Rattle.club_core.specs.declared.rows.OutsideEnd.{OutsideEnd}
-use Rattle.club_core.specs.declared.rows.OutsideEnd.TheVariants.{Agreed, Recorded}
+use Rattle.club_requests.specs.declared.outside_end.OutsideEnd.{OutsideEnd}
+use Rattle.club_requests.specs.declared.outside_end.OutsideEnd.TheVariants.{Agreed, Recorded}
 use Rattle.club_core.specs.declared.rows.Offer.{Offer}
-use Rattle.club_core.specs.declared.refusals.Refusal.{Refusal}
+use Rattle.club_requests.specs.declared.refusals.Refusal.{Refusal}
 use Rattle.club_core.specs.Events.{Terms}
-use Rattle.club_core.specs.Outcome.{first_refusal}
+use Rattle.club_requests.specs.Outcome.{first_refusal}
 use Rattle.club_core.specs.Game.{Game, Clocks, turns, spend, spend_all, moves_of, clocks_of, last_position, rule_end}
 use Rattle.club_core.specs.Game.{end_of, turn_of, result_of, end_with, left_of, side_after}
 use Rattle.club_core.specs.Legal.{IsTimely, IsOffer, IsLegalGame}

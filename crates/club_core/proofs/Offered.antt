@@ -2,7 +2,7 @@
 use Rattle.std.proofs.Common.{◌≡◌, ℕ, None, true, refl}
 use Rattle.squares.specs.declared.sides.Side.{Side}
 use Rattle.club_rules.specs.GameRules.{GameRules}
-use Rattle.club_core.specs.Outcome.{accepted, draw_offered}
+use Rattle.club_requests.specs.Outcome.{accepted, draw_offered}
 use Rattle.club_core.specs.Game.{Game}
 use Rattle.club_core.specs.Step.{offered, repeat_of_offer, offer_refusal, step_offer}
 

@@ -15,10 +15,10 @@ use Rattle.club_rules.specs.Line.{position_after, IsLegalLine}
 use Rattle.club_rules.proofs.Proved.{position_after-append, position_after-take, check-at}
 use Rattle.club_core.specs.declared.rows.GameEnd.{GameEnd}
 use Rattle.club_core.specs.declared.rows.GameEnd.TheVariants.{Rule}
-use Rattle.club_core.specs.declared.rows.OutsideEnd.{OutsideEnd}
+use Rattle.club_requests.specs.declared.outside_end.OutsideEnd.{OutsideEnd}
 use Rattle.club_core.specs.declared.rows.Asked.{Asked}
 use Rattle.club_core.specs.Events.{Terms}
-use Rattle.club_core.specs.Outcome.{MoveReply, moved}
+use Rattle.club_requests.specs.Outcome.{MoveReply, moved}
 use Rattle.club_core.specs.Game.{Game, Clocks, turns, spend, spend_all, moves_of, clocks_of, last_position, rule_end}
 use Rattle.club_core.specs.Game.{end_of, turn_of, result_of, end_with, score_with, left_of, side_after, game_at}
 use Rattle.club_core.specs.Legal.{IsLegalGame}

@@ -6,7 +6,7 @@ use Rattle.std.proofs.lemmas.List.{length-map}
 use Rattle.club_rules.specs.GameRules.{GameRules}
 use Rattle.club_rules.specs.Line.{position_after, IsPlayedLine, track_after, line_track, times_stood, FirstStands}
 use Rattle.club_rules.specs.Laws.{TracksTellEnds, NumbersGiveTracks, NumbersAreFew}
-use Rattle.club_core.specs.Limits.{most_plies}
+use Rattle.club_requests.specs.Limits.{most_plies}
 use Rattle.club_core.specs.declared.rows.GameEnd.TheVariants.{Rule}
 use Rattle.club_core.specs.Game.{Game, moves_of, last_position, rule_end}
 use Rattle.club_core.specs.Step.{played}

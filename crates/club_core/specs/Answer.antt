@@ -1,31 +1,32 @@
 -- What the program's values stand for: its answers, its members and events, and its requests.
 use Rattle.std.specs.Prelude.{List, map, string_bytes}
-use Rattle.club_core.specs.declared.answers.Moved.{Moved}
-use Rattle.club_core.specs.declared.answers.Answer.{Answer}
-use Rattle.club_core.specs.declared.answers.Answer.TheVariants as answer
-use Rattle.club_core.specs.declared.answers.Outcome as given_outcome
-use Rattle.club_core.specs.declared.answers.Outcome.TheVariants as given
+use Rattle.club_requests.specs.declared.answers.Moved.{Moved}
+use Rattle.club_requests.specs.declared.answers.Answer.{Answer}
+use Rattle.club_requests.specs.declared.answers.Answer.TheVariants as answer
+use Rattle.club_requests.specs.declared.answers.Outcome as given_outcome
+use Rattle.club_requests.specs.declared.answers.Outcome.TheVariants as given
 use Rattle.club_core.specs.declared.challenges.Challenge.{Challenge}
 use Rattle.club_core.specs.declared.challenges.ChallengeDecision.{ChallengeDecision}
 use Rattle.club_core.specs.declared.challenges.ChallengeDecision.TheVariants as challenge
 use Rattle.club_core.specs.declared.members.Member as given_member
 use Rattle.club_core.specs.declared.events.Event as given_event
-use Rattle.club_core.specs.declared.requests.AddEvent as given_command
-use Rattle.club_core.specs.declared.requests.Command as given_commands
-use Rattle.club_core.specs.declared.requests.Command.TheVariants as given_is
-use Rattle.club_core.specs.declared.requests.GameCommand as given_game
-use Rattle.club_core.specs.declared.requests.GameCommand.TheVariants as given_does
-use Rattle.club_core.specs.declared.requests.Request as given_request
-use Rattle.club_core.specs.declared.requests.Import as given_import
-use Rattle.club_core.specs.declared.requests.Who as given_who
-use Rattle.club_core.specs.declared.requests.Who.TheVariants as given_who_is
+use Rattle.club_requests.specs.declared.requests.AddEvent as given_command
+use Rattle.club_requests.specs.declared.requests.Command as given_commands
+use Rattle.club_requests.specs.declared.requests.Command.TheVariants as given_is
+use Rattle.club_requests.specs.declared.requests.GameCommand as given_game
+use Rattle.club_requests.specs.declared.requests.GameCommand.TheVariants as given_does
+use Rattle.club_requests.specs.declared.requests.Request as given_request
+use Rattle.club_requests.specs.declared.requests.Import as given_import
+use Rattle.club_requests.specs.declared.requests.Who as given_who
+use Rattle.club_requests.specs.declared.requests.Who.TheVariants as given_who_is
 use Rattle.club_core.specs.declared.seats.Pairing as given_pairing
 use Rattle.club_core.specs.declared.seats.KeyedGame as given_keyed
 use Rattle.club_core.specs.declared.seats.Seating as given_seating
 use Rattle.club_core.specs.declared.seats.Seating.TheVariants as seating
-use Rattle.club_core.specs.Outcome.{Reply, MoveReply, member_added, event_added, game_seated, moved, draw_offered}
-use Rattle.club_core.specs.Outcome.{game_ended, games_swept, challenge_opened, challenge_withdrawn, challenge_refused}
-use Rattle.club_core.specs.Outcome.{challenge_accepted, Outcome, accepted, repeated, refused, map_outcome}
+use Rattle.club_requests.specs.Outcome.{Reply, MoveReply, member_added, event_added, game_seated, moved, draw_offered}
+use Rattle.club_requests.specs.Outcome.{game_ended, games_swept, challenge_opened, challenge_withdrawn}
+use Rattle.club_requests.specs.Outcome.{challenge_refused}
+use Rattle.club_requests.specs.Outcome.{challenge_accepted, Outcome, accepted, repeated, refused, map_outcome}
 use Rattle.club_core.specs.Members.{Member}
 use Rattle.club_core.specs.Events.{Event}
 use Rattle.club_core.specs.Seats.{Pairing, KeyedGame}

@@ -5,12 +5,14 @@ use Rattle.std.proofs.Math.Bool.{beq}
 use Rattle.club_core.specs.declared.challenges.Challenge.{Challenge}
 use Rattle.club_core.specs.declared.challenges.Standing.{Standing}
 use Rattle.club_core.specs.declared.challenges.Standing.TheVariants.{Open, Withdrawn, Refused, Accepted}
-use Rattle.club_core.specs.declared.refusals.Refusal.{Refusal}
-use Rattle.club_core.specs.declared.refusals.Refusal.TheVariants.{UnknownEvent, UnknownChallenge, Conflict, BadValue}
-use Rattle.club_core.specs.declared.refusals.Refusal.TheVariants.{Full}
-use Rattle.club_core.specs.Limits.{most_games, is_challenge_number}
-use Rattle.club_core.specs.Outcome.{Reply, challenge_opened, challenge_withdrawn, challenge_refused, challenge_accepted}
-use Rattle.club_core.specs.Outcome.{Outcome, accepted, refused, first_refusal, unless, unless_repeat}
+use Rattle.club_requests.specs.declared.refusals.Refusal.{Refusal}
+use Rattle.club_requests.specs.declared.refusals.Refusal.TheVariants.{UnknownEvent, UnknownChallenge, Conflict}
+use Rattle.club_requests.specs.declared.refusals.Refusal.TheVariants.{BadValue}
+use Rattle.club_requests.specs.declared.refusals.Refusal.TheVariants.{Full}
+use Rattle.club_requests.specs.Limits.{most_games, is_challenge_number}
+use Rattle.club_requests.specs.Outcome.{Reply, challenge_opened, challenge_withdrawn, challenge_refused}
+use Rattle.club_requests.specs.Outcome.{challenge_accepted}
+use Rattle.club_requests.specs.Outcome.{Outcome, accepted, refused, first_refusal, unless, unless_repeat}
 use Rattle.club_core.specs.Members.{Member, find_id}
 use Rattle.club_core.specs.Events.{Event, has_event_name}
 use Rattle.club_core.specs.Seats.{Pairing, has_member_name, is_id, are_two}

@@ -6,10 +6,10 @@ use Rattle.std.specs.Option.{option_map}
 use Rattle.std.specs.List.{list_any}
 use Rattle.club_rules.specs.declared.names.GameKind.{GameKind}
 use Rattle.club_rules.specs.declared.names.GameKind.TheVariants.{Draughts, Shogi}
-use Rattle.club_core.specs.declared.refusals.Refusal.{Refusal}
-use Rattle.club_core.specs.declared.refusals.Refusal.TheVariants.{NameTaken, BadValue, Full}
-use Rattle.club_core.specs.Limits.{most_events, is_name, is_budget, is_increment}
-use Rattle.club_core.specs.Outcome.{Reply, event_added, Outcome, accepted, first_refusal, unless, unless_repeat}
+use Rattle.club_requests.specs.declared.refusals.Refusal.{Refusal}
+use Rattle.club_requests.specs.declared.refusals.Refusal.TheVariants.{NameTaken, BadValue, Full}
+use Rattle.club_requests.specs.Limits.{most_events, is_name, is_budget, is_increment}
+use Rattle.club_requests.specs.Outcome.{Reply, event_added, Outcome, accepted, first_refusal, unless, unless_repeat}
 use Rattle.club_core.specs.Members.{find_id}
 
 -- what an event gives each player, and each move in time

@@ -8,13 +8,13 @@ use Rattle.club_rules.specs.declared.records.RecordFormat.TheVariants.{Pdn, Csa}
 use Rattle.club_rules.specs.GameRules.{GameRules}
 use Rattle.club_rules.specs.Records as record_is
 use Rattle.club_rules.specs.Records.{Recorded, Reading, GameRecords}
-use Rattle.club_core.specs.declared.rows.OutsideEnd.{OutsideEnd}
-use Rattle.club_core.specs.declared.rows.OutsideEnd.TheVariants.{Recorded as by_record}
-use Rattle.club_core.specs.declared.refusals.Refusal.{Refusal}
-use Rattle.club_core.specs.declared.refusals.Refusal.TheVariants.{UnknownEvent, Conflict, BadValue, Full, Record}
-use Rattle.club_core.specs.Limits.{most_games, most_record_bytes, is_name}
-use Rattle.club_core.specs.Outcome.{Reply, game_seated, Outcome, accepted, refused, first_refusal, unless}
-use Rattle.club_core.specs.Outcome.{unless_repeat}
+use Rattle.club_requests.specs.declared.outside_end.OutsideEnd.{OutsideEnd}
+use Rattle.club_requests.specs.declared.outside_end.OutsideEnd.TheVariants.{Recorded as by_record}
+use Rattle.club_requests.specs.declared.refusals.Refusal.{Refusal}
+use Rattle.club_requests.specs.declared.refusals.Refusal.TheVariants.{UnknownEvent, Conflict, BadValue, Full, Record}
+use Rattle.club_requests.specs.Limits.{most_games, most_record_bytes, is_name}
+use Rattle.club_requests.specs.Outcome.{Reply, game_seated, Outcome, accepted, refused, first_refusal, unless}
+use Rattle.club_requests.specs.Outcome.{unless_repeat}
 use Rattle.club_core.specs.Seats.{Pairing, KeyedGame, are_two, same_seats}
 use Rattle.club_core.specs.Game.{Game, moves_of, result_of}
 

@@ -7,9 +7,9 @@ use Rattle.squares.specs.declared.sides.Score.{Score}
 use Rattle.squares.specs.Sides.{other}
 use Rattle.club_rules.specs.GameRules.{GameRules}
 use Rattle.club_rules.specs.Line.{IsPlayedLine}
-use Rattle.club_core.specs.declared.rows.OutsideEnd.TheVariants.{Agreed, Recorded}
+use Rattle.club_requests.specs.declared.outside_end.OutsideEnd.TheVariants.{Agreed, Recorded}
 use Rattle.club_core.specs.declared.rows.Offer.{Offer}
-use Rattle.club_core.specs.Limits.{most_plies}
+use Rattle.club_requests.specs.Limits.{most_plies}
 use Rattle.club_core.specs.Events.{Terms}
 use Rattle.club_core.specs.Game.{Entry, Game, Clocks, left_of, spend, moves_of, moments_of, opening_clocks, rule_end}
 

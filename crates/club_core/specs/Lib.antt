@@ -1,7 +1,3 @@
-pub mod Limits
-pub mod Refusal
-pub mod Outcome
-pub mod OutsideEnd
 pub mod Members
 pub mod ClubRules
 pub mod Events
@@ -13,6 +9,5 @@ pub mod Imports
 pub mod Step
 pub mod State
 pub mod Answer
-pub mod AnswerText
 pub mod View
 pub mod LegalState

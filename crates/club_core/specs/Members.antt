@@ -4,10 +4,10 @@ use Rattle.std.specs.Prelude.{nat_le, if◌then◌else◌}
 use Rattle.std.specs.Str.{bytes_eq}
 use Rattle.std.specs.Option.{option_map}
 use Rattle.std.specs.List.{list_any}
-use Rattle.club_core.specs.declared.refusals.Refusal.{Refusal}
-use Rattle.club_core.specs.declared.refusals.Refusal.TheVariants.{NameTaken, BadValue, Full}
-use Rattle.club_core.specs.Limits.{most_members, is_name, is_member_key}
-use Rattle.club_core.specs.Outcome.{Reply, member_added, Outcome, accepted, first_refusal, unless, unless_repeat}
+use Rattle.club_requests.specs.declared.refusals.Refusal.{Refusal}
+use Rattle.club_requests.specs.declared.refusals.Refusal.TheVariants.{NameTaken, BadValue, Full}
+use Rattle.club_requests.specs.Limits.{most_members, is_name, is_member_key}
+use Rattle.club_requests.specs.Outcome.{Reply, member_added, Outcome, accepted, first_refusal, unless, unless_repeat}
 
 pub record Member : Type 0 where
   pub name : List ℕ

@@ -2,11 +2,11 @@
 use Rattle.std.specs.Prelude.{ℕ, ◌+◌, List, [], ◌∷◌, Option, Some, None, Bool, false, not, is_some, ◌&&◌, nat_le, ◌==◌}
 use Rattle.std.specs.Prelude.{if◌then◌else◌}
 use Rattle.std.specs.Str.{bytes_eq}
-use Rattle.club_core.specs.declared.refusals.Refusal.{Refusal}
-use Rattle.club_core.specs.declared.refusals.Refusal.TheVariants.{UnknownEvent, Conflict, BadValue, Full}
-use Rattle.club_core.specs.Limits.{most_games, is_name}
-use Rattle.club_core.specs.Outcome.{Reply, game_seated, Outcome, accepted, refused, first_refusal, unless}
-use Rattle.club_core.specs.Outcome.{unless_repeat}
+use Rattle.club_requests.specs.declared.refusals.Refusal.{Refusal}
+use Rattle.club_requests.specs.declared.refusals.Refusal.TheVariants.{UnknownEvent, Conflict, BadValue, Full}
+use Rattle.club_requests.specs.Limits.{most_games, is_name}
+use Rattle.club_requests.specs.Outcome.{Reply, game_seated, Outcome, accepted, refused, first_refusal, unless}
+use Rattle.club_requests.specs.Outcome.{unless_repeat}
 use Rattle.club_core.specs.Members.{Member, find_id}
 use Rattle.club_core.specs.Events.{Event, has_event_name}
 

@@ -8,19 +8,22 @@ use Rattle.squares.specs.declared.sides.Side.TheVariants.{First, Second}
 use Rattle.squares.specs.Sides.{same_side, other}
 use Rattle.club_rules.specs.declared.refusals.MoveRefusal.{MoveRefusal}
 use Rattle.club_rules.specs.GameRules.{GameRules}
-use Rattle.club_core.specs.declared.requests.Caller.{Caller}
-use Rattle.club_core.specs.declared.requests.Caller.TheVariants.{Officer, Member}
-use Rattle.club_core.specs.declared.rows.OutsideEnd.{OutsideEnd}
-use Rattle.club_core.specs.declared.rows.OutsideEnd.TheVariants.{Resigned, Agreed, Time, Recorded}
+use Rattle.club_requests.specs.declared.requests.Caller.{Caller}
+use Rattle.club_requests.specs.declared.requests.Caller.TheVariants.{Officer, Member}
+use Rattle.club_requests.specs.declared.outside_end.OutsideEnd.{OutsideEnd}
+use Rattle.club_requests.specs.declared.outside_end.OutsideEnd.TheVariants.{Resigned, Agreed, Time, Recorded}
 use Rattle.club_core.specs.declared.rows.Offer.{Offer}
-use Rattle.club_core.specs.declared.refusals.Refusal.{Refusal}
-use Rattle.club_core.specs.declared.refusals.Refusal.TheVariants.{NotAllowed, UnknownGame, NotAPlayer, NotInThisGame}
-use Rattle.club_core.specs.declared.refusals.Refusal.TheVariants.{GameOver, WrongPly, Conflict, NotYourTurn, OutOfTime}
-use Rattle.club_core.specs.declared.refusals.Refusal.TheVariants.{TimeLeft, NoOffer, BadValue, Play}
-use Rattle.club_core.specs.Limits.{most_text_bytes}
+use Rattle.club_requests.specs.declared.refusals.Refusal.{Refusal}
+use Rattle.club_requests.specs.declared.refusals.Refusal.TheVariants.{NotAllowed, UnknownGame, NotAPlayer}
+use Rattle.club_requests.specs.declared.refusals.Refusal.TheVariants.{NotInThisGame}
+use Rattle.club_requests.specs.declared.refusals.Refusal.TheVariants.{GameOver, WrongPly, Conflict, NotYourTurn}
+use Rattle.club_requests.specs.declared.refusals.Refusal.TheVariants.{OutOfTime}
+use Rattle.club_requests.specs.declared.refusals.Refusal.TheVariants.{TimeLeft, NoOffer, BadValue, Play}
+use Rattle.club_requests.specs.Limits.{most_text_bytes}
 use Rattle.club_core.specs.Events.{Terms}
-use Rattle.club_core.specs.Outcome.{Reply, moved, draw_offered, game_ended, Outcome, accepted, refused, first_refusal}
-use Rattle.club_core.specs.Outcome.{unless, unless_repeat}
+use Rattle.club_requests.specs.Outcome.{Reply, moved, draw_offered, game_ended, Outcome, accepted, refused}
+use Rattle.club_requests.specs.Outcome.{first_refusal}
+use Rattle.club_requests.specs.Outcome.{unless, unless_repeat}
 use Rattle.club_core.specs.Game.{Game, left_of, side_after, outside_score, moves_of, clocks_of, last_position, rule_end}
 use Rattle.club_core.specs.Game.{turn_of, result_of, game_at}
 

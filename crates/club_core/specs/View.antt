@@ -9,18 +9,18 @@ use Rattle.club_rules.specs.Line.{line_track, times_stood, FirstStands}
 use Rattle.club_core.specs.declared.rows.GameRow.{GameRow}
 use Rattle.club_core.specs.declared.rows.GameEnd.{GameEnd}
 use Rattle.club_core.specs.declared.rows.GameEnd.TheVariants.{Rule, Outside}
-use Rattle.club_core.specs.declared.rows.OutsideEnd.{OutsideEnd}
+use Rattle.club_requests.specs.declared.outside_end.OutsideEnd.{OutsideEnd}
 use Rattle.club_core.specs.declared.rows.GameView.{GameView}
 use Rattle.club_core.specs.declared.rows.Asked.{Asked}
 use Rattle.club_core.specs.declared.rows.Made.{Made}
 use Rattle.club_core.specs.declared.settling.Settled.{Settled}
-use Rattle.club_core.specs.declared.answers.Answer.{Answer}
-use Rattle.club_core.specs.declared.answers.Answer.TheVariants as given
-use Rattle.club_core.specs.declared.answers.Decision.{Decision}
-use Rattle.club_core.specs.declared.answers.Decision.TheVariants as decision
-use Rattle.club_core.specs.Limits.{most_plies}
+use Rattle.club_requests.specs.declared.answers.Answer.{Answer}
+use Rattle.club_requests.specs.declared.answers.Answer.TheVariants as given
+use Rattle.club_core.specs.declared.decided.Decision.{Decision}
+use Rattle.club_core.specs.declared.decided.Decision.TheVariants as decision
+use Rattle.club_requests.specs.Limits.{most_plies}
 use Rattle.club_core.specs.Events.{Terms}
-use Rattle.club_core.specs.Outcome.{Outcome, accepted, repeated, refused}
+use Rattle.club_requests.specs.Outcome.{Outcome, accepted, repeated, refused}
 use Rattle.club_core.specs.Answer.{reply_of}
 use Rattle.club_core.specs.Game.{Game, Clocks, clocks_of, moves_of, last_position, end_of, result_of, score_with}
 use Rattle.club_core.specs.Game.{left_of, left_after, side_after, game_at}

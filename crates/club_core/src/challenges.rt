@@ -2,20 +2,18 @@
 
 ghost use Rattle.std.specs.Prelude.{◌≡◌, ◌≤◌, ◌<◌, length, Option, Some, None, IsTrue, IfNone, string_bytes};
 ghost use Rattle.std.specs.Option.{option_map};
-ghost use Rattle.club_core.specs.Limits.{most_members, most_events, most_games, greatest_challenge};
+ghost use Rattle.club_requests.specs.Limits.{most_members, most_events, most_games, greatest_challenge};
 ghost use Rattle.club_core.specs.Challenges.{pairing_for, repeat_of_opening, opening_refusal, opening_found};
 ghost use Rattle.club_core.specs.Challenges.{opening_step, withdrawal_step, repeat_of_answer, answer_refusal, answers};
 ghost use Rattle.club_core.specs.Challenges.{answer_step};
-ghost use Rattle.club_core.specs.Outcome.{by_member};
+ghost use Rattle.club_requests.specs.Outcome.{by_member};
 ghost use Rattle.club_core.specs.Answer.{members_of, events_of, pairing_of, reply_of, challenge_outcome_of};
 
-use crate::answers::Answer;
 use crate::events::Event;
 use crate::members::Member;
-use crate::refusals::Refusal;
-use crate::requests::{Caller, OpenChallenge};
 use crate::seats::{Pairing, are_two, find_event, find_member, is_id};
-use crate::values::{MOST_GAMES, is_challenge_number};
+use club_requests::values::{MOST_GAMES, is_challenge_number};
+use club_requests::{Answer, Caller, OpenChallenge, Refusal};
 
 /// How a challenge stands.
 #[derive(Clone, Copy, Debug, PartialEq, Eq)]

@@ -7,15 +7,14 @@ ghost use Rattle.club_core.specs.Legal.{IsLegalGame};
 ghost use Rattle.club_core.specs.Step.{may_give, no_game_refusal, asked_ply, caller_side, side_step, game_step};
 ghost use Rattle.club_core.specs.View.{Shows, ShowsPly, IsSound, IsDecision, terms_of};
 
-use crate::answers::Decision;
+use crate::decided::Decision;
 use crate::draws::{accept_draw, offer_draw};
 use crate::endings::{claim_time, resign};
 use crate::moves::play_move;
 use crate::players::{side_of_member, side_of_ply};
-use crate::refusals::Refusal;
-use crate::requests::{Caller, GameCommand};
 use crate::rows::{GameRow, GameView};
 use clocks::Moment;
+use club_requests::{Caller, GameCommand, Refusal};
 use club_rules::{Memory, Rules};
 use squares::Side;
 use std::alloc::Global;
@@ -38,6 +37,16 @@ pub fn refusal_without_game(caller: Caller, command: &GameCommand) -> Refusal
         Refusal::UnknownGame
     } else {
         Refusal::NotAllowed
+    }
+}
+
+/// The ply that a command on a game names a move of, and else 0.
+pub fn asked_ply(command: &GameCommand) -> u64
+    ensures { result ≡ asked_ply (game_command_of command.now) }
+{
+    match command {
+        GameCommand::Move { ply, text: _ } => *ply,
+        _ => 0,
     }
 }
 
@@ -100,7 +109,7 @@ pub fn decide<R: Rules>(
     if !may_give(caller, command) {
         return Ok(Decision::Refused(Refusal::NotAllowed));
     }
-    let side = match side_of_caller(&view.row, caller, command.asked_ply()) {
+    let side = match side_of_caller(&view.row, caller, asked_ply(command)) {
         Some(side) => side,
         None => return Ok(Decision::Refused(Refusal::NotAPlayer)),
     };

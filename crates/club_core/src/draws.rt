@@ -2,21 +2,21 @@
 
 ghost use Rattle.std.specs.Prelude.{◌≡◌, ◌+◌, ◌==◌, ℕ, Some, None, IfOk, IfNone, if◌then◌else◌};
 ghost use Rattle.std.specs.Option.{option_map};
-ghost use Rattle.club_core.specs.declared.refusals.Refusal.TheVariants.{NotInThisGame};
+ghost use Rattle.club_requests.specs.declared.refusals.Refusal.TheVariants.{NotInThisGame};
 ghost use Rattle.club_core.specs.Answer.{reply_of};
 ghost use Rattle.club_core.specs.Game.{Game};
 ghost use Rattle.club_core.specs.Legal.{IsLegalGame};
-ghost use Rattle.club_core.specs.Outcome.{accepted, draw_offered};
+ghost use Rattle.club_requests.specs.Outcome.{accepted, draw_offered};
 ghost use Rattle.club_core.specs.Step.{has_offer, offered, repeat_of_offer, offer_refusal, step_offer};
 ghost use Rattle.club_core.specs.Step.{repeat_of_accept, accept_refusal, step_accept};
 ghost use Rattle.club_core.specs.View.{Shows, IsSound, IsDecision, terms_of};
 
-use crate::answers::{Answer, Decision};
+use crate::decided::Decision;
 use crate::endings::{accept_end, answer_of_end};
 use crate::ends::is_agreed;
 use crate::players::is_side;
-use crate::refusals::Refusal;
-use crate::rows::{GameView, Offer, OutsideEnd, copy_row};
+use crate::rows::{GameView, Offer, copy_row};
+use club_requests::{Answer, OutsideEnd, Refusal};
 use club_rules::{Memory, Rules};
 use squares::Side;
 

@@ -9,12 +9,12 @@ ghost use Rattle.club_core.specs.Step.{reply_of_end, ends, repeat_of_resign, res
 ghost use Rattle.club_core.specs.Step.{repeat_of_claim, claim_refusal, step_claim};
 ghost use Rattle.club_core.specs.View.{Shows, IsDecision, terms_of};
 
-use crate::answers::{Answer, Decision};
+use crate::decided::Decision;
 use crate::ends::{is_lost_by_time, is_resigned, outside_score};
 use crate::players::{is_side, left_in};
-use crate::refusals::Refusal;
-use crate::rows::{GameEnd, GameView, OutsideEnd, copy_row};
+use crate::rows::{GameEnd, GameView, copy_row};
 use clocks::Moment;
+use club_requests::{Answer, OutsideEnd, Refusal};
 use club_rules::{Memory, Rules};
 use squares::Side;
 

@@ -7,7 +7,8 @@ ghost use Rattle.club_core.specs.Game.{score_with, outside_score};
 ghost use Rattle.club_core.specs.View.{rule_in, outside_in};
 ghost use Rattle.club_core.specs.Step.{is_resigned, is_agreed, is_lost_by_time};
 
-use crate::rows::{GameEnd, OutsideEnd};
+use crate::rows::GameEnd;
+use club_requests::OutsideEnd;
 use club_rules::{EndName, Rules};
 use squares::{Score, Side};
 

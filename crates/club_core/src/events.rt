@@ -2,18 +2,16 @@
 
 ghost use Rattle.std.specs.Prelude.{◌≡◌, ◌≤◌, ◌<◌, length, Option, Some, None, IfNone, string_bytes};
 ghost use Rattle.std.specs.List.{list_any};
-ghost use Rattle.club_core.specs.Limits.{most_events};
+ghost use Rattle.club_requests.specs.Limits.{most_events};
 ghost use Rattle.club_core.specs.Members.{find_id};
 ghost use Rattle.club_core.specs.Events.{has_event_name, is_event, same_game, has_good_values, event_refusal};
 ghost use Rattle.club_core.specs.Events.{event_step};
-ghost use Rattle.club_core.specs.Outcome.{by_officer};
+ghost use Rattle.club_requests.specs.Outcome.{by_officer};
 ghost use Rattle.club_core.specs.Answer.{event_of, events_of, added_event, outcome_of, answered};
 
-use crate::answers::{Answer, Outcome};
 use crate::ids::id_at;
-use crate::refusals::Refusal;
-use crate::requests::{AddEvent, Caller};
-use crate::values::{MOST_EVENTS, is_budget, is_increment, is_name};
+use club_requests::values::{MOST_EVENTS, is_budget, is_increment, is_name};
+use club_requests::{AddEvent, Answer, Caller, Outcome, Refusal};
 use club_rules::GameKind;
 
 /// An event: games of one kind, with the seconds that each player starts with and those that each move adds.

@@ -2,7 +2,7 @@
 
 ghost use Rattle.std.specs.Prelude.{◌≡◌, ◌<◌, suc, IfSome};
 ghost use Rattle.std.specs.Option.{option_map};
-ghost use Rattle.club_core.specs.Limits.{most_games};
+ghost use Rattle.club_requests.specs.Limits.{most_games};
 
 /// The id of what stands at a place, which counts from 0.
 pub fn id_at(place: Option<usize>) -> Option<u32>

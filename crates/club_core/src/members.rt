@@ -5,17 +5,15 @@ ghost use Rattle.std.specs.Prelude.{string_bytes};
 ghost use Rattle.std.specs.Str.{bytes_eq};
 ghost use Rattle.std.specs.Option.{option_map};
 ghost use Rattle.std.specs.List.{list_any};
-ghost use Rattle.club_core.specs.Limits.{most_members, is_name, is_member_key};
+ghost use Rattle.club_requests.specs.Limits.{most_members, is_name, is_member_key};
 ghost use Rattle.club_core.specs.Members.{find_id, is_member, has_name_or_key, member_refusal, member_step};
 ghost use Rattle.club_core.specs.State.{caller_of, has_member_key};
-ghost use Rattle.club_core.specs.Outcome.{by_officer};
+ghost use Rattle.club_requests.specs.Outcome.{by_officer};
 ghost use Rattle.club_core.specs.Answer.{member_of, members_of, outcome_of, answered, who_of};
 
-use crate::answers::{Answer, Outcome};
 use crate::ids::id_at;
-use crate::refusals::Refusal;
-use crate::requests::{AddMember, Caller, Who};
-use crate::values::{MOST_MEMBERS, is_member_key, is_name};
+use club_requests::values::{MOST_MEMBERS, is_member_key, is_name};
+use club_requests::{AddMember, Answer, Caller, Outcome, Refusal, Who};
 
 /// A member of the club.
 #[derive(Debug, Drop)]

@@ -3,20 +3,20 @@
 ghost use Rattle.std.specs.Prelude.{◌≡◌, ℕ, Ok, ◌+◌, ◌-◌, ◌^◌, ◌<◌, ◌≤◌, Option, Some, None, IfOk, IfErr, IfNone};
 ghost use Rattle.std.specs.Prelude.{IfSome, string_bytes, length};
 ghost use Rattle.std.specs.Option.{option_map};
-ghost use Rattle.club_core.specs.Limits.{most_text_bytes};
+ghost use Rattle.club_requests.specs.Limits.{most_text_bytes};
 ghost use Rattle.club_core.specs.Answer.{reply_of};
 ghost use Rattle.club_core.specs.Game.{Game, spend, left_of, left_after};
 ghost use Rattle.club_core.specs.Legal.{IsLegalGame};
 ghost use Rattle.club_core.specs.Step.{move_refusal, checked, step_move, repeat_of, move_at, plays, reads_as};
 ghost use Rattle.club_core.specs.View.{Shows, ShowsPly, IsSound, CanPlay, IsDecision, terms_of, clocks_in};
 
-use crate::answers::{Answer, Decision, Moved};
+use crate::decided::Decision;
 use crate::ends::{name_of_end, rule_in};
 use crate::players::{is_side, left_in, side_of_ply};
-use crate::refusals::Refusal;
 use crate::rows::{GameRow, GameView, Made, copy_key};
-use crate::values::MOST_TEXT_BYTES;
 use clocks::{Clock, Moment};
+use club_requests::values::MOST_TEXT_BYTES;
+use club_requests::{Answer, Moved, Refusal};
 use club_rules::{Memory, MoveRefusal, Rules};
 use squares::Side;
 use std::alloc::Global;

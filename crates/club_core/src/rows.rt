@@ -2,51 +2,11 @@
 
 ghost use Rattle.std.specs.Prelude.{◌≡◌, IfOk, string_bytes};
 ghost use Rattle.std.specs.Option.{option_map};
-ghost use Rattle.club_core.specs.OutsideEnd.{outside_text};
 
 use clocks::Moment;
+use club_requests::OutsideEnd;
 use club_rules::{Memory, Rules};
 use squares::{Score, Side};
-use std::fmt;
-
-/// How a game ended other than by its rules.
-#[derive(Clone, Copy, Debug, PartialEq, Eq)]
-pub enum OutsideEnd {
-    /// The side to move gave up.
-    Resigned,
-    /// The players agreed on a draw.
-    Agreed,
-    /// The side to move had no time left.
-    Time,
-    /// A record says so.
-    Recorded(Score),
-}
-
-impl OutsideEnd {
-    /// The name of the end, as it is printed and stored.
-    pub fn name(self) -> &'static str
-        ensures { result.now ≡ outside_text self }
-    {
-        match self {
-            OutsideEnd::Resigned => "Resigned",
-            OutsideEnd::Agreed => "Agreed",
-            OutsideEnd::Time => "Time",
-            OutsideEnd::Recorded(_) => "Recorded",
-        }
-    }
-}
-
-/// Writes the name of the end: `Agreed`.
-impl fmt::Display for OutsideEnd {
-    ghost use Rattle.std.specs.Prelude.{Some};
-    ghost use Rattle.club_core.specs.OutsideEnd.{outside_text};
-
-    ghost output = { λ end. Some (outside_text end) };
-
-    fn fmt<W: fmt::Write>(&self, f: &mut fmt::Formatter<W>) -> fmt::Result {
-        f.write_str(self.name())
-    }
-}
 
 /// Why a game is over.
 #[derive(Clone, Copy, Drop)]

@@ -3,12 +3,12 @@
 ghost use Rattle.std.specs.Prelude.{◌≡◌, ◌≤◌, ◌<◌, ◌+◌, length, ℕ, Option, Some, None, IfOk, IfNone, IfSome};
 ghost use Rattle.std.specs.Prelude.{string_bytes};
 ghost use Rattle.std.specs.Option.{option_map};
-ghost use Rattle.club_core.specs.Limits.{most_members, most_events, most_games};
+ghost use Rattle.club_requests.specs.Limits.{most_members, most_events, most_games};
 ghost use Rattle.club_core.specs.Members.{find_id};
 ghost use Rattle.club_core.specs.Events.{has_event_name};
 ghost use Rattle.club_core.specs.Seats.{has_member_name, same_seats, seat_refusal, seat_step, seat_found, is_id};
 ghost use Rattle.club_core.specs.Seats.{are_two};
-ghost use Rattle.club_core.specs.Outcome.{by_officer, game_seated};
+ghost use Rattle.club_requests.specs.Outcome.{by_officer, game_seated};
 ghost use Rattle.club_core.specs.State.{seated};
 ghost use Rattle.club_core.specs.Answer.{members_of, events_of, keyed_of, pairing_of, seating_of};
 ghost use Rattle.club_core.specs.View.{IsRowOf};
@@ -17,11 +17,10 @@ use crate::ends::{game_end, score_of_end};
 use crate::events::Event;
 use crate::ids::id_at;
 use crate::members::Member;
-use crate::refusals::Refusal;
-use crate::requests::{Caller, Seat};
 use crate::rows::GameRow;
-use crate::values::{MOST_GAMES, is_name};
 use clocks::Moment;
+use club_requests::values::{MOST_GAMES, is_name};
+use club_requests::{Caller, Refusal, Seat};
 use club_rules::{Memory, Rules};
 use std::alloc::Global;
 

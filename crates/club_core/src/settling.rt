@@ -3,9 +3,10 @@
 ghost use Rattle.std.specs.Prelude.{◌≡◌};
 ghost use Rattle.club_core.specs.View.{settled_by, settled_of, answer_with, concluded};
 
-use crate::answers::{Answer, Decision, Moved};
+use crate::decided::Decision;
 use crate::ends::{game_end, name_of_end, rule_in, score_of_end};
 use crate::rows::{GameEnd, GameRow, Made};
+use club_requests::{Answer, Moved};
 use club_rules::Rules;
 use squares::Score;
 

@@ -1,7 +1,7 @@
 -- What is behind a request: the state before it, or that after a member's command.
 use Rattle.std.proofs.Common.{◌≡◌, ◌⊎◌, ◌≤◌, ℕ, List, Option, Some, None, Bool, true, false, refl, inl, inr}
 use Rattle.std.specs.Prelude.{IfSome, option_map, option_and_then, if◌then◌else◌}
-use Rattle.club_core.specs.Limits.{last_moment}
+use Rattle.club_requests.specs.Limits.{last_moment}
 use Rattle.club_core.specs.State.{Command, Request, key_holder, withdraw_challenge, on_game as game_command}
 use Rattle.club_core.specs.Step.{GameCommand}
 use Rattle.club_rows.specs.Club.{ClubState}

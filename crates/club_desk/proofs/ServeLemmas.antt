@@ -8,7 +8,7 @@ use Rattle.store_tables.specs.Club.{IsExactly}
 use Rattle.store_tables.specs.Tables.{club_schema}
 use Rattle.store_tables.specs.Reading.{OnlyReads}
 use Rattle.store_sql.specs.Read.{KeepsContent}
-use Rattle.club_core.specs.Limits.{last_moment}
+use Rattle.club_requests.specs.Limits.{last_moment}
 use Rattle.club_core.specs.State.{Request, key_holder, caller_of}
 use Rattle.club_rows.specs.Club.{ClubState, tables}
 use Rattle.store.specs.declared.fault.StoreFault.{StoreFault}

@@ -4,7 +4,7 @@ use Rattle.std.proofs.Common.{append_assoc}
 use Rattle.std.proofs.lemmas.List.{append-nil}
 use Rattle.sqlite.specs.State.{State, HasCleanDisk}
 use Rattle.store_tables.specs.Reading.{OnlyReads}
-use Rattle.club_core.specs.Limits.{last_moment}
+use Rattle.club_requests.specs.Limits.{last_moment}
 use Rattle.club_core.specs.State.{Request}
 use Rattle.club_rows.specs.Club.{ClubState}
 use Rattle.store.specs.Histories.{Session, IsReachable, IsHistory, cut_session}

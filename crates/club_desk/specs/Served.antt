@@ -6,11 +6,11 @@ use Rattle.squares.specs.declared.sides.Side.TheVariants.{First, Second}
 use Rattle.club_core.specs.Answer.{answered}
 use Rattle.club_core.specs.State.{key_holder, caller_of}
 use Rattle.club_rows.specs.Club.{ClubState}
-use Rattle.club_reads.specs.declared.viewed.ViewedGame.{ViewedGame}
-use Rattle.club_reads.specs.CrossTable.{AreTableRows}
+use Rattle.club_views.specs.declared.viewed.ViewedGame.{ViewedGame}
+use Rattle.club_views.specs.CrossTable.{AreTableRows}
 use Rattle.club_changes.specs.Steps.{club_step, club_next}
 use Rattle.club_changes.specs.Stored.{AreLegalRows}
-use Rattle.club_reads.specs.Viewed.{IsViewed}
+use Rattle.club_views.specs.Viewed.{IsViewed}
 use Rattle.http_desk.specs.Served.{Club}
 use Rattle.http_bodies.specs.Shown.{GameShown}
 use Rattle.http_bodies.specs.ShownViews.{texts_view}

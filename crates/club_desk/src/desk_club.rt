@@ -5,7 +5,7 @@ ghost use Rattle.std.specs.Prelude.{◌≡◌};
 use crate::faults::{told, told_all};
 use crate::shown::found_shown;
 use clocks::Moment;
-use club_core::{Command, Outcome, Who};
+use club_requests::{Command, Outcome, Who};
 use http_bodies::GameShown;
 use http_desk::{ClubFault, ServedClub};
 use sqlite::Alter;

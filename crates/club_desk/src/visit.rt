@@ -1,7 +1,7 @@
 //! Connections, one after another.
 
 ghost use Rattle.std.specs.Prelude.{◌≤◌, ℕ};
-ghost use Rattle.club_core.specs.Limits.{last_moment};
+ghost use Rattle.club_requests.specs.Limits.{last_moment};
 ghost use Rattle.club_desk.specs.Visits.{HasActed};
 
 use http_desk::{Closed, ClubFault, ServedClub};

@@ -5,7 +5,7 @@ use Rattle.squares.specs.declared.shogi.moves.SMove.{SMove}
 use Rattle.shogi_repetition.specs.declared.ends.SEnd.{SEnd}
 use Rattle.club_core.specs.declared.rows.GameEnd.{GameEnd}
 use Rattle.club_core.specs.declared.rows.GameEnd.TheVariants as by
-use Rattle.club_core.specs.declared.rows.OutsideEnd.TheVariants as outside
+use Rattle.club_requests.specs.declared.outside_end.OutsideEnd.TheVariants as outside
 use Rattle.csa.specs.declared.head.CsaEnd.{CsaEnd}
 use Rattle.csa.specs.declared.head.CsaEnd.TheVariants as csa_end
 use Rattle.csa.specs.declared.head.CsaHead.{CsaHead}

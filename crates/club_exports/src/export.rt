@@ -3,7 +3,7 @@
 ghost use Rattle.std.specs.Prelude.{◌≡◌, ◌<◌, ◌≤◌, ◌^◌, ℕ, [], ◌∷◌, ◌++◌, List, Option, Some, Ok, IfOk, IfSome, OnOk};
 ghost use Rattle.std.specs.Prelude.{length, true};
 ghost use Rattle.club_core.specs.Game.{Entry};
-ghost use Rattle.club_core.specs.Limits.{most_plies};
+ghost use Rattle.club_requests.specs.Limits.{most_plies};
 ghost use Rattle.club_exports.specs.Title.{Title, title_of, timed};
 ghost use Rattle.club_exports.specs.Written.{BeginsRecord, AddsRecord};
 ghost use Rattle.club_exports.specs.Exported.{IsWritten, IsUnderWay, IsNextText};
@@ -11,7 +11,7 @@ ghost use Rattle.club_exports.specs.Exported.{IsWritten, IsUnderWay, IsNextText}
 use crate::exports::Exports;
 use crate::heading::Heading;
 use clocks::Moment;
-use club_core::values::MOST_PLIES;
+use club_requests::values::MOST_PLIES;
 use record_writer::WriteFault;
 use std::alloc::Global;
 use std::io::Write;

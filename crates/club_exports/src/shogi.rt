@@ -7,8 +7,9 @@ ghost use Rattle.club_exports.specs.CsaRecords.{IsCsaHead, end_told, told_end};
 
 use crate::exports::Exports;
 use crate::heading::Heading;
-use club_core::{GameEnd, OutsideEnd};
+use club_core::GameEnd;
 use club_games::Shogi;
+use club_requests::OutsideEnd;
 use csa::laws::written_moves_begin_games;
 use csa::{CsaEnd, CsaHead, GameWriter};
 use record_writer::WriteFault;

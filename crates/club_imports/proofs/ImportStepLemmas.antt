@@ -3,11 +3,11 @@ use Rattle.std.proofs.Common.{◌≡◌, ℕ, List, Option, Some, None, sym, sub
 use Rattle.club_rules.specs.GameRules.{GameRules}
 use Rattle.club_rules.specs.Records as record_is
 use Rattle.club_rules.specs.Records.{Reading, GameRecords, ReadsGames}
-use Rattle.club_core.specs.declared.refusals.Refusal.{Refusal}
+use Rattle.club_requests.specs.declared.refusals.Refusal.{Refusal}
 use Rattle.club_core.specs.Game.{Game}
 use Rattle.club_core.specs.Imports.{Import, Imported, reading_of_import, repeat_of_import, import_refusal}
 use Rattle.club_core.specs.Imports.{import_between, import_step}
-use Rattle.club_core.specs.Outcome.{Reply, Outcome, repeated, refused, unless, unless_repeat}
+use Rattle.club_requests.specs.Outcome.{Reply, Outcome, repeated, refused, unless, unless_repeat}
 use Rattle.club_core.specs.Seats.{KeyedGame}
 use Rattle.club_imports.specs.Importing.{IsByRules}
 

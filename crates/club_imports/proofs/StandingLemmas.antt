@@ -8,7 +8,7 @@ use Rattle.club_rules.specs.GameRules.{GameRules}
 use Rattle.club_rules.specs.Laws.{NumbersAreFew}
 use Rattle.club_rules.specs.Line.{position_after, IsPlayedLine, line_track}
 use Rattle.club_rules.proofs.Proved.{check-at, position_after-append}
-use Rattle.club_core.specs.Limits.{most_plies}
+use Rattle.club_requests.specs.Limits.{most_plies}
 use Rattle.club_core.specs.View.{CanGrow}
 use Rattle.club_core.proofs.Proved.{line_track-append, line-grows}
 

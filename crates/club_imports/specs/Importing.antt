@@ -6,7 +6,7 @@ use Rattle.club_rules.specs.Records.{Reading, recorded_of, IsGameByRules}
 use Rattle.club_core.specs.Answer.{pairing_of}
 use Rattle.club_core.specs.Game.{Game, moves_of, result_of}
 use Rattle.club_core.specs.Imports.{Imported}
-use Rattle.club_core.specs.Outcome.{Outcome, accepted, repeated, refused, game_seated}
+use Rattle.club_requests.specs.Outcome.{Outcome, accepted, repeated, refused, game_seated}
 use Rattle.club_imports.specs.declared.imports.Importing as given_importing
 use Rattle.club_imports.specs.declared.imports.Importing.TheVariants as importing
 use Rattle.club_imports.specs.declared.played.PlayedGame.{PlayedGame}

@@ -8,16 +8,17 @@ ghost use Rattle.club_core.specs.Events.{has_event_name};
 ghost use Rattle.club_core.specs.Game.{Game};
 ghost use Rattle.club_core.specs.Imports.{same_format, has_part, reading_of_import, repeat_of_import, import_refusal};
 ghost use Rattle.club_core.specs.Imports.{import_game, import_between, import_step, import_found};
-ghost use Rattle.club_core.specs.Limits.{most_members, most_events, most_games};
+ghost use Rattle.club_requests.specs.Limits.{most_members, most_events, most_games};
 ghost use Rattle.club_core.specs.Members.{find_id};
-ghost use Rattle.club_core.specs.Outcome.{by_officer, game_seated};
+ghost use Rattle.club_requests.specs.Outcome.{by_officer, game_seated};
 ghost use Rattle.club_core.specs.Seats.{has_member_name, KeyedGame};
 ghost use Rattle.club_imports.specs.Importing.{ShowsPlayed, IsByRules, importing_of, AddsByRules};
 
 use crate::played::{PlayedGame, reads_record_of};
 use club_core::seats::{are_two, find_event, find_member, repeated_seat};
-use club_core::values::{MOST_GAMES, MOST_RECORD_BYTES, is_name};
-use club_core::{Caller, Event, Import, KeyedGame, Member, Pairing, Refusal};
+use club_core::{Event, KeyedGame, Member, Pairing};
+use club_requests::values::{MOST_GAMES, MOST_RECORD_BYTES, is_name};
+use club_requests::{Caller, Import, Refusal};
 use club_rules::{Memory, RecordFormat, RecordReading, RecordedGame, Records, Rules};
 use std::alloc::Global;
 

@@ -7,12 +7,13 @@ ghost use Rattle.club_rules.specs.Records.{recorded_of, IsGameByRules};
 ghost use Rattle.club_core.specs.Answer.{pairing_of};
 ghost use Rattle.club_core.specs.Game.{end_with, left_of, spend, spend_all};
 ghost use Rattle.club_core.specs.Imports.{recorded_end, imported};
-ghost use Rattle.club_core.specs.Limits.{most_plies, is_budget, is_increment};
+ghost use Rattle.club_requests.specs.Limits.{most_plies, is_budget, is_increment};
 ghost use Rattle.club_core.specs.View.{IsRowOf};
 ghost use Rattle.club_imports.specs.OneMoment.{at_moment, clocks_with};
 
 use clocks::Moment;
-use club_core::{GameEnd, GameRow, OutsideEnd, Pairing};
+use club_core::{GameEnd, GameRow, Pairing};
+use club_requests::OutsideEnd;
 use club_rules::{Memory, RecordedGame, Rules};
 use squares::{Score, Side};
 use std::alloc::Global;

@@ -1,11 +1,11 @@
 -- What stands after an outcome, and what an accepted one was not.
 use Rattle.std.proofs.Common.{◌≡◌, Option, Some, None, Bool, true, false, refl}
 use Rattle.std.specs.Prelude.{if◌then◌else◌}
-use Rattle.club_core.specs.declared.requests.Caller.{Caller}
-use Rattle.club_core.specs.declared.requests.Caller.TheVariants.{Officer, Member}
-use Rattle.club_core.specs.declared.refusals.Refusal.{Refusal}
-use Rattle.club_core.specs.Outcome.{Reply, Outcome, accepted, repeated, refused, map_outcome, by_officer, unless}
-use Rattle.club_core.specs.Outcome.{unless_repeat}
+use Rattle.club_requests.specs.declared.requests.Caller.{Caller}
+use Rattle.club_requests.specs.declared.requests.Caller.TheVariants.{Officer, Member}
+use Rattle.club_requests.specs.declared.refusals.Refusal.{Refusal}
+use Rattle.club_requests.specs.Outcome.{Reply, Outcome, accepted, repeated, refused, map_outcome, by_officer, unless}
+use Rattle.club_requests.specs.Outcome.{unless_repeat}
 use Rattle.club_core.specs.State.{state_after}
 
 -- whatever stands after an outcome is so, where what stood before is so and what each accepted one leaves

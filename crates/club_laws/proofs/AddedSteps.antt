@@ -15,13 +15,13 @@ use Rattle.club_core.specs.ClubRules.{ClubRules}
 use Rattle.club_core.specs.declared.challenges.Challenge.{Challenge}
 use Rattle.club_core.specs.declared.challenges.Standing.{Standing}
 use Rattle.club_core.specs.declared.challenges.Standing.TheVariants.{Accepted}
-use Rattle.club_core.specs.declared.requests.Caller.{Caller}
-use Rattle.club_core.specs.declared.requests.Caller.TheVariants.{Officer, Member}
-use Rattle.club_core.specs.declared.refusals.Refusal.{Refusal}
-use Rattle.club_core.specs.Limits.{last_moment, most_members, most_events, most_games, is_name, is_member_key}
-use Rattle.club_core.specs.Limits.{is_budget, is_increment}
-use Rattle.club_core.specs.Outcome.{Reply, Outcome, refused}
-use Rattle.club_core.specs.Outcome.{map_outcome, by_officer, unless, unless_repeat}
+use Rattle.club_requests.specs.declared.requests.Caller.{Caller}
+use Rattle.club_requests.specs.declared.requests.Caller.TheVariants.{Officer, Member}
+use Rattle.club_requests.specs.declared.refusals.Refusal.{Refusal}
+use Rattle.club_requests.specs.Limits.{last_moment, most_members, most_events, most_games, is_name, is_member_key}
+use Rattle.club_requests.specs.Limits.{is_budget, is_increment}
+use Rattle.club_requests.specs.Outcome.{Reply, Outcome, refused}
+use Rattle.club_requests.specs.Outcome.{map_outcome, by_officer, unless, unless_repeat}
 use Rattle.club_core.specs.Members.{find_id, has_name_or_key, member_tests, member_refusal}
 use Rattle.club_core.specs.Events.{Event, has_event_name, has_good_values, event_tests, event_refusal}
 use Rattle.club_core.specs.Seats.{Pairing, KeyedGame, are_two, same_seats, seat_tests, seat_refusal}

@@ -5,9 +5,9 @@ use Rattle.std.proofs.lemmas.Bool.{not-true, not-false, eqb-false}
 use Rattle.club_core.specs.declared.challenges.Challenge.{Challenge}
 use Rattle.club_core.specs.declared.challenges.Standing.{Standing}
 use Rattle.club_core.specs.declared.challenges.Standing.TheVariants.{Open, Withdrawn}
-use Rattle.club_core.specs.declared.refusals.Refusal.TheVariants.{UnknownChallenge}
-use Rattle.club_core.specs.Limits.{most_games, is_challenge_number}
-use Rattle.club_core.specs.Outcome.{Reply, challenge_opened, challenge_withdrawn, accepted}
+use Rattle.club_requests.specs.declared.refusals.Refusal.TheVariants.{UnknownChallenge}
+use Rattle.club_requests.specs.Limits.{most_games, is_challenge_number}
+use Rattle.club_requests.specs.Outcome.{Reply, challenge_opened, challenge_withdrawn, accepted}
 use Rattle.club_core.specs.Seats.{are_two}
 use Rattle.club_core.specs.Challenges.{is_open, standing_as, repeat_of_opening, opening_tests, opening_refusal, opens}
 use Rattle.club_core.specs.Challenges.{opening_found, repeat_of_withdrawal, withdrawal_tests, withdrawal_refusal}

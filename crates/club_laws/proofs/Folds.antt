@@ -3,9 +3,9 @@ use Rattle.std.proofs.Common.{◌≡◌, ℕ, ◌≤◌, List, [], ◌∷◌, Op
 use Rattle.std.proofs.Common.{arith}
 use Rattle.std.specs.Prelude.{max, if◌then◌else◌}
 use Rattle.club_core.specs.ClubRules.{ClubRules}
-use Rattle.club_core.specs.declared.requests.Caller.{Caller}
-use Rattle.club_core.specs.declared.requests.Caller.TheVariants.{Officer, Member}
-use Rattle.club_core.specs.Outcome.{Outcome, accepted, repeated, refused, map_outcome, by_officer}
+use Rattle.club_requests.specs.declared.requests.Caller.{Caller}
+use Rattle.club_requests.specs.declared.requests.Caller.TheVariants.{Officer, Member}
+use Rattle.club_requests.specs.Outcome.{Outcome, accepted, repeated, refused, map_outcome, by_officer}
 use Rattle.club_core.specs.declared.challenges.Challenge.{Challenge}
 use Rattle.club_core.specs.Members.{find_id, member_step}
 use Rattle.club_core.specs.Events.{event_step, event_kind}

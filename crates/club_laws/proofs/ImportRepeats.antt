@@ -11,7 +11,7 @@ use Rattle.club_rules.specs.GameRules.{GameRules}
 use Rattle.club_rules.specs.Records as record_is
 use Rattle.club_rules.specs.Records.{Recorded, Reading, GameRecords, IsGameByRules, ReadsGames}
 use Rattle.club_core.specs.ClubRules.{ClubRules}
-use Rattle.club_core.specs.Outcome.{Reply, game_seated, accepted, repeated, map_outcome}
+use Rattle.club_requests.specs.Outcome.{Reply, game_seated, accepted, repeated, map_outcome}
 use Rattle.club_core.specs.Members.{find_id}
 use Rattle.club_core.specs.Events.{Event, has_event_name, event_kind}
 use Rattle.club_core.specs.Seats.{KeyedGame, has_member_name}

@@ -10,9 +10,9 @@ use Rattle.club_rules.specs.GameRules.{GameRules}
 use Rattle.club_rules.specs.Records as record_is
 use Rattle.club_rules.specs.Records.{Recorded, Reading, GameRecords, IsGameByRules, ReadsGames}
 use Rattle.club_core.specs.ClubRules.{ClubRules}
-use Rattle.club_core.specs.declared.requests.Caller.{Caller}
-use Rattle.club_core.specs.declared.requests.Caller.TheVariants.{Officer, Member}
-use Rattle.club_core.specs.Limits.{last_moment, most_games, is_name}
+use Rattle.club_requests.specs.declared.requests.Caller.{Caller}
+use Rattle.club_requests.specs.declared.requests.Caller.TheVariants.{Officer, Member}
+use Rattle.club_requests.specs.Limits.{last_moment, most_games, is_name}
 use Rattle.club_core.specs.Members.{find_id}
 use Rattle.club_core.specs.Events.{Event, has_event_name, event_kind}
 use Rattle.club_core.specs.Seats.{Pairing, has_member_name, are_two}
@@ -21,7 +21,7 @@ use Rattle.club_core.specs.Imports.{Import, imported, has_part, reading_of_impor
 use Rattle.club_core.specs.Imports.{import_refusal, import_between, import_step, import_found}
 use Rattle.club_core.specs.State.{AnyGame, draughts, shogi, State, state_after, place, key_of, game_under, any_under}
 use Rattle.club_core.specs.State.{draughts_in, shogi_in, with_imported, import_as}
-use Rattle.club_core.specs.Outcome.{map_outcome, by_officer}
+use Rattle.club_requests.specs.Outcome.{map_outcome, by_officer}
 use Rattle.club_core.specs.LegalState.{IsGameOf, IsLegalIn, IsLegalState}
 use Rattle.club_core.proofs.Proved.{AreRules, none-holds}
 use Rattle.club_laws.proofs.ImportedGames.{each-at, imported-legal, not-timed}

@@ -12,7 +12,7 @@ use Rattle.squares.specs.Sides.{other}
 use Rattle.club_rules.specs.GameRules.{GameRules, ply_limit}
 use Rattle.club_rules.specs.Line.{position_after, IsLegalLine, IsPlayedLine}
 use Rattle.club_rules.specs.Records.{Recorded, IsGameByRules}
-use Rattle.club_core.specs.declared.rows.OutsideEnd.TheVariants.{Agreed, Time}
+use Rattle.club_requests.specs.declared.outside_end.OutsideEnd.TheVariants.{Agreed, Time}
 use Rattle.club_core.specs.Events.{Terms}
 use Rattle.club_core.specs.Seats.{Pairing}
 use Rattle.club_core.specs.Game.{Entry, Clocks, spend, end_with, score_with, result_of}

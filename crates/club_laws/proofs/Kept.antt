@@ -5,11 +5,11 @@ use Rattle.std.specs.Prelude.{IsSome, is_some, max, slice_get, if◌then◌else�
 use Rattle.squares.specs.declared.sides.Side.{Side}
 use Rattle.club_rules.specs.GameRules.{GameRules}
 use Rattle.club_core.specs.ClubRules.{ClubRules}
-use Rattle.club_core.specs.declared.requests.Caller.{Caller}
-use Rattle.club_core.specs.declared.requests.Caller.TheVariants.{Officer, Member}
-use Rattle.club_core.specs.declared.rows.OutsideEnd.TheVariants.{Time}
-use Rattle.club_core.specs.declared.refusals.Refusal.TheVariants.{NotAllowed}
-use Rattle.club_core.specs.Outcome.{Reply, accepted, by_officer}
+use Rattle.club_requests.specs.declared.requests.Caller.{Caller}
+use Rattle.club_requests.specs.declared.requests.Caller.TheVariants.{Officer, Member}
+use Rattle.club_requests.specs.declared.outside_end.OutsideEnd.TheVariants.{Time}
+use Rattle.club_requests.specs.declared.refusals.Refusal.TheVariants.{NotAllowed}
+use Rattle.club_requests.specs.Outcome.{Reply, accepted, by_officer}
 use Rattle.club_core.specs.declared.challenges.Challenge.{Challenge}
 use Rattle.club_core.specs.Members.{find_id, member_step}
 use Rattle.club_core.specs.Events.{Terms, event_step, event_kind}

@@ -12,15 +12,16 @@ use Rattle.squares.specs.Sides.{other, same_side}
 use Rattle.club_rules.specs.declared.refusals.MoveRefusal.{MoveRefusal}
 use Rattle.club_rules.specs.GameRules.{GameRules}
 use Rattle.club_core.specs.ClubRules.{ClubRules}
-use Rattle.club_core.specs.declared.rows.OutsideEnd.{OutsideEnd}
-use Rattle.club_core.specs.declared.rows.OutsideEnd.TheVariants.{Resigned, Agreed, Time}
+use Rattle.club_requests.specs.declared.outside_end.OutsideEnd.{OutsideEnd}
+use Rattle.club_requests.specs.declared.outside_end.OutsideEnd.TheVariants.{Resigned, Agreed, Time}
 use Rattle.club_core.specs.declared.rows.Offer.{Offer}
-use Rattle.club_core.specs.declared.requests.Caller.{Caller}
-use Rattle.club_core.specs.declared.requests.Caller.TheVariants.{Officer, Member}
-use Rattle.club_core.specs.declared.refusals.Refusal.{Refusal}
-use Rattle.club_core.specs.declared.refusals.Refusal.TheVariants.{NotAllowed, NotInThisGame}
-use Rattle.club_core.specs.Outcome.{Reply, draw_offered, challenge_refused, challenge_accepted, accepted, by_officer}
-use Rattle.club_core.specs.Outcome.{first_refusal, unless, unless_repeat}
+use Rattle.club_requests.specs.declared.requests.Caller.{Caller}
+use Rattle.club_requests.specs.declared.requests.Caller.TheVariants.{Officer, Member}
+use Rattle.club_requests.specs.declared.refusals.Refusal.{Refusal}
+use Rattle.club_requests.specs.declared.refusals.Refusal.TheVariants.{NotAllowed, NotInThisGame}
+use Rattle.club_requests.specs.Outcome.{Reply, draw_offered, challenge_refused, challenge_accepted, accepted}
+use Rattle.club_requests.specs.Outcome.{by_officer}
+use Rattle.club_requests.specs.Outcome.{first_refusal, unless, unless_repeat}
 use Rattle.club_core.specs.declared.challenges.Challenge.{Challenge}
 use Rattle.club_core.specs.declared.challenges.Standing.{Standing}
 use Rattle.club_core.specs.declared.challenges.Standing.TheVariants.{Withdrawn, Refused, Accepted}

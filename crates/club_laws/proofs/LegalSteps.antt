@@ -14,18 +14,18 @@ use Rattle.club_rules.specs.declared.names.GameKind.{GameKind}
 use Rattle.club_rules.specs.declared.names.GameKind.TheVariants.{Draughts, Shogi}
 use Rattle.club_rules.specs.GameRules.{GameRules}
 use Rattle.club_core.specs.ClubRules.{ClubRules}
-use Rattle.club_core.specs.declared.rows.OutsideEnd.{OutsideEnd}
-use Rattle.club_core.specs.declared.rows.OutsideEnd.TheVariants.{Resigned, Agreed, Time, Recorded}
+use Rattle.club_requests.specs.declared.outside_end.OutsideEnd.{OutsideEnd}
+use Rattle.club_requests.specs.declared.outside_end.OutsideEnd.TheVariants.{Resigned, Agreed, Time, Recorded}
 use Rattle.club_core.specs.declared.rows.Offer.{Offer}
 use Rattle.club_core.specs.declared.challenges.Challenge.{Challenge}
 use Rattle.club_core.specs.declared.challenges.Standing.TheVariants.{Open, Withdrawn, Refused, Accepted}
-use Rattle.club_core.specs.declared.requests.Caller.{Caller}
-use Rattle.club_core.specs.declared.requests.Caller.TheVariants.{Officer, Member}
-use Rattle.club_core.specs.declared.refusals.Refusal.{Refusal}
-use Rattle.club_core.specs.declared.refusals.Refusal.TheVariants.{NotAllowed, NotInThisGame}
-use Rattle.club_core.specs.Limits.{last_moment, most_games}
-use Rattle.club_core.specs.Outcome.{Reply, challenge_refused, challenge_accepted, accepted}
-use Rattle.club_core.specs.Outcome.{map_outcome, by_officer, first_refusal, unless, unless_repeat}
+use Rattle.club_requests.specs.declared.requests.Caller.{Caller}
+use Rattle.club_requests.specs.declared.requests.Caller.TheVariants.{Officer, Member}
+use Rattle.club_requests.specs.declared.refusals.Refusal.{Refusal}
+use Rattle.club_requests.specs.declared.refusals.Refusal.TheVariants.{NotAllowed, NotInThisGame}
+use Rattle.club_requests.specs.Limits.{last_moment, most_games}
+use Rattle.club_requests.specs.Outcome.{Reply, challenge_refused, challenge_accepted, accepted}
+use Rattle.club_requests.specs.Outcome.{map_outcome, by_officer, first_refusal, unless, unless_repeat}
 use Rattle.club_core.specs.Members as members
 use Rattle.club_core.specs.Members.{find_id, member_refusal, same_member, member_step}
 use Rattle.club_core.specs.Events.{Event, event_kind, has_event_name, event_refusal}

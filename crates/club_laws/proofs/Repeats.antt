@@ -19,16 +19,16 @@ use Rattle.club_rules.specs.declared.names.GameKind.TheVariants.{Draughts, Shogi
 use Rattle.club_rules.specs.GameRules.{GameRules}
 use Rattle.club_core.specs.ClubRules.{ClubRules}
 use Rattle.club_rules.specs.Line.{IsLegalLine}
-use Rattle.club_core.specs.declared.rows.OutsideEnd.TheVariants.{Resigned, Agreed, Time}
+use Rattle.club_requests.specs.declared.outside_end.OutsideEnd.TheVariants.{Resigned, Agreed, Time}
 use Rattle.club_core.specs.declared.challenges.Challenge.{Challenge}
 use Rattle.club_core.specs.declared.challenges.Standing.{Standing}
 use Rattle.club_core.specs.declared.challenges.Standing.TheVariants.{Withdrawn, Refused, Accepted}
-use Rattle.club_core.specs.declared.refusals.Refusal.TheVariants.{NotAllowed}
-use Rattle.club_core.specs.declared.requests.Caller.{Caller}
-use Rattle.club_core.specs.declared.requests.Caller.TheVariants.{Officer, Member}
-use Rattle.club_core.specs.Outcome.{Reply, member_added, event_added, game_seated, challenge_withdrawn}
-use Rattle.club_core.specs.Outcome.{challenge_refused, challenge_accepted, Outcome, accepted, repeated, refused}
-use Rattle.club_core.specs.Outcome.{map_outcome, by_officer}
+use Rattle.club_requests.specs.declared.refusals.Refusal.TheVariants.{NotAllowed}
+use Rattle.club_requests.specs.declared.requests.Caller.{Caller}
+use Rattle.club_requests.specs.declared.requests.Caller.TheVariants.{Officer, Member}
+use Rattle.club_requests.specs.Outcome.{Reply, member_added, event_added, game_seated, challenge_withdrawn}
+use Rattle.club_requests.specs.Outcome.{challenge_refused, challenge_accepted, Outcome, accepted, repeated, refused}
+use Rattle.club_requests.specs.Outcome.{map_outcome, by_officer}
 use Rattle.club_core.specs.Members as members
 use Rattle.club_core.specs.Members.{find_id, is_member, member_refusal, same_member, member_step}
 use Rattle.club_core.specs.Events.{Terms, Event, event_kind, same_game, is_event, has_event_name, event_refusal}

@@ -6,7 +6,7 @@ use Rattle.squares.specs.declared.sides.Side.TheVariants.{First}
 use Rattle.club_rules.specs.GameRules.{GameRules}
 use Rattle.club_core.specs.declared.rows.Asked.{Asked}
 use Rattle.club_core.specs.declared.rows.GameView.{GameView}
-use Rattle.club_core.specs.Limits.{is_budget, is_increment, most_plies}
+use Rattle.club_requests.specs.Limits.{is_budget, is_increment, most_plies}
 use Rattle.club_core.specs.Events.{Terms}
 use Rattle.club_core.specs.Game.{Game, clocks_of, moves_of}
 use Rattle.club_core.specs.Legal.{IsLegalGame}

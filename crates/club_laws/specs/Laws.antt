@@ -1,8 +1,8 @@
 -- The laws of the club's machine.
 use Rattle.std.specs.Prelude.{◌≡◌, ◌≤◌, ◌+◌, ℕ, List, length, Option, Some, None, false}
 use Rattle.club_core.specs.ClubRules.{ClubRules}
-use Rattle.club_core.specs.Limits.{last_moment}
-use Rattle.club_core.specs.Outcome.{Reply, accepted, repeated}
+use Rattle.club_requests.specs.Limits.{last_moment}
+use Rattle.club_requests.specs.Outcome.{Reply, accepted, repeated}
 use Rattle.club_core.specs.Step.{GameCommand, move, offer_draw, accept_draw, resign, claim_time}
 use Rattle.club_core.specs.State.{AnyGame, draughts, shogi, State, Command, add_member, add_event, seat, import_record}
 use Rattle.club_core.specs.State.{on_game, sweep, open_challenge, withdraw_challenge, answer_challenge, Request, place}

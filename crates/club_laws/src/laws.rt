@@ -1,7 +1,7 @@
 //! Laws of the whole machine, over two kinds of games: each is what a function with an empty body ensures.
 
 ghost use Rattle.std.specs.Prelude.{ℕ, IsTrue};
-ghost use Rattle.club_core.specs.Limits.{is_budget, is_increment};
+ghost use Rattle.club_requests.specs.Limits.{is_budget, is_increment};
 ghost use Rattle.club_core.specs.ClubRules.{both};
 ghost use Rattle.club_core.specs.Game.{Game};
 ghost use Rattle.club_core.specs.Legal.{IsLegalGame};

@@ -5,7 +5,7 @@ use Rattle.club_rows.specs.Club.{ClubState}
 use Rattle.store.specs.declared.fault.ExportFault.{ExportFault}
 use Rattle.store.specs.declared.fault.ExportFault.TheVariants as export_fault
 use Rattle.store.specs.declared.fault.StoreFault.TheVariants as store_fault
-use Rattle.club_reads.specs.Exported.{IsExported, IsWrittenSome}
+use Rattle.club_views.specs.Exported.{IsExported, IsWrittenSome}
 use Rattle.club_orders.specs.Report.{WritesRecord, export_report}
 
 -- a club that was open tells no fault of an earlier call

@@ -5,13 +5,13 @@ use Rattle.std.specs.declared.alloc.Global.{Global}
 use Rattle.std.specs.declared.vec.Vec.{Vec}
 use Rattle.sqlite.specs.Tree.{Trees}
 use Rattle.store_tables.specs.Contents.{IsEmpty}
-use Rattle.club_core.specs.declared.requests.Who.TheVariants.{Officer}
-use Rattle.club_core.specs.declared.requests.Command.{Command}
-use Rattle.club_core.specs.declared.requests.Command.TheVariants as command
-use Rattle.club_core.specs.declared.answers.Outcome.{Outcome}
-use Rattle.club_core.specs.declared.answers.Outcome.TheVariants as outcome
-use Rattle.club_core.specs.declared.refusals.Refusal.TheVariants.{UnknownEvent, UnknownGame}
-use Rattle.club_core.specs.AnswerText.{outcome_text}
+use Rattle.club_requests.specs.declared.requests.Who.TheVariants.{Officer}
+use Rattle.club_requests.specs.declared.requests.Command.{Command}
+use Rattle.club_requests.specs.declared.requests.Command.TheVariants as command
+use Rattle.club_requests.specs.declared.answers.Outcome.{Outcome}
+use Rattle.club_requests.specs.declared.answers.Outcome.TheVariants as outcome
+use Rattle.club_requests.specs.declared.refusals.Refusal.TheVariants.{UnknownEvent, UnknownGame}
+use Rattle.club_requests.specs.AnswerText.{outcome_text}
 use Rattle.club_core.specs.State.{Request}
 use Rattle.club_rows.specs.Club.{ClubState}
 use Rattle.store.specs.declared.fault.ExportFault.{ExportFault}
@@ -23,8 +23,8 @@ use Rattle.club_opening.specs.FaultText.{open_fault_text}
 use Rattle.store.specs.FaultText.{store_fault_text}
 use Rattle.store.specs.Histories.{Session, IsReachable, answered_session, cut_session}
 use Rattle.club_changes.specs.Steps.{request}
-use Rattle.club_reads.specs.CrossTable.{AreTableRows}
-use Rattle.club_reads.specs.Exported.{IsExported, IsWrittenSome}
+use Rattle.club_views.specs.CrossTable.{AreTableRows}
+use Rattle.club_views.specs.Exported.{IsExported, IsWrittenSome}
 use Rattle.club_changes.specs.Stored.{AreLegalRows}
 use Rattle.club_orders.specs.declared.report.Report.{Report}
 use Rattle.club_orders.specs.declared.report.Report.TheVariants.{Ready, Sound, Answered, Listed, Exported, Unwritten}

@@ -12,7 +12,7 @@ ghost use Rattle.club_rows.specs.Club.{ClubState, IsClub, tables};
 ghost use Rattle.club_changes.specs.Steps.{club_step};
 ghost use Rattle.std.specs.Option.{option_map};
 ghost use Rattle.club_opening.specs.Blames.{NamesTable, NamesSchema};
-ghost use Rattle.club_reads.specs.CrossTable.{AreTableRows};
+ghost use Rattle.club_views.specs.CrossTable.{AreTableRows};
 ghost use Rattle.store.specs.Histories.{IsReachable};
 ghost use Rattle.club_opening.specs.Places.{NamesRows};
 ghost use Rattle.club_changes.specs.Stored.{AreLegalRows};
@@ -24,7 +24,7 @@ ghost use Rattle.club_orders.specs.Report.{task_sessions};
 
 use crate::report::Report;
 use clocks::Moment;
-use club_core::{Command, Outcome, Refusal, Who};
+use club_requests::{Command, Outcome, Refusal, Who};
 use club_words::Task;
 use sqlite::{Alter, Connection};
 use std::alloc::Global;

@@ -4,7 +4,7 @@ ghost use Rattle.std.specs.Prelude.{◌≡◌, ◌≢◌, ◌⊎◌, ◌++◌, �
 ghost use Rattle.std.specs.Io.KnownBytes.{Appends};
 ghost use Rattle.club_orders.specs.Report.{report_status, report_text, lines};
 
-use club_core::Outcome;
+use club_requests::Outcome;
 use std::alloc::AllocError;
 use std::io::Write;
 use store::{OpenFault, StoreFault};

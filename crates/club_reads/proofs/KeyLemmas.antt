@@ -3,7 +3,7 @@ use Rattle.std.proofs.Common.{◌≡◌, ℕ, List, Option, Some, None, refl, sy
 use Rattle.std.specs.Prelude.{◌↔◌, IsTrue, is_some}
 use Rattle.club_core.specs.Members.{find_id}
 use Rattle.club_core.specs.State.{caller_found, has_member_key}
-use Rattle.club_core.specs.declared.requests.Caller.{Caller}
+use Rattle.club_requests.specs.declared.requests.Caller.{Caller}
 use Rattle.club_laws.proofs.Proved.{bytes_eq-same, same-bytes_eq, find_id-found, find_id-none}
 use Rattle.club_rows.specs.Club.{ClubState}
 use Rattle.club_reads.specs.Keys.{HasKey}

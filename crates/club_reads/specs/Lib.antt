@@ -1,4 +1,1 @@
-pub mod CrossTable
-pub mod Exported
 pub mod Keys
-pub mod Viewed

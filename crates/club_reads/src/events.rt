@@ -18,7 +18,7 @@ ghost use Rattle.club_rows.specs.Club.{ClubState, tables};
 use crate::fault::CallFault;
 use crate::found::first;
 use club_core::Event;
-use club_core::values::MOST_EVENTS;
+use club_requests::values::MOST_EVENTS;
 use club_rows::kind_of;
 use club_rows::numbers::counted;
 use sqlite::{Alter, Connection};
@@ -78,8 +78,8 @@ pub fn all_events<S: Alter>(
     Ok(events)
 }
 
-// The event of this id.
-pub(crate) fn event_with<S: Alter>(
+/// The event of this id.
+pub fn event_with<S: Alter>(
     alloc: Global,
     conn: &mut Connection<S>,
     event: u32,

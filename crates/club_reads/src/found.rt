@@ -3,8 +3,8 @@
 ghost use Rattle.std.specs.Prelude.{◌≡◌, ◌<◌};
 ghost use Rattle.std.specs.Prelude.{slice_get};
 
-// The first of the rows, if there is one.
-pub(crate) fn first<T: Drop>(rows: Vec<T>) -> Option<T>
+/// The first of the rows, if there is one.
+pub fn first<T: Drop>(rows: Vec<T>) -> Option<T>
     ensures { result ≡ slice_get rows.items 0 }
 {
     rows.into_iter().next()

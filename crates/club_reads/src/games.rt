@@ -28,8 +28,8 @@ use std::alloc::Global;
 use store_sql::{GameKey, count, find, find_by_first};
 use store_tables::GameRecord;
 
-// The ids in the row of a game: its own, and those of its event and players.
-pub(crate) fn ids_in(row: &GameRecord) -> Result<KeyedGame, CallFault>
+/// The ids in the row of a game: its own, and those of its event and players.
+pub fn ids_in(row: &GameRecord) -> Result<KeyedGame, CallFault>
     ensures { IfOk result (λ k. (s : ClubState) (id : ℕ) (game : ClubGame) →
         game_cells row.now ≡ game_in s id game →
         Some (keyed_of k) ≡ keyed_game (Some game) id) }

@@ -22,8 +22,9 @@ ghost use Rattle.club_reads.specs.Keys.{HasKey};
 
 use crate::fault::CallFault;
 use crate::found::first;
-use club_core::values::MOST_MEMBERS;
-use club_core::{Caller, Member, Who};
+use club_core::Member;
+use club_requests::values::MOST_MEMBERS;
+use club_requests::{Caller, Who};
 use club_rows::numbers::id;
 use sqlite::{Alter, Connection};
 use std::alloc::Global;
@@ -116,8 +117,8 @@ pub fn caller_by<S: Alter>(
     }
 }
 
-// The name of the member of this id.
-pub(crate) fn name_of<S: Alter>(
+/// The name of the member of this id.
+pub fn name_of<S: Alter>(
     alloc: Global,
     conn: &mut Connection<S>,
     member: u32,

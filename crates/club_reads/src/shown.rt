@@ -21,7 +21,7 @@ use crate::fault::CallFault;
 use crate::found::first;
 use club_changes::StoredGame;
 use club_core::GameView;
-use club_core::values::MOST_PLIES;
+use club_requests::values::MOST_PLIES;
 use club_rows::{PlyRows, Stood, ask_rows, stood_in, view_of_row};
 use club_rules::Rules;
 use sqlite::{Alter, Connection};
@@ -73,8 +73,8 @@ fn ply_of(game: u32, ply: u32) -> MovePly
     }
 }
 
-// The row of a ply, if it was played.
-pub(crate) fn row_of<R: Rules, S: Alter>(
+/// The row of a ply, if it was played.
+pub fn row_of<R: Rules, S: Alter>(
     alloc: Global,
     conn: &mut Connection<S>,
     game: u32,
@@ -129,8 +129,8 @@ fn rows_at<R: Rules, S: Alter>(
     Ok(PlyRows { at, before })
 }
 
-// The view of a stored game, with no ply asked of.
-pub(crate) fn view<R: Rules, S: Alter>(
+/// The view of a stored game, with no ply asked of.
+pub fn view<R: Rules, S: Alter>(
     alloc: Global,
     conn: &mut Connection<S>,
     stored: &StoredGame,

@@ -13,12 +13,12 @@ use Rattle.club_rules.specs.declared.refusals.MoveRefusal.{MoveRefusal}
 use Rattle.club_rules.specs.GameRules.{GameRules}
 use Rattle.club_rules.specs.Line.{IsLegalLine, position_after}
 use Rattle.club_core.specs.declared.rows.Offer.{Offer}
-use Rattle.club_core.specs.declared.rows.OutsideEnd.{OutsideEnd}
-use Rattle.club_core.specs.declared.rows.OutsideEnd.TheVariants.{Resigned, Agreed, Time, Recorded}
+use Rattle.club_requests.specs.declared.outside_end.OutsideEnd.{OutsideEnd}
+use Rattle.club_requests.specs.declared.outside_end.OutsideEnd.TheVariants.{Resigned, Agreed, Time, Recorded}
 use Rattle.club_core.specs.Events.{Terms}
 use Rattle.club_core.specs.Game.{Entry, Game, end_with, score_with, rule_end, end_of, result_of, turn_of, last_position}
 use Rattle.club_core.specs.Legal.{IsLegalGame}
-use Rattle.club_core.specs.OutsideEnd.{outside_text}
+use Rattle.club_requests.specs.OutsideEnd.{outside_text}
 use Rattle.club_rows.specs.Tables.{game_row, move_rows, entry_row, entry_rows, with_entry, at_start, number}
 use Rattle.club_rows.specs.Tables.{side_number, end_name_text}
 use Rattle.club_rows.proofs.NextLemmas.{six-parts}

@@ -9,11 +9,11 @@ use Rattle.club_rules.specs.GameRules.{GameRules}
 use Rattle.club_games.specs.DraughtsLaws.{draughts-first_starts, draughts-turn_passes, draughts-same_is}
 use Rattle.club_games.specs.DraughtsLaws.{draughts-ends_at_limit}
 use Rattle.club_games.specs.ShogiLaws.{shogi-first_starts, shogi-turn_passes, shogi-same_is, shogi-ends_at_limit}
-use Rattle.club_core.specs.declared.requests.Caller.{Caller}
+use Rattle.club_requests.specs.declared.requests.Caller.{Caller}
 use Rattle.club_core.specs.Events.{Event}
 use Rattle.club_core.specs.Game.{Game}
 use Rattle.club_core.specs.LegalState.{IsGameOf, IsLegalIn}
-use Rattle.club_core.specs.Outcome.{map_outcome}
+use Rattle.club_requests.specs.Outcome.{map_outcome}
 use Rattle.club_core.specs.Seats.{Pairing}
 use Rattle.club_core.specs.State.{AnyGame, draughts, shogi, place, kind_at, terms_at, pairing_of, seated, seated_as}
 use Rattle.club_core.specs.State.{with_game, step_game}

@@ -1,7 +1,7 @@
 -- A move that is played adds the row of its answer.
 use Rattle.std.proofs.Common.{◌≡◌, [], ◌∷◌, ◌++◌, None, refl, ap, sym, ◌∙◌}
 use Rattle.club_rules.specs.GameRules.{GameRules}
-use Rattle.club_core.specs.Outcome.{Reply, MoveReply, moved}
+use Rattle.club_requests.specs.Outcome.{Reply, MoveReply, moved}
 use Rattle.club_core.proofs.Proved.{AreRules, reply-played}
 use Rattle.club_rows.specs.Tables.{entry_row, move_rows}
 use Rattle.club_rows.specs.Made.{made_row, MadeRowIsLast}

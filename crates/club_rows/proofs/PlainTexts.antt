@@ -9,7 +9,7 @@ use Rattle.std.proofs.lemmas.Bool.Decides.{nat_tests}
 use Rattle.std.proofs.lemmas.Str.{IsUtf8-from_ascii}
 use Rattle.sqlite_value.specs.declared.value.Value.TheVariants.{Text}
 use Rattle.club_rules.specs.GameRules.{GameRules}
-use Rattle.club_core.specs.Limits.{is_name, is_name_byte, is_member_key}
+use Rattle.club_requests.specs.Limits.{is_name, is_name_byte, is_member_key}
 use Rattle.store_tables.specs.Cells.{IsText}
 
 abbrev pub Plain : List ℕ → Type 0

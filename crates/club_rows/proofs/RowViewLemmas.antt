@@ -18,10 +18,10 @@ use Rattle.club_rules.specs.Laws.{TracksTellEnds, NumbersGiveTracks, NumbersAreF
 use Rattle.club_rules.specs.Laws.{StandsForOne, IsPositionRead}
 use Rattle.club_core.specs.declared.rows.Asked.{Asked}
 use Rattle.club_core.specs.declared.rows.Offer.{Offer}
-use Rattle.club_core.specs.declared.rows.OutsideEnd.{OutsideEnd}
-use Rattle.club_core.specs.declared.rows.OutsideEnd.TheVariants.{Recorded}
-use Rattle.club_core.specs.OutsideEnd.{outside_text}
-use Rattle.club_core.specs.Limits.{last_moment}
+use Rattle.club_requests.specs.declared.outside_end.OutsideEnd.{OutsideEnd}
+use Rattle.club_requests.specs.declared.outside_end.OutsideEnd.TheVariants.{Recorded}
+use Rattle.club_requests.specs.OutsideEnd.{outside_text}
+use Rattle.club_requests.specs.Limits.{last_moment}
 use Rattle.club_core.specs.Events.{Terms}
 use Rattle.club_core.specs.Game.{Entry, Game, Clocks, spend, spend_all, clocks_of, moves_of, left_of, side_after}
 use Rattle.club_core.specs.Game.{game_at, last_position, rule_end}

@@ -6,7 +6,7 @@ use Rattle.std.proofs.Math.Seq.{take-length}
 use Rattle.club_rules.specs.GameRules.{GameRules}
 use Rattle.club_core.specs.declared.rows.GameView.{GameView}
 use Rattle.club_core.specs.declared.rows.Offer.{Offer}
-use Rattle.club_core.specs.Limits.{is_budget, is_increment}
+use Rattle.club_requests.specs.Limits.{is_budget, is_increment}
 use Rattle.club_core.specs.Events.{Terms}
 use Rattle.club_core.specs.Game.{Entry, Game, rule_end}
 use Rattle.club_core.specs.Legal.{IsOffer, IsLegalGame}

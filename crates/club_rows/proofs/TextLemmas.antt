@@ -18,9 +18,9 @@ use Rattle.club_rules.specs.Line.{IsLegalLine, position_after}
 use Rattle.club_rules.proofs.Proved.{position_after-append}
 use Rattle.club_core.specs.declared.rows.GameEnd.{GameEnd}
 use Rattle.club_core.specs.declared.rows.GameEnd.TheVariants.{Rule, Outside}
-use Rattle.club_core.specs.declared.rows.OutsideEnd.{OutsideEnd}
-use Rattle.club_core.specs.declared.rows.OutsideEnd.TheVariants.{Resigned, Agreed, Time, Recorded}
-use Rattle.club_core.specs.Limits.{is_name}
+use Rattle.club_requests.specs.declared.outside_end.OutsideEnd.{OutsideEnd}
+use Rattle.club_requests.specs.declared.outside_end.OutsideEnd.TheVariants.{Resigned, Agreed, Time, Recorded}
+use Rattle.club_requests.specs.Limits.{is_name}
 use Rattle.club_core.specs.Members.{Member}
 use Rattle.club_core.specs.Events.{Event, Terms}
 use Rattle.club_core.specs.Game.{Entry, Game, moves_of, last_position}
@@ -28,7 +28,7 @@ use Rattle.club_core.specs.LegalState.{Each, IsLegalMember, IsLegalEvent, IsLega
 use Rattle.club_core.specs.State.{draughts, shogi, place, terms_at}
 use Rattle.store_tables.specs.Cells.{IsText, OrNull, IsMember, IsEvent, IsMove, IsGame}
 use Rattle.club_rows.specs.Club.{ClubGame, ClubState, IsClub, both_games}
-use Rattle.club_core.specs.OutsideEnd.{outside_text}
+use Rattle.club_requests.specs.OutsideEnd.{outside_text}
 use Rattle.club_rows.specs.Tables.{member_row, event_row, game_row, entry_rows, with_entry, end_name_text}
 use Rattle.club_rows.specs.Tables.{numbered_from, gathered_from, row_of_game, rows_of_moves, tables_of}
 use Rattle.club_rows.proofs.PlainTexts.{is-text, name-plain, key-plain, written, ArePlain}

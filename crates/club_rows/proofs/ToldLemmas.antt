@@ -12,9 +12,9 @@ use Rattle.squares.specs.Sides.{other, score_text}
 use Rattle.club_rules.specs.GameRules.{GameRules}
 use Rattle.club_core.specs.declared.rows.GameRow.{GameRow}
 use Rattle.club_core.specs.declared.rows.Offer.{Offer}
-use Rattle.club_core.specs.declared.rows.OutsideEnd.{OutsideEnd}
-use Rattle.club_core.specs.declared.rows.OutsideEnd.TheVariants.{Resigned, Agreed, Time, Recorded}
-use Rattle.club_core.specs.Limits.{is_name}
+use Rattle.club_requests.specs.declared.outside_end.OutsideEnd.{OutsideEnd}
+use Rattle.club_requests.specs.declared.outside_end.OutsideEnd.TheVariants.{Resigned, Agreed, Time, Recorded}
+use Rattle.club_requests.specs.Limits.{is_name}
 use Rattle.club_core.specs.Events.{Terms}
 use Rattle.club_core.specs.Game.{Entry, Game, Clocks, spend, spend_all, clocks_of, moments_of, opening_clocks, end_with}
 use Rattle.club_core.specs.Game.{score_with, rule_end, end_of, result_of, turn_of}
@@ -23,7 +23,7 @@ use Rattle.club_core.specs.View.{IsRowOf, rule_in}
 use Rattle.store_tables.specs.Cells.{game_cells}
 use Rattle.store_tables.specs.declared.rows.GameRecord.{GameRecord}
 use Rattle.store_tables.specs.declared.rows.MoveRow.{MoveRow}
-use Rattle.club_core.specs.OutsideEnd.{outside_text}
+use Rattle.club_requests.specs.OutsideEnd.{outside_text}
 use Rattle.club_rows.specs.Tables.{game_row, move_rows, side_number, end_name_text}
 use Rattle.club_rows.specs.Replay.{IsPlayedAs, game_from}
 use Rattle.club_rows.specs.Shown.{AreRowsOf}

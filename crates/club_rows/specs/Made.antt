@@ -6,7 +6,7 @@ use Rattle.club_rules.specs.GameRules.{GameRules}
 use Rattle.club_rules.specs.Line.{IsLegalLine}
 use Rattle.club_core.specs.Events.{Terms}
 use Rattle.club_core.specs.Game.{Game, moves_of}
-use Rattle.club_core.specs.Outcome.{MoveReply, moved}
+use Rattle.club_requests.specs.Outcome.{MoveReply, moved}
 use Rattle.club_core.specs.Step.{played, reply_of_move}
 use Rattle.club_rows.specs.Tables.{number, move_rows}
 

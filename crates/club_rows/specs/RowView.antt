@@ -4,7 +4,7 @@ use Rattle.std.specs.Option.{option_map}
 use Rattle.sqlite.specs.Order.{Row}
 use Rattle.club_rules.specs.GameRules.{GameRules}
 use Rattle.club_core.specs.declared.rows.Asked.{Asked}
-use Rattle.club_core.specs.Limits.{last_moment, most_plies}
+use Rattle.club_requests.specs.Limits.{last_moment, most_plies}
 use Rattle.club_core.specs.Events.{Terms}
 use Rattle.club_core.specs.Game.{Game, moves_of, last_position}
 use Rattle.club_core.specs.View.{CanGrow}

@@ -1,7 +1,7 @@
 -- When rows are those of a legal game, and what they show of it.
 use Rattle.std.specs.Prelude.{◌≡◌, ◌<◌, ◌≤◌, ◌^◌, ℕ, List, map, IsTrue, IfSome, true}
 use Rattle.club_rules.specs.GameRules.{GameRules}
-use Rattle.club_core.specs.Limits.{is_name, is_budget, is_increment, last_moment}
+use Rattle.club_requests.specs.Limits.{is_name, is_budget, is_increment, last_moment}
 use Rattle.club_core.specs.Events.{Terms}
 use Rattle.club_core.specs.Game.{Game, moves_of}
 use Rattle.club_core.specs.Legal.{IsLegalGame}

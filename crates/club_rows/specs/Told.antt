@@ -6,16 +6,16 @@ use Rattle.club_core.specs.declared.rows.GameRow.{GameRow}
 use Rattle.club_core.specs.declared.rows.GameEnd.{GameEnd}
 use Rattle.club_core.specs.declared.rows.GameEnd.TheVariants.{Rule, Outside}
 use Rattle.club_core.specs.declared.rows.Offer.{Offer}
-use Rattle.club_core.specs.declared.rows.OutsideEnd.TheVariants.{Resigned, Agreed, Time, Recorded}
-use Rattle.club_core.specs.Limits.{is_name, last_moment}
+use Rattle.club_requests.specs.declared.outside_end.OutsideEnd.TheVariants.{Resigned, Agreed, Time, Recorded}
+use Rattle.club_requests.specs.Limits.{is_name, last_moment}
 use Rattle.club_core.specs.Game.{Entry, Game}
 use Rattle.club_core.specs.View.{rule_in}
 use Rattle.store_tables.specs.declared.rows.GameRecord.{GameRecord}
 use Rattle.club_rules.specs.GameRules.{GameRules}
-use Rattle.club_core.specs.declared.rows.OutsideEnd.{OutsideEnd}
+use Rattle.club_requests.specs.declared.outside_end.OutsideEnd.{OutsideEnd}
 use Rattle.squares.specs.declared.sides.Score.{Score}
 use Rattle.squares.specs.Sides.{score_text}
-use Rattle.club_core.specs.OutsideEnd.{outside_text}
+use Rattle.club_requests.specs.OutsideEnd.{outside_text}
 use Rattle.club_rows.specs.Tables.{side_number}
 use Rattle.club_rows.specs.declared.view.Numbers.{Numbers}
 use Rattle.club_rows.specs.declared.view.Told.{Told}

@@ -4,12 +4,13 @@ ghost use Rattle.std.specs.Prelude.{◌≡◌, Option, Some, pos};
 ghost use Rattle.squares.specs.declared.sides.Side.{Side};
 ghost use Rattle.squares.specs.declared.sides.Score.{Score};
 ghost use Rattle.squares.specs.Sides.{score_text};
-ghost use Rattle.club_core.specs.declared.rows.OutsideEnd.{OutsideEnd};
-ghost use Rattle.club_core.specs.declared.rows.OutsideEnd.TheVariants.{Recorded};
-ghost use Rattle.club_core.specs.OutsideEnd.{outside_text};
+ghost use Rattle.club_requests.specs.declared.outside_end.OutsideEnd.{OutsideEnd};
+ghost use Rattle.club_requests.specs.declared.outside_end.OutsideEnd.TheVariants.{Recorded};
+ghost use Rattle.club_requests.specs.OutsideEnd.{outside_text};
 ghost use Rattle.club_rows.specs.Tables.{side_number, end_name_text};
 
-use club_core::{GameEnd, OutsideEnd};
+use club_core::GameEnd;
+use club_requests::OutsideEnd;
 use club_rules::Rules;
 use squares::{Score, Side};
 

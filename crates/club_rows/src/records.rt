@@ -16,7 +16,8 @@ ghost use Rattle.club_rows.specs.Tables.{number, side_number, game_row, end_name
 use crate::ends::{end_name, side_number};
 use crate::numbers::stored;
 use clocks::Moment;
-use club_core::{GameRow, Moved, Offer};
+use club_core::{GameRow, Offer};
+use club_requests::Moved;
 use club_rules::{Memory, Rules};
 use squares::Score;
 use std::alloc::Global;

@@ -4,7 +4,7 @@ ghost use Rattle.std.specs.Prelude.{◌≡◌, ◌≢◌, ◌≤◌, ◌<◌, �
 ghost use Rattle.std.specs.Prelude.{Some, Ok, cond, length, is_some, string_bytes};
 ghost use Rattle.squares.specs.Sides.{other};
 ghost use Rattle.club_rules.specs.Line.{IsPlayedLine, line_track, position_after};
-ghost use Rattle.club_core.specs.Limits.{is_budget, is_increment};
+ghost use Rattle.club_requests.specs.Limits.{is_budget, is_increment};
 ghost use Rattle.club_core.specs.Game.{Game, Entry};
 ghost use Rattle.club_rows.specs.Tables.{with_entry};
 ghost use Rattle.club_rows.specs.Tally.{PositionText, same_text, seen_at, stood_then, stood_seldom};
@@ -14,7 +14,7 @@ ghost use Rattle.club_rows.specs.Replay.{IsPlayedAs, left_in, clocks_replayed, t
 use crate::numbers::{moment, stored};
 use crate::tally::{Stood, Tally};
 use clocks::{Clock, Moment};
-use club_core::values::{MOST_PLIES, is_budget, is_increment};
+use club_requests::values::{MOST_PLIES, is_budget, is_increment};
 use club_rules::{Memory, Rules};
 use squares::Side;
 use std::alloc::Global;

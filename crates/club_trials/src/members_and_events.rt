@@ -2,9 +2,12 @@
 
 use crate::words::told;
 use club_core::{
-    AddEvent, AddMember, Answer, Caller, Event, GameCommand, KeyedGame, Member, Outcome,
-    OutsideEnd, Pairing, Refusal, Seat, Seating, Who, add_event, add_member, identify,
-    is_member_key, is_name, refusal_without_game, seat,
+    Event, KeyedGame, Member, Pairing, Seating, add_event, add_member, asked_ply, identify,
+    refusal_without_game, seat,
+};
+use club_requests::{
+    AddEvent, AddMember, Answer, Caller, GameCommand, Outcome, OutsideEnd, Refusal, Seat, Who,
+    is_member_key, is_name,
 };
 use club_rules::{GameKind, Memory, MoveRefusal};
 use squares::Score;
@@ -174,7 +177,7 @@ fn values_are_read(rt: HostRuntime) -> Result<(), Fail> {
     assert!(rt; refusal_without_game(Caller::Officer, &first) == Refusal::UnknownGame);
     assert!(rt; refusal_without_game(Caller::Officer, &resign) == Refusal::NotAllowed);
     assert!(rt; refusal_without_game(Caller::Member(1), &resign) == Refusal::UnknownGame);
-    assert!(rt; first.asked_ply() == 1);
-    assert!(rt; resign.asked_ply() == 0);
+    assert!(rt; asked_ply(&first) == 1);
+    assert!(rt; asked_ply(&resign) == 0);
     Ok(())
 }

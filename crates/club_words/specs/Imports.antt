@@ -2,8 +2,8 @@
 use Rattle.std.specs.Prelude.{ℕ}
 use Rattle.std.specs.declared.alloc.Global.{Global}
 use Rattle.std.specs.declared.vec.Vec.{Vec}
-use Rattle.club_core.specs.declared.requests.Command.{Command}
-use Rattle.club_core.specs.declared.requests.Command.TheVariants as command
+use Rattle.club_requests.specs.declared.requests.Command.{Command}
+use Rattle.club_requests.specs.declared.requests.Command.TheVariants as command
 use Rattle.club_words.specs.declared.words.Task.{Task}
 use Rattle.club_words.specs.declared.words.Task.TheVariants as task
 

@@ -6,7 +6,7 @@ ghost use Rattle.club_words.specs.Imports.{with_text, task_with};
 use clap::error::ErrorKind;
 use clap::{Arg, ArgAction, ArgMatches, value_parser};
 use clocks::Moment;
-use club_core::{AddEvent, AddMember, Command, GameCommand, Import, OnGame, Seat};
+use club_requests::{AddEvent, AddMember, Command, GameCommand, Import, OnGame, Seat};
 use club_rules::{GameKind, RecordFormat};
 use std::alloc::{AllocError, Global};
 

@@ -1,6 +1,7 @@
 use clocks::Moment;
-use club_core::{
-    Answer, AnswerChallenge, Command, GameCommand, GameEnd, Moved, OnGame, OpenChallenge, Outcome,
+use club_core::GameEnd;
+use club_requests::{
+    Answer, AnswerChallenge, Command, GameCommand, Moved, OnGame, OpenChallenge, Outcome,
     OutsideEnd, Refusal, Who, Withdraw,
 };
 use http_bodies::{GameShown, status_of};

@@ -14,9 +14,10 @@ use Rattle.serde_json.specs.declared.value.Value.TheVariants as variants
 use Rattle.serde_json.specs.Written.{has_float, items_have_float}
 use Rattle.squares.specs.Sides.{score_text}
 use Rattle.club_rules.specs.EndName.{end_text}
-use Rattle.club_core.specs.Outcome.{MoveReply, Reply, member_added, event_added, game_seated, moved, draw_offered}
-use Rattle.club_core.specs.Outcome.{game_ended, games_swept, challenge_opened, challenge_withdrawn, challenge_refused}
-use Rattle.club_core.specs.Outcome.{challenge_accepted}
+use Rattle.club_requests.specs.Outcome.{MoveReply, Reply, member_added, event_added, game_seated, moved, draw_offered}
+use Rattle.club_requests.specs.Outcome.{game_ended, games_swept, challenge_opened, challenge_withdrawn}
+use Rattle.club_requests.specs.Outcome.{challenge_refused}
+use Rattle.club_requests.specs.Outcome.{challenge_accepted}
 use Rattle.http_bodies.specs.Shown.{GameShown, end_name}
 use Rattle.http_bodies.specs.ShownViews.{texts_view}
 use Rattle.http_bodies.specs.Bodies.{texts, text_or_null, moves_data, number_data, lefts, game_front, game_object}

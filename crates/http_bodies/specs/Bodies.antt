@@ -8,10 +8,11 @@ use Rattle.serde_json.specs.Read.{read}
 use Rattle.serde_json.specs.Find.{get, as_str, as_bool}
 use Rattle.squares.specs.Sides.{score_text}
 use Rattle.club_rules.specs.EndName.{end_text}
-use Rattle.club_core.specs.OutsideEnd.{outside_text}
-use Rattle.club_core.specs.Outcome.{MoveReply, Reply, member_added, event_added, game_seated, moved, draw_offered}
-use Rattle.club_core.specs.Outcome.{game_ended, games_swept, challenge_opened, challenge_withdrawn, challenge_refused}
-use Rattle.club_core.specs.Outcome.{challenge_accepted}
+use Rattle.club_requests.specs.OutsideEnd.{outside_text}
+use Rattle.club_requests.specs.Outcome.{MoveReply, Reply, member_added, event_added, game_seated, moved, draw_offered}
+use Rattle.club_requests.specs.Outcome.{game_ended, games_swept, challenge_opened, challenge_withdrawn}
+use Rattle.club_requests.specs.Outcome.{challenge_refused}
+use Rattle.club_requests.specs.Outcome.{challenge_accepted}
 use Rattle.club_core.specs.State.{Command, open_challenge, answer_challenge}
 use Rattle.http_bodies.specs.Shown.{GameShown, end_name}
 

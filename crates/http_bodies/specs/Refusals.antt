@@ -1,9 +1,9 @@
 -- The numbers, names and statuses of refusals.
 use Rattle.std.specs.Prelude.{ℕ, List, codes}
 use Rattle.http_head.specs.Refusals.{head_number, head_name, head_status}
-use Rattle.club_core.specs.declared.refusals.Refusal as of_club
-use Rattle.club_core.specs.declared.refusals.Refusal.TheVariants as club
-use Rattle.club_core.specs.Refusal as core
+use Rattle.club_requests.specs.declared.refusals.Refusal as of_club
+use Rattle.club_requests.specs.declared.refusals.Refusal.TheVariants as club
+use Rattle.club_requests.specs.Refusal as core
 use Rattle.http_bodies.specs.declared.refusals.Refusal.{Refusal}
 use Rattle.http_bodies.specs.declared.refusals.Refusal.TheVariants.{Head, NoRoute, WrongMethod, BadBody, Club}
 

@@ -8,8 +8,8 @@ use Rattle.serde_json.specs.Written.{compact_text}
 use Rattle.http_bodies.specs.declared.refusals.Method.TheVariants.{Get, Post}
 use Rattle.http_bodies.specs.declared.refusals.Refusal.{Refusal}
 use Rattle.http_bodies.specs.declared.refusals.Refusal.TheVariants.{Head, NoRoute, WrongMethod, BadBody, Club}
-use Rattle.club_core.specs.declared.refusals.Refusal as of_club
-use Rattle.club_core.specs.declared.refusals.Refusal.TheVariants as club
+use Rattle.club_requests.specs.declared.refusals.Refusal as of_club
+use Rattle.club_requests.specs.declared.refusals.Refusal.TheVariants as club
 use Rattle.http_bodies.specs.Refusals.{refusal_number, refusal_name, refusal_status}
 
 abbrev pub line_end : List ℕ

@@ -5,7 +5,7 @@ use Rattle.club_rules.specs.declared.names.EndName.{EndName}
 use Rattle.club_rules.specs.EndName.{end_text}
 use Rattle.club_core.specs.declared.rows.GameEnd.{GameEnd}
 use Rattle.club_core.specs.declared.rows.GameEnd.TheVariants.{Rule, Outside}
-use Rattle.club_core.specs.OutsideEnd.{outside_text}
+use Rattle.club_requests.specs.OutsideEnd.{outside_text}
 
 -- a game as any member may see it: its event and its players by their names, its moves and its position as they are
 -- written

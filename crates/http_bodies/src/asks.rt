@@ -6,7 +6,7 @@ ghost use Rattle.club_core.specs.Answer.{command_of};
 ghost use Rattle.http_bodies.specs.Bodies.{json_of, text_in, bool_in, move_text, challenge_in, challenge_of};
 ghost use Rattle.http_bodies.specs.Bodies.{answer_in, answer_of};
 
-use club_core::{AnswerChallenge, Command, OpenChallenge};
+use club_requests::{AnswerChallenge, Command, OpenChallenge};
 use serde_json::{Category, Error, Value};
 use std::alloc::{AllocError, Global};
 

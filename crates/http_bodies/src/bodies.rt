@@ -5,7 +5,7 @@ ghost use Rattle.serde_json.specs.View.{view, members_view};
 ghost use Rattle.serde_json.specs.Written.{compact_text, has_float};
 ghost use Rattle.squares.specs.Sides.{score_text};
 ghost use Rattle.club_rules.specs.EndName.{end_text};
-ghost use Rattle.club_core.specs.OutsideEnd.{outside_text};
+ghost use Rattle.club_requests.specs.OutsideEnd.{outside_text};
 ghost use Rattle.club_core.specs.Answer.{move_reply_of, reply_of};
 ghost use Rattle.http_bodies.specs.Shown.{end_name};
 ghost use Rattle.http_bodies.specs.ShownViews.{texts_view, game_view};
@@ -15,7 +15,8 @@ ghost use Rattle.http_bodies.specs.Bodies.{swept_data, reply_data, stands_data, 
 
 use crate::reply::text_of;
 use crate::shown::{GameShown, end_name};
-use club_core::{Answer, GameEnd, Moved, OutsideEnd};
+use club_core::GameEnd;
+use club_requests::{Answer, Moved, OutsideEnd};
 use club_rules::EndName;
 use serde_json::{Map, Value, json, put};
 use squares::Score;

@@ -2,7 +2,7 @@
 ghost use Rattle.std.specs.Prelude.{◌≡◌};
 ghost use Rattle.http_bodies.specs.Refusals.{club_status, refusal_number, refusal_name, refusal_status};
 
-use club_core::Refusal as ClubRefusal;
+use club_requests::Refusal as ClubRefusal;
 use http_head::HeadRefusal;
 
 /// A method that a path may take.

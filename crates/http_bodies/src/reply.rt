@@ -8,7 +8,7 @@ ghost use Rattle.http_bodies.specs.Reply.{key_lines, further_lines, refusal_repl
 ghost use Rattle.http_bodies.specs.Reply.{json_text_reply, plain_reply};
 
 use crate::refusals::{Method, Refusal};
-use club_core::Refusal as ClubRefusal;
+use club_requests::Refusal as ClubRefusal;
 use http::StatusCode;
 use serde_json::{Value, json};
 use std::alloc::{AllocError, Global};

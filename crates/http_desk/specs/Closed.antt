@@ -1,7 +1,7 @@
 -- A club that cannot be taken over: it knows no key and shows nothing.
 use Rattle.std.specs.Prelude.{false}
-use Rattle.club_core.specs.declared.refusals.Refusal.TheVariants.{UnknownKey}
-use Rattle.club_core.specs.Outcome.{refused}
+use Rattle.club_requests.specs.declared.refusals.Refusal.TheVariants.{UnknownKey}
+use Rattle.club_requests.specs.Outcome.{refused}
 use Rattle.http_desk.specs.Served.{Club}
 
 abbrev pub closed : Club (Unit {0})

@@ -3,8 +3,8 @@ use Rattle.std.specs.Prelude.{◌≡◌, ◌⊎◌, ℕ, Bool, ◌&&◌, List, [
 use Rattle.std.specs.Prelude.{if◌then◌else◌}
 use Rattle.std.specs.Str.{bytes_eq, is_utf8}
 use Rattle.serde_json.specs.Written.{compact_text}
-use Rattle.club_core.specs.declared.refusals.Refusal.TheVariants.{UnknownKey, UnknownEvent, UnknownGame}
-use Rattle.club_core.specs.Outcome.{Outcome, accepted, repeated, refused as declined}
+use Rattle.club_requests.specs.declared.refusals.Refusal.TheVariants.{UnknownKey, UnknownEvent, UnknownGame}
+use Rattle.club_requests.specs.Outcome.{Outcome, accepted, repeated, refused as declined}
 use Rattle.club_core.specs.State.{Command, key_holder, withdraw_challenge, on_game as game_command}
 use Rattle.club_core.specs.Step as play
 use Rattle.http_head.specs.Request.{Request, Seen, unfinished, refused, whole, Sees, asks_head}

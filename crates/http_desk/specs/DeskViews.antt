@@ -1,6 +1,6 @@
 -- What an answer of the code, and a command that it makes, stand for.
 use Rattle.std.specs.Prelude.{◌≡◌, Option, Result, Ok, Err, option_map, string_bytes}
-use Rattle.club_core.specs.declared.requests.GameCommand as given
+use Rattle.club_requests.specs.declared.requests.GameCommand as given
 use Rattle.club_core.specs.Answer.{game_command_of}
 use Rattle.club_core.specs.Step.{GameCommand}
 use Rattle.http_desk.specs.declared.desk.Shown as code

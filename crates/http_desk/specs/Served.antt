@@ -1,6 +1,6 @@
 -- A club as the desk sees it, and what a call on it leaves.
 use Rattle.std.specs.Prelude.{ℕ, Bool, List, Option, Result, Ok, Err}
-use Rattle.club_core.specs.Outcome.{Outcome}
+use Rattle.club_requests.specs.Outcome.{Outcome}
 use Rattle.club_core.specs.State.{Request}
 use Rattle.http_bodies.specs.Shown.{GameShown}
 

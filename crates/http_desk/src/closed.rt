@@ -3,7 +3,7 @@
 use crate::faults::ClubFault;
 use crate::served::ServedClub;
 use clocks::Moment;
-use club_core::{Command, Outcome, Who};
+use club_requests::{Command, Outcome, Who};
 use http_bodies::GameShown;
 use std::alloc::Global;
 

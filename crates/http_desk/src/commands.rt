@@ -12,7 +12,7 @@ use crate::desk::{Fault, Shown};
 use crate::routes::Turn;
 use crate::served::ServedClub;
 use clocks::Moment;
-use club_core::{Answer, Command, GameCommand, OnGame, Outcome, Who, Withdraw};
+use club_requests::{Answer, Command, GameCommand, OnGame, Outcome, Who, Withdraw};
 use http_bodies::{Refusal, answer_text, move_text};
 use std::alloc::{AllocError, Global};
 

@@ -15,7 +15,7 @@ use crate::pages::{serve_game, serve_legal, serve_table};
 use crate::routes::{Asked, asked_of, text_of};
 use crate::served::ServedClub;
 use clocks::Moment;
-use club_core::Refusal as ClubRefusal;
+use club_requests::Refusal as ClubRefusal;
 use http_bodies::{
     Method, Refusal, answer_of, challenge_of, fault_reply, json_text_reply, plain_reply,
     refusal_reply,

@@ -1,6 +1,6 @@
 //! What holds of all answers.
 ghost use Rattle.std.specs.Prelude.{◌≡◌, ℕ};
-ghost use Rattle.club_core.specs.Outcome.{Reply, accepted, repeated};
+ghost use Rattle.club_requests.specs.Outcome.{Reply, accepted, repeated};
 ghost use Rattle.http_desk.specs.Desk.{outcome_answer};
 
 /// A command that was accepted before is answered as when it was accepted.

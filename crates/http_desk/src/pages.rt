@@ -5,7 +5,7 @@ ghost use Rattle.http_desk.specs.DeskViews.{answer_view};
 
 use crate::desk::{Fault, Shown};
 use crate::served::ServedClub;
-use club_core::Refusal as ClubRefusal;
+use club_requests::Refusal as ClubRefusal;
 use http_bodies::{Refusal, game_text, lined, moves_text};
 use std::alloc::Global;
 

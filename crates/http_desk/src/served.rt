@@ -6,7 +6,7 @@ ghost use Rattle.http_desk.specs.Served.{Club, Serves};
 
 use crate::faults::ClubFault;
 use clocks::Moment;
-use club_core::{Command, Outcome, Who};
+use club_requests::{Command, Outcome, Who};
 use http_bodies::GameShown;
 use std::alloc::Global;
 

@@ -6,7 +6,7 @@ use Rattle.std.proofs.lemmas.List.{length-map}
 use Rattle.squares.specs.declared.sides.Side.{Side}
 use Rattle.squares.specs.declared.sides.Side.TheVariants.{First, Second}
 use Rattle.squares.specs.Sides.{other}
-use Rattle.club_core.specs.Limits.{is_budget, is_increment}
+use Rattle.club_requests.specs.Limits.{is_budget, is_increment}
 use Rattle.club_core.specs.Events.{Terms}
 use Rattle.club_core.specs.Game.{Game, Clocks, spend, spend_all, clocks_of, left_of}
 use Rattle.club_imports.specs.OneMoment.{clocks_with}

@@ -4,7 +4,7 @@ ghost use Rattle.std.specs.Prelude.{◌≡◌, Some, IfOk, IsTrue};
 ghost use Rattle.club_rules.specs.Records.{recorded_of, IsGameByRules};
 ghost use Rattle.club_core.specs.Answer.{pairing_of};
 ghost use Rattle.club_core.specs.Imports.{imported};
-ghost use Rattle.club_core.specs.Limits.{is_budget, is_increment};
+ghost use Rattle.club_requests.specs.Limits.{is_budget, is_increment};
 ghost use Rattle.club_rows.specs.Replay.{terms_given};
 ghost use Rattle.import_rows.specs.NewGames.{AreNewRows};
 

@@ -3,7 +3,7 @@
 ghost use Rattle.std.specs.Prelude.{◌≡◌, ◌≤◌, ◌<◌, ◌+◌, ◌^◌, [], ◌∷◌, map, length, Ok, IfOk, IsTrue};
 ghost use Rattle.sqlite_value.specs.declared.value.Value.TheVariants.{Text};
 ghost use Rattle.club_rules.specs.Line.{IsLegalLine};
-ghost use Rattle.club_core.specs.Limits.{most_plies, is_budget, is_increment};
+ghost use Rattle.club_requests.specs.Limits.{most_plies, is_budget, is_increment};
 ghost use Rattle.club_rows.specs.Replay.{terms_given};
 ghost use Rattle.club_rows.specs.Tables.{number};
 ghost use Rattle.store_tables.specs.Cells.{move_cells};

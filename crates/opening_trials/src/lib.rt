@@ -2,6 +2,12 @@
 #![tactic(auto)]
 
 #[cfg(test)]
+mod clubs;
+#[cfg(test)]
 mod opening;
 #[cfg(test)]
 mod parsed_rows;
+#[cfg(test)]
+mod rows;
+#[cfg(test)]
+mod runs;

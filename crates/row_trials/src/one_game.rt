@@ -6,8 +6,9 @@ ghost use Rattle.club_games.specs.Draughts.{draughts};
 
 use clocks::Moment;
 use club_audit::{wrong_game, wrong_register};
-use club_core::{Answer, Caller, Decision, GameCommand, GameView, decide};
+use club_core::{Decision, GameView, decide};
 use club_games::Draughts;
+use club_requests::{Answer, Caller, GameCommand};
 use club_rows::numbers::moment;
 use club_rows::{PlyRows, Shown, Terms, ask_rows, move_row, record_of, view_of};
 use std::alloc::Global;

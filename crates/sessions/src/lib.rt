@@ -14,7 +14,7 @@ ghost use Rattle.store.specs.Runs.{club_outcomes};
 ghost use Rattle.store.specs.Histories.{IsReachable, session_of};
 ghost use Rattle.sessions.specs.Finds.{Finds, AreVoid};
 
-use club_core::Request;
+use club_requests::Request;
 use sqlite::{Connection, FileStore};
 use sqlite_disk::Disk;
 use std::alloc::Global;

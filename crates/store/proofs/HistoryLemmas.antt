@@ -10,10 +10,10 @@ use Rattle.std.proofs.lemmas.List.Recursion.{is_count_by}
 use Rattle.std.proofs.lemmas.Bool.{cases_Bool}
 use Rattle.sqlite.specs.Tree.{Trees}
 use Rattle.sqlite.specs.State.{State, Opens, IsLive}
-use Rattle.club_core.specs.declared.requests.Request as given_request
-use Rattle.club_core.specs.declared.answers.Outcome as given_outcome
+use Rattle.club_requests.specs.declared.requests.Request as given_request
+use Rattle.club_requests.specs.declared.answers.Outcome as given_outcome
 use Rattle.club_core.specs.Answer.{answered, outcome_of, request_of}
-use Rattle.club_core.specs.Outcome.{Outcome, accepted, repeated, refused}
+use Rattle.club_requests.specs.Outcome.{Outcome, accepted, repeated, refused}
 use Rattle.club_core.specs.State.{Request, opening_state, is_accepted}
 use Rattle.club_laws.proofs.Proved.{folds-accepted}
 use Rattle.club_rows.specs.Club.{both_games, ClubState, IsClub, tables}

@@ -1,6 +1,6 @@
 -- A request leaves a legal club legal.
 use Rattle.std.proofs.Common.{◌≤◌}
-use Rattle.club_core.specs.Limits.{last_moment}
+use Rattle.club_requests.specs.Limits.{last_moment}
 use Rattle.club_core.specs.State.{Request}
 use Rattle.club_laws.proofs.Proved.{import-kept, next-legal}
 use Rattle.club_games.specs.CsaLaws.{shogi-reads_games}

@@ -5,8 +5,8 @@ use Rattle.std.proofs.lemmas.List.{take_more, take_all, map-append, length_push}
 use Rattle.sqlite.specs.State.{State}
 use Rattle.sqlite.specs.Tree.{Trees}
 use Rattle.store_tables.specs.Club.{IsExactly, Leaves}
-use Rattle.club_core.specs.declared.requests.Request as given_request
-use Rattle.club_core.specs.declared.answers.Outcome as given_outcome
+use Rattle.club_requests.specs.declared.requests.Request as given_request
+use Rattle.club_requests.specs.declared.answers.Outcome as given_outcome
 use Rattle.club_core.specs.Answer.{answered, outcome_of, request_of}
 use Rattle.club_core.specs.State.{Request}
 use Rattle.club_rows.specs.Club.{ClubState, IsClub, tables}

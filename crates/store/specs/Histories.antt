@@ -4,8 +4,8 @@ use Rattle.std.specs.List.{count_by}
 use Rattle.sqlite.specs.Tree.{Trees}
 use Rattle.sqlite.specs.State.{State}
 use Rattle.store_tables.specs.Club.{IsExactly, Leaves}
-use Rattle.club_core.specs.declared.requests.Request as given_request
-use Rattle.club_core.specs.declared.answers.Outcome as given_outcome
+use Rattle.club_requests.specs.declared.requests.Request as given_request
+use Rattle.club_requests.specs.declared.answers.Outcome as given_outcome
 use Rattle.club_core.specs.Answer.{outcome_of, request_of}
 use Rattle.club_core.specs.State.{Request, opening_state, is_accepted}
 use Rattle.club_rows.specs.Club.{ClubState, IsClub, tables}

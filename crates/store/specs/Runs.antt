@@ -1,6 +1,6 @@
 -- What a club makes of requests in turn.
 use Rattle.std.specs.Prelude.{List}
-use Rattle.club_core.specs.Outcome.{Outcome}
+use Rattle.club_requests.specs.Outcome.{Outcome}
 use Rattle.club_core.specs.State as machine
 use Rattle.club_core.specs.State.{Request}
 use Rattle.club_rows.specs.Club.{both_games, ClubState}

@@ -7,7 +7,7 @@ ghost use Rattle.sqlite.specs.Held.{state};
 ghost use Rattle.club_core.specs.Answer.{members_of, challenge_outcome_of};
 ghost use Rattle.club_core.specs.Challenges.{challenge_by, answer_step};
 ghost use Rattle.club_core.specs.Members.{find_id};
-ghost use Rattle.club_core.specs.Outcome.{by_member};
+ghost use Rattle.club_requests.specs.Outcome.{by_member};
 ghost use Rattle.club_core.specs.Seats.{has_member_name};
 ghost use Rattle.club_core.specs.State.{open_challenge, withdraw_challenge, answer_challenge};
 ghost use Rattle.club_rows.specs.Club.{ClubState, IsClub, tables};
@@ -20,11 +20,9 @@ ghost use Rattle.club_changes.specs.Whole.{IsWhole};
 use clocks::Moment;
 use club_changes::{Decided, put_answered, put_challenge};
 use club_core::seats::find_member;
-use club_core::{
-    AnswerChallenge, Caller, ChallengeDecision, Member, OpenChallenge, Withdraw, answer_challenge,
-    open_challenge, withdraw,
-};
+use club_core::{ChallengeDecision, Member, answer_challenge, open_challenge, withdraw};
 use club_reads::{CallFault, all_events, all_members, challenge_by, games_in};
+use club_requests::{AnswerChallenge, Caller, OpenChallenge, Withdraw};
 use sqlite::{Alter, Connection};
 use std::alloc::Global;
 

@@ -22,13 +22,11 @@ use crate::kinds::{act_in, import_in};
 use crate::sweep::on_sweep;
 use clocks::Moment;
 use club_changes::{Decided, on_event, on_member, seated_rows, unchanged};
-use club_core::{
-    Answer, Caller, Command, Event, Import, Member, OnGame, Outcome, Refusal, Seat, Seating, Who,
-    refusal_without_game, seat,
-};
+use club_core::{Event, Member, Seating, refusal_without_game, seat};
 use club_reads::{
     CallFault, all_events, all_members, caller_by, game_under, last_moment, read_known, stored_game,
 };
+use club_requests::{Answer, Caller, Command, Import, OnGame, Outcome, Refusal, Seat, Who};
 use sqlite::{Alter, Connection};
 use std::alloc::Global;
 use store_sql::count;

@@ -5,7 +5,7 @@ ghost use Rattle.club_core.specs.Answer.{game_command_of};
 ghost use Rattle.club_core.specs.Events as core;
 ghost use Rattle.club_core.specs.Game.{Game, clocks_of};
 ghost use Rattle.club_core.specs.Legal.{IsLegalGame};
-ghost use Rattle.club_core.specs.Limits.{is_budget, is_increment};
+ghost use Rattle.club_requests.specs.Limits.{is_budget, is_increment};
 ghost use Rattle.club_core.specs.Step as machine;
 ghost use Rattle.club_core.specs.Step.{asked_ply, game_step};
 ghost use Rattle.club_core.specs.View.{IsConcluded, IsDecision, IsSound, Shows, ShowsPly, terms_of};
@@ -22,8 +22,9 @@ ghost use Rattle.club_changes.specs.Whole.{IsWhole};
 
 use clocks::Moment;
 use club_changes::{Counts, Decided, StoredGame, put_decision};
-use club_core::{Caller, Decision, GameCommand, GameView, conclude, decide, settle};
+use club_core::{Decision, GameView, asked_ply, conclude, decide, settle};
 use club_reads::{CallFault, asked_view, scores_by, seen_by, stood_by};
+use club_requests::{Caller, GameCommand};
 use club_rules::Rules;
 use sqlite::{Alter, Connection};
 use std::alloc::Global;
@@ -119,7 +120,7 @@ pub(crate) fn act<R: Rules, S: Alter>(
         IsDecidedIn R.rules (terms_given stored.now.terms) stored.now.id moment (content 14) old
         (game_step R.rules (terms_given stored.now.terms) old moment caller (game_command_of command.now)) d) }
 {
-    let ply = command.asked_ply();
+    let ply = asked_ply(command);
     let view = asked_view::<R, S>(alloc, conn, stored, ply)?;
     on_view(alloc, conn, stored.id, &view, caller, command, moment)
 }

@@ -19,10 +19,11 @@ ghost use Rattle.club_changes.specs.Whole.{IsWhole};
 
 use clocks::Moment;
 use club_changes::{Decided, Known, event_at, put_rows, terms_of, unchanged};
-use club_core::values::{is_budget, is_increment};
-use club_core::{Answer, Caller, Event, Import, Outcome};
+use club_core::Event;
 use club_imports::{Importing, NewGame, import};
 use club_reads::{CallFault, played_under, scores_with};
+use club_requests::values::{is_budget, is_increment};
+use club_requests::{Answer, Caller, Import, Outcome};
 use club_rules::{GameKind, Records, Rules};
 use import_rows::new_rows;
 use sqlite::{Alter, Connection};

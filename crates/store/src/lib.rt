@@ -14,7 +14,7 @@ mod sweep;
 
 pub use club::{Club, Run, Unopened, adopt, create, resume};
 pub use club_opening::OpenFault;
-pub use club_reads::{Played, ViewedGame};
+pub use club_views::{Played, ViewedGame};
 pub use fault::{ExportFault, StoreFault};
 pub use reopen::{holds_nothing, holds_what_sessions_left, leaves_what_sessions_left};
 pub use store_sql::holds_exactly;

@@ -4,7 +4,7 @@ ghost use Rattle.std.specs.Prelude.{IfOk, OnOk};
 ghost use Rattle.sqlite.specs.State.{HasCleanDisk};
 ghost use Rattle.sqlite.specs.Held.{state};
 ghost use Rattle.club_core.specs.State.{sweep};
-ghost use Rattle.club_core.specs.declared.requests.Caller.TheVariants.{Officer};
+ghost use Rattle.club_requests.specs.declared.requests.Caller.TheVariants.{Officer};
 ghost use Rattle.club_rows.specs.Club.{ClubState, IsClub, tables};
 ghost use Rattle.store_tables.specs.Club.{IsExactly};
 ghost use Rattle.store_tables.specs.Reading.{OnlyReads};
@@ -14,8 +14,8 @@ ghost use Rattle.club_changes.specs.Whole.{IsWhole};
 
 use clocks::Moment;
 use club_changes::{Decided, sweep_games, unchanged};
-use club_core::{Caller, Outcome, Refusal};
 use club_reads::CallFault;
+use club_requests::{Caller, Outcome, Refusal};
 use sqlite::{Alter, Connection};
 use std::alloc::Global;
 use store_sql::list;

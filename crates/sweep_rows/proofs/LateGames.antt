@@ -14,7 +14,7 @@ use Rattle.squares.specs.Sides.{loses, score_text}
 use Rattle.club_rules.specs.GameRules.{GameRules}
 use Rattle.club_rules.specs.Line.{IsLegalLine}
 use Rattle.club_core.specs.declared.rows.GameEnd.TheVariants.{Outside}
-use Rattle.club_core.specs.declared.rows.OutsideEnd.TheVariants.{Time}
+use Rattle.club_requests.specs.declared.outside_end.OutsideEnd.TheVariants.{Time}
 use Rattle.club_core.specs.Events.{Event, Terms}
 use Rattle.club_core.specs.Game.{Entry, Game, Clocks, left_of, side_after, moves_of, clocks_of, turn_of, rule_end}
 use Rattle.club_core.specs.Game.{end_of, end_with, result_of, score_with}

@@ -5,8 +5,8 @@ use Rattle.sqlite.specs.Values.{or_null}
 use Rattle.sqlite.specs.Order.{Row}
 use Rattle.squares.specs.declared.sides.Score.{Score}
 use Rattle.squares.specs.Sides.{score_text}
-use Rattle.club_core.specs.declared.rows.OutsideEnd.TheVariants.{Time}
-use Rattle.club_core.specs.OutsideEnd.{outside_text}
+use Rattle.club_requests.specs.declared.outside_end.OutsideEnd.TheVariants.{Time}
+use Rattle.club_requests.specs.OutsideEnd.{outside_text}
 use Rattle.store_tables.specs.declared.rows.GameRecord.{GameRecord}
 
 -- the cells of the row, with the end by time and this score

@@ -5,7 +5,7 @@ ghost use Rattle.std.specs.Option.{option_map};
 ghost use Rattle.store_tables.specs.Cells.{game_cells};
 ghost use Rattle.sweep_rows.specs.Ended.{cells_lost};
 
-use club_core::OutsideEnd;
+use club_requests::OutsideEnd;
 use club_rules::Memory;
 use squares::Score;
 use std::alloc::Global;

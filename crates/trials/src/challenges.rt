@@ -1,14 +1,13 @@
 //! Challenges between members, each request with what it must come to, and the rows that they leave.
 
 use crate::commands::{opened, serve_at_once};
-use crate::scripts::{request, told};
-use crate::tables::lines_of;
-use club_core::Request;
+use club_requests::Request;
 use sqlite::MemStore;
 use std::alloc::Global;
 use std::process::Abort;
 use std::test::Fail;
 use store::Club;
+use trial_scripts::{lines_of, request, told};
 
 const THREE_MEMBERS: &str = "1000 officer member anna keyanna1 = accepted
 1000 officer member bert keybert2 = accepted

@@ -2,13 +2,12 @@
 
 ghost use Rattle.std.specs.Prelude.{◌≡◌, false};
 
-use crate::scripts::{request, told};
-use crate::tables::{Tables, stored};
 use sqlite::{Connection, MemStore};
 use std::alloc::Global;
 use std::process::Abort;
 use std::test::Fail;
 use store::{Club, adopt, create};
+use trial_scripts::{Tables, given, stored, told};
 
 fn adopted(alloc: Global, conn: Connection<MemStore>) -> Result<Club<MemStore>, Fail>
     requires { conn.in_transaction ≡ false }
@@ -36,9 +35,8 @@ pub(crate) fn give<R: Abort + AllocGlobal>(
 ) -> Result<Club<MemStore>, Fail> {
     let alloc = rt.alloc();
     let (asked, wanted) = line.split_once('=').ok_or("an outcome")?;
-    let asked = request(alloc, asked)?;
     let mut club = club;
-    let outcome = club.apply(alloc, &asked.who, &asked.command, asked.moment)?;
+    let outcome = given(alloc, &mut club, asked)??;
     assert!(rt; told(alloc, &outcome)?.as_str() == wanted.trim(), "{line}");
     Ok(club)
 }

@@ -2,8 +2,8 @@
 //! was worked out apart from these crates, by the rules.
 
 use crate::commands::{played, serve_at_once};
-use crate::tables::lines_of;
 use std::test::Fail;
+use trial_scripts::lines_of;
 
 const CAPTURES: &str = "1000 officer move 1 10 0013-19 = 20 BadText 1
 1000 officer move 1 10 023-28 = accepted

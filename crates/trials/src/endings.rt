@@ -1,11 +1,11 @@
 //! Offers of a draw, resignations, claims of time and sweeps, each with what it must come to.
 
 use crate::commands::{opened, serve_at_once};
-use crate::tables::lines_of;
 use sqlite::MemStore;
 use std::process::Abort;
 use std::test::Fail;
 use store::Club;
+use trial_scripts::lines_of;
 
 /// A club with a game, named so, of a minute for each player, that anna plays first and bert second from 1000 on.
 fn seated<R: Abort + AllocGlobal>(rt: &R, game: &str) -> Result<Club<MemStore>, Fail> {

@@ -1,13 +1,13 @@
 //! The tables after the first commands of a club, against rows that are written out by hand.
 
 use crate::commands::{opened, serve_at_once};
-use crate::tables::{Tables, stored};
 use sqlite::{Connection, MemStore};
 use std::alloc::Global;
 use std::process::Abort;
 use std::test::Fail;
 use store::{Club, OpenFault, ViewedGame, create};
 use store_tables::{EventRow, GameRecord, MemberRow, MetaRow, MoveRow, SeenRow};
+use trial_scripts::{Tables, stored};
 
 const OPENING: &str =
     "W:W31,32,33,34,35,36,37,38,39,40,41,42,43,44,45,46,47,48,49,50:B1,2,3,4,5,6,7,8,9,10,11,12,13,14,15,16,17,18,19,20";

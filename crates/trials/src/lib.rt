@@ -1,4 +1,5 @@
-//! Trials of the whole: commands and rows written out by hand, and stops at each call of the disk. It has tests alone.
+//! Trials of the whole: commands, orders and requests of the desk, and the rows that they leave, written out by hand.
+//! It has tests alone.
 #![tactic(auto)]
 
 #[cfg(test)]
@@ -12,18 +13,10 @@ mod endings;
 #[cfg(test)]
 mod first_path;
 #[cfg(test)]
-mod histories;
-#[cfg(test)]
 mod orders;
 #[cfg(test)]
 mod records;
 #[cfg(test)]
-mod scripts;
-#[cfg(test)]
 mod served;
 #[cfg(test)]
 mod shogi;
-#[cfg(test)]
-mod stops;
-#[cfg(test)]
-mod tables;

@@ -1,10 +1,10 @@
 //! Games of shogi, each move with what it must come to, and the rows that they make, written out by hand.
 
 use crate::commands::{played, serve_at_once};
-use crate::tables::{lines_of, stored};
 use std::alloc::Global;
 use std::test::Fail;
 use store_tables::{EventRow, GameRecord, MoveRow};
+use trial_scripts::{lines_of, stored};
 
 const LAST: &str = "lnsgkg1nl/1r5s1/pppppp1pp/6p2/4B4/2P6/PP1PPPPPP/7R1/LNSGKGSNL w b";
 

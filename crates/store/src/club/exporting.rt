@@ -6,12 +6,12 @@ ghost use Rattle.sqlite.specs.Held.{state};
 ghost use Rattle.store_tables.specs.Club.{IsExactly};
 ghost use Rattle.store_tables.specs.Reading.{OnlyReads};
 ghost use Rattle.club_rows.specs.Club.{ClubState, IsClub, tables};
-ghost use Rattle.club_reads.specs.Exported.{IsExported, IsWrittenSome};
+ghost use Rattle.club_views.specs.Exported.{IsExported, IsWrittenSome};
 ghost use Rattle.store.specs.Exporting.{KeepsUnlessFault};
 
 use super::Club;
 use crate::fault::{ExportFault, StoreFault};
-use club_reads::{Stopped, export_of};
+use club_views::{Stopped, export_of};
 use sqlite::Alter;
 use std::alloc::Global;
 use std::io::Write;

@@ -10,11 +10,11 @@ ghost use Rattle.store_tables.specs.Reading.{OnlyReads};
 ghost use Rattle.store_sql.specs.Read.{KeepsContent};
 ghost use Rattle.club_rows.specs.Club.{ClubState, IsClub, tables};
 ghost use Rattle.club_changes.specs.Stored.{AreLegalRows};
-ghost use Rattle.club_reads.specs.Viewed.{IsViewed};
+ghost use Rattle.club_views.specs.Viewed.{IsViewed};
 
 use super::Club;
 use crate::fault::StoreFault;
-use club_reads::{ViewedGame, legal_of, view_of};
+use club_views::{ViewedGame, legal_of, view_of};
 use sqlite::Alter;
 use std::alloc::Global;
 

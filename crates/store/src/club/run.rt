@@ -14,7 +14,7 @@ ghost use Rattle.store.specs.Histories.{IsAfter};
 
 use super::Club;
 use crate::fault::StoreFault;
-use club_core::{Outcome, Request};
+use club_requests::{Outcome, Request};
 use sqlite::Alter;
 use std::alloc::Global;
 

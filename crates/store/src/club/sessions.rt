@@ -14,8 +14,8 @@ ghost use Rattle.store.specs.Histories.{IsReachable, IsHistory, session_of};
 use super::run::Run;
 use super::{Club, Unopened, adopt};
 use crate::fault::StoreFault;
-use club_core::Request;
 use club_opening::OpenFault;
+use club_requests::Request;
 use sqlite::{Alter, Connection};
 use std::alloc::Global;
 

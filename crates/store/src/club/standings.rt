@@ -9,11 +9,11 @@ ghost use Rattle.store_tables.specs.Club.{IsExactly};
 ghost use Rattle.store_tables.specs.Reading.{OnlyReads};
 ghost use Rattle.store_sql.specs.Read.{KeepsContent};
 ghost use Rattle.club_rows.specs.Club.{ClubState, IsClub, tables};
-ghost use Rattle.club_reads.specs.CrossTable.{AreTableRows};
+ghost use Rattle.club_views.specs.CrossTable.{AreTableRows};
 
 use super::Club;
 use crate::fault::StoreFault;
-use club_reads::table_of;
+use club_views::table_of;
 use sqlite::Alter;
 use std::alloc::Global;
 

@@ -1,5 +1,5 @@
 use Rattle.std.proofs.Common.{◌≡◌, true, sym, ap, subst, ◌∙◌, arith}
-use Rattle.club_core.specs.Limits.{is_challenge_number}
+use Rattle.club_requests.specs.Limits.{is_challenge_number}
 use Rattle.club_audit.specs.ChallengeAudit.{HasItsGame, IsIdAmong}
 use Rattle.club_audit.proofs.challenges.is_challenge.Goals as goal
 

@@ -2,7 +2,7 @@ use Rattle.std.proofs.Common.{◌≡◌, ◌+◌, pos, true, ap, sym, ◌∙◌,
 use Rattle.std.specs.Prelude.{string_bytes, IfSome}
 use Rattle.std.proofs.lemmas.Bool.{not-true}
 use Rattle.std.proofs.lemmas.Int.{ints}
-use Rattle.club_core.specs.Limits.{is_name}
+use Rattle.club_requests.specs.Limits.{is_name}
 use Rattle.club_audit.specs.Audit.{GivesTerms}
 use Rattle.club_rows.specs.Tables.{kind_number}
 use Rattle.club_audit.proofs.PeopleLemmas.{event-cells, event_told}

@@ -2,7 +2,7 @@ use Rattle.std.proofs.Common.{◌≡◌, ◌+◌, pos, true, ap, sym, ◌∙◌,
 use Rattle.std.specs.Prelude.{string_bytes}
 use Rattle.std.proofs.lemmas.Bool.{not-true}
 use Rattle.std.proofs.lemmas.Int.{ints}
-use Rattle.club_core.specs.Limits.{is_name, is_member_key}
+use Rattle.club_requests.specs.Limits.{is_name, is_member_key}
 use Rattle.club_audit.proofs.PeopleLemmas.{member-cells}
 use Rattle.club_audit.proofs.people.is_member.Goals as goal
 

@@ -1,9 +1,9 @@
 use Rattle.std.proofs.Common.{◌∷◌, [], length, Some, refl, sym, subst}
-use Rattle.club_core.specs.declared.answers.Outcome.TheVariants as given
+use Rattle.club_requests.specs.declared.answers.Outcome.TheVariants as given
 use Rattle.club_core.specs.declared.challenges.ChallengeDecision.TheVariants as decision
 use Rattle.club_core.specs.Answer.{challenge_outcome_of}
 use Rattle.club_core.specs.LegalState.{Each, IsLegalEvent}
-use Rattle.club_core.specs.Outcome.{map_outcome}
+use Rattle.club_requests.specs.Outcome.{map_outcome}
 use Rattle.club_core.specs.State.{with_answer}
 use Rattle.club_rows.specs.Tables.{challenge_row}
 use Rattle.club_changes.specs.Challenged.{AnswersTo, PutsBegun}

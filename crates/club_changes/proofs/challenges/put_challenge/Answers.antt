@@ -1,8 +1,8 @@
 use Rattle.std.proofs.Common.{[], Some, refl, sym, subst}
-use Rattle.club_core.specs.declared.answers.Outcome.TheVariants as given
+use Rattle.club_requests.specs.declared.answers.Outcome.TheVariants as given
 use Rattle.club_core.specs.declared.challenges.ChallengeDecision.TheVariants as decision
 use Rattle.club_core.specs.Answer.{challenge_outcome_of}
-use Rattle.club_core.specs.Outcome.{map_outcome}
+use Rattle.club_requests.specs.Outcome.{map_outcome}
 use Rattle.club_core.specs.State.{with_challenge}
 use Rattle.club_changes.specs.declared.decided.Decided.{Decided}
 use Rattle.club_changes.specs.Steps.{IsDecided}

@@ -1,6 +1,6 @@
 use Rattle.std.proofs.Common.{◌≡◌, ◌+◌, ◌≤◌, length, sym, ap, ◌∙◌, arith}
 use Rattle.std.proofs.lemmas.List.{length-map}
-use Rattle.club_core.specs.Outcome.{by_officer}
+use Rattle.club_requests.specs.Outcome.{by_officer}
 use Rattle.club_core.specs.Events.{Event, event_step}
 use Rattle.club_core.specs.Answer.{answered, events_of, added_event}
 use Rattle.club_core.specs.State.{with_events}

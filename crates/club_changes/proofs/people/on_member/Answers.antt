@@ -1,6 +1,6 @@
 use Rattle.std.proofs.Common.{◌≡◌, ◌+◌, length, string_bytes, sym, ap, ◌∙◌, arith}
 use Rattle.std.proofs.lemmas.List.{length-map}
-use Rattle.club_core.specs.Outcome.{by_officer}
+use Rattle.club_requests.specs.Outcome.{by_officer}
 use Rattle.club_core.specs.Members.{Member, member_step}
 use Rattle.club_core.specs.Answer.{answered, members_of}
 use Rattle.club_core.specs.State.{with_members}

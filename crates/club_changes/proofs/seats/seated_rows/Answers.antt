@@ -4,7 +4,7 @@ use Rattle.std.specs.Prelude.{IsTrue}
 use Rattle.std.proofs.lemmas.Result.{IfOk-weaker}
 use Rattle.club_core.specs.Answer.{event_of, events_of, pairing_of}
 use Rattle.club_core.specs.LegalState.{IsLegalEvent}
-use Rattle.club_core.specs.Limits.{is_budget}
+use Rattle.club_requests.specs.Limits.{is_budget}
 use Rattle.club_core.specs.State.{place, kind_at, terms_at}
 use Rattle.club_laws.proofs.Proved.{in-place}
 use Rattle.club_rows.specs.Replay.{terms_given}

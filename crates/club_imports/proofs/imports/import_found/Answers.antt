@@ -1,7 +1,7 @@
 use Rattle.std.specs.Option.{option_map}
 use Rattle.club_rules.specs.Records.{reading_of}
 use Rattle.club_core.specs.Answer.{keyed_of, import_of}
-use Rattle.club_core.specs.Outcome.{game_seated}
+use Rattle.club_requests.specs.Outcome.{game_seated}
 use Rattle.club_imports.specs.Importing.{importing_of}
 use Rattle.club_imports.proofs.ImportStepLemmas.{step-repeats, step-refuses, step-adds}
 use Rattle.club_imports.proofs.imports.import_found.Goals as goal

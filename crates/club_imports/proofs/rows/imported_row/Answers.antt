@@ -3,7 +3,7 @@ use Rattle.club_rules.specs.Line.{position_after, line_track}
 use Rattle.club_rules.specs.Records.{recorded_of}
 use Rattle.club_core.specs.Answer.{pairing_of}
 use Rattle.club_core.specs.Game.{spend_all}
-use Rattle.club_core.specs.Limits.{most_plies}
+use Rattle.club_requests.specs.Limits.{most_plies}
 use Rattle.club_core.proofs.Proved.{are_rules}
 use Rattle.club_laws.proofs.Proved.{within-limit}
 use Rattle.squares.specs.declared.sides.Side.TheVariants.{First}

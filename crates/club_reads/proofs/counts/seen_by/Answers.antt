@@ -1,5 +1,5 @@
 use Rattle.std.proofs.Common.{◌≡◌, ◌+◌, Some, ap, sym, subst, ◌∙◌}
-use Rattle.club_core.specs.declared.answers.Decision.TheVariants as decision
+use Rattle.club_core.specs.declared.decided.Decision.TheVariants as decision
 use Rattle.club_core.specs.Step.{game_step}
 use Rattle.club_core.specs.View.{HasMade}
 use Rattle.club_changes.specs.Steps.{IsSeenAfter}

@@ -1,10 +1,10 @@
 use Rattle.std.proofs.Common.{◌≡◌, ◌∙◌, Option, None, Some, ap, sym}
 use Rattle.std.specs.Prelude.{string_bytes, ℕ, List}
 use Rattle.std.specs.Option.{option_map}
-use Rattle.club_core.specs.declared.rows.OutsideEnd.{OutsideEnd}
+use Rattle.club_requests.specs.declared.outside_end.OutsideEnd.{OutsideEnd}
 use Rattle.squares.specs.declared.sides.Score.{Score}
-use Rattle.club_core.specs.declared.rows.OutsideEnd.TheVariants.{Recorded}
-use Rattle.club_core.specs.OutsideEnd.{outside_text}
+use Rattle.club_requests.specs.declared.outside_end.OutsideEnd.TheVariants.{Recorded}
+use Rattle.club_requests.specs.OutsideEnd.{outside_text}
 use Rattle.club_rows.proofs.view.outside_in.Goals as goal
 
 -- the end that was read is the one that the name and the score stand for

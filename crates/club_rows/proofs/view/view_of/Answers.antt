@@ -1,6 +1,6 @@
 use Rattle.std.proofs.Common.{◌≤◌, refl, sym, subst, length}
 use Rattle.std.specs.Prelude.{IfSome, IsTrue}
-use Rattle.club_core.specs.Limits.{is_budget, is_increment}
+use Rattle.club_requests.specs.Limits.{is_budget, is_increment}
 use Rattle.club_rows.specs.Replay.{IsCounted, IsReplayed, WasReplayed, terms_given}
 use Rattle.club_rows.specs.Tally.{IsTallyOf}
 use Rattle.club_rows.proofs.ToldLemmas.{columns-told}

@@ -4,7 +4,7 @@ use Rattle.club_rules.specs.Line.{positions}
 use Rattle.club_rules.specs.Records.{recorded_of}
 use Rattle.club_core.specs.Answer.{pairing_of}
 use Rattle.club_core.specs.Imports.{imported}
-use Rattle.club_core.specs.Limits.{most_plies}
+use Rattle.club_requests.specs.Limits.{most_plies}
 use Rattle.club_core.specs.View.{IsRowOf}
 use Rattle.club_core.proofs.Proved.{are_rules}
 use Rattle.club_laws.proofs.Proved.{within-limit}

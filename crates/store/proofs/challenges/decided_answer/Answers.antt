@@ -4,7 +4,7 @@ use Rattle.sqlite.specs.Held.{state}
 use Rattle.sqlite.specs.State.{HasCleanDisk}
 use Rattle.club_core.specs.Challenges.{challenge_by, answer_step}
 use Rattle.club_core.specs.Members.{find_id}
-use Rattle.club_core.specs.Outcome.{by_member}
+use Rattle.club_requests.specs.Outcome.{by_member}
 use Rattle.club_core.specs.Seats.{has_member_name}
 use Rattle.club_rows.specs.Club.{tables}
 use Rattle.store.proofs.challenges.decided_answer.Goals as goal

@@ -6,7 +6,7 @@ use Rattle.club_core.specs.declared.challenges.Challenge.{Challenge}
 use Rattle.club_core.specs.Answer.{events_of, members_of}
 use Rattle.club_core.specs.Challenges.{challenge_by, answer_step}
 use Rattle.club_core.specs.Members.{find_id}
-use Rattle.club_core.specs.Outcome.{Outcome, map_outcome}
+use Rattle.club_requests.specs.Outcome.{Outcome, map_outcome}
 use Rattle.club_core.specs.Seats.{has_member_name}
 use Rattle.club_core.specs.State.{with_answer}
 use Rattle.club_rows.specs.Club.{tables}

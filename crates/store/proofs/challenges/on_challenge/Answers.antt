@@ -5,7 +5,7 @@ use Rattle.sqlite.specs.State.{HasCleanDisk}
 use Rattle.club_core.specs.declared.challenges.Challenge.{Challenge}
 use Rattle.club_core.specs.Answer.{events_of, members_of}
 use Rattle.club_core.specs.Challenges.{challenge_by, challenge_under, opening_step}
-use Rattle.club_core.specs.Outcome.{Outcome, map_outcome}
+use Rattle.club_requests.specs.Outcome.{Outcome, map_outcome}
 use Rattle.club_core.specs.State.{with_challenge}
 use Rattle.club_rows.specs.Club.{tables}
 use Rattle.club_changes.specs.Steps.{IsDecided}

@@ -1,6 +1,6 @@
 use Rattle.std.proofs.Common.{◌∙◌, ap, subst, arith}
 use Rattle.std.proofs.lemmas.Result.{IfOk-weaker}
-use Rattle.club_core.specs.declared.answers.Outcome.TheVariants as given_is
+use Rattle.club_requests.specs.declared.answers.Outcome.TheVariants as given_is
 use Rattle.club_core.specs.Answer.{game_command_of}
 use Rattle.club_changes.specs.Stored.{IsFoundGame}
 use Rattle.club_changes.proofs.Proved.{unknown_decided, on_ok}

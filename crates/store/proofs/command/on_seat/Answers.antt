@@ -2,8 +2,8 @@ use Rattle.store_tables.specs.Tables.{club_schema}
 use Rattle.std.proofs.Common.{◌≡◌, [], ◌∷◌, length, Some, string_bytes, refl, ap, sym, subst, ◌∙◌, arith}
 use Rattle.sqlite.specs.Held.{state}
 use Rattle.sqlite.specs.State.{HasCleanDisk}
-use Rattle.club_core.specs.declared.answers.Outcome.TheVariants as given
-use Rattle.club_core.specs.declared.answers.Answer.TheVariants as answer
+use Rattle.club_requests.specs.declared.answers.Outcome.TheVariants as given
+use Rattle.club_requests.specs.declared.answers.Answer.TheVariants as answer
 use Rattle.club_core.specs.Answer.{answered, events_of, pairing_of}
 use Rattle.club_core.specs.LegalState.{Each, IsLegalEvent}
 use Rattle.club_core.specs.Seats.{seat_step}

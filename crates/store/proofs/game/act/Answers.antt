@@ -7,7 +7,7 @@ use Rattle.sqlite.specs.State.{HasCleanDisk}
 use Rattle.club_core.specs.Game.{clocks_of}
 use Rattle.club_core.specs.Legal.{IsLegalGame}
 use Rattle.club_core.specs.Answer.{game_command_of}
-use Rattle.club_core.specs.Limits.{is_budget, is_increment}
+use Rattle.club_requests.specs.Limits.{is_budget, is_increment}
 use Rattle.club_core.specs.Step.{game_step}
 use Rattle.club_core.specs.View.{ShowsPly}
 use Rattle.club_rows.specs.Replay.{terms_given}

@@ -1,6 +1,6 @@
 use Rattle.std.proofs.Common.{ap, ◌∙◌}
 use Rattle.sqlite.specs.Held.{state}
-use Rattle.club_reads.specs.CrossTable.{AreTableRows}
+use Rattle.club_views.specs.CrossTable.{AreTableRows}
 use Rattle.http_bodies.specs.ShownViews.{rows_view}
 use Rattle.club_desk.proofs.ServeLemmas.{clean_before, told_shut, read_serves, if_ok}
 use Rattle.club_desk.proofs.desk_club.DeskClubServedClub.table_lines.Goals as goal

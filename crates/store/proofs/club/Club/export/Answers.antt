@@ -1,7 +1,7 @@
 use Rattle.std.proofs.Common.{Bool, Err, rules, subst}
 use Rattle.sqlite.specs.Held.{state}
 use Rattle.store_tables.specs.Contents.{IsExactly}
-use Rattle.club_reads.specs.Exported.{KeepsUnlessCalled}
+use Rattle.club_views.specs.Exported.{KeepsUnlessCalled}
 use Rattle.store.proofs.club.Club.export.Goals as goal
 
 pub returns-in-Ok-clause-kept : goal.returns-in-Ok-clause-kept

@@ -3,7 +3,7 @@ use Rattle.sqlite.specs.Held.{state}
 use Rattle.club_rows.specs.Club.{tables}
 use Rattle.store_tables.specs.Club as club
 use Rattle.store_tables.specs.Contents.{IsExactly}
-use Rattle.club_reads.proofs.Proved.{table_one}
+use Rattle.club_views.proofs.Proved.{table_one}
 use Rattle.store.proofs.club.Club.table_rows.Goals as goal
 
 pub returns-in-Ok-clause-kept : goal.returns-in-Ok-clause-kept

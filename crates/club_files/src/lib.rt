@@ -1,0 +1,19 @@
+//! The club over the files of a path, from their opening to their closing: an order, or a stretch of the desk.
+#![tactic(auto)]
+
+ghost use Rattle.std.specs.Prelude.{◌≡◌};
+
+mod desk;
+mod order;
+
+pub use desk::stretch;
+pub use order::obey;
+use sqlite::{FileFrom, FileStore};
+use sqlite_disk::Start;
+
+/// Gives the files up, where they were opened: what was come to over them remains.
+pub fn give_up<T, S: Start>(done: (T, Option<FileStore<FileFrom<S>>>)) -> T
+    ensures { result ≡ done.0 }
+{
+    done.0
+}

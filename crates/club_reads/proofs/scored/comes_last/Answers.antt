@@ -1,6 +1,0 @@
-use Rattle.club_reads.proofs.CrossTableLemmas.{after_all}
-use Rattle.club_reads.proofs.scored.comes_last.Goals as goal
-
-pub returns-in-Some : goal.returns-in-Some
-returns-in-Some c is up = after_all c.args.scores.now c.in-Some.last.now c.args.next.now c.in-Some.ensures.value
-    (c.comes_before.ensures is) up

@@ -1,0 +1,4 @@
+pub mod CrossTableLemmas
+pub mod EntryRows
+pub mod Proved
+pub mod ViewedLemmas

@@ -1,0 +1,37 @@
+use Rattle.std.proofs.Common.{◌∷◌, ap, subst, ◌∙◌, arith}
+use Rattle.std.proofs.lemmas.Result.{IfOk-weaker}
+use Rattle.sqlite.specs.Held.{state}
+use Rattle.sqlite.specs.State.{HasCleanDisk}
+use Rattle.store_tables.specs.Tables.{club_schema}
+use Rattle.club_core.specs.Answer.{members_of}
+use Rattle.club_rows.specs.Club.{tables}
+use Rattle.cross_tables.specs.Lines.{header_text}
+use Rattle.cross_tables.specs.Totals.{AreTotals}
+use Rattle.club_views.specs.CrossTable.{lines_from}
+use Rattle.store_sql.proofs.Proved.{always}
+use Rattle.club_views.proofs.cross_table.event_table.Goals as goal
+
+pub returns-clause-kept : goal.returns-clause-kept
+returns-clause-kept g c clean =
+    let looked : HasCleanDisk (state g.S.Store c.scores_in.new.conn) =
+    omega (arith, c.all_members.ensures.reads.clean) in
+    always c.lines_of.result _ (λ schema content k.
+    c.in_ok-members.ensures.kept clean schema content (c.in_ok-scores.ensures.kept looked schema content k))
+
+pub returns-clause-table : goal.returns-clause-table
+returns-clause-table g c clean =
+    let looked : HasCleanDisk (state g.S.Store c.scores_in.new.conn) =
+    omega (arith, c.all_members.ensures.reads.clean) in
+    let standings = c.in_ok-standings.standings in
+    IfOk-weaker c.lines_of.result _ _ (λ lines are s k.
+    let members = ap members_of c.deref-2.ensures.value
+    ∙ c.in_ok-members.ensures.values clean s (c.in_ok-scores.ensures.kept looked club_schema (tables s) k) in
+    let scores = c.deref-3.ensures.value in
+    record {
+      scores = c.in_ok-scores.scores.items;
+      scores_are = c.in_ok-scores.ensures.scores looked s k;
+      standings = standings;
+      totals = subst (AreTotals standings) c.deref.ensures.value c.in_ok-standings.ensures.totals;
+      ranked = c.in_ok-standings.ensures.ranked;
+      lines_are = are ∙ (λ i. header_text c.args.name.now ∷ lines_from (members i) (scores i) standings 1 standings);
+    }) c.lines_of.ensures

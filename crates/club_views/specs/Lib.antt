@@ -1,0 +1,3 @@
+pub mod CrossTable
+pub mod Exported
+pub mod Viewed

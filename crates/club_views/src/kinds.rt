@@ -1,0 +1,88 @@
+//! The kinds of games: what a game tells by the rules of its event's kind.
+
+ghost use Rattle.std.specs.Prelude.{◌≡◌, ◌⊎◌, ℕ, map, IfOk, OnOk, Some, string_bytes};
+ghost use Rattle.club_core.specs.State.{place};
+ghost use Rattle.club_rows.specs.Club.{ClubGame, ClubState, IsClub, tables};
+ghost use Rattle.store_tables.specs.Club.{IsExactly};
+ghost use Rattle.store_tables.specs.Reading.{OnlyReads};
+ghost use Rattle.store_sql.specs.Read.{KeepsContent};
+ghost use Rattle.sqlite.specs.State.{HasCleanDisk};
+ghost use Rattle.sqlite.specs.Held.{state};
+ghost use Rattle.club_views.specs.Exported.{AddsGame, BeginsGame, KeepsUnlessCalled};
+ghost use Rattle.club_changes.specs.Stored.{IsStoredGame, AreMovesOf};
+ghost use Rattle.club_views.specs.Viewed.{IsPlayedIn};
+
+use crate::exported::{Names, Stopped, write_record};
+use crate::listed::legal;
+use crate::viewed::{Played, make_played};
+use club_changes::StoredGame;
+use club_games::{Draughts, Shogi};
+use club_reads::CallFault;
+use club_rules::GameKind;
+use sqlite::{Alter, Connection};
+use std::alloc::Global;
+use std::io::Write;
+
+// The legal moves of a game of the club, as they are written.
+pub(crate) fn legal_in<S: Alter>(
+    alloc: Global,
+    conn: &mut Connection<S>,
+    stored: &StoredGame,
+) -> Result<Vec<String>, CallFault>
+    ensures reads { OnlyReads (state S.Store conn.old) (state S.Store conn.new) }
+    ensures kept { HasCleanDisk (state S.Store conn.new) → OnOk result (KeepsContent (state S.Store conn.old)
+        (state S.Store conn.new)) }
+    ensures legal { HasCleanDisk (state S.Store conn.new) → IfOk result (λ texts. (s : ClubState) (id : ℕ)
+        (game : ClubGame) → IsClub s → place s.games id ≡ Some game → IsStoredGame s id game stored.now →
+        IsExactly (tables s) (state S.Store conn.old) → AreMovesOf game (map (λ t. string_bytes t) texts.items)) }
+{
+    match stored.kind {
+        GameKind::Draughts => legal::<Draughts, S>(alloc, conn, stored),
+        GameKind::Shogi => legal::<Shogi, S>(alloc, conn, stored),
+    }
+}
+
+// What was played in a game of the club.
+pub(crate) fn played_in<S: Alter>(
+    alloc: Global,
+    conn: &mut Connection<S>,
+    stored: &StoredGame,
+) -> Result<Played, CallFault>
+    ensures reads { OnlyReads (state S.Store conn.old) (state S.Store conn.new) }
+    ensures kept { HasCleanDisk (state S.Store conn.new) → OnOk result (KeepsContent (state S.Store conn.old)
+        (state S.Store conn.new)) }
+    ensures played { HasCleanDisk (state S.Store conn.new) → IfOk result (λ played. (s : ClubState) (id : ℕ)
+        (game : ClubGame) → IsClub s → place s.games id ≡ Some game → IsStoredGame s id game stored.now →
+        IsExactly (tables s) (state S.Store conn.old) → IsPlayedIn s game played) }
+{
+    match stored.kind {
+        GameKind::Draughts => make_played::<Draughts, S>(alloc, conn, stored),
+        GameKind::Shogi => make_played::<Shogi, S>(alloc, conn, stored),
+    }
+}
+
+// Writes the record of a game of the club, by the format of its kind.
+pub(crate) fn export_in<S: Alter, W: Write>(
+    alloc: Global,
+    conn: &mut Connection<S>,
+    stored: &StoredGame,
+    names: &Names,
+    writer: &mut W,
+) -> Result<(), Stopped>
+    ensures reads { OnlyReads (state S.Store conn.old) (state S.Store conn.new) }
+    ensures kept { HasCleanDisk (state S.Store conn.new) →
+        KeepsUnlessCalled result (state S.Store conn.old) (state S.Store conn.new) }
+    ensures written { HasCleanDisk (state S.Store conn.new) → OnOk result ((s : ClubState) (id : ℕ)
+        (game : ClubGame) → IsClub s → place s.games id ≡ Some game → IsStoredGame s id game stored.now →
+        IsExactly (tables s) (state S.Store conn.old) →
+        AddsGame names.now game (W.contents writer.old) (W.contents writer.new)) }
+    ensures begun { HasCleanDisk (state S.Store conn.new) → (s : ClubState) (id : ℕ)
+        (game : ClubGame) → IsClub s → place s.games id ≡ Some game → IsStoredGame s id game stored.now →
+        IsExactly (tables s) (state S.Store conn.old) → (writer.new ≡ writer.old) ⊎
+        BeginsGame names.now game (W.contents writer.old) (W.contents writer.new) }
+{
+    match stored.kind {
+        GameKind::Draughts => write_record::<Draughts, S, W>(alloc, conn, stored, names, writer),
+        GameKind::Shogi => write_record::<Shogi, S, W>(alloc, conn, stored, names, writer),
+    }
+}

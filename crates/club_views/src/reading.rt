@@ -1,0 +1,92 @@
+//! What a reader is shown of a game.
+
+ghost use Rattle.std.specs.Prelude.{◌≡◌, ℕ, Some, IfOk, OnOk, map};
+ghost use Rattle.std.specs.Prelude.{string_bytes};
+ghost use Rattle.std.specs.Option.{option_map};
+ghost use Rattle.sqlite.specs.State.{HasCleanDisk};
+ghost use Rattle.sqlite.specs.Held.{state};
+ghost use Rattle.store_tables.specs.Club.{IsExactly};
+ghost use Rattle.store_tables.specs.Reading.{OnlyReads};
+ghost use Rattle.store_sql.specs.Read.{KeepsContent};
+ghost use Rattle.club_core.specs.State.{place};
+ghost use Rattle.club_rows.specs.Club.{ClubGame, ClubState, IsClub, tables};
+ghost use Rattle.club_changes.specs.Stored.{AreLegalRows, IsStoredGame};
+ghost use Rattle.club_views.specs.Viewed.{IsViewOf, IsViewed};
+
+use crate::kinds::{legal_in, played_in};
+use crate::viewed::ViewedGame;
+use club_changes::StoredGame;
+use club_reads::{CallFault, event_with, ids_in, name_of, stored_game};
+use sqlite::{Alter, Connection};
+use std::alloc::Global;
+
+/// The legal moves of a game, as they are written, if there is such a game.
+pub fn legal_of<S: Alter>(
+    alloc: Global,
+    conn: &mut Connection<S>,
+    game: u64,
+) -> Result<Option<Vec<String>>, CallFault>
+    ensures reads { OnlyReads (state S.Store conn.old) (state S.Store conn.new) }
+    ensures kept { HasCleanDisk (state S.Store conn.new) → OnOk result (KeepsContent (state S.Store conn.old)
+        (state S.Store conn.new)) }
+    ensures rows { HasCleanDisk (state S.Store conn.new) → IfOk result (λ found. (s : ClubState) → IsClub s →
+        IsExactly (tables s) (state S.Store conn.old) →
+        AreLegalRows s game (option_map (λ texts. map (λ t. string_bytes t) texts.items) found)) }
+{
+    match stored_game(alloc, conn, game)? {
+        Some(stored) => {
+            let texts = legal_in(alloc, conn, &stored)?;
+            Ok(Some(texts))
+        }
+        None => Ok(None),
+    }
+}
+
+// A stored game with the names of its event and of its players.
+fn viewed<S: Alter>(
+    alloc: Global,
+    conn: &mut Connection<S>,
+    stored: &StoredGame,
+) -> Result<ViewedGame, CallFault>
+    ensures reads { OnlyReads (state S.Store conn.old) (state S.Store conn.new) }
+    ensures kept { HasCleanDisk (state S.Store conn.new) → OnOk result (KeepsContent (state S.Store conn.old)
+        (state S.Store conn.new)) }
+    ensures viewed { HasCleanDisk (state S.Store conn.new) → IfOk result (λ viewed. (s : ClubState) (id : ℕ)
+        (game : ClubGame) → IsClub s → place s.games id ≡ Some game → IsStoredGame s id game stored.now →
+        IsExactly (tables s) (state S.Store conn.old) → IsViewOf s game viewed) }
+{
+    let ids = ids_in(&stored.row)?;
+    let pairing = ids.pairing;
+    let event = event_with(alloc, conn, pairing.event)?;
+    let first = name_of(alloc, conn, pairing.first)?;
+    let second = name_of(alloc, conn, pairing.second)?;
+    let played = played_in(alloc, conn, stored)?;
+    Ok(ViewedGame {
+        event: event.name,
+        first,
+        second,
+        played,
+    })
+}
+
+/// A game of the club, if there is one of this number.
+pub fn view_of<S: Alter>(
+    alloc: Global,
+    conn: &mut Connection<S>,
+    game: u64,
+) -> Result<Option<ViewedGame>, CallFault>
+    ensures reads { OnlyReads (state S.Store conn.old) (state S.Store conn.new) }
+    ensures kept { HasCleanDisk (state S.Store conn.new) → OnOk result (KeepsContent (state S.Store conn.old)
+        (state S.Store conn.new)) }
+    ensures viewed { HasCleanDisk (state S.Store conn.new) → IfOk result (λ found. (s : ClubState) → IsClub s →
+        IsExactly (tables s) (state S.Store conn.old) → IsViewed s game found) }
+{
+    let found = stored_game(alloc, conn, game)?;
+    match found {
+        Some(stored) => {
+            let viewed = viewed(alloc, conn, &stored)?;
+            Ok(Some(viewed))
+        }
+        None => Ok(None),
+    }
+}

@@ -1,0 +1,83 @@
+//! The rows of scores of one event as what its members scored against each other.
+
+ghost use Rattle.std.specs.Prelude.{◌≡◌, true, map, IfOk, IfSome};
+ghost use Rattle.std.specs.List.{AllByRecursion};
+ghost use Rattle.sqlite_trees.specs.Tree.{IsAscending};
+ghost use Rattle.store_tables.specs.Cells.{score_cells};
+ghost use Rattle.club_views.specs.CrossTable.{scored_row, AreSumsOf, ComesBefore};
+
+use club_reads::CallFault;
+use club_rows::numbers::id;
+use cross_tables::{Scored, Sums};
+use std::alloc::Global;
+use store_tables::ScoreRow;
+
+// The sums of a row, if each is within 32 bits.
+fn sums_of(row: &ScoreRow) -> Option<Sums>
+    ensures { IfSome result (λ sums. AreSumsOf row.now sums) }
+{
+    Some(Sums {
+        points: id(row.points)?,
+        wins: id(row.wins)?,
+        draws: id(row.draws)?,
+        losses: id(row.losses)?,
+    })
+}
+
+// What the row tells of a member in this event, if it is of this event and each of its numbers is within 32 bits.
+fn scored_of(row: &ScoreRow, event: u32) -> Option<Scored>
+    ensures { IfSome result (λ scored. score_cells row.now ≡ scored_row event scored) }
+{
+    if id(row.event)? != event {
+        return None;
+    }
+    Some(Scored {
+        member: id(row.member)?,
+        opponent: id(row.opponent)?,
+        sums: sums_of(row)?,
+    })
+}
+
+// Whether one comes before another one: by member, then by opponent.
+fn comes_before(one: &Scored, other: &Scored) -> bool
+    ensures { result ≡ true → ComesBefore one.now other.now }
+{
+    if one.member == other.member {
+        return one.opponent < other.opponent;
+    }
+    one.member < other.member
+}
+
+// Whether this one comes after all of those, which are in their order.
+fn comes_last(scores: &[Scored], next: &Scored) -> bool
+    ensures { result ≡ true → IsAscending ComesBefore scores.now →
+        AllByRecursion (λ scored. ComesBefore scored next.now) scores.now }
+{
+    match scores.last() {
+        Some(last) => comes_before(last, next),
+        None => true,
+    }
+}
+
+/// What these rows tell of an event, where all are of this event, each comes after the one before it, and each number
+/// is within 32 bits; all else is a fault.
+pub(crate) fn scored_rows(
+    alloc: Global,
+    rows: &[ScoreRow],
+    event: u32,
+) -> Result<Vec<Scored>, CallFault>
+    ensures rows { IfOk result (λ scores. map score_cells rows.now ≡ map (scored_row event) scores.items) }
+    ensures order { IfOk result (λ scores. IsAscending ComesBefore scores.items) }
+{
+    let mut scores = Vec::new(alloc);
+    for row in rows {
+        let Some(scored) = scored_of(row, event) else {
+            return Err(CallFault::Store);
+        };
+        if !comes_last(&scores, &scored) {
+            return Err(CallFault::Store);
+        }
+        scores.push(scored)?;
+    }
+    Ok(scores)
+}

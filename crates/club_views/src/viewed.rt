@@ -1,0 +1,179 @@
+//! A game as its players and those who watch see it.
+
+ghost use Rattle.std.specs.Prelude.{◌≡◌, ◌+◌, ◌<◌, ◌^◌, ℕ, pos, true, map, IfOk, OnOk, Some, slice_get, string_bytes};
+ghost use Rattle.std.specs.Option.{option_map};
+ghost use Rattle.club_core.specs.Events as core;
+ghost use Rattle.club_core.specs.Game.{Game};
+ghost use Rattle.club_core.specs.Legal.{IsLegalGame};
+ghost use Rattle.club_core.specs.View.{Shows, terms_of};
+ghost use Rattle.club_rows.specs.Replay.{terms_given};
+ghost use Rattle.club_rows.specs.Tables.{move_rows};
+ghost use Rattle.sqlite.specs.State.{HasCleanDisk};
+ghost use Rattle.sqlite.specs.Held.{state};
+ghost use Rattle.store_tables.specs.Cells.{move_cells};
+ghost use Rattle.store_tables.specs.Club.{IsExactly};
+ghost use Rattle.store_tables.specs.Contents.{Content};
+ghost use Rattle.store_tables.specs.Reading.{OnlyReads};
+ghost use Rattle.store_tables.specs.declared.rows.MoveRow as row_of;
+ghost use Rattle.store_sql.specs.Read.{KeepsContent};
+ghost use Rattle.club_changes.specs.Steps.{HaveSame, IsRecordOf, TellsLine, TellsSeen};
+ghost use Rattle.club_views.specs.Viewed.{IsPlayed, named};
+
+use club_changes::StoredGame;
+use club_core::{GameEnd, GameView, Offer};
+use club_reads::{CallFault, view};
+use club_requests::values::MOST_PLIES;
+use club_rows::numbers::stored;
+use club_rules::{EndName, Rules};
+use sqlite::{Alter, Connection};
+use squares::{Score, Side};
+use std::alloc::Global;
+use store_sql::find_by_first;
+use store_tables::MoveRow;
+
+/// What was played in a game so far.
+#[derive(Drop)]
+pub struct Played {
+    /// How many plies were played.
+    pub ply: u32,
+    /// The seconds that First has left, as First's last move left them.
+    pub left_first: u64,
+    /// The same of Second.
+    pub left_second: u64,
+    /// The last position, as it is written.
+    pub position: String,
+    /// The moves, each as it is written where it was played.
+    pub moves: Vec<String>,
+    /// The player who offers a draw.
+    pub offer: Option<Side>,
+    /// How the game ended. None while it is running.
+    pub end: Option<GameEnd<EndName>>,
+    /// None while the game is running.
+    pub result: Option<Score>,
+}
+
+/// A game of the club.
+#[derive(Drop)]
+pub struct ViewedGame {
+    /// The name of its event.
+    pub event: String,
+    /// The name of the player who has the first move.
+    pub first: String,
+    /// The name of the other.
+    pub second: String,
+    /// What was played.
+    pub played: Played,
+}
+
+// The rows of a game's moves.
+fn line<R: Rules, S: Alter>(
+    alloc: Global,
+    conn: &mut Connection<S>,
+    game: u32,
+) -> Result<Vec<MoveRow>, CallFault>
+    ensures reads { OnlyReads (state S.Store conn.old) (state S.Store conn.new) }
+    ensures kept { HasCleanDisk (state S.Store conn.new) → OnOk result (KeepsContent (state S.Store conn.old)
+        (state S.Store conn.new)) }
+    ensures rows { HasCleanDisk (state S.Store conn.new) → IfOk result (λ rows. (content : Content) (terms : core.Terms)
+        (old : Game R.Move) → IsExactly content (state S.Store conn.old) → TellsLine R.rules terms game old content →
+        HaveSame (map move_cells rows.items) (move_rows R.rules terms game old)) }
+{
+    let number = i64::from(game);
+    let rows = find_by_first::<MoveRow, S>(alloc, conn, &number)?;
+    Ok(rows)
+}
+
+// Whether the row is of the ply after so many.
+fn is_next(row: &MoveRow, plies: usize) -> bool
+    requires { plies + 1 < 2 ^ 63 }
+    ensures { result ≡ true → row.now.ply ≡ pos (1 + plies) }
+{
+    row.ply == stored(plies as u64 + 1)
+}
+
+// The texts of moves whose rows stand in the order of their plies.
+fn texts(alloc: Global, rows: &[MoveRow]) -> Result<Vec<String>, CallFault>
+    ensures order { IfOk result (λ texts. (n : ℕ) (row : row_of.MoveRow) → slice_get rows.now n ≡ Some row →
+        row.ply ≡ pos (1 + n)) }
+    ensures texts { IfOk result (λ texts.
+        map (λ t. string_bytes t) texts.items ≡ map (λ r. string_bytes r.text) rows.now) }
+{
+    if rows.len() > MOST_PLIES as usize {
+        return Err(CallFault::Store);
+    }
+    let mut texts = Vec::new(alloc);
+    for row in rows {
+        if !is_next(row, texts.len()) {
+            return Err(CallFault::Store);
+        }
+        texts.push(row.text.clone()?)?;
+    }
+    Ok(texts)
+}
+
+// The side that offers a draw.
+fn offering(offer: Option<Offer>) -> Option<Side>
+    ensures { result ≡ option_map (λ o. o.side) offer }
+{
+    match offer {
+        Some(offer) => Some(offer.side),
+        None => None,
+    }
+}
+
+// An end with the name that the rules give it.
+fn named<R: Rules>(end: Option<GameEnd<R::End>>) -> Option<GameEnd<EndName>>
+    ensures { result ≡ option_map (named R.rules) end }
+{
+    match end {
+        Some(GameEnd::Rule(end)) => Some(GameEnd::Rule(R::end_name(&end))),
+        Some(GameEnd::Outside(end)) => Some(GameEnd::Outside(end)),
+        None => None,
+    }
+}
+
+// What the view of a game and the rows of its moves show.
+fn played_by<R: Rules>(
+    alloc: Global,
+    view: GameView<R>,
+    rows: &[MoveRow],
+) -> Result<Played, CallFault>
+    ensures { IfOk result (λ played. (terms : core.Terms) (id : ℕ) (game : Game R.Move) → terms_of view ≡ terms →
+        IsLegalGame R.rules terms game → Shows R.rules game view →
+        HaveSame (map move_cells rows.now) (move_rows R.rules terms id game) → IsPlayed R.rules terms game played) }
+{
+    let moves = texts(alloc, rows)?;
+    let row = view.row;
+    Ok(Played {
+        ply: row.plies,
+        left_first: row.left_first,
+        left_second: row.left_second,
+        position: row.position,
+        moves,
+        offer: offering(row.offer),
+        end: named::<R>(row.end),
+        result: row.result,
+    })
+}
+
+// What was played in a stored game.
+pub(crate) fn make_played<R: Rules, S: Alter>(
+    alloc: Global,
+    conn: &mut Connection<S>,
+    stored: &StoredGame,
+) -> Result<Played, CallFault>
+    ensures reads { OnlyReads (state S.Store conn.old) (state S.Store conn.new) }
+    ensures kept { HasCleanDisk (state S.Store conn.new) → OnOk result (KeepsContent (state S.Store conn.old)
+        (state S.Store conn.new)) }
+    ensures played { HasCleanDisk (state S.Store conn.new) → IfOk result (λ played. (content : Content)
+        (game : Game R.Move) → IsExactly content (state S.Store conn.old) →
+        TellsSeen R.rules stored.now.id game content →
+        TellsLine R.rules (terms_given stored.now.terms) stored.now.id game content →
+        IsRecordOf R.rules (terms_given stored.now.terms) stored.now.id stored.now.row game →
+        IsPlayed R.rules (terms_given stored.now.terms) game played) }
+{
+    let view = view::<R, S>(alloc, conn, stored)?;
+    let rows = line::<R, S>(alloc, conn, stored.id)?;
+    let played = played_by(alloc, view, &rows)?;
+    Ok(played)
+}
