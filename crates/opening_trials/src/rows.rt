@@ -33,14 +33,25 @@ fn first_day(alloc: Global, sql: &str) -> Result<Changes, Fail> {
     rows_of(alloc, &mut conn)
 }
 
-/// The numbers that the statements find, each with a `;` after it.
+/// Adds the numbers that a statement finds, each with a `;` after it.
+fn add_numbers(
+    alloc: Global,
+    conn: &mut Connection<MemStore>,
+    sql: &str,
+    told: &mut String,
+) -> Result<(), Fail> {
+    for row in &conn.query_all(sql, &[])? {
+        let number: i64 = row.get(0)?;
+        told.push_str(format!(in alloc; "{number};")?.as_str())?;
+    }
+    Ok(())
+}
+
+/// The numbers that the statements find.
 fn numbers(alloc: Global, conn: &mut Connection<MemStore>, texts: &str) -> Result<String, Fail> {
     let mut told = String::new(alloc);
     for sql in texts.lines() {
-        for row in &conn.query_all(sql, &[])? {
-            let number: i64 = row.get(0)?;
-            told.push_str(format!(in alloc; "{number};")?.as_str())?;
-        }
+        add_numbers(alloc, conn, sql, &mut told)?;
     }
     Ok(told)
 }
