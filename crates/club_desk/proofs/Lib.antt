@@ -1,5 +1,3 @@
-pub mod ActedLemmas
 pub mod NextLemmas
-pub mod ReplayLemmas
 pub mod ServeLemmas
 pub mod TurnLemmas

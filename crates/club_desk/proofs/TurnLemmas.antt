@@ -13,7 +13,7 @@ use Rattle.store.proofs.Proved.{taken_session, one_leads, one_cut}
 use Rattle.club_desk.specs.Served.{served}
 use Rattle.club_desk.specs.Standing.{IsServed, IsLeft, MayLeave}
 use Rattle.club_desk.specs.Turns.{IsTurn, AreTurns, IsHistoryOn, IsReachableOn}
-use Rattle.club_desk.specs.Visits.{HasActed}
+use Rattle.http_port.specs.Visits.{HasActed}
 use Rattle.club_desk.proofs.NextLemmas.{seen_next}
 
 turns_more : (turns : List Session) (session : Session) (request : Request) → AreTurns turns → IsTurn request

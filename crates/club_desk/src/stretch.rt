@@ -8,8 +8,8 @@ ghost use Rattle.club_desk.specs.Turns.{IsReachableOn};
 
 use crate::desk_club::DeskClub;
 use crate::faults::told_of_opening;
-use crate::visit::Visits;
 use http_desk::ClubFault;
+use http_port::Visits;
 use sqlite::{Alter, Connection};
 use std::alloc::Global;
 use store::laws::requests_keep_clubs;

@@ -9,20 +9,20 @@ ghost use Rattle.sessions.specs.Finds.{AreReachable};
 ghost use Rattle.club_orders.specs.declared.report.Report.TheVariants.{InUse, NotOpened};
 ghost use Rattle.club_files.specs.ReachableOn.{AreReachableOn};
 
-use crate::order::unopened;
-use club_desk::{Visits, serve_stretch};
+use crate::opening::{Again, open_in_turn};
+use club_desk::serve_stretch;
 use club_orders::Report;
 use http_desk::ClubFault;
+use http_port::Visits;
 use sessions::close;
-use sqlite::{Connection, FileFrom, FileStore};
-use sqlite_disk::Start;
+use sqlite::{FileFrom, FileStore};
 
-/// A stretch of serving over the files of a path, which hold at first what `S` stands for: opens them, takes the club
-/// over, serves those who come until the desk is to give way, and closes. Gives the fault that further ones are to be
-/// told, or why the files were not opened; and the files where they were. Where sessions led to whatever an opening
-/// finds in the files, they lead, with commands of members added, to whatever an opening finds in them after
-/// it, of whatever a stop leaves.
-pub fn stretch<S: Start, V: Visits>(
+/// A stretch of serving over the files of a path, which hold at first what `S` stands for: opens them as soon as no
+/// other program uses them, which it waits for up to five seconds, takes the club over, serves those who come until the
+/// desk is to give way, and closes. Gives the fault that further ones are to be told, or why the files were not opened;
+/// and the files where they were. Where sessions led to whatever an opening finds in the files, they lead, with
+/// commands of members added, to whatever an opening finds in them after it, of whatever a stop leaves.
+pub fn stretch<S: Again, V: Visits>(
     rt: &HostRuntime,
     file: &str,
     start: S,
@@ -36,9 +36,9 @@ pub fn stretch<S: Start, V: Visits>(
         (sessions : _) → AreReachable sessions (image_at S.Start) →
         (left : Image) → (store_state store).may_leave left → AreReachableOn sessions left) }
 {
-    let conn = match Connection::open_from(rt, file, false, start) {
+    let conn = match open_in_turn(rt, file, start) {
         Ok(conn) => conn,
-        Err((error, _)) => return (Err(unopened(error)), None),
+        Err(report) => return (Err(report), None),
     };
     let (fault, conn) = serve_stretch(rt.alloc(), conn, visits);
     (Ok(fault), Some(close(conn)))

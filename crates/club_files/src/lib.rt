@@ -4,9 +4,11 @@
 ghost use Rattle.std.specs.Prelude.{◌≡◌};
 
 mod desk;
+mod opening;
 mod order;
 
 pub use desk::stretch;
+pub use opening::Again;
 pub use order::obey;
 use sqlite::{FileFrom, FileStore};
 use sqlite_disk::Start;

@@ -16,34 +16,25 @@ ghost use Rattle.club_orders.specs.declared.report.Report.TheVariants.{InUse, No
 ghost use Rattle.club_orders.specs.Report.{given, Answers, IfRequest, IfLegal, IfTable, IfExport, IfVerify};
 ghost use Rattle.club_orders.specs.Report.{ListsMoves, ListsTable, WritesRecord, IsPassed, IsBegun, task_sessions};
 
+use crate::opening::{Again, open_in_turn};
 use clocks::Moment;
 use club_orders::{Report, act};
 use club_words::Order;
 use sessions::close;
-use sqlite::{Connection, Error, ErrorCode, FileFrom, FileStore};
-use sqlite_disk::Start;
+use sqlite::{FileFrom, FileStore};
 use std::io::Write;
 
-/// Why the files were not opened.
-pub(crate) fn unopened(error: Error) -> Report
-    ensures { (result ≡ InUse) ⊎ (result ≡ NotOpened) }
-{
-    match error {
-        Error::SqliteFailure(ErrorCode::DatabaseBusy) => Report::InUse,
-        _ => Report::NotOpened,
-    }
-}
-
 /// Does what is ordered, at that moment, over the files of the order's path, which hold at first what `S` stands for:
-/// opens them, makes a club, gives the club that stands there a command of the officer's, lists a game's moves, shows
-/// the cross table of an event, writes the record of a game to `out` or tests that the rows are a club's, and closes.
-/// Gives what it came to, and the files where they were opened.
+/// opens them as soon as no other program uses them, which it waits for up to five seconds; makes a club, gives the
+/// club that stands there a command of the officer's, lists a game's moves, shows the cross table of an event, writes
+/// the record of a game to `out` or tests that the rows are a club's; and closes. Gives what it came to, and the files
+/// where they were opened.
 ///
 /// Where sessions led to whatever an opening finds in the files, they lead, with this command as one more, to whatever
 /// an opening finds in them after it, of whatever a stop leaves. Where they were new, and a club was to be made, no
 /// session leads to that, or there is no table still. The answer is the machine's, a listing that of the game's legal
 /// moves or of the event's cross table, and a club's files are found sound.
-pub fn obey<S: Start, W: Write>(
+pub fn obey<S: Again, W: Write>(
     rt: &HostRuntime,
     order: &Order,
     moment: Moment,
@@ -77,9 +68,9 @@ pub fn obey<S: Start, W: Write>(
         (left : Image) → (store_state store).may_leave left →
         AreReachable (sessions ++ task_sessions order.entry.now.task moment result.0) left) }
 {
-    let conn = match Connection::open_from(rt, order.file.as_str(), false, start) {
+    let conn = match open_in_turn(rt, order.file.as_str(), start) {
         Ok(conn) => conn,
-        Err((error, _)) => return (unopened(error), None),
+        Err(report) => return (report, None),
     };
     let (report, conn) = act(rt.alloc(), conn, &order.task, moment, out);
     (report, Some(close(conn)))

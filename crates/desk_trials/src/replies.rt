@@ -5,7 +5,8 @@ use club_requests::{
     OutsideEnd, Refusal, Who, Withdraw,
 };
 use http_bodies::{GameShown, status_of};
-use http_desk::{Closed, ClubFault, Countdown, Deadline, DeskFault, ServedClub, answer, serve_one};
+use http_desk::{Closed, ClubFault, DeskFault, ServedClub, answer};
+use http_port::{Countdown, Deadline, serve_one};
 use squares::Score;
 use std::alloc::Global;
 use std::io;
@@ -579,18 +580,18 @@ fn a_request_may_come_in_pieces(rt: HostRuntime) -> Result<(), Fail> {
     let mut at_once = Vec::new(alloc);
     let mut reader = bytes.as_slice();
     let done = serve_one(alloc, &mut reader, &mut at_once, &mut new_club(), moment);
-    assert!(rt; done == Ok(()));
+    assert!(rt; done.is_ok());
     assert!(rt; status_of(&at_once) == Some(200));
     let mut slowly = Vec::new(alloc);
     let mut reader = Dripping { bytes: &bytes };
     let done = serve_one(alloc, &mut reader, &mut slowly, &mut new_club(), moment);
-    assert!(rt; done == Ok(()));
+    assert!(rt; done.is_ok());
     assert!(rt; slowly.as_slice() == at_once.as_slice());
     for n in 0..bytes.len() {
         let mut reader = &bytes[..n];
         let mut nothing = Vec::new(alloc);
         let done = serve_one(alloc, &mut reader, &mut nothing, &mut new_club(), moment);
-        assert!(rt; done == Ok(()));
+        assert!(rt; done.is_ok());
         assert!(rt; nothing.is_empty());
         assert!(rt; status_of(&nothing) == None);
     }
@@ -609,13 +610,13 @@ fn a_slow_peer_is_given_up(rt: HostRuntime) -> Result<(), Fail> {
     let slow = Dripping { bytes: &bytes };
     let mut reader = Deadline::new(slow, Calls { left: 50 });
     let done = serve_one(alloc, &mut reader, &mut reply, &mut club, moment);
-    assert!(rt; done == Err(DeskFault::Read));
+    assert!(rt; done.err() == Some(DeskFault::Read));
     assert!(rt; reply.is_empty());
     assert!(rt; !club.played);
     let mut in_time = Deadline::new(bytes.as_slice(), Calls { left: 50 });
     let mut writer = Deadline::new(&mut reply, Calls { left: 1 });
     let done = serve_one(alloc, &mut in_time, &mut writer, &mut club, moment);
-    assert!(rt; done == Ok(()));
+    assert!(rt; done.is_ok());
     assert!(rt; club.played);
     Ok(())
 }
@@ -636,7 +637,7 @@ fn a_reply_that_is_lost_is_given_again(rt: HostRuntime) -> Result<(), Fail> {
         &mut new_club(),
         moment,
     );
-    assert!(rt; done == Ok(()));
+    assert!(rt; done.is_ok());
     let mut club = new_club();
     for n in 0..undisturbed.len() {
         let mut room = [0_u8; 256];
@@ -645,12 +646,12 @@ fn a_reply_that_is_lost_is_given_again(rt: HostRuntime) -> Result<(), Fail> {
         };
         let mut reader = bytes.as_slice();
         let done = serve_one(alloc, &mut reader, &mut part, &mut club, moment);
-        assert!(rt; done == Err(DeskFault::Write));
+        assert!(rt; done.err() == Some(DeskFault::Write));
         assert!(rt; undisturbed.starts_with(&room[..n]));
         let mut again = Vec::new(alloc);
         let mut reader = bytes.as_slice();
         let done = serve_one(alloc, &mut reader, &mut again, &mut club, moment);
-        assert!(rt; done == Ok(()));
+        assert!(rt; done.is_ok());
         assert!(rt; again.as_slice() == undisturbed.as_slice());
     }
     Ok(())

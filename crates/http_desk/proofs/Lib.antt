@@ -1,2 +1,1 @@
 pub mod RouteLemmas
-pub mod ServingLemmas

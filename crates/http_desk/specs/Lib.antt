@@ -4,5 +4,4 @@ pub mod RouteViews
 pub mod Served
 pub mod Desk
 pub mod DeskViews
-pub mod Serving
 pub mod Closed

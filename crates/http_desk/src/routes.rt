@@ -151,7 +151,7 @@ fn page_of(alloc: Global, path: &str) -> Result<Option<Page>, InsertError>
     }
 }
 
-// The bytes as text.
+/// The bytes as text.
 pub fn text_of(bytes: &[u8]) -> Option<&str>
     ensures { option_map (λ t. t.now) result ≡ text_of bytes.now }
 {

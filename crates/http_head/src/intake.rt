@@ -22,6 +22,7 @@ fn has_body(start: usize, count: usize, bytes: &[u8]) -> bool
 }
 
 impl Intake {
+    /// A request of which nothing was read.
     pub fn start() -> Intake
         ensures { IsIntake result [] }
     {

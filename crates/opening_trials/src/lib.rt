@@ -2,8 +2,6 @@
 #![tactic(auto)]
 
 #[cfg(test)]
-mod clubs;
-#[cfg(test)]
 mod opening;
 #[cfg(test)]
 mod parsed_rows;

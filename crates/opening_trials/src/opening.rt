@@ -2,12 +2,12 @@
 
 ghost use Rattle.std.specs.Prelude.{◌≡◌, false, IfOk};
 
-use crate::clubs::{adopted, holding, made};
 use sqlite::Connection;
 use std::alloc::Global;
 use std::process::Abort;
 use std::test::Fail;
 use store::{OpenFault, StoreFault, Table, adopt, create};
+use trial_scripts::{adopted, holding, made};
 
 // Two members, an event, and a game after its first move, 32-28.
 pub(crate) const FIRST_DAY: &str =

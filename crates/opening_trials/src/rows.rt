@@ -2,7 +2,6 @@
 
 ghost use Rattle.std.specs.Prelude.{◌≡◌, false};
 
-use crate::clubs::{holding, made};
 use crate::opening::FIRST_DAY;
 use sqlite::{Connection, MemStore};
 use std::alloc::Global;
@@ -12,6 +11,7 @@ use store_sql::{
     find_by_first, list,
 };
 use store_tables::{Changes, GameRecord, MetaRow, MoveRow};
+use trial_scripts::{holding, made};
 
 /// The rows that stand in a database.
 fn rows_of(alloc: Global, conn: &mut Connection<MemStore>) -> Result<Changes, Fail> {

@@ -2,13 +2,12 @@
 
 ghost use Rattle.std.specs.Prelude.{◌≡◌, false};
 
-use crate::clubs::{adopted, made};
 use club_requests::Request;
 use sqlite::MemStore;
 use std::alloc::Global;
 use std::test::Fail;
 use store::{Club, Run, resume};
-use trial_scripts::request;
+use trial_scripts::{adopted, made, request};
 
 /// The requests of the lines.
 fn requests(alloc: Global, lines: &str) -> Result<Vec<Request>, Fail> {

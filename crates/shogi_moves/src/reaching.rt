@@ -30,7 +30,7 @@ fn comes_to(board: &SBoard, side: Side, heading: Heading, distance: u8, from: Ss
     false
 }
 
-// Whether the piece, standing on `from`, reaches a square.
+/// Whether the piece, standing on `from`, reaches a square.
 #[tactic(auto, unfolding(crate::specs::Search::piece_reaches))]
 pub fn piece_reaches(board: &SBoard, piece: SPiece, from: Ssq, to: Ssq) -> bool
     ensures { result ≡ piece_reaches board.now piece from to }
@@ -47,7 +47,7 @@ pub fn piece_reaches(board: &SBoard, piece: SPiece, from: Ssq, to: Ssq) -> bool
     })
 }
 
-// Whether a piece of that side stands on `from` and reaches a square.
+/// Whether a piece of that side stands on `from` and reaches a square.
 #[tactic(auto, unfolding(crate::specs::Search::side_reaches))]
 pub fn side_reaches(board: &SBoard, side: Side, to: Ssq, from: Ssq) -> bool
     ensures { result ≡ side_reaches board.now side to from }

@@ -1,13 +1,12 @@
 //! Challenges between members, each request with what it must come to, and the rows that they leave.
 
-use crate::commands::{opened, serve_at_once};
 use club_requests::Request;
 use sqlite::MemStore;
 use std::alloc::Global;
 use std::process::Abort;
 use std::test::Fail;
 use store::Club;
-use trial_scripts::{lines_of, request, told};
+use trial_scripts::{lines_of, made, request, serve_at_once, told};
 
 const THREE_MEMBERS: &str = "1000 officer member anna keyanna1 = accepted
 1000 officer member bert keybert2 = accepted
@@ -17,8 +16,8 @@ const THREE_MEMBERS: &str = "1000 officer member anna keyanna1 = accepted
 
 // A club of three members and an event of each game, after these requests.
 fn after<R: Abort + AllocGlobal>(rt: &R, script: &str) -> Result<Club<MemStore>, Fail> {
-    let club = serve_at_once(rt, opened(rt.alloc())?, THREE_MEMBERS)?;
-    serve_at_once(rt, club, script)
+    let club = serve_at_once(rt.alloc(), made(rt.alloc())?, THREE_MEMBERS)?;
+    serve_at_once(rt.alloc(), club, script)
 }
 
 fn requests_of(alloc: Global, script: &str) -> Result<Vec<Request>, Fail> {
@@ -32,7 +31,7 @@ fn requests_of(alloc: Global, script: &str) -> Result<Vec<Request>, Fail> {
 
 // The same club after these requests, which are given by one call.
 fn after_run<R: Abort + AllocGlobal>(rt: &R, script: &str) -> Result<Club<MemStore>, Fail> {
-    let mut club = serve_at_once(rt, opened(rt.alloc())?, THREE_MEMBERS)?;
+    let mut club = serve_at_once(rt.alloc(), made(rt.alloc())?, THREE_MEMBERS)?;
     let run = club.run(rt.alloc(), &requests_of(rt.alloc(), script)?);
     assert!(rt; run.fault == None);
     assert!(rt; run.outcomes.len() == script.lines().count());

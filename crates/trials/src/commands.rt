@@ -1,52 +1,10 @@
 //! Commands one after another, valid and not, each with what it must come to, written out by hand.
 
-ghost use Rattle.std.specs.Prelude.{◌≡◌, false};
-
-use sqlite::{Connection, MemStore};
-use std::alloc::Global;
+use sqlite::MemStore;
 use std::process::Abort;
 use std::test::Fail;
-use store::{Club, adopt, create};
-use trial_scripts::{Tables, given, stored, told};
-
-fn adopted(alloc: Global, conn: Connection<MemStore>) -> Result<Club<MemStore>, Fail>
-    requires { conn.in_transaction ≡ false }
-{
-    match adopt(alloc, conn) {
-        Ok(club) => Ok(club),
-        Err(unopened) => Err(Fail::from(unopened.fault)),
-    }
-}
-
-/// The club after it was given up and taken again, and its tables before and after.
-fn reopened(alloc: Global, club: Club<MemStore>) -> Result<(Club<MemStore>, Tables, Tables), Fail> {
-    let mut conn = club.into_connection();
-    let before = stored(alloc, &mut conn)?;
-    let mut conn = adopted(alloc, conn)?.into_connection();
-    let after = stored(alloc, &mut conn)?;
-    Ok((adopted(alloc, conn)?, before, after))
-}
-
-// Gives the request of the line, which must come to what stands after `=`.
-pub(crate) fn give<R: Abort + AllocGlobal>(
-    rt: &R,
-    club: Club<MemStore>,
-    line: &str,
-) -> Result<Club<MemStore>, Fail> {
-    let alloc = rt.alloc();
-    let (asked, wanted) = line.split_once('=').ok_or("an outcome")?;
-    let mut club = club;
-    let outcome = given(alloc, &mut club, asked)??;
-    assert!(rt; told(alloc, &outcome)?.as_str() == wanted.trim(), "{line}");
-    Ok(club)
-}
-
-// Giving the club up and taking it again changes nothing.
-fn stays<R: Abort + AllocGlobal>(rt: &R, club: Club<MemStore>) -> Result<Club<MemStore>, Fail> {
-    let (club, before, after) = reopened(rt.alloc(), club)?;
-    assert!(rt; before == after);
-    Ok(club)
-}
+use store::Club;
+use trial_scripts::{give, made, stays};
 
 // Serves the lines in turn, each to a club that was just taken.
 fn serve_all<R: Abort + AllocGlobal>(
@@ -56,51 +14,8 @@ fn serve_all<R: Abort + AllocGlobal>(
 ) -> Result<Club<MemStore>, Fail> {
     let mut club = club;
     for line in script.lines() {
-        club = give(rt, club, line)?;
-        club = stays(rt, club)?;
-    }
-    Ok(club)
-}
-
-/// Serves the lines in turn to one club, which is then given up and taken again.
-pub(crate) fn serve_at_once<R: Abort + AllocGlobal>(
-    rt: &R,
-    club: Club<MemStore>,
-    script: &str,
-) -> Result<Club<MemStore>, Fail> {
-    let mut club = club;
-    for line in script.lines() {
-        club = give(rt, club, line)?;
-    }
-    stays(rt, club)
-}
-
-pub(crate) fn opened(alloc: Global) -> Result<Club<MemStore>, Fail> {
-    match create(alloc, Connection::open_in_memory(alloc)?) {
-        Ok(club) => Ok(club),
-        Err(unopened) => Err(Fail::from(unopened.fault)),
-    }
-}
-
-/// A club with a game, named so, of a day for each player, after these moves, which are legal.
-pub(crate) fn played<R: Abort + AllocGlobal>(
-    rt: &R,
-    game: &str,
-    moves: &str,
-) -> Result<Club<MemStore>, Fail> {
-    let alloc = rt.alloc();
-    let seated = format!(in alloc;
-        "900 officer member anna keyanna1 = accepted\n\
-        900 officer member bert keybert2 = accepted\n\
-        900 officer event autumn {game} 86400 0 = accepted\n\
-        900 officer seat g1 autumn anna bert = accepted"
-    )?;
-    let mut club = serve_at_once(rt, opened(alloc)?, seated.as_str())?;
-    let mut ply = 0_u64;
-    for text in moves.split_whitespace() {
-        ply = ply.saturating_add(1);
-        let line = format!(in alloc; "1000 officer move 1 {ply} {text} = accepted")?;
-        club = give(rt, club, line.as_str())?;
+        club = give(rt.alloc(), club, line)?;
+        club = stays(rt.alloc(), club)?;
     }
     Ok(club)
 }
@@ -125,7 +40,7 @@ const PEOPLE_AND_EVENTS: &str = "900 keyanna1 member anna keyanna1 = 50 UnknownK
 // Who may do what, and values that are none.
 #[test]
 fn people_and_events(rt: HostRuntime) -> Result<(), Fail> {
-    let club = serve_all(&rt, opened(rt.alloc())?, PEOPLE_AND_EVENTS)?;
+    let club = serve_all(&rt, made(rt.alloc())?, PEOPLE_AND_EVENTS)?;
     let _conn = club.into_connection();
     Ok(())
 }
@@ -161,7 +76,7 @@ const A_GAME: &str = "900 officer member anna keyanna1 = accepted
 // A game between two members: who moves, in which order, in what time.
 #[test]
 fn a_game_and_its_moves(rt: HostRuntime) -> Result<(), Fail> {
-    let club = serve_all(&rt, opened(rt.alloc())?, A_GAME)?;
+    let club = serve_all(&rt, made(rt.alloc())?, A_GAME)?;
     let _conn = club.into_connection();
     Ok(())
 }

@@ -1,11 +1,10 @@
 //! Offers of a draw, resignations, claims of time and sweeps, each with what it must come to.
 
-use crate::commands::{opened, serve_at_once};
 use sqlite::MemStore;
 use std::process::Abort;
 use std::test::Fail;
 use store::Club;
-use trial_scripts::lines_of;
+use trial_scripts::{lines_of, made, serve_at_once};
 
 /// A club with a game, named so, of a minute for each player, that anna plays first and bert second from 1000 on.
 fn seated<R: Abort + AllocGlobal>(rt: &R, game: &str) -> Result<Club<MemStore>, Fail> {
@@ -16,7 +15,7 @@ fn seated<R: Abort + AllocGlobal>(rt: &R, game: &str) -> Result<Club<MemStore>, 
         1000 officer event spring {game} 60 0 = accepted\n\
         1000 officer seat g1 spring anna bert = accepted"
     )?;
-    serve_at_once(rt, opened(rt.alloc())?, script.as_str())
+    serve_at_once(rt.alloc(), made(rt.alloc())?, script.as_str())
 }
 
 fn is_line(lines: &[String], index: usize, text: &str) -> bool {
@@ -56,7 +55,7 @@ const OFFER_AND_END: &str =
 
 #[test]
 fn a_draw_is_offered_and_agreed(rt: HostRuntime) -> Result<(), Fail> {
-    let mut club = serve_at_once(&rt, seated(&rt, "draughts")?, A_DRAW)?;
+    let mut club = serve_at_once(rt.alloc(), seated(&rt, "draughts")?, A_DRAW)?;
     let table = club.table_rows(rt.alloc(), "spring")?;
     assert!(rt; table.is_some_and(|lines| are_lines_of_a_draw(&lines)));
     assert!(rt; club.table_rows(rt.alloc(), "autumn")?.is_none());
@@ -75,7 +74,7 @@ const AN_OFFER: &str = "1000 keybert2 offer 1 1 = accepted
 
 #[test]
 fn an_offer_stands_until_the_next_move(rt: HostRuntime) -> Result<(), Fail> {
-    let club = serve_at_once(&rt, seated(&rt, "draughts")?, AN_OFFER)?;
+    let club = serve_at_once(rt.alloc(), seated(&rt, "draughts")?, AN_OFFER)?;
     assert!(rt; lines_of(rt.alloc(), club, OFFER_AND_END)?.as_str() == "- - Resigned 2-0;");
     Ok(())
 }
@@ -89,7 +88,7 @@ const A_CLAIM: &str = "1060 keybert2 claim 1 = 61 TimeLeft
 
 #[test]
 fn time_is_claimed_a_second_late(rt: HostRuntime) -> Result<(), Fail> {
-    let club = serve_at_once(&rt, seated(&rt, "shogi")?, A_CLAIM)?;
+    let club = serve_at_once(rt.alloc(), seated(&rt, "shogi")?, A_CLAIM)?;
     let ended = "SELECT since || ' ' || end || ' ' || result FROM games";
     assert!(rt; lines_of(rt.alloc(), club, ended)?.as_str() == "1000 Time 0-2;");
     Ok(())
@@ -112,7 +111,7 @@ const SWEEPS: &str = "1000 officer seat g2 spring bert anna = accepted
 // One sweep ends two games of the same players; a second more than a side has left must be used.
 #[test]
 fn a_sweep_ends_overdue_games(rt: HostRuntime) -> Result<(), Fail> {
-    let club = serve_at_once(&rt, seated(&rt, "draughts")?, SWEEPS)?;
+    let club = serve_at_once(rt.alloc(), seated(&rt, "draughts")?, SWEEPS)?;
     let sums =
         "SELECT member || ' ' || points || ' ' || wins || ' ' || draws || ' ' || losses FROM scores ORDER BY member";
     assert!(rt; lines_of(rt.alloc(), club, sums)?.as_str() == "1 4 2 0 1;2 2 1 0 2;");

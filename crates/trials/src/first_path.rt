@@ -1,26 +1,11 @@
 //! The tables after the first commands of a club, against rows that are written out by hand.
 
-use crate::commands::{opened, serve_at_once};
 use sqlite::{Connection, MemStore};
 use std::alloc::Global;
 use std::process::Abort;
 use std::test::Fail;
 use store::{Club, OpenFault, ViewedGame, create};
-use store_tables::{EventRow, GameRecord, MemberRow, MetaRow, MoveRow, SeenRow};
-use trial_scripts::{Tables, stored};
-
-const OPENING: &str =
-    "W:W31,32,33,34,35,36,37,38,39,40,41,42,43,44,45,46,47,48,49,50:B1,2,3,4,5,6,7,8,9,10,11,12,13,14,15,16,17,18,19,20";
-
-const AFTER_32_28: &str =
-    "B:W28,31,33,34,35,36,37,38,39,40,41,42,43,44,45,46,47,48,49,50:B1,2,3,4,5,6,7,8,9,10,11,12,13,14,15,16,17,18,19,20";
-
-const AFTER_19_23: &str =
-    "W:W28,31,33,34,35,36,37,38,39,40,41,42,43,44,45,46,47,48,49,50:B1,2,3,4,5,6,7,8,9,10,11,12,13,14,15,16,17,18,20,23";
-
-fn text(alloc: Global, letters: &str) -> Result<String, Fail> {
-    Ok(String::from_str(alloc, letters)?)
-}
+use trial_scripts::{holding, made, serve_at_once, stored};
 
 const PLAYED: &str = "900 officer member anna keyanna1 = accepted
 900 officer member bert keybert2 = accepted
@@ -31,95 +16,30 @@ const PLAYED: &str = "900 officer member anna keyanna1 = accepted
 
 /// Two members and an event of 60 seconds and 5 more for each move, a game seated at 1000, and its first two moves.
 fn played<R: Abort + AllocGlobal>(rt: &R) -> Result<Club<MemStore>, Fail> {
-    serve_at_once(rt, opened(rt.alloc())?, PLAYED)
+    serve_at_once(rt.alloc(), made(rt.alloc())?, PLAYED)
 }
 
-// The two members, by hand.
-fn two_members(alloc: Global) -> Result<Vec<MemberRow>, Fail> {
-    Ok(vec![in alloc;
-        MemberRow {
-            id: 1,
-            name: text(alloc, "anna")?,
-            key: text(alloc, "keyanna1")?
-        },
-        MemberRow {
-            id: 2,
-            name: text(alloc, "bert")?,
-            key: text(alloc, "keybert2")?
-        },
-    ]?)
-}
-
-// The game, by hand: each side spent its 60 seconds and gained 5.
-fn one_game(alloc: Global) -> Result<Vec<GameRecord>, Fail> {
-    Ok(vec![in alloc;
-        GameRecord {
-            id: 1,
-            key: Some(text(alloc, "g1")?),
-            event: 1,
-            first: 1,
-            second: 2,
-            start: 1000,
-            since: 1120,
-            plies: 2,
-            left1: 5,
-            left2: 5,
-            offer_side: None,
-            offer_ply: None,
-            end: None,
-            result: None,
-            position: text(alloc, AFTER_19_23)?,
-            track_a: 0,
-            track_b: 0,
-        },
-    ]?)
-}
-
-// The two moves, by hand. The second player's clock ran from the first move.
-fn two_moves(alloc: Global) -> Result<Vec<MoveRow>, Fail> {
-    Ok(vec![in alloc;
-        MoveRow {
-            game: 1,
-            ply: 1,
-            text: text(alloc, "32-28")?,
-            moment: 1060,
-            left: 5,
-            position: text(alloc, AFTER_32_28)?,
-        },
-        MoveRow {
-            game: 1,
-            ply: 2,
-            text: text(alloc, "19-23")?,
-            moment: 1120,
-            left: 5,
-            position: text(alloc, AFTER_19_23)?,
-        },
-    ]?)
-}
-
-// The opening, and the position after each move, each of which stood once.
-fn three_positions(alloc: Global) -> Result<Vec<SeenRow>, Fail> {
-    Ok(vec![in alloc;
-        SeenRow {
-            game: 1,
-            position: text(alloc, OPENING)?,
-            count: 1,
-            first_ply: 0,
-        },
-        SeenRow {
-            game: 1,
-            position: text(alloc, AFTER_32_28)?,
-            count: 1,
-            first_ply: 1,
-        },
-        SeenRow {
-            game: 1,
-            position: text(alloc, AFTER_19_23)?,
-            count: 1,
-            first_ply: 2,
-        },
-    ]?)
-}
+// The rows after it, by hand. Each side spent its 60 seconds and gained 5; the second player's clock ran from the first
+// move. The opening and the position after each move stood once.
+const ROWS: &str = "INSERT INTO members VALUES (1, 'anna', 'keyanna1'), (2, 'bert', 'keybert2');
+INSERT INTO events VALUES (1, 'autumn', 0, 60, 5);
+INSERT INTO games VALUES (1, 'g1', 1, 1, 2, 1000, 1120, 2, 5, 5, NULL, NULL, NULL, NULL,
+'W:W28,31,33,34,35,36,37,38,39,40,41,42,43,44,45,46,47,48,49,50:B1,2,3,4,5,6,7,8,9,10,11,12,13,14,15,16,17,18,20,23',
+0, 0);
+INSERT INTO moves VALUES (1, 1, '32-28', 1060, 5,
+'B:W28,31,33,34,35,36,37,38,39,40,41,42,43,44,45,46,47,48,49,50:B1,2,3,4,5,6,7,8,9,10,11,12,13,14,15,16,17,18,19,20');
+INSERT INTO moves VALUES (1, 2, '19-23', 1120, 5,
+'W:W28,31,33,34,35,36,37,38,39,40,41,42,43,44,45,46,47,48,49,50:B1,2,3,4,5,6,7,8,9,10,11,12,13,14,15,16,17,18,20,23');
+INSERT INTO seen VALUES (1,
+'W:W31,32,33,34,35,36,37,38,39,40,41,42,43,44,45,46,47,48,49,50:B1,2,3,4,5,6,7,8,9,10,11,12,13,14,15,16,17,18,19,20',
+1, 0);
+INSERT INTO seen VALUES (1,
+'B:W28,31,33,34,35,36,37,38,39,40,41,42,43,44,45,46,47,48,49,50:B1,2,3,4,5,6,7,8,9,10,11,12,13,14,15,16,17,18,19,20',
+1, 1);
+INSERT INTO seen VALUES (1,
+'W:W28,31,33,34,35,36,37,38,39,40,41,42,43,44,45,46,47,48,49,50:B1,2,3,4,5,6,7,8,9,10,11,12,13,14,15,16,17,18,20,23',
+1, 2);
+UPDATE meta SET id = 1, schema = 1, last = 1120";
 
 /// The names in a view, its plies, the seconds that are left and the moves.
 fn line_of(alloc: Global, viewed: &ViewedGame) -> Result<String, Fail> {
@@ -139,14 +59,17 @@ fn line_of(alloc: Global, viewed: &ViewedGame) -> Result<String, Fail> {
     )?)
 }
 
+const SHOWN: &str =
+    "autumn anna bert 2 5 5 32-28 19-23 W:W28,31,33,34,35,36,37,38,39,40,41,42,43,44,45,46,47,48,49,50\
+    :B1,2,3,4,5,6,7,8,9,10,11,12,13,14,15,16,17,18,20,23";
+
 #[test]
 fn a_game_is_shown(rt: HostRuntime) -> Result<(), Fail> {
     let alloc = rt.alloc();
     let mut club = played(&rt)?;
     assert!(rt; club.view_game(alloc, 2)?.is_none());
     let viewed = club.view_game(alloc, 1)?.ok_or("a game")?;
-    let wanted = format!(in alloc; "autumn anna bert 2 5 5 32-28 19-23 {AFTER_19_23}")?;
-    assert!(rt; line_of(alloc, &viewed)?.as_str() == wanted.as_str());
+    assert!(rt; line_of(alloc, &viewed)?.as_str() == SHOWN);
     assert!(rt; viewed.played.offer == None);
     assert!(rt; viewed.played.end.is_none());
     assert!(rt; viewed.played.result == None);
@@ -155,33 +78,9 @@ fn a_game_is_shown(rt: HostRuntime) -> Result<(), Fail> {
 
 #[test]
 fn the_rows_of_each_table(rt: HostRuntime) -> Result<(), Fail> {
-    let alloc = rt.alloc();
     let mut conn = played(&rt)?.into_connection();
-    let wanted = Tables {
-        meta: vec![in alloc;
-            MetaRow {
-                id: 1,
-                schema: 1,
-                last: 1120
-            },
-        ]?,
-        members: two_members(alloc)?,
-        events: vec![in alloc;
-            EventRow {
-                id: 1,
-                name: text(alloc, "autumn")?,
-                game: 0,
-                budget: 60,
-                increment: 5
-            },
-        ]?,
-        games: one_game(alloc)?,
-        moves: two_moves(alloc)?,
-        seen: three_positions(alloc)?,
-        scores: Vec::new(alloc),
-        challenges: Vec::new(alloc),
-    };
-    assert!(rt; stored(alloc, &mut conn)? == wanted);
+    let mut wanted = holding(rt.alloc(), ROWS, "")?;
+    assert!(rt; stored(rt.alloc(), &mut conn)? == stored(rt.alloc(), &mut wanted)?);
     Ok(())
 }
 

@@ -1,5 +1,5 @@
-//! Trials of the whole: commands, orders and requests of the desk, and the rows that they leave, written out by hand.
-//! It has tests alone.
+//! Trials of the store: commands one after another, and the rows that they leave, written out by hand. It has tests
+//! alone.
 #![tactic(auto)]
 
 #[cfg(test)]
@@ -12,11 +12,5 @@ mod draughts;
 mod endings;
 #[cfg(test)]
 mod first_path;
-#[cfg(test)]
-mod orders;
-#[cfg(test)]
-mod records;
-#[cfg(test)]
-mod served;
 #[cfg(test)]
 mod shogi;

@@ -37,6 +37,7 @@ impl Numbers {
         Numbers { numbers, len }
     }
 
+    /// The numbers, in rising order.
     pub fn as_slice(&self) -> &[u8]
         ensures { result.now ≡ self.now }
     {

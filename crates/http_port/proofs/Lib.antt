@@ -1,0 +1,3 @@
+pub mod ActedLemmas
+pub mod ReplayLemmas
+pub mod ServingLemmas

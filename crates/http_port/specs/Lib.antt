@@ -1,0 +1,4 @@
+pub mod LogLine
+pub mod Replayed
+pub mod Serving
+pub mod Visits
