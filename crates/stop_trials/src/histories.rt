@@ -60,7 +60,7 @@ fn begun<D: Disk + Drop>(
 }
 
 /// A session over the files: its run, and the files after it.
-fn lived(
+fn session(
     alloc: Global,
     files: Files<InMemory>,
     requests: &[Request],
@@ -73,14 +73,14 @@ fn made(alloc: Global) -> Result<Files<InMemory>, Fail> {
 }
 
 #[test]
-fn what_was_accepted_is_there_in_the_next_life(rt: HostRuntime) -> Result<(), Fail> {
+fn what_was_accepted_is_there_in_the_next_session(rt: HostRuntime) -> Result<(), Fail> {
     let alloc = rt.alloc();
     let anna = [request(alloc, "1000 officer member anna keyanna1")?];
-    let (first, files) = lived(alloc, made(alloc)?, &anna)?;
+    let (first, files) = session(alloc, made(alloc)?, &anna)?;
     assert!(rt; first.fault.is_none());
     assert!(rt; first.outcomes.len() == 1);
     assert!(rt; matches!(first.outcomes[0], Outcome::Accepted(_)));
-    let (next, _) = lived(alloc, files, &anna)?;
+    let (next, _) = session(alloc, files, &anna)?;
     assert!(rt; next.fault.is_none());
     assert!(rt; next.outcomes.len() == 1);
     assert!(rt; matches!(next.outcomes[0], Outcome::Repeated(_)));
