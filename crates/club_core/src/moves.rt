@@ -254,7 +254,8 @@ pub fn play_move<R: Rules>(
     ensures { IfOk result (λ d. (game : Game R.Move) → Shows R.rules game view.now →
         ShowsPly R.rules game ply view.now →
         IsLegalGame R.rules (terms_of view.now) game →
-        IsDecision R.rules (terms_of view.now) game (step_move R.rules (terms_of view.now) game moment side ply text.now) d) }
+        IsDecision R.rules (terms_of view.now) game
+        (step_move R.rules (terms_of view.now) game moment side ply text.now) d) }
 {
     match repeat_of(alloc, view, side, ply, text)? {
         Some(answer) => return Ok(Decision::Repeated(answer)),

@@ -34,7 +34,8 @@ fault_written Write = codes "the reply could not be written"
 
 abbrev pub line_written : ℕ → List ℕ → List ℕ → Option ℕ → List ℕ
 line_written moment method path status =
-    decimal moment ++ (codes " " ++ (method ++ (codes " " ++ (path ++ (codes " " ++ (status_written status ++ codes "\n"))))))
+    decimal moment
+    ++ (codes " " ++ (method ++ (codes " " ++ (path ++ (codes " " ++ (status_written status ++ codes "\n"))))))
 
 abbrev pub fault_line_written : ℕ → DeskFault → List ℕ
 fault_line_written moment fault = decimal moment ++ (codes " - - " ++ (fault_written fault ++ codes "\n"))

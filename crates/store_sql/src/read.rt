@@ -61,7 +61,8 @@ fn show_by_first<T: Select, S: Alter>(
     ensures reads { OnlyReads (state S.Store conn.old) (state S.Store conn.new) }
     ensures rows { HasCleanDisk (state S.Store conn.new) → IfOk result (λ rows. (content : _) → IsExactly content
         (state S.Store conn.old) →
-        AreThose (0 ∷ []) (Int first.now ∷ []) (content T.table.tree) rows.items × IsSorted (by_others T.width) rows.items) }
+        AreThose (0 ∷ []) (Int first.now ∷ []) (content T.table.tree) rows.items ×
+        IsSorted (by_others T.width) rows.items) }
     ensures told { HasCleanDisk (state S.Store conn.new) → IfOk result (λ rows.
         (state S.Store conn.old).now.schema ≡ club_schema →
         AreReadOf T.table T.width first.now rows.items (state S.Store conn.old) (state S.Store conn.new)) }
@@ -203,7 +204,8 @@ pub fn read_by_first<T: Select, S: Alter>(
     ensures reads { OnlyReads (state S.Store conn.old) (state S.Store conn.new) }
     ensures rows { HasCleanDisk (state S.Store conn.new) → IfOk result (λ found.
         (state S.Store conn.old).now.schema ≡ club_schema →
-        AreReadOf T.table T.width first.now (map T.cells found.items) (state S.Store conn.old) (state S.Store conn.new)) }
+        AreReadOf T.table T.width first.now (map T.cells found.items) (state S.Store conn.old)
+        (state S.Store conn.new)) }
     ensures blames { HasCleanDisk (state S.Store conn.new) → IfErr result (λ e.
         (state S.Store conn.old).now.schema ≡ club_schema →
         Blames T.table T.IsTyped (state S.Store conn.old) e) }
@@ -245,7 +247,8 @@ pub fn find_by_first<T: Select, S: Alter>(
     ensures reads { OnlyReads (state S.Store conn.old) (state S.Store conn.new) }
     ensures rows { HasCleanDisk (state S.Store conn.new) → IfOk result (λ found. (content : _) → IsExactly content
         (state S.Store conn.old) →
-        AreThose (0 ∷ []) (Int first.now ∷ []) (content T.table.tree) (map T.cells found.items) × IsSorted (by_others T.width) (map T.cells found.items)) }
+        AreThose (0 ∷ []) (Int first.now ∷ []) (content T.table.tree) (map T.cells found.items) ×
+        IsSorted (by_others T.width) (map T.cells found.items)) }
     ensures kept { HasCleanDisk (state S.Store conn.new) → OnOk result (KeepsContent (state S.Store conn.old)
         (state S.Store conn.new)) }
 {
