@@ -1,9 +1,9 @@
 //! One connection.
-ghost use Rattle.std.specs.Prelude.{◌≡◌, ◌≤◌, ℕ, List, Some, take, IfErr, OnOk, OnErr};
+ghost use Rattle.std.specs.Prelude.{◌≡◌, ◌≤◌, ℕ, List, Some, take, IfOk, IfErr, OnOk, OnErr};
 ghost use Rattle.std.specs.Io.KnownBytes.{Appends};
 ghost use Rattle.http_desk.specs.declared.faults.ClubFault.{ClubFault};
 ghost use Rattle.http_port.specs.Serving.{Serving, ShutServing};
-ghost use Rattle.http_port.specs.Visits.{HasActed};
+ghost use Rattle.http_port.specs.Visits.{HasActed, IsAnswered};
 
 use clocks::Moment;
 use http_desk::{DeskFault, ServedClub, answer};
@@ -49,7 +49,8 @@ pub fn write_reply<W: Write>(writer: &mut W, bytes: &[u8]) -> Result<(), DeskFau
 
 /// Serves one connection at a moment: reads in large pieces until a reply can be given or the input ends, and writes
 /// the reply to all of the input. A reader that fails before leaves the club as it was; a writer that fails got a
-/// beginning of the reply. Whatever the reader gives, the club does what some request asks for, or nothing.
+/// beginning of the reply. Whatever the reader gives, the club does what some request asks for, or nothing; and where
+/// the writer does not fail it gets the reply to the bytes that were heard.
 pub fn serve_one<R: Read, W: Write, C: ServedClub>(
     alloc: Global,
     reader: &mut R,
@@ -60,6 +61,10 @@ pub fn serve_one<R: Read, W: Write, C: ServedClub>(
     ensures clean { C.IsClean club.new → C.IsClean club.old }
     ensures acts { C.IsClean club.new → (s : C.State) → C.Stands club.old s →
         HasActed C.club (C.Stands club.new) (C.Leaves club.new) s moment }
+    ensures answers { C.IsClean club.new → (s : C.State) → C.Stands club.old s →
+        IsAnswered C.club (C.Stands club.new) (C.Leaves club.new) s moment result }
+    ensures written { IfOk result (λ done.
+        Appends (W.contents writer.old) (W.contents writer.new) done.reply.items) }
     ensures serves { C.IsClean club.new → (s : C.State) (input before : List ℕ) → C.Stands club.old s →
         R.remaining reader.old ≡ Some input → W.contents writer.old ≡ Some before →
         Serving C.club (C.Stands club.new) (C.Leaves club.new) s moment input before (R.remaining reader.new)
