@@ -6,10 +6,12 @@ ghost use Rattle.sqlite_wal.specs.Recovery.{Image};
 ghost use Rattle.sqlite_store.specs.FileStore.{state as store_state, view as store_view};
 ghost use Rattle.sqlite_trees.specs.View.{IsClean};
 ghost use Rattle.sessions.specs.Finds.{AreReachable};
-ghost use Rattle.club_orders.specs.declared.report.Report.TheVariants.{InUse, NotOpened};
+ghost use Rattle.club_opening.specs.declared.fault.OpenFault.TheVariants.{Foreign};
+ghost use Rattle.club_orders.specs.declared.report.Report.TheVariants.{InUse, NotOpened, Unopened};
 ghost use Rattle.club_files.specs.ReachableOn.{AreReachableOn};
 
 use crate::opening::{Again, open_in_turn};
+use crate::places::Purpose;
 use club_desk::serve_stretch;
 use club_orders::Report;
 use http_desk::ClubFault;
@@ -31,12 +33,13 @@ pub fn stretch<S: Again, V: Visits>(
     Result<Option<ClubFault>, Report>,
     Option<FileStore<FileFrom<S>>>,
 )
-    ensures unopened { result.1 ≡ None → (result.0 ≡ Err InUse) ⊎ (result.0 ≡ Err NotOpened) }
+    ensures unopened { result.1 ≡ None →
+        ((result.0 ≡ Err InUse) ⊎ (result.0 ≡ Err NotOpened)) ⊎ (result.0 ≡ Err (Unopened Foreign)) }
     ensures led { IfSome result.1 (λ store. IsClean (store_view store) →
         (sessions : _) → AreReachable sessions (image_at S.Start) →
         (left : Image) → (store_state store).may_leave left → AreReachableOn sessions left) }
 {
-    let conn = match open_in_turn(rt, file, start) {
+    let conn = match open_in_turn(rt, file, Purpose::Serving, start) {
         Ok(conn) => conn,
         Err(report) => return (Err(report), None),
     };

@@ -6,6 +6,7 @@ ghost use Rattle.std.specs.Prelude.{◌≡◌};
 mod desk;
 mod opening;
 mod order;
+mod places;
 
 pub use desk::stretch;
 pub use opening::Again;

@@ -1,18 +1,21 @@
 //! The files of a path, opened as soon as no other program uses them.
 
-ghost use Rattle.std.specs.Prelude.{◌≡◌, ◌⊎◌, IfOk, IfErr};
+ghost use Rattle.std.specs.Prelude.{◌≡◌, ◌≢◌, ◌⊎◌, IfOk, IfErr};
 ghost use Rattle.sqlite_wal.specs.Files.{image_at};
 ghost use Rattle.sqlite.specs.State.{HasCleanDisk};
 ghost use Rattle.sqlite.specs.Held.{IsNew};
 ghost use Rattle.sqlite.specs.Start.{FindsIn};
 ghost use Rattle.sqlite.specs.Files.{file_state, IsOpened};
-ghost use Rattle.club_orders.specs.declared.report.Report.TheVariants.{InUse, NotOpened};
+ghost use Rattle.club_opening.specs.declared.fault.OpenFault.TheVariants.{Foreign};
+ghost use Rattle.club_orders.specs.declared.report.Report.TheVariants.{InUse, NotOpened, Unopened};
+ghost use Rattle.club_files.specs.declared.places.Purpose.TheVariants.{Making};
 
+use crate::places::{Purpose, prepare};
 use club_orders::Report;
-use sqlite::{Connection, Error, ErrorCode, FileFrom, FileStore};
+use sqlite::{Connection, FileFrom, FileStore, Options};
 use sqlite_disk::{Start, Wary};
-use std::fs::OpenOptions;
-use std::os::unix::fs::OpenOptionsExt;
+use sqlite_std_file::{OpenError, open};
+use std::hash::{BuildHasher, RandomState};
 use std::thread::sleep;
 use std::time::Duration;
 
@@ -22,9 +25,12 @@ const TURNS: u8 = 50;
 
 const PAUSE_MILLISECONDS: u64 = 100;
 
-// What a new file of a club allows: its owner reads and writes it, and nobody else, as keys of members will stand in
-// it.
-const OWNER_ALONE: u32 = 0o600;
+// How many frames the log of an order's files has at most once they are closed without being copied into the database
+// file, and one more: it is copied whatever it has.
+const FRAMES_OF_AN_ORDER: usize = 1;
+
+// The same for a stretch of serving: a commit does not copy each time.
+const FRAMES_OF_A_STRETCH: usize = 1000;
 
 /// What the files of a path hold at first, for as many openings as are tried.
 pub trait Again: Start + Sized {
@@ -38,38 +44,34 @@ impl Again for Wary {
     }
 }
 
-// Makes a file for its owner alone, where there is none.
-fn make_private(rt: &HostRuntime, path: &str) {
-    let _made = OpenOptions::new()
-        .write(true)
-        .create_new(true)
-        .mode(OWNER_ALONE)
-        .open(rt, path);
-}
-
-// Makes the two files of a club so. Where that fails, the opening says why.
-fn make_files(rt: &HostRuntime, file: &str) {
-    make_private(rt, file);
-    if let Ok(log) = format!(in rt.alloc(); "{file}-wal") {
-        make_private(rt, log.as_str());
+// From how many frames on the log is copied into the database file.
+fn frames_for(purpose: Purpose) -> usize {
+    match purpose {
+        Purpose::Making => FRAMES_OF_AN_ORDER,
+        Purpose::Ordering => FRAMES_OF_AN_ORDER,
+        Purpose::Serving => FRAMES_OF_A_STRETCH,
     }
 }
 
-// Why the files were not opened.
-fn unopened(error: Error) -> Report
-    ensures { (result ≡ InUse) ⊎ (result ≡ NotOpened) }
+// What a connection to the files goes by.
+fn options(rt: &HostRuntime, purpose: Purpose) -> Result<Options, Report>
+    ensures { IfErr result (λ report. (report ≡ InUse) ⊎ (report ≡ NotOpened)) }
 {
-    match error {
-        Error::SqliteFailure(ErrorCode::DatabaseBusy) => Report::InUse,
-        _ => Report::NotOpened,
+    match RandomState::new(rt) {
+        Ok(state) => {
+            let mut options = Options::new(state.hash_one(&0u8));
+            options.checkpoint_frames = frames_for(purpose);
+            Ok(options)
+        }
+        Err(_) => Err(Report::NotOpened),
     }
 }
 
-/// Opens the files of a path, which hold at first what `S` stands for, as soon as no other program uses them: for five
-/// seconds it is waited for that. Makes them, for their owner alone, where there are none.
-pub(crate) fn open_in_turn<S: Again>(
+// Opens the files, unless another program uses them.
+fn open_once<S: Start>(
     rt: &HostRuntime,
     file: &str,
+    purpose: Purpose,
     start: S,
 ) -> Result<Connection<FileStore<FileFrom<S>>>, Report>
     ensures opened { IfOk result (λ c. HasCleanDisk (file_state c) → IsOpened c) }
@@ -77,14 +79,49 @@ pub(crate) fn open_in_turn<S: Again>(
     ensures fresh { IfOk result IsNew }
     ensures unopened { IfErr result (λ report. (report ≡ InUse) ⊎ (report ≡ NotOpened)) }
 {
-    make_files(rt, file);
+    let files = match open(rt, file, start) {
+        Ok(files) => files,
+        Err(OpenError::Busy) => return Err(Report::InUse),
+        Err(_) => return Err(Report::NotOpened),
+    };
+    let options = match options(rt, purpose) {
+        Ok(options) => options,
+        Err(report) => return Err(report),
+    };
+    match Connection::open_files_with(rt.alloc(), files, options, false) {
+        Ok(mut conn) => {
+            conn.set_clock(rt);
+            Ok(conn)
+        }
+        Err(_) => Err(Report::NotOpened),
+    }
+}
+
+/// Opens the files of a path, which hold at first what `S` stands for, as soon as no other program uses them: for five
+/// seconds it is waited for that. Where a club is made and there are none, they are made, for their owner alone; else it is
+/// said that there is no club, and nothing was touched.
+pub(crate) fn open_in_turn<S: Again>(
+    rt: &HostRuntime,
+    file: &str,
+    purpose: Purpose,
+    start: S,
+) -> Result<Connection<FileStore<FileFrom<S>>>, Report>
+    ensures opened { IfOk result (λ c. HasCleanDisk (file_state c) → IsOpened c) }
+    ensures found { IfOk result (λ c. HasCleanDisk (file_state c) → FindsIn (image_at S.Start) (file_state c)) }
+    ensures fresh { IfOk result IsNew }
+    ensures unopened { IfErr result (λ report. ((report ≡ InUse) ⊎ (report ≡ NotOpened)) ⊎
+        ((report ≡ Unopened Foreign) × (purpose ≢ Making))) }
+{
+    // As `Connection::open_from` has it.
+    if file == ":memory:" || file.starts_with("file:") {
+        return Err(Report::NotOpened);
+    }
+    prepare(rt, file, purpose)?;
     for _ in 0..TURNS {
-        match Connection::open_from(rt, file, false, start.again()) {
+        match open_once(rt, file, purpose, start.again()) {
             Ok(conn) => return Ok(conn),
-            Err((error, _)) => match unopened(error) {
-                Report::InUse => sleep(rt, Duration::from_millis(PAUSE_MILLISECONDS)),
-                report => return Err(report),
-            },
+            Err(Report::InUse) => sleep(rt, Duration::from_millis(PAUSE_MILLISECONDS)),
+            Err(report) => return Err(report),
         }
     }
     Err(Report::InUse)

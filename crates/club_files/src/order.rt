@@ -1,6 +1,6 @@
 //! An order over the files of a path, from their opening to their closing.
 
-ghost use Rattle.std.specs.Prelude.{◌≡◌, ◌⊎◌, ◌++◌, None, IfSome};
+ghost use Rattle.std.specs.Prelude.{◌≡◌, ◌≢◌, ◌⊎◌, ◌++◌, None, IfSome};
 ghost use Rattle.sqlite_wal.specs.Files.{image_at};
 ghost use Rattle.sqlite_wal.specs.Recovery.{Image};
 ghost use Rattle.sqlite_store.specs.FileStore.{state as store_state, view as store_view};
@@ -12,17 +12,30 @@ ghost use Rattle.club_rows.specs.Club.{ClubState, IsClub, tables};
 ghost use Rattle.club_changes.specs.Steps.{club_step};
 ghost use Rattle.sessions.specs.Finds.{IsFoundIn, AreReachable, AreVoid};
 ghost use Rattle.club_words.specs.declared.words.Task.TheVariants.{Init};
-ghost use Rattle.club_orders.specs.declared.report.Report.TheVariants.{InUse, NotOpened};
+ghost use Rattle.club_opening.specs.declared.fault.OpenFault.TheVariants.{Foreign};
+ghost use Rattle.club_orders.specs.declared.report.Report.TheVariants.{InUse, NotOpened, Unopened};
+ghost use Rattle.club_files.specs.declared.places.Purpose.TheVariants.{Making};
 ghost use Rattle.club_orders.specs.Report.{given, Answers, IfRequest, IfLegal, IfTable, IfExport, IfVerify};
 ghost use Rattle.club_orders.specs.Report.{ListsMoves, ListsTable, WritesRecord, IsPassed, IsBegun, task_sessions};
 
 use crate::opening::{Again, open_in_turn};
+use crate::places::Purpose;
 use clocks::Moment;
 use club_orders::{Report, act};
-use club_words::Order;
+use club_words::{Order, Task};
 use sessions::close;
 use sqlite::{FileFrom, FileStore};
 use std::io::Write;
+
+// For what the files of a task are opened.
+fn purpose_of(task: &Task) -> Purpose
+    ensures { task.now ≡ Init → result ≡ Making }
+{
+    match task {
+        Task::Init => Purpose::Making,
+        _ => Purpose::Ordering,
+    }
+}
 
 /// Does what is ordered, at that moment, over the files of the order's path, which hold at first what `S` stands for:
 /// opens them as soon as no other program uses them, which it waits for up to five seconds; makes a club, gives the
@@ -41,7 +54,8 @@ pub fn obey<S: Again, W: Write>(
     start: S,
     out: &mut W,
 ) -> (Report, Option<FileStore<FileFrom<S>>>)
-    ensures unopened { result.1 ≡ None → ((result.0 ≡ InUse) ⊎ (result.0 ≡ NotOpened)) × (out.new ≡ out.old) }
+    ensures unopened { result.1 ≡ None → (((result.0 ≡ InUse) ⊎ (result.0 ≡ NotOpened)) ⊎
+        ((result.0 ≡ Unopened Foreign) × (order.entry.now.task ≢ Init))) × (out.new ≡ out.old) }
     ensures begun { IfSome result.1 (λ store. IsClean (store_view store) →
         order.entry.now.task ≡ Init → AreVoid (image_at S.Start) →
         (left : Image) → (store_state store).may_leave left →
@@ -68,7 +82,7 @@ pub fn obey<S: Again, W: Write>(
         (left : Image) → (store_state store).may_leave left →
         AreReachable (sessions ++ task_sessions order.entry.now.task moment result.0) left) }
 {
-    let conn = match open_in_turn(rt, order.file.as_str(), start) {
+    let conn = match open_in_turn(rt, order.file.as_str(), purpose_of(&order.task), start) {
         Ok(conn) => conn,
         Err(report) => return (report, None),
     };

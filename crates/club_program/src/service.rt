@@ -22,6 +22,7 @@ fn serve_stretch(rt: &HostRuntime, file: &str, callers: &mut Callers<'_>) -> Opt
     callers.begin();
     match give_up(stretch(rt, file, Wary, callers)) {
         Ok(fault) => fault,
+        Err(Report::Unopened(_)) => Some(ClubFault::Foreign),
         Err(_) => Some(ClubFault::Store),
     }
 }

@@ -1,3 +1,4 @@
+pub mod CopyLemmas
 pub mod EmptyLemmas
 pub mod FoundLemmas
 pub mod Proved

@@ -17,6 +17,7 @@ ghost use Rattle.sessions.specs.Finds.{Finds, AreVoid};
 use club_requests::Request;
 use sqlite::{Connection, FileStore};
 use sqlite_disk::Disk;
+use sqlite_trees::store::Store;
 use std::alloc::Global;
 use store::{Club, OpenFault, Run, Unopened, resume};
 
@@ -28,7 +29,12 @@ pub fn close<D: Disk + Drop>(conn: Connection<FileStore<D>>) -> FileStore<D>
         Finds left found →
         ∥ (file_state conn).may_leave found ∥₁ }
 {
-    conn.into_store()
+    let mut store = conn.into_store();
+    // A savepoint of nothing, and its commit, has the store copy its log into the database file, where that is as long
+    // as its options ask for, and append nothing.
+    let _marked = store.savepoint();
+    let _copied = store.commit();
+    store
 }
 
 /// Ends a session over files, whether it was served to its end or stopped by a fault, and gives the store back. Where
