@@ -2,6 +2,4 @@
 #![tactic(auto)]
 
 #[cfg(test)]
-mod heads;
-#[cfg(test)]
 mod replies;
