@@ -12,8 +12,8 @@ work=$(mktemp -d)
 trap 'rm -rf "$work"' EXIT
 count=200
 
-above='club|club_program|club_files|club_orders|club_words|sessions|trials|order_trials|stop_trials|trial_scripts'
-above="$above|opening_trials|row_trials|rules_trials|club_trials|desk_trials|http_head|http_bodies|http_desk|http_port|club_desk|perft"
+above='club|club_program|club_files|club_orders|club_words|sessions|trials'
+above="$above|rules|club_trials|desk_trials|http_head|http_bodies|http_desk|http_port|club_desk|perft"
 
 cp -a "$top/crates" "$work/crates"
 for crate in ${above//|/ }; do rm -rf "${work:?}/crates/$crate"; done

@@ -119,8 +119,8 @@ class Progress:
         count, whole = len(self.weights) - len(self.left), len(self.weights)
         minutes = (time.time() - self.began) / 60
         left = minutes / self.worked * sum(self.left.values()) if self.worked else None
-        more = f", some {left:.0f} minutes more" if left and self.left else ""
-        tell(f"{found[1]} is proved: {count} of {whole} after {minutes:.0f} minutes{more}")
+        more = f", some {left:.0f} min more" if left and self.left else ""
+        tell(f"{found[1]} is proved: {count} of {whole} after {minutes:.0f} min{more}")
 
 
 def build():
