@@ -1,6 +1,6 @@
 #!/usr/bin/env bash
 # Measures in how many seconds a line of 600 plies is judged: by `judge`, and by a counter that is pushed ply by ply. The line of
-# draughts is that of the tests of draughts (rules_trials), that of shogi a walk from the opening, beside this script, with a random
+# draughts is that of the questions about draughts (rules), that of shogi a walk from the opening, beside this script, with a random
 # legal move at each ply that does not end the game. Each is judged five times, and the least time counts.
 #
 #   bench/judging.sh        builds the program first, which proves what it stands on
@@ -24,7 +24,7 @@ cp "$top/bench/judging.rt.txt" "$work/src/main.rt"
 } > "$work/BUILD.bazel"
 {
     echo W:WK36,K45,46,47,48,49,50:B1,2,3,4,5,K6,K15
-    sed -n '/const MOVES/,/;$/p' "$top/crates/rules_trials/src/long_line.rt" | grep -oE '[0-9]+-[0-9]+'
+    sed -n '/^text six hundred moves/,/^draughts-line/p' "$top/crates/rules/stdin" | grep -v '^draughts-line' | grep -oE '[0-9]+-[0-9]+'
 } > "$work/draughts_line.txt"
 
 cd "$work"

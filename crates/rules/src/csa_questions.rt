@@ -1,0 +1,36 @@
+//! Questions about records of shogi.
+
+use crate::csa_written::written;
+use crate::shogi_told::told_move;
+use crate::unanswered::Unanswered;
+use crate::words::{push_word, told_score};
+use csa::read_games;
+use std::alloc::Global;
+
+// The scores and the moves of a text's games, with a `/` between them, or why it is refused.
+fn told(alloc: Global, text: &str) -> Result<String, Unanswered> {
+    let games = match read_games(alloc, text.as_bytes()) {
+        Ok(games) => games,
+        Err(fault) => return Ok(format!(in alloc; "{fault}")?),
+    };
+    let mut told = String::new(alloc);
+    for game in games.as_slice() {
+        if !told.is_empty() {
+            push_word(&mut told, "/")?;
+        }
+        push_word(&mut told, told_score(game.score))?;
+        for made in &game.moves {
+            push_word(&mut told, told_move(alloc, made)?.as_str())?;
+        }
+    }
+    Ok(told)
+}
+
+/// The answer to a question about a text of games that is read, or about a game that is written.
+pub fn answer(alloc: Global, asked: &str, parts: &[String]) -> Result<String, Unanswered> {
+    match (asked, parts) {
+        ("read", [text]) => told(alloc, text.as_str()),
+        ("write", parts) => written(alloc, parts),
+        _ => Err(Unanswered::Question),
+    }
+}

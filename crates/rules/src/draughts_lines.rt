@@ -1,0 +1,130 @@
+//! Questions about lines of moves of draughts.
+
+use crate::draughts_questions::{made, position};
+use crate::unanswered::Unanswered;
+use crate::words::{push_word, said, side, told_score, yes};
+use draughts_draws::{Counts, DEnd, Fault, judge};
+use squares::{DMove, DPos};
+use std::alloc::Global;
+
+/// The moves of texts that are parted by blanks.
+pub fn line(alloc: Global, texts: &str) -> Result<Vec<DMove>, Unanswered> {
+    let mut moves = Vec::new(alloc);
+    for text in texts.split_whitespace() {
+        moves.push(made(alloc, text)?)?;
+    }
+    Ok(moves)
+}
+
+fn told_end(end: Option<DEnd>) -> &'static str {
+    match end {
+        None => "goes on",
+        Some(DEnd::NoMove) => "NoMove",
+        Some(DEnd::Repetition) => "Repetition",
+        Some(DEnd::KingMoves) => "KingMoves",
+        Some(DEnd::ThreeToOne) => "ThreeToOne",
+        Some(DEnd::TwoToOne) => "TwoToOne",
+        Some(DEnd::PlyLimit) => "PlyLimit",
+    }
+}
+
+fn end(name: &str) -> Result<DEnd, Unanswered> {
+    match name {
+        "NoMove" => Ok(DEnd::NoMove),
+        "Repetition" => Ok(DEnd::Repetition),
+        "KingMoves" => Ok(DEnd::KingMoves),
+        "ThreeToOne" => Ok(DEnd::ThreeToOne),
+        "TwoToOne" => Ok(DEnd::TwoToOne),
+        "PlyLimit" => Ok(DEnd::PlyLimit),
+        _ => Err(Unanswered::Word),
+    }
+}
+
+fn told(alloc: Global, judged: Result<Option<DEnd>, Fault>) -> Result<String, Unanswered> {
+    match judged {
+        Ok(end) => said(alloc, told_end(end)),
+        Err(fault) => Ok(format!(in alloc; "{fault}")?),
+    }
+}
+
+// What the line has come to by its counts, which are kept move by move.
+fn counted(alloc: Global, start: &DPos, moves: &[DMove]) -> Result<Option<DEnd>, Fault> {
+    let mut counts = Counts::start(alloc, start)?;
+    for made in moves {
+        counts.push(made)?;
+    }
+    Ok(counts.end())
+}
+
+// What the line has come to, both as a whole and move by move.
+fn judged(alloc: Global, start: &str, moves: &[DMove]) -> Result<String, Unanswered> {
+    let start = position(alloc, start)?;
+    let whole = told(alloc, judge(alloc, &start, moves))?;
+    let stepwise = told(alloc, counted(alloc, &start, moves))?;
+    if whole == stepwise {
+        return Ok(whole);
+    }
+    Ok(format!(in alloc; "{whole}, but move by move {stepwise}")?)
+}
+
+// The same of a line of whose moves so many are taken.
+fn judged_so_far(
+    alloc: Global,
+    start: &str,
+    moves: &[DMove],
+    plies: &str,
+) -> Result<String, Unanswered> {
+    let plies: usize = plies.parse()?;
+    match moves.get(..plies) {
+        Some(moves) => judged(alloc, start, moves),
+        None => Err(Unanswered::Move),
+    }
+}
+
+// What becomes of each move that is added to the line, where one that is refused changes nothing.
+fn pushed(alloc: Global, start: &str, texts: &str) -> Result<String, Unanswered> {
+    let Ok(mut counts) = Counts::start(alloc, &position(alloc, start)?) else {
+        return Err(Unanswered::Memory);
+    };
+    let mut text = String::new(alloc);
+    for one in texts.split_whitespace() {
+        match counts.push(&made(alloc, one)?) {
+            Ok(()) => push_word(&mut text, "made,")?,
+            Err(fault) => push_word(&mut text, format!(in alloc; "{fault},")?.as_str())?,
+        }
+    }
+    push_word(&mut text, told_end(counts.end()))?;
+    Ok(text)
+}
+
+// The score of an end after which it is that side's turn.
+fn score(name: &str, turn: &str) -> Result<&'static str, Unanswered> {
+    Ok(told_score(end(name)?.outcome(side(turn, "w")?)))
+}
+
+/// The answer to a question about a line of moves from a position, of which so many may be taken, about the score of an
+/// end, or about two moves.
+pub fn answer(alloc: Global, asked: &str, parts: &[String]) -> Result<String, Unanswered> {
+    match (asked, parts) {
+        ("judge", [start, texts]) => {
+            judged(
+                alloc,
+                start.as_str(),
+                line(alloc, texts.as_str())?.as_slice(),
+            )
+        }
+        ("judge", [start, texts, plies]) => {
+            let moves = line(alloc, texts.as_str())?;
+            judged_so_far(alloc, start.as_str(), moves.as_slice(), plies.as_str())
+        }
+        ("push", [start, texts]) => pushed(alloc, start.as_str(), texts.as_str()),
+        ("score", [name, turn]) => said(alloc, score(name.as_str(), turn.as_str())?),
+        ("same-move", [one, other]) => {
+            said(
+                alloc,
+                yes(made(alloc, one.as_str())? == made(alloc, other.as_str())?),
+            )
+        }
+        _ => Err(Unanswered::Question),
+    }
+}

@@ -1,0 +1,58 @@
+//! Questions about records of draughts.
+
+use crate::draughts_questions::told_move;
+use crate::pdn_written::written;
+use crate::unanswered::Unanswered;
+use crate::words::{push_word, said, told_score};
+use pdn_games::read_game;
+use std::alloc::Global;
+
+// The plies, the score and the moves of a text's game, or why the text is refused.
+fn told(alloc: Global, text: &str) -> Result<String, Unanswered> {
+    match read_game(alloc, text.as_bytes()) {
+        Ok(game) => {
+            let (plies, score) = (game.moves.len(), told_score(game.score));
+            let mut text = format!(in alloc; "{plies} {score}")?;
+            for made in &game.moves {
+                push_word(&mut text, told_move(alloc, made)?.as_str())?;
+            }
+            Ok(text)
+        }
+        Err(fault) => Ok(format!(in alloc; "{fault}")?),
+    }
+}
+
+// What several texts are read as, if that is the same game.
+fn alike(alloc: Global, texts: &[String]) -> Result<String, Unanswered> {
+    let mut first = String::new(alloc);
+    for text in texts {
+        let found = told(alloc, text.as_str())?;
+        if first.is_empty() {
+            first = found;
+        } else if first != found {
+            return Ok(format!(in alloc; "{first}, but also {found}")?);
+        }
+    }
+    Ok(first)
+}
+
+// Whether every beginning of a text is refused.
+fn beginnings(alloc: Global, text: &str) -> Result<String, Unanswered> {
+    let whole = text.as_bytes();
+    for count in 0..whole.len() {
+        if read_game(alloc, &whole[..count]).is_ok() {
+            return Ok(format!(in alloc; "the first {count} bytes are read")?);
+        }
+    }
+    said(alloc, "refused")
+}
+
+/// The answer to a question about texts of games that are read, or about a game that is written.
+pub fn answer(alloc: Global, asked: &str, parts: &[String]) -> Result<String, Unanswered> {
+    match (asked, parts) {
+        ("read", texts) => alike(alloc, texts),
+        ("beginnings", [text]) => beginnings(alloc, text.as_str()),
+        ("write", parts) => written(alloc, parts),
+        _ => Err(Unanswered::Question),
+    }
+}

@@ -1,0 +1,131 @@
+//! A script of questions and answers, and what differs.
+
+use crate::answers::answer;
+use crate::texts::Texts;
+use crate::unanswered::Unanswered;
+use crate::words::unescaped;
+use std::alloc::Global;
+
+/// What became of a script so far.
+#[derive(Drop)]
+pub struct Report {
+    alloc: Global,
+    texts: Texts,
+    cases: usize,
+    differing: usize,
+    differences: String,
+}
+
+// Whether an answer is the wanted one. A wanted answer whose last word is `..` says with what words the answer begins.
+fn is_as_wanted(found: &str, wanted: &str) -> bool {
+    match wanted.strip_suffix(" ..") {
+        Some(beginning) => match found.strip_prefix(beginning) {
+            Some(rest) => rest.starts_with(' '),
+            None => false,
+        },
+        None => found == wanted,
+    }
+}
+
+// How the answer to a question, of which an empty one is `none`, differs from the wanted one, if it does.
+fn difference(alloc: Global, question: &str, wanted: &str) -> Result<Option<String>, Unanswered> {
+    let wanted = unescaped(alloc, wanted)?;
+    let found = answer(alloc, question)?;
+    let found = if found.is_empty() {
+        "none"
+    } else {
+        found.as_str()
+    };
+    if is_as_wanted(found, wanted.as_str()) {
+        return Ok(None);
+    }
+    Ok(Some(format!(in alloc; "wanted {wanted} got {found}")?))
+}
+
+impl Report {
+    /// The report on a script of which nothing was read.
+    pub fn new(alloc: Global) -> Report {
+        Report {
+            alloc,
+            texts: Texts::new(alloc),
+            cases: 0,
+            differing: 0,
+            differences: String::new(alloc),
+        }
+    }
+
+    // What is wrong with a line, if something is.
+    fn fault_of(&mut self, line: &str) -> Result<Option<String>, Unanswered> {
+        let line = self.texts.expanded(line)?;
+        let (question, wanted) = line.as_str().split_once(" = ").ok_or(Unanswered::Answer)?;
+        match question.strip_prefix("text ") {
+            Some(name) => {
+                self.texts.give(name, wanted)?;
+                Ok(None)
+            }
+            None => {
+                self.cases = self.cases.saturating_add(1);
+                difference(self.alloc, question, wanted.trim())
+            }
+        }
+    }
+
+    // Notes what is wrong with a line.
+    fn note(&mut self, number: usize, line: &str, fault: &str) -> Result<(), Unanswered> {
+        self.differing = self.differing.saturating_add(1);
+        let (question, _) = line.split_once(" = ").unwrap_or((line, ""));
+        let noted = format!(in self.alloc; "line {number}: {question}: {fault}\n")?;
+        self.differences.push_str(noted.as_str())?;
+        Ok(())
+    }
+
+    /// Takes the line of that number: a text that is named, or a question and its answer.
+    pub fn take(&mut self, number: usize, line: &str) -> Result<(), Unanswered> {
+        if line.is_empty() || line.starts_with('#') {
+            return Ok(());
+        }
+        match self.fault_of(line) {
+            Ok(None) => Ok(()),
+            Ok(Some(fault)) => self.note(number, line, fault.as_str()),
+            Err(reason) => {
+                let fault = format!(in self.alloc; "{reason}")?;
+                self.note(number, line, fault.as_str())
+            }
+        }
+    }
+
+    /// Whether there are cases, and no line differs.
+    pub fn holds(&self) -> bool {
+        self.cases > 0 && self.differing == 0
+    }
+
+    /// What is printed of the script.
+    pub fn text(&self) -> Result<String, Unanswered> {
+        let (cases, differing) = (self.cases, self.differing);
+        if self.holds() {
+            return Ok(format!(in self.alloc; "{cases} cases hold\n")?);
+        }
+        let differences = self.differences.as_str();
+        Ok(format!(in self.alloc; "{differences}of {cases} cases {differing} differ\n")?)
+    }
+}
+
+/// Takes each line of a script. A line that ends with a backslash goes on in the next one.
+pub fn report_of(alloc: Global, script: &str) -> Result<Report, Unanswered> {
+    let mut report = Report::new(alloc);
+    let mut line = String::new(alloc);
+    let mut number: usize = 0;
+    for part in script.lines() {
+        number = number.saturating_add(1);
+        match part.strip_suffix('\\') {
+            Some(beginning) => line.push_str(beginning)?,
+            None => {
+                line.push_str(part)?;
+                report.take(number, line.as_str())?;
+                line.clear();
+            }
+        }
+    }
+    report.take(number, line.as_str())?;
+    Ok(report)
+}

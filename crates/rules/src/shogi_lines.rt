@@ -1,0 +1,117 @@
+//! Questions about lines of moves of shogi.
+
+use crate::shogi_questions::{made, position};
+use crate::unanswered::Unanswered;
+use crate::words::{said, side, told_score};
+use shogi_repetition::{Fault, Marks, SEnd, Tail, judge};
+use squares::{SMove, SPos, Side};
+use std::alloc::Global;
+
+/// The moves of texts that are parted by blanks.
+fn line(alloc: Global, texts: &str) -> Result<Vec<SMove>, Unanswered> {
+    let mut moves = Vec::new(alloc);
+    for text in texts.split_whitespace() {
+        moves.push(made(text)?)?;
+    }
+    Ok(moves)
+}
+
+fn told_end(end: Option<SEnd>) -> &'static str {
+    match end {
+        None => "goes on",
+        Some(SEnd::Fourfold) => "Fourfold",
+        Some(SEnd::NoMove) => "NoMove",
+        Some(SEnd::PlyLimit) => "PlyLimit",
+        Some(SEnd::PerpetualCheck(Side::First)) => "PerpetualCheck First",
+        Some(SEnd::PerpetualCheck(Side::Second)) => "PerpetualCheck Second",
+    }
+}
+
+fn end(name: &str) -> Result<SEnd, Unanswered> {
+    match name {
+        "Fourfold" => Ok(SEnd::Fourfold),
+        "NoMove" => Ok(SEnd::NoMove),
+        "PlyLimit" => Ok(SEnd::PlyLimit),
+        "PerpetualCheck First" => Ok(SEnd::PerpetualCheck(Side::First)),
+        "PerpetualCheck Second" => Ok(SEnd::PerpetualCheck(Side::Second)),
+        _ => Err(Unanswered::Word),
+    }
+}
+
+fn told(alloc: Global, judged: Result<Option<SEnd>, Fault>) -> Result<String, Unanswered> {
+    match judged {
+        Ok(end) => said(alloc, told_end(end)),
+        Err(fault) => Ok(format!(in alloc; "{fault}")?),
+    }
+}
+
+// What the line has come to by its marks, which are kept move by move.
+fn marked(alloc: Global, start: &SPos, moves: &[SMove]) -> Result<Option<SEnd>, Fault> {
+    let mut marks = Marks::start(alloc, start)?;
+    for made in moves {
+        marks.push(made)?;
+    }
+    Ok(marks.end())
+}
+
+// What the line has come to, of whose moves so many are taken, both as a whole and move by move.
+fn judged(alloc: Global, start: &str, texts: &str, plies: usize) -> Result<String, Unanswered> {
+    let start = position(start)?;
+    let line = line(alloc, texts)?;
+    let moves = match line.as_slice().get(..plies) {
+        Some(moves) => moves,
+        None => return Err(Unanswered::Move),
+    };
+    let whole = told(alloc, judge(alloc, &start, moves))?;
+    let stepwise = told(alloc, marked(alloc, &start, moves))?;
+    if whole == stepwise {
+        return Ok(whole);
+    }
+    Ok(format!(in alloc; "{whole}, but move by move {stepwise}")?)
+}
+
+// How a line ends after so many plies in the opening, which stood so often and first after a ply of that number, where
+// so many of the last moves of each side gave check.
+fn weighed(checks: (&str, &str), stood: (&str, &str, &str)) -> Result<&'static str, Unanswered> {
+    let tail = Tail {
+        first_checks: checks.0.parse()?,
+        second_checks: checks.1.parse()?,
+    };
+    let (plies, times, first) = stood;
+    let end = tail.end(
+        &SPos::opening(),
+        plies.parse()?,
+        times.parse()?,
+        first.parse()?,
+    );
+    Ok(told_end(end))
+}
+
+// The score of an end after which it is that side's turn.
+fn score(name: &str, turn: &str) -> Result<&'static str, Unanswered> {
+    Ok(told_score(end(name)?.outcome(side(turn, "b")?)))
+}
+
+/// The answer to a question about a line of moves from a position, of which so many are taken, about how checks are
+/// weighed, or about the score of an end.
+pub fn answer(alloc: Global, asked: &str, parts: &[String]) -> Result<String, Unanswered> {
+    match (asked, parts) {
+        ("judge", [start, texts, plies]) => {
+            judged(
+                alloc,
+                start.as_str(),
+                texts.as_str(),
+                plies.as_str().parse()?,
+            )
+        }
+        ("weigh", [first, second, plies, times, since]) => {
+            let checks = (first.as_str(), second.as_str());
+            said(
+                alloc,
+                weighed(checks, (plies.as_str(), times.as_str(), since.as_str()))?,
+            )
+        }
+        ("score", [name, turn]) => said(alloc, score(name.as_str(), turn.as_str())?),
+        _ => Err(Unanswered::Question),
+    }
+}

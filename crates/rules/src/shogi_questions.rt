@@ -1,0 +1,146 @@
+//! Questions about positions and moves of shogi.
+
+use crate::shogi_board::{piece, square};
+use crate::shogi_told::{told_cause, told_move, told_moves, told_position};
+use crate::unanswered::Unanswered;
+use crate::words::{push_word, said, side, yes};
+use sfen::{read, read_usi, write, write_usi};
+use shogi_moves::{attacked, check, has_move, in_check, legal, mated, play};
+use squares::{SMove, SPos};
+use std::alloc::Global;
+use std::cmp::Ordering;
+
+/// The position of a text: an SFEN or `opening`.
+pub fn position(text: &str) -> Result<SPos, Unanswered> {
+    if text == "opening" {
+        return Ok(SPos::opening());
+    }
+    match read(text) {
+        Ok((position, _)) => Ok(position),
+        Err(_) => Err(Unanswered::Position),
+    }
+}
+
+/// The move of a text in USI.
+pub fn made(text: &str) -> Result<SMove, Unanswered> {
+    Ok(read_usi(text).ok().ok_or(Unanswered::Move)?)
+}
+
+// The text of a position and its number, which are those of a text that was read.
+fn written(alloc: Global, position: &SPos, number: u16) -> Result<String, Unanswered> {
+    if number < 1 {
+        return Err(Unanswered::Number);
+    }
+    if number > 9999 {
+        return Err(Unanswered::Number);
+    }
+    Ok(write(alloc, position, number)?)
+}
+
+// The text that is written for the position and the number of an SFEN, or why the SFEN is refused.
+fn rewritten(alloc: Global, text: &str) -> Result<String, Unanswered> {
+    match read(text) {
+        Ok((position, number)) => written(alloc, &position, number),
+        Err(fault) => Ok(format!(in alloc; "{fault}")?),
+    }
+}
+
+// What a move's text is read as, where the move is written as the text that it was read from.
+fn reread(alloc: Global, text: &str) -> Result<String, Unanswered> {
+    match read_usi(text) {
+        Ok(made) if write_usi(alloc, &made)?.as_str() == text => told_move(alloc, &made),
+        Ok(_) => said(alloc, "written otherwise"),
+        Err(fault) => Ok(format!(in alloc; "{fault}")?),
+    }
+}
+
+// What a move comes to: why it is refused, or whether it mates.
+fn outcome(position: &SPos, made: &SMove) -> &'static str {
+    match check(position, made) {
+        Ok(()) if mated(&play(position, made)) => "mates",
+        Ok(()) => "goes on",
+        Err(cause) => told_cause(cause),
+    }
+}
+
+// Whether the piece of a side, `b` or `w`, on a square could be taken.
+fn threat(position: &SPos, letter_and_square: &str) -> Result<&'static str, Unanswered> {
+    let (letter, place) = letter_and_square.split_once(' ').ok_or(Unanswered::Square)?;
+    Ok(yes(attacked(position, side(letter, "b")?, square(place)?)))
+}
+
+// The numbers of the squares on which such a piece stands.
+fn places(alloc: Global, position: &SPos, name: &str) -> Result<String, Unanswered> {
+    let word = position.word(piece(name)?.ok_or(Unanswered::Piece)?);
+    let mut text = String::new(alloc);
+    for number in 0..81_u32 {
+        if word >> number & 1 == 1 {
+            push_word(&mut text, format!(in alloc; "{number}")?.as_str())?;
+        }
+    }
+    Ok(text)
+}
+
+// How many pieces a side has on the board.
+fn army(alloc: Global, position: &SPos, letter: &str) -> Result<String, Unanswered> {
+    let squares = position.board().squares_of_side(side(letter, "b")?);
+    Ok(format!(in alloc; "{}", squares.len())?)
+}
+
+// Whether two positions, and whether their boards, are the same.
+fn sameness(one: &SPos, other: &SPos) -> &'static str {
+    match (
+        one.copied() == *other,
+        one.board().copied() == *other.board(),
+    ) {
+        (true, true) => "the same",
+        (true, false) => "the same position, another board",
+        (false, true) => "another position, the same board",
+        (false, false) => "another position, another board",
+    }
+}
+
+// Which of two positions comes first.
+fn order(one: &SPos, other: &SPos) -> &'static str {
+    match (one < other, one.cmp(other)) {
+        (true, Ordering::Less) => "before",
+        (false, Ordering::Equal) => "level",
+        (false, Ordering::Greater) => "after",
+        _ => "before and not before",
+    }
+}
+
+fn of_position(alloc: Global, asked: &str, position: &SPos) -> Result<String, Unanswered> {
+    match asked {
+        "list" => told_moves(alloc, legal(alloc, position)?.as_slice()),
+        "count" => Ok(format!(in alloc; "{}", legal(alloc, position)?.len())?),
+        "told" => told_position(alloc, position),
+        "in-check" => said(alloc, yes(in_check(position))),
+        "mated" => said(alloc, yes(mated(position))),
+        "can-move" => said(alloc, yes(has_move(position))),
+        _ => Err(Unanswered::Question),
+    }
+}
+
+fn of_two(alloc: Global, asked: &str, position: &SPos, second: &str) -> Result<String, Unanswered> {
+    match asked {
+        "check" => said(alloc, outcome(position, &made(second)?)),
+        "attacked" => said(alloc, threat(position, second)?),
+        "places" => places(alloc, position, second),
+        "army" => army(alloc, position, second),
+        "same" => said(alloc, sameness(position, &self::position(second)?)),
+        "order" => said(alloc, order(position, &self::position(second)?)),
+        _ => Err(Unanswered::Question),
+    }
+}
+
+/// The answer to a question about a text, about a position, or about a position and another value.
+pub fn answer(alloc: Global, asked: &str, parts: &[String]) -> Result<String, Unanswered> {
+    match parts {
+        [text] if asked == "sfen" => rewritten(alloc, text.as_str()),
+        [text] if asked == "usi" => reread(alloc, text.as_str()),
+        [start] => of_position(alloc, asked, &position(start.as_str())?),
+        [start, second] => of_two(alloc, asked, &position(start.as_str())?, second.as_str()),
+        _ => Err(Unanswered::Question),
+    }
+}

@@ -1,0 +1,87 @@
+//! What questions and answers are made of.
+
+use crate::unanswered::Unanswered;
+use squares::{Score, Side};
+use std::alloc::Global;
+
+/// The first word of a text, and what follows it.
+pub fn first_word(text: &str) -> (&str, &str) {
+    match text.split_once(' ') {
+        Some((word, rest)) => (word, rest),
+        None => (text, ""),
+    }
+}
+
+// What a sign after a backslash stands for.
+fn escaped(sign: char) -> char {
+    match sign {
+        'n' => '\n',
+        'r' => '\r',
+        't' => '\t',
+        's' => ' ',
+        other => other,
+    }
+}
+
+/// The text that is written with `\n`, `\r`, `\t` for these signs, `\s` for a blank and `\\` for a backslash.
+pub fn unescaped(alloc: Global, written: &str) -> Result<String, Unanswered> {
+    let mut text = String::new(alloc);
+    let mut after_backslash = false;
+    for sign in written.chars() {
+        if after_backslash {
+            text.push(escaped(sign))?;
+            after_backslash = false;
+        } else if sign == '\\' {
+            after_backslash = true;
+        } else {
+            text.push(sign)?;
+        }
+    }
+    Ok(text)
+}
+
+/// The parts of a question, between which a `|` stands.
+pub fn parts_of(alloc: Global, question: &str) -> Result<Vec<String>, Unanswered> {
+    let mut parts = Vec::new(alloc);
+    for part in question.split('|') {
+        parts.push(unescaped(alloc, part.trim())?)?;
+    }
+    Ok(parts)
+}
+
+/// Adds a word to a text, after a blank where it is not the first.
+pub fn push_word(text: &mut String, word: &str) -> Result<(), Unanswered> {
+    if !text.is_empty() {
+        text.push(' ')?;
+    }
+    text.push_str(word)?;
+    Ok(())
+}
+
+/// An answer of one word.
+pub fn said(alloc: Global, word: &str) -> Result<String, Unanswered> {
+    Ok(String::from_str(alloc, word)?)
+}
+
+/// The answer to whether something holds.
+pub fn yes(holds: bool) -> &'static str {
+    if holds { "yes" } else { "no" }
+}
+
+/// The side of a letter, `w` or `b`, of which the one that moves first is given.
+pub fn side(letter: &str, first: &str) -> Result<Side, Unanswered> {
+    match letter {
+        "w" | "b" if letter == first => Ok(Side::First),
+        "w" | "b" => Ok(Side::Second),
+        _ => Err(Unanswered::Word),
+    }
+}
+
+/// A score as both formats write it.
+pub fn told_score(score: Score) -> &'static str {
+    match score {
+        Score::FirstWins => "2-0",
+        Score::Draw => "1-1",
+        Score::SecondWins => "0-2",
+    }
+}
