@@ -1,16 +1,15 @@
-//! Trials of the club: values written out by hand against what the public calls below its rows answer. It has tests
-//! alone.
+//! Trials of public calls at values that no script and no file brings about, written out by hand. It has tests alone.
 #![tactic(auto)]
 
 #[cfg(test)]
-mod members_and_events;
-#[cfg(test)]
 mod moments;
 #[cfg(test)]
-mod recorded_games;
+mod names;
 #[cfg(test)]
-mod refused_moves;
+mod refusals;
 #[cfg(test)]
-mod table_lines;
+mod rows;
+#[cfg(test)]
+mod sums;
 #[cfg(test)]
 mod words;

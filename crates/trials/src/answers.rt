@@ -1,0 +1,223 @@
+//! What the lines of a script come to.
+
+use crate::clubs::{changed, copy_of, made, new_club, retaken, run, table, taken, told};
+use crate::files::{begun, session};
+use crate::held::Held;
+use crate::report::Report;
+use crate::requests::request;
+use crate::rows::found;
+use crate::script::Line;
+use crate::stops::{empty_files, whole_or_none};
+use anyhow::{Context, Result, bail};
+use club_requests::Request;
+use sqlite::Connection;
+use std::alloc::{AllocError, Global};
+use store::{OpenFault, Run};
+
+// The request of a text that begins with its moment.
+fn read_request(alloc: Global, text: &str) -> Result<Request> {
+    let (seconds, asked) = text.split_once(' ').context("no request")?;
+    request(alloc, seconds, asked)
+}
+
+fn read_requests(alloc: Global, group: &[Line<'_>]) -> Result<Vec<Request>> {
+    let mut requests = Vec::new(alloc);
+    for line in group {
+        match request(alloc, line.word, line.asked) {
+            Ok(asked) => requests.push(asked)?,
+            Err(fault) => bail!("{fault} in line {}", line.number),
+        }
+    }
+    Ok(requests)
+}
+
+// The outcomes of a run, and last the fault that ended it, if one did.
+fn told_run(alloc: Global, run: &Run) -> Result<Vec<String>> {
+    let mut texts = Vec::new(alloc);
+    for outcome in &run.outcomes {
+        texts.push(format!(in alloc; "{outcome}")?)?;
+    }
+    if let Some(fault) = &run.fault {
+        texts.push(format!(in alloc; "{fault}")?)?;
+    }
+    Ok(texts)
+}
+
+// Gives requests by one call.
+fn give(alloc: Global, held: Held, requests: &[Request]) -> Result<(Held, Run)> {
+    match held {
+        Held::Files(files) => {
+            let (run, files) = session(alloc, files, requests);
+            Ok((Held::Files(files), run?))
+        }
+        held => {
+            let (club, run) = run(alloc, held.into_club(alloc)?, requests);
+            Ok((Held::Club(club), run))
+        }
+    }
+}
+
+fn new_files(alloc: Global) -> Result<Held> {
+    let (begun, files) = begun(alloc, empty_files(alloc));
+    begun?;
+    Ok(Held::Files(files))
+}
+
+fn new_held(alloc: Global, place: &str) -> Result<Held> {
+    match place {
+        "" => Ok(Held::Club(new_club(alloc)?)),
+        "in files" => new_files(alloc),
+        _ => bail!("no such place"),
+    }
+}
+
+fn empty_held(alloc: Global, place: &str) -> Result<Held> {
+    match place {
+        "" => Ok(Held::Database(Connection::open_in_memory(alloc)?)),
+        "in files" => Ok(Held::Files(empty_files(alloc))),
+        _ => bail!("no such place"),
+    }
+}
+
+fn again(alloc: Global, held: Held) -> Result<Held> {
+    match held {
+        Held::Files(files) => {
+            let (run, files) = session(alloc, files, &[]);
+            run?;
+            Ok(Held::Files(files))
+        }
+        held => Ok(Held::Club(retaken(alloc, held.into_connection()?)?)),
+    }
+}
+
+// What an opening of files says, which took a club or not.
+fn told_opening(alloc: Global, opened: Result<Run, OpenFault>) -> Result<String> {
+    match opened {
+        Ok(_) => Ok(String::from_str(alloc, "sound")?),
+        Err(fault) => Ok(format!(in alloc; "{fault}")?),
+    }
+}
+
+fn opens(alloc: Global, held: Held) -> Result<(Held, String)> {
+    match held {
+        Held::Files(files) => {
+            let (run, files) = session(alloc, files, &[]);
+            Ok((Held::Files(files), told_opening(alloc, run)?))
+        }
+        held => told(alloc, taken(alloc, held.into_connection()?), "sound"),
+    }
+}
+
+// What an opening says of a copy of the club after a statement more. The club stays as it is.
+fn damage(alloc: Global, held: Held, sql: &str) -> Result<(Held, String)> {
+    let mut conn = held.into_connection()?;
+    let copy = changed(copy_of(alloc, &mut conn)?, sql)?;
+    let (_opened, text) = told(alloc, taken(alloc, copy), "sound")?;
+    Ok((Held::Database(conn), text))
+}
+
+fn select(alloc: Global, held: Held, sql: &str) -> Result<(Held, String)> {
+    let mut conn = held.into_connection()?;
+    let text = found(alloc, &mut conn, sql);
+    Ok((Held::Database(conn), text?))
+}
+
+fn show_table(alloc: Global, held: Held, event: &str) -> Result<(Held, String)> {
+    let (club, text) = table(alloc, held.into_club(alloc)?, event);
+    Ok((Held::Club(club), text?))
+}
+
+fn stop(alloc: Global, held: Held, text: &str) -> Result<(Held, String)> {
+    let request = [read_request(alloc, text)?];
+    let files = held.into_files()?;
+    let outcome = whole_or_none(alloc, &files, &request);
+    Ok((Held::Files(files), outcome?))
+}
+
+fn done(alloc: Global, held: Result<Held>) -> Result<(Held, String)> {
+    Ok((held?, String::from_str(alloc, "done")?))
+}
+
+// What is held after a line that is no request, and what it comes to.
+fn answer(alloc: Global, held: Held, line: &Line<'_>) -> Result<(Held, String)> {
+    match line.word {
+        "club" => done(alloc, new_held(alloc, line.asked)),
+        "database" => done(alloc, empty_held(alloc, line.asked)),
+        "again" => done(alloc, again(alloc, held)),
+        "sql" => done(alloc, held.changed(line.asked)),
+        "creates" => told(alloc, made(alloc, held.into_connection()?), "ready"),
+        "opens" => opens(alloc, held),
+        "damage" => damage(alloc, held, line.asked),
+        "rows" => select(alloc, held, line.asked),
+        "table" => show_table(alloc, held, line.asked),
+        "stopped" => stop(alloc, held, line.asked),
+        _ => bail!("no line begins so"),
+    }
+}
+
+// What is held after requests, and what each comes to. Where one is alone, the club is given up and taken again.
+fn outcomes(
+    alloc: Global,
+    held: Held,
+    group: &[Line<'_>],
+    is_alone: bool,
+) -> Result<(Held, Vec<String>)> {
+    let (held, run) = give(alloc, held, &read_requests(alloc, group)?)?;
+    let texts = told_run(alloc, &run);
+    let held = if is_alone { again(alloc, held)? } else { held };
+    Ok((held, texts?))
+}
+
+// What is held after a group of lines, and what each comes to.
+fn answers(alloc: Global, held: Held, group: &[Line<'_>]) -> Result<(Held, Vec<String>)> {
+    let Some(first) = group.first() else {
+        bail!("no line")
+    };
+    if first.is_request() {
+        return outcomes(alloc, held, group, first.is_alone);
+    }
+    if first.is_alone {
+        bail!("only a request is alone");
+    }
+    let (held, text) = answer(alloc, held, first)?;
+    Ok((held, vec![in alloc; text]?))
+}
+
+// Compares what each line came to with what it wants. A run that ended early has no text for the last ones.
+fn compare_all(
+    alloc: Global,
+    group: &[Line<'_>],
+    texts: &[String],
+    report: &mut Report,
+) -> Result<(), AllocError> {
+    for (index, line) in group.iter().enumerate() {
+        match texts.get(index) {
+            Some(text) => report.compare(alloc, line, text.as_str())?,
+            None => report.differ(alloc, line, "not given")?,
+        }
+    }
+    Ok(())
+}
+
+/// What is held after a group of lines, which the report compares with what is wanted. Where one of them fails, all
+/// of them differ, and nothing is held any more.
+pub fn take(
+    alloc: Global,
+    held: Held,
+    group: &[Line<'_>],
+    report: &mut Report,
+) -> Result<Held, AllocError> {
+    match answers(alloc, held, group) {
+        Ok((held, texts)) => {
+            compare_all(alloc, group, &texts, report)?;
+            Ok(held)
+        }
+        Err(fault) => {
+            let text = format!(in alloc; "{fault}")?;
+            for line in group {
+                report.differ(alloc, line, text.as_str())?;
+            }
+            Ok(Held::Nothing)
+        }
+    }
+}

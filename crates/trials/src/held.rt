@@ -1,0 +1,56 @@
+//! What the lines of a script are about.
+
+use crate::clubs::{adopted, changed};
+use anyhow::{Result, bail};
+use sqlite::{Connection, Files, MemStore};
+use sqlite_disk::{Fuse, Memory};
+use std::alloc::Global;
+use store::Club;
+
+/// The database file and the log of a club, which lie in memory.
+pub type Disks = Files<Fuse<Memory>>;
+
+/// What a script holds between its lines.
+#[derive(Drop)]
+pub enum Held {
+    /// Nothing yet, or nothing more after a line that failed.
+    Nothing,
+    /// A club over a database in memory.
+    Club(Club<MemStore>),
+    /// A database in memory that is no club's, or whose club was given up.
+    Database(Connection<MemStore>),
+    /// The files of a club.
+    Files(Disks),
+}
+
+impl Held {
+    /// The database in memory, of which the club is given up.
+    pub fn into_connection(self) -> Result<Connection<MemStore>> {
+        match self {
+            Held::Club(club) => Ok(club.into_connection()),
+            Held::Database(conn) => Ok(conn),
+            Held::Files(_) | Held::Nothing => bail!("there is no database in memory"),
+        }
+    }
+
+    /// The club in memory, which is taken where it was given up.
+    pub fn into_club(self, alloc: Global) -> Result<Club<MemStore>> {
+        match self {
+            Held::Club(club) => Ok(club),
+            held => adopted(alloc, held.into_connection()?),
+        }
+    }
+
+    /// The database after these statements.
+    pub fn changed(self, sql: &str) -> Result<Held> {
+        Ok(Held::Database(changed(self.into_connection()?, sql)?))
+    }
+
+    /// The files.
+    pub fn into_files(self) -> Result<Disks> {
+        match self {
+            Held::Files(files) => Ok(files),
+            _ => bail!("there are no files"),
+        }
+    }
+}

@@ -1,0 +1,120 @@
+//! Requests as texts, `SECONDS WHO COMMAND`, where WHO is `officer` or a member's key.
+
+use anyhow::{Context, Result, bail};
+use clocks::Moment;
+use club_requests::{
+    AddEvent, AddMember, AnswerChallenge, Command, GameCommand, OnGame, OpenChallenge, Request,
+    Seat, Who, Withdraw,
+};
+use club_rules::GameKind;
+use std::alloc::Global;
+
+// The word, where `''` stands for none.
+fn text(alloc: Global, word: &str) -> Result<String> {
+    let letters = if word == "''" { "" } else { word };
+    Ok(String::from_str(alloc, letters)?)
+}
+
+fn who(alloc: Global, word: &str) -> Result<Who> {
+    Ok(match word {
+        "officer" => Who::Officer,
+        key => Who::Key(text(alloc, key)?),
+    })
+}
+
+fn game_kind(word: &str) -> Result<GameKind> {
+    match word {
+        "draughts" => Ok(GameKind::Draughts),
+        "shogi" => Ok(GameKind::Shogi),
+        _ => bail!("no such game"),
+    }
+}
+
+fn on_game(game: &str, command: GameCommand) -> Result<Command> {
+    Ok(Command::OnGame(OnGame {
+        game: game.parse()?,
+        command,
+    }))
+}
+
+fn game_command(alloc: Global, words: &[&str]) -> Result<Command> {
+    match *words {
+        ["move", game, ply, letters] => {
+            let (ply, text) = (ply.parse()?, text(alloc, letters)?);
+            on_game(game, GameCommand::Move { ply, text })
+        }
+        ["offer", game, ply] => on_game(game, GameCommand::OfferDraw { ply: ply.parse()? }),
+        ["accept", game, ply] => on_game(game, GameCommand::AcceptDraw { ply: ply.parse()? }),
+        ["resign", game] => on_game(game, GameCommand::Resign),
+        ["claim", game] => on_game(game, GameCommand::ClaimTime),
+        _ => bail!("no such command"),
+    }
+}
+
+// Whether the word is the one or the other, of which it must be one.
+fn is_the_one(word: &str, one: &str, other: &str) -> Result<bool> {
+    if word == one {
+        return Ok(true);
+    }
+    if word == other {
+        return Ok(false);
+    }
+    bail!("no such word")
+}
+
+fn challenge_command(alloc: Global, words: &[&str]) -> Result<Command> {
+    match *words {
+        ["challenge", number, event, other, side] => Ok(Command::Challenge(OpenChallenge {
+            number: number.parse()?,
+            event: text(alloc, event)?,
+            other: text(alloc, other)?,
+            first: is_the_one(side, "first", "second")?,
+        })),
+        ["withdraw", number] => Ok(Command::Withdraw(Withdraw {
+            number: number.parse()?,
+        })),
+        ["answer", challenger, number, word] => Ok(Command::Answer(AnswerChallenge {
+            challenger: text(alloc, challenger)?,
+            number: number.parse()?,
+            accept: is_the_one(word, "accept", "refuse")?,
+        })),
+        _ => game_command(alloc, words),
+    }
+}
+
+fn command(alloc: Global, words: &[&str]) -> Result<Command> {
+    match *words {
+        ["member", name, key] => Ok(Command::AddMember(AddMember {
+            name: text(alloc, name)?,
+            key: text(alloc, key)?,
+        })),
+        ["event", name, game, budget, increment] => Ok(Command::AddEvent(AddEvent {
+            name: text(alloc, name)?,
+            game: game_kind(game)?,
+            budget: budget.parse()?,
+            increment: increment.parse()?,
+        })),
+        ["seat", key, event, first, second] => Ok(Command::Seat(Seat {
+            key: text(alloc, key)?,
+            event: text(alloc, event)?,
+            first: text(alloc, first)?,
+            second: text(alloc, second)?,
+        })),
+        ["sweep"] => Ok(Command::Sweep),
+        _ => challenge_command(alloc, words),
+    }
+}
+
+/// The request of a moment and the words that follow it.
+pub fn request(alloc: Global, seconds: &str, asked: &str) -> Result<Request> {
+    let moment = Moment::new(seconds.parse()?).context("no such moment")?;
+    let words: Vec<&str> = asked.split_whitespace().collect(alloc)?;
+    let [by, words @ ..] = words.as_slice() else {
+        bail!("nobody asks for anything")
+    };
+    Ok(Request {
+        who: who(alloc, by)?,
+        command: command(alloc, words)?,
+        moment,
+    })
+}
