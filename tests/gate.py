@@ -158,7 +158,7 @@ def main():
     finally:
         done.set()
         watcher.join()
-    table((time.time() - began) / 60)
+        table((time.time() - began) / 60)
     return status if status >= 0 else 1
 
 
