@@ -145,8 +145,8 @@ gets 200 '"result":"1-1"' keycara3 GET /games/2
 gets 200 '{"moves":[]}' keycara3 GET /games/2/legal
 ends 0
 
-# A peer that says nothing holds the desk for ten seconds at most, and the file for less: an officer's command gets its
-# turn, and the move of another member goes through.
+# A peer that says nothing holds up nobody: an officer's command gets its turn, and the move of another member goes
+# through.
 officer 0 'accepted game 3' seat d2 autumn bert cara
 serves --count 3
 exec 3<> "/dev/tcp/127.0.0.1/$port"
@@ -154,7 +154,7 @@ begun=$SECONDS
 officer 0 'accepted member 4' member dora keydora4
 verdict 'the officer waits five seconds at most' yes "$([ $((SECONDS - begun)) -le 5 ] && echo yes)"
 gets 200 '"move":"33-28","ply":1' keybert2 POST /games/3/moves/1 '{"move":"33-28"}'
-verdict 'within fifteen seconds' yes "$([ $((SECONDS - begun)) -le 15 ] && echo yes)"
+verdict 'within two seconds of the officer' yes "$([ $((SECONDS - begun)) -le 7 ] && echo yes)"
 exec 3>&-
 gets 200 '"ply":1' keycara3 GET /games/3
 ends 0
@@ -173,7 +173,7 @@ begun=$SECONDS
 drip=$!
 sleep 1
 gets 200 '"move":"19-23","ply":2' keycara3 POST /games/3/moves/2 '{"move":"19-23"}'
-verdict 'within fifteen seconds' yes "$([ $((SECONDS - begun)) -le 15 ] && echo yes)"
+verdict 'within three seconds' yes "$([ $((SECONDS - begun)) -le 3 ] && echo yes)"
 kill "$drip" 2> /dev/null
 wait "$drip"
 verdict 'no reply to a part of a request' '' "$(cat dripped)"

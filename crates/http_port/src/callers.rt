@@ -3,34 +3,44 @@
 ghost use Rattle.http_port.specs.Visits.{HasActed};
 
 use crate::deadline::{Countdown, Deadline};
+use crate::heard::{Come, Heard};
 use crate::log_lines::log_line;
 use crate::replay::Replay;
 use crate::serve::{Exchange, serve_one};
 use crate::times::clock;
 use crate::visit::Visits;
 use clocks::Moment;
-use http_desk::{DeskFault, ServedClub};
+use http_desk::{Closed, ClubFault, DeskFault, ServedClub};
+use mio::unix::SourceFd;
+use mio::{Events, Interest, Poll, Token};
 use std::alloc::Global;
 use std::io;
 use std::io::ErrorKind;
-use std::mem::replace;
 use std::net::{Ipv4Addr, Shutdown, SocketAddr, SocketAddrV4, TcpListener, TcpStream};
+use std::os::fd::AsRawFd;
 use std::thread::sleep;
 use std::time::{Duration, Instant};
 
-// How long the desk waits before it looks again whether someone has come, while it does not hold the club.
+// How many are heard side by side, those included who are to be served: others wait before the door.
+const MOST_CALLERS: usize = 64;
+
+// The name of the listener among those whom the desk listens to. Callers have greater ones.
+const LISTENER: usize = 0;
+
+// How long the desk waits where a call fails that is to tell who has come.
 const PAUSE_MILLISECONDS: u64 = 10;
 
-// The same while it holds the club, and how often it looks then: for a second in all.
-const HELD_PAUSE_MILLISECONDS: u64 = 1;
-
-const IDLE_TURNS: u16 = 1000;
+// How long the desk holds the club while nobody is to be served.
+const IDLE_MILLISECONDS: u64 = 1000;
 
 // How long the desk holds the club at most, while one comes after another.
 const HELD_SECONDS: u64 = 2;
 
-// The seconds within which a whole request is to come.
+// The seconds within which a whole request is to come, of the time in which the desk hears.
 const REQUEST_SECONDS: u64 = 10;
+
+// How many of them are left to those who come, where others stand before the door and there is no room.
+const CROWDED_SECONDS: u64 = 1;
 
 // How long one may take to be given a reply, while the club is held.
 const WRITE_SECONDS: u64 = 1;
@@ -90,8 +100,61 @@ fn timed<'c>(
 #[derive(Drop)]
 struct Caller {
     stream: TcpStream,
-    since: Instant,
-    heard: Vec<u8>,
+    heard: Heard,
+    // Its name among those whom the desk listens to.
+    token: usize,
+    // How long the desk will have heard when this one's time is over.
+    until: Duration,
+    // Whether something was heard to have come of it.
+    is_stirred: bool,
+}
+
+impl Caller {
+    // Takes what has come of it.
+    fn hear(&mut self) -> Come {
+        self.is_stirred = false;
+        self.heard.take(&mut &self.stream)
+    }
+}
+
+// Takes one out of those at a place.
+fn take_out(callers: &mut Vec<Caller>, at: usize) -> Option<Caller> {
+    if at < callers.len() {
+        Some(callers.remove(at))
+    } else {
+        None
+    }
+}
+
+// Hears the one at a place, if something has come of it.
+fn hear_at(callers: &mut Vec<Caller>, at: usize) -> Come {
+    match callers.get_mut(at) {
+        Some(caller) => {
+            if caller.is_stirred {
+                caller.hear()
+            } else {
+                Come::Part
+            }
+        }
+        None => Come::Part,
+    }
+}
+
+// Marks those of whom something has come; and whether someone new has.
+fn stir(callers: &mut Vec<Caller>, events: &Events<Global>) -> bool {
+    let mut has_come = false;
+    for event in events.iter() {
+        let token = event.token().0;
+        if token == LISTENER {
+            has_come = true;
+        }
+        for caller in callers.iter_mut() {
+            if caller.token == token {
+                caller.is_stirred = true;
+            }
+        }
+    }
+    has_come
 }
 
 /// How those who come are served.
@@ -112,10 +175,22 @@ pub struct Callers<'a> {
     listener: TcpListener,
     now: Option<Moment>,
     is_logged: bool,
+    // Tells when someone comes, and when something comes of those who have.
+    poll: Poll,
+    events: Events<Global>,
+    // Whether someone may stand before the door.
+    may_come: bool,
     // How many are still to be let in.
     left: u64,
-    // The one who was let in and is to be served next.
-    waiting: Option<Caller>,
+    // The name of the next one.
+    token: usize,
+    // Those of whom more is to be heard, the first who came first.
+    hearing: Vec<Caller>,
+    // Those who are to be served, the first of whom enough was heard first.
+    ready: Vec<Caller>,
+    // How long the desk has heard, and when it last looked.
+    heard_for: Duration,
+    last_look: Option<Instant>,
     // Since when one after another is served over the club.
     held_since: Option<Instant>,
 }
@@ -126,73 +201,76 @@ impl<'a> Callers<'a> {
         let address = SocketAddr::V4(SocketAddrV4::new(Ipv4Addr::LOCALHOST, port));
         let listener = TcpListener::bind(rt, address)?;
         listener.set_nonblocking(true)?;
+        let poll = Poll::new(rt)?;
+        let descriptor = listener.as_raw_fd();
+        poll.registry().register(
+            &mut SourceFd(&descriptor),
+            Token(LISTENER),
+            Interest::READABLE,
+        )?;
         Ok(Callers {
             rt,
             listener,
             now: terms.now,
             is_logged: terms.is_logged,
+            poll,
+            events: Events::with_capacity(rt.alloc(), MOST_CALLERS + 1)?,
+            may_come: true,
             left: terms.count,
-            waiting: None,
+            token: LISTENER,
+            hearing: Vec::with_capacity(rt.alloc(), MOST_CALLERS)?,
+            ready: Vec::with_capacity(rt.alloc(), MOST_CALLERS)?,
+            heard_for: Duration::ZERO,
+            last_look: None,
             held_since: None,
         })
     }
 
-    /// Waits for the next one, who is then served first: false where no one more is to be served.
+    /// Hears those who come, until one of them is to be served: false where no one more is.
     pub fn await_next(&mut self) -> bool {
+        self.last_look = None;
+        self.tick();
         for _ in 0..u64::MAX {
-            if self.let_in() {
+            if !self.ready.is_empty() {
                 return true;
             }
-            if self.left == 0 {
+            if self.is_done() {
                 return false;
             }
-            sleep(self.rt, Duration::from_millis(PAUSE_MILLISECONDS));
+            self.look(Duration::from_secs(REQUEST_SECONDS));
         }
         false
     }
 
-    /// The club is held anew, from when the next one is looked for.
+    /// The club is held anew, from when the next one is looked for. What has passed until then is nobody's time.
     pub fn begin(&mut self) {
         self.held_since = None;
+        self.last_look = None;
     }
 
-    // Whether one waits to be served. A call that fails is one who came and went.
-    fn let_in(&mut self) -> bool {
-        if self.waiting.is_some() {
-            return true;
-        }
-        if self.left == 0 {
-            return false;
-        }
-        match self.listener.accept() {
-            Ok((stream, _)) => {
-                self.left = self.left.saturating_sub(1);
-                self.waiting = self.caller(stream);
-            }
-            Err(error) => {
-                if !matches!(error.kind(), ErrorKind::WouldBlock | ErrorKind::Interrupted) {
-                    self.left = self.left.saturating_sub(1);
-                }
-            }
-        }
-        self.waiting.is_some()
+    // Whether no one more is to be heard or served.
+    fn is_done(&self) -> bool {
+        self.left == 0 && self.hearing.is_empty() && self.ready.is_empty()
     }
 
-    // One who has just come.
-    fn caller(&self, stream: TcpStream) -> Option<Caller> {
-        match Instant::now(self.rt) {
-            Ok(since) => Some(Caller {
-                stream,
-                since,
-                heard: Vec::new(self.rt.alloc()),
-            }),
-            Err(_) => None,
-        }
+    // Counts the time in which the desk hears, and gives what has passed since it last looked.
+    fn tick(&mut self) -> Duration {
+        let Ok(now) = Instant::now(self.rt) else {
+            self.last_look = None;
+            return Duration::ZERO;
+        };
+        let passed = match self.last_look {
+            Some(last) => now.duration_since(last),
+            None => Duration::ZERO,
+        };
+        self.last_look = Some(now);
+        self.heard_for = self.heard_for.saturating_add(passed);
+        passed
     }
 
     // What is left of the time for which the club may be held.
     fn hold_left(&mut self) -> Duration {
-        let Ok(now) = Instant::now(self.rt) else {
+        let Some(now) = self.last_look else {
             return Duration::ZERO;
         };
         match self.held_since {
@@ -206,93 +284,253 @@ impl<'a> Callers<'a> {
         }
     }
 
-    // What is left of the time of one who has come.
-    fn caller_left(&self, caller: &Caller) -> Duration {
-        match caller.since.elapsed(self.rt) {
-            Ok(spent) => Duration::from_secs(REQUEST_SECONDS).saturating_sub(spent),
-            Err(_) => Duration::ZERO,
+    // Whether as many are heard as may be.
+    fn is_full(&self) -> bool {
+        self.hearing.len().saturating_add(self.ready.len()) >= MOST_CALLERS
+    }
+
+    // Whether someone who may be let in may stand before the door.
+    fn is_asked(&self) -> bool {
+        self.may_come && self.left != 0
+    }
+
+    // Whether someone may be let in at once.
+    fn has_room(&self) -> bool {
+        self.is_asked() && !self.is_full()
+    }
+
+    // How long the desk has heard, as those count it who make room.
+    fn time_over(&self) -> Duration {
+        if self.is_asked() && self.is_full() {
+            let kept = REQUEST_SECONDS.saturating_sub(CROWDED_SECONDS);
+            self.heard_for.saturating_add(Duration::from_secs(kept))
+        } else {
+            self.heard_for
         }
     }
 
-    // The next one, if one comes before the desk is to give way.
-    fn next_caller(&mut self) -> Option<Caller> {
-        for _ in 0..IDLE_TURNS {
-            let left = self.hold_left();
-            if self.waiting.is_some() {
-                break;
+    // How long nothing need be done, if nothing comes.
+    fn patience(&self) -> Duration {
+        if self.has_room() {
+            return Duration::ZERO;
+        }
+        match self.hearing.first() {
+            Some(caller) => caller.until.saturating_sub(self.time_over()),
+            None => Duration::from_secs(REQUEST_SECONDS),
+        }
+    }
+
+    // Hears those who have come and who come, waiting for something to come for so long at most; and the time that has
+    // passed.
+    fn look(&mut self, limit: Duration) -> Duration {
+        let limit = limit.min(self.patience());
+        if self.poll.poll(&mut self.events, Some(limit)).is_err() {
+            sleep(self.rt, Duration::from_millis(PAUSE_MILLISECONDS));
+        }
+        if stir(&mut self.hearing, &self.events) {
+            self.may_come = true;
+        }
+        let passed = self.tick();
+        self.hear_all();
+        self.let_in();
+        self.give_up();
+        passed
+    }
+
+    // Hears those of whom something has come.
+    fn hear_all(&mut self) {
+        let mut at = 0;
+        for _ in 0..MOST_CALLERS {
+            match hear_at(&mut self.hearing, at) {
+                Come::Part => at = at.saturating_add(1),
+                come => {
+                    if let Some(caller) = take_out(&mut self.hearing, at) {
+                        self.place(caller, come);
+                    }
+                }
             }
-            if left.is_zero() || self.left == 0 {
+        }
+    }
+
+    // Puts one where it belongs by what has come of it.
+    fn place(&mut self, caller: Caller, come: Come) {
+        match come {
+            Come::Part => {
+                let _ = self.hearing.push(caller);
+            }
+            Come::Whole => {
+                let _ = self.ready.push(caller);
+            }
+            Come::End => self.dismiss(caller, Duration::from_secs(WRITE_SECONDS)),
+            Come::Fault => self.dismiss(caller, Duration::ZERO),
+        }
+    }
+
+    // Lets those in who stand before the door. A call that fails is one who came and went.
+    fn let_in(&mut self) {
+        for _ in 0..MOST_CALLERS {
+            if !self.has_room() {
+                return;
+            }
+            match self.listener.accept() {
+                Ok((stream, _)) => {
+                    self.left = self.left.saturating_sub(1);
+                    self.greet(stream);
+                }
+                Err(error) => match error.kind() {
+                    ErrorKind::WouldBlock => self.may_come = false,
+                    ErrorKind::Interrupted => {}
+                    _ => {
+                        self.left = self.left.saturating_sub(1);
+                        sleep(self.rt, Duration::from_millis(PAUSE_MILLISECONDS));
+                        return;
+                    }
+                },
+            }
+        }
+    }
+
+    // Hears one who has just come, and listens to it if more is to come.
+    fn greet(&mut self, stream: TcpStream) {
+        if stream.set_nonblocking(true).is_err() {
+            return;
+        }
+        self.token = self.token.saturating_add(1);
+        let mut caller = Caller {
+            stream,
+            heard: Heard::new(self.rt.alloc()),
+            token: self.token,
+            until: self
+                .heard_for
+                .saturating_add(Duration::from_secs(REQUEST_SECONDS)),
+            is_stirred: false,
+        };
+        let come = caller.hear();
+        if matches!(come, Come::Part) && self.listen_to(&caller).is_err() {
+            return;
+        }
+        self.place(caller, come);
+    }
+
+    // Has the desk told when something comes of one.
+    fn listen_to(&self, caller: &Caller) -> io::Result<()> {
+        let descriptor = caller.stream.as_raw_fd();
+        self.poll.registry().register(
+            &mut SourceFd(&descriptor),
+            Token(caller.token),
+            Interest::READABLE,
+        )
+    }
+
+    // Gives up those whose time is over.
+    fn give_up(&mut self) {
+        for _ in 0..MOST_CALLERS {
+            let is_over = match self.hearing.first() {
+                Some(caller) => caller.until <= self.time_over(),
+                None => false,
+            };
+            if !is_over {
+                return;
+            }
+            if let Some(caller) = take_out(&mut self.hearing, 0) {
+                self.dismiss(caller, Duration::ZERO);
+            }
+        }
+    }
+
+    // The next one who is to be served, if there is one before the desk is to give way.
+    fn next_ready(&mut self) -> Option<Caller> {
+        let mut idle = Duration::from_millis(IDLE_MILLISECONDS);
+        self.tick();
+        for _ in 0..u64::MAX {
+            let left = self.hold_left();
+            if left.is_zero() {
                 return None;
             }
-            if !self.let_in() {
-                sleep(self.rt, Duration::from_millis(HELD_PAUSE_MILLISECONDS));
+            if !self.ready.is_empty() {
+                return take_out(&mut self.ready, 0);
             }
+            if idle.is_zero() || self.is_done() {
+                return None;
+            }
+            let passed = self.look(left.min(idle));
+            idle = idle.saturating_sub(passed);
         }
-        self.waiting.take()
+        None
     }
 
-    // Hears one for a time, and gives the reply; and whether nothing came of it in that time.
-    fn hear<C: ServedClub>(
+    // The moment that counts now.
+    fn moment(&self) -> Option<Moment> {
+        self.now.or(clock(self.rt))
+    }
+
+    // Ends with one of whom no request has come: it needs no club. So long it is still heard.
+    fn dismiss(&mut self, caller: Caller, limit: Duration) {
+        let mut nothing = Closed {
+            fault: ClubFault::Store,
+        };
+        if let Some(moment) = self.moment() {
+            self.serve_caller(self.rt.alloc(), caller, limit, &mut nothing, moment);
+        }
+    }
+
+    // Gives the reply to what was heard of one, and to what is heard further of it for a time.
+    fn reply<C: ServedClub>(
         &self,
         alloc: Global,
-        caller: &mut Caller,
+        stream: &TcpStream,
+        heard: Vec<u8>,
         limit: Duration,
         club: &mut C,
         moment: Moment,
-    ) -> (Result<Exchange, DeskFault>, bool)
+    ) -> Result<Exchange, DeskFault>
         ensures clean { C.IsClean club.new → C.IsClean club.old }
         ensures acts { C.IsClean club.new → (s : C.State) → C.Stands club.old s →
             HasActed C.club (C.Stands club.new) (C.Leaves club.new) s moment }
     {
-        let heard = replace(&mut caller.heard, Vec::new(alloc));
-        let mut reader = Replay::new(heard, timed(self.rt, &caller.stream, limit));
-        let mut writer = timed(self.rt, &caller.stream, Duration::from_secs(WRITE_SECONDS));
+        let mut reader = Replay::new(heard, timed(self.rt, stream, limit));
+        let mut writer = timed(self.rt, stream, Duration::from_secs(WRITE_SECONDS));
         let done = serve_one(alloc, &mut reader, &mut writer, club, moment);
-        let has_stalled = reader.has_stalled();
-        caller.heard = reader.heard;
-        (done, has_stalled)
+        done
     }
 
-    // Serves one, and writes a line of it where that is wanted. Gives one back who is to be heard further, once the
-    // club was given up.
+    // Serves one, and writes a line of it where that is wanted.
     fn serve_caller<C: ServedClub>(
-        &mut self,
+        &self,
         alloc: Global,
         caller: Caller,
+        limit: Duration,
         club: &mut C,
         moment: Moment,
-    ) -> Option<Caller>
+    )
         ensures clean { C.IsClean club.new → C.IsClean club.old }
         ensures acts { C.IsClean club.new → (s : C.State) → C.Stands club.old s →
             HasActed C.club (C.Stands club.new) (C.Leaves club.new) s moment }
     {
-        let mut caller = caller;
-        let limit = self.hold_left().min(self.caller_left(&caller));
-        let (done, has_stalled) = self.hear(alloc, &mut caller, limit, club, moment);
-        if has_stalled && !self.caller_left(&caller).is_zero() {
-            return Some(caller);
-        }
+        let Caller { stream, heard, .. } = caller;
+        let _ = stream.set_nonblocking(false);
+        let done = self.reply(alloc, &stream, heard.into_bytes(), limit, club, moment);
         if done.is_ok() {
-            let _ = caller.stream.shutdown(Shutdown::Write);
+            let _ = stream.shutdown(Shutdown::Write);
         }
         if self.is_logged {
             let _ = log_line(alloc, &mut self.rt.stderr(), moment, &done);
         }
-        None
     }
 }
 
 impl Visits for Callers<'_> {
     fn serve_next<C: ServedClub>(&mut self, alloc: Global, club: &mut C) -> bool {
-        let caller = match self.next_caller() {
+        let caller = match self.next_ready() {
             Some(caller) => caller,
             None => return false,
         };
-        let Some(moment) = self.now.or(clock(self.rt)) else {
+        let Some(moment) = self.moment() else {
             return true;
         };
         let _within = moment.seconds();
-        self.waiting = self.serve_caller(alloc, caller, club, moment);
-        self.waiting.is_none()
+        let limit = Duration::from_secs(WRITE_SECONDS);
+        self.serve_caller(alloc, caller, limit, club, moment);
+        true
     }
 }

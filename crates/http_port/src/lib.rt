@@ -4,6 +4,7 @@
 
 mod callers;
 mod deadline;
+mod heard;
 mod log_lines;
 mod replay;
 mod serve;

@@ -5,7 +5,7 @@ ghost use Rattle.std.specs.Io.KnownBytes.{prepend_known};
 ghost use Rattle.http_port.specs.Replayed.{HasGiven, HasHeard};
 
 use std::io;
-use std::io::{ErrorKind, Read};
+use std::io::Read;
 
 // The bytes of a piece that is asked for.
 const PIECE_BYTES: usize = 4096;
@@ -18,7 +18,6 @@ pub struct Replay<T> {
     // How many of them were given so far.
     at: usize,
     further: T,
-    has_stalled: bool,
 }
 
 impl<T: Read> Replay<T> {
@@ -30,13 +29,7 @@ impl<T: Read> Replay<T> {
             heard,
             at: 0,
             further,
-            has_stalled: false,
         }
-    }
-
-    /// Whether the reader's time was over when it was last asked, so that more may come later.
-    pub fn has_stalled(&self) -> bool {
-        self.has_stalled
     }
 }
 
@@ -66,11 +59,6 @@ fn give(bytes: &[u8], room: &mut [u8]) -> usize
     n
 }
 
-// Whether a call was given up because of its time.
-fn is_late(error: &io::Error) -> bool {
-    matches!(error.kind(), ErrorKind::TimedOut | ErrorKind::WouldBlock)
-}
-
 impl<T: Read> Read for Replay<T> {
     ghost use Rattle.http_port.specs.Replayed.{to_be_given};
 
@@ -90,10 +78,7 @@ impl<T: Read> Read for Replay<T> {
                 self.at += n;
                 Ok(n)
             }
-            Err(error) => {
-                self.has_stalled = is_late(&error);
-                Err(error)
-            }
+            Err(error) => Err(error),
         }
     }
 }
