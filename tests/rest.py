@@ -1,10 +1,10 @@
 #!/usr/bin/env python3
-"""Tells what the program leaves at rest: after any word that ended, the file alone is the club, and only `init` makes one.
+"""Tells what the program leaves at rest: after any word that ended the file alone is the club; only `init` makes one.
 
     python3 tests/rest.py [PROGRAM]
 
-Copies and backups of a club are taken in each way that people take them, and brought back over each state that its log may
-be in. Prints 'ok NAME' or 'not ok NAME' for each.
+Copies and backups of a club are taken in each way that people take them, and brought back over each state that its log
+may be in. Prints 'ok NAME' or 'not ok NAME' for each.
 """
 import contextlib
 import hashlib
@@ -23,6 +23,7 @@ import urllib.request
 
 PROGRAM = str(pathlib.Path(sys.argv[1] if sys.argv[1:] else f"{__file__}/../../build/club").resolve())
 TABLES = "meta members events challenges moves games seen scores".split()
+ORDERS = "init", "member anna keyanna1", "member bert keybert2", "event cup draughts 86400 0", "seat g cup anna bert"
 MOVES = ["32-28", "19-23", "28x19", "14x23", "37-32", "10-14"]
 bad = []
 
@@ -46,7 +47,7 @@ def move(file, ply):
 
 def seated(file):
     """A club of two members with a game, in a new file."""
-    for words in ("init", "member anna keyanna1", "member bert keybert2", "event cup draughts 86400 0", "seat g cup anna bert"):
+    for words in ORDERS:
         assert club(file, *words.split())[0] == 0, words
 
 
@@ -89,7 +90,8 @@ def alone_after_each_word():
         shutil.copyfile("alone.db", f"alone{ply}.db")
         verdict(f"the file alone is the club after ply {ply}", rows("alone.db"), rows(f"alone{ply}.db"))
         verdict(f"the copy is found sound after ply {ply}", (0, "sound"), club(f"alone{ply}.db", "verify"))
-        verdict("the copy goes on by itself", (0, f"accepted ply {ply + 1} {MOVES[ply]}"), move(f"alone{ply}.db", ply + 1))
+        wanted = (0, f"accepted ply {ply + 1} {MOVES[ply]}")
+        verdict("the copy goes on by itself", wanted, move(f"alone{ply}.db", ply + 1))
 
 
 def leave_no_log(file):
@@ -141,7 +143,8 @@ def other_files_are_left():
     os.mkdir("folder")
     os.symlink("gone.db", "link.db")
     before = folder_told()
-    for file, said in (("notes.txt", "73 Store"), ("short", "73 Store"), ("folder", "73 Store"), ("link.db", "70 Foreign")):
+    told = {"notes.txt": "73 Store", "short": "73 Store", "folder": "73 Store", "link.db": "70 Foreign"}
+    for file, said in told.items():
         verdict(f"verify of {file}", (3, f"store {said}"), club(file, "verify"))
     verdict("verify of an empty file", (3, "store 70 Foreign"), club("empty.db", "verify"))
     verdict("init over notes", (3, "store 73 Store"), club("notes.txt", "init"))
@@ -175,7 +178,8 @@ def desk(file):
     with socket.socket() as free:
         free.bind(("127.0.0.1", 0))
         port = free.getsockname()[1]
-    with subprocess.Popen([PROGRAM, file, "serve", str(port)], stdout=subprocess.PIPE, stderr=subprocess.DEVNULL) as served:
+    words = [PROGRAM, file, "serve", str(port)]
+    with subprocess.Popen(words, stdout=subprocess.PIPE, stderr=subprocess.DEVNULL) as served:
         served.stdout.readline()
         try:
             yield port
