@@ -30,7 +30,8 @@ OF_ANOTHER = re.compile(r"which was (not admitted|rejected)|has no field|is not 
 
 
 class Place:
-    """The function whose body an edit changes: its file, its lines there, and the folder of its proof."""
+    """The function whose body an edit changes: its file, its lines there with what stands over its head, and the folder of
+    its proof."""
 
     def __init__(self, file, first, last, folder):
         self.file, self.first, self.last, self.folder = file, first, last, folder
@@ -104,7 +105,10 @@ def place_of(path, old, text):
     last = next((it for it in range(body, len(lines)) if lines[it] == indent + "}"), len(lines))
     if not body <= at <= last < len(lines):
         return None
-    return Place(path, head + 1, last + 1, folder_of(path, lines, head, indent, name))
+    first = head
+    while first and re.match(r"\s*(#\[|///)", lines[first - 1]):
+        first -= 1
+    return Place(path, first + 1, last + 1, folder_of(path, lines, head, indent, name))
 
 
 def opens_body(line, indent):
