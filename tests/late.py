@@ -5,7 +5,7 @@
 
 The line of shogi is made here: rooks walk along their ranks, by ways of five and of four moves, so that a position comes
 back each 40 plies, and before it stands for the fourth time both sides push a pawn. That of draughts stands in
-tests/records/long.txt; it ends where a side has no piece. Prints 'ok NAME' or 'not ok NAME' for each.
+tests/long_game.txt; it ends where a side has no piece. Prints 'ok NAME' or 'not ok NAME' for each.
 """
 import contextlib
 import http.client
@@ -38,7 +38,7 @@ def club(*words):
 
 
 def line_of_draughts():
-    return pathlib.Path(f"{HERE}/records/long.txt").read_text().split()
+    return pathlib.Path(f"{HERE}/long_game.txt").read_text().split()
 
 
 def line_of_shogi():
