@@ -152,6 +152,36 @@ def other_files_are_left():
     verdict("init over an empty file", (0, "ready"), club("empty.db", "init"))
 
 
+def databases_of_others_are_left():
+    """A database at rest that has no table of a club's is not opened; a club is found whatever its pages are."""
+    made = {}
+    for mode in ("delete", "wal"):
+        for size in (512, 4096, 65536):
+            file = f"{mode}{size}.db"
+            with contextlib.closing(sqlite3.connect(file, isolation_level=None)) as found:
+                found.execute(f"PRAGMA page_size = {size}")
+                found.execute(f"PRAGMA journal_mode = {mode}")
+                found.execute("CREATE TABLE members (id INTEGER PRIMARY KEY, title TEXT)")
+                found.execute("INSERT INTO members (title) VALUES ('a song')")
+            made[file] = found
+    before = folder_told()
+    for file in made:
+        for words in ("verify", "member anna keyanna1", "export 1", "serve 1"):
+            verdict(f"{words} of another's {file}", (3, "store 70 Foreign"), club(file, *words.split()))
+    verdict("databases of others are as they were", before, folder_told())
+    verdict("init beside another's tables", (3, "store 70 Foreign"), club("delete4096.db", "init"))
+    with contextlib.closing(sqlite3.connect("delete4096.db")) as found, found:
+        found.execute("ALTER TABLE members RENAME TO songs")
+    verdict("init beside tables of other names", (0, "ready"), club("delete4096.db", "init"))
+    verdict("a club beside tables of other names", (0, "sound"), club("delete4096.db", "verify"))
+    seated("pages.db")
+    for size in (512, 1024, 65536):
+        with contextlib.closing(sqlite3.connect("pages.db")) as found:
+            found.execute(f"PRAGMA page_size = {size}")
+            found.execute("VACUUM INTO ?", (f"club{size}.db",))
+        verdict(f"a club on pages of {size} bytes", (0, "sound"), club(f"club{size}.db", "verify"))
+
+
 def kept_as_the_file_is():
     """The log is made with the mode of the file, whoever makes it."""
     seated("group.db")
@@ -212,6 +242,7 @@ def main():
                 brought_back(way, state)
         only_init_makes_a_file()
         other_files_are_left()
+        databases_of_others_are_left()
         kept_as_the_file_is()
         moved_away_while_served()
     return int(bool(bad))

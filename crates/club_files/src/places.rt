@@ -26,14 +26,33 @@ pub(crate) enum Purpose {
 enum Place {
     /// There is no file, or an empty one without a log; a folder for it there is.
     Nothing,
-    /// A file that may be a database's.
+    /// A file that may be a club's.
     Database,
+    /// A database's file, at rest, in which no club's table is listed.
+    Foreign,
     /// What is no database's file, or cannot be looked at.
     Other,
 }
 
 // The bytes that the file of every database of SQLite begins with.
 const BEGINNING: [u8; 16] = *b"SQLite format 3\0";
+
+// The bytes that every log of SQLite begins with (SQLite's file format, 4.1); the fourth tells the order of bytes.
+const BEGINNING_OF_A_LOG: [u8; 3] = [0x37, 0x7f, 0x06];
+
+// The least size of a page, and the largest (SQLite's file format, 1.3.2).
+const LEAST_PAGE: usize = 512;
+
+const LARGEST_PAGE: u64 = 65_536;
+
+// The kind of a page that is the whole of a table's tree (SQLite's file format, 1.6). On the first page of a file it
+// stands after the header of 100 bytes; that tree lists the file's tables.
+const WHOLE_TREE: u8 = 13;
+
+const HEADER_BYTES: usize = 100;
+
+// The name of one of a club's tables.
+const OF_A_CLUB: [u8; 10] = *b"challenges";
 
 // What a new file of a club allows: its owner reads and writes it, and nobody else, as keys of members will stand in
 // it.
@@ -58,37 +77,92 @@ fn has_folder(rt: &HostRuntime, file: &str) -> bool {
     }
 }
 
-// Whether a log stands beside the file.
-fn has_log(rt: &HostRuntime, file: &str) -> bool {
-    match format!(in rt.alloc(); "{file}-wal") {
-        Ok(log) => metadata(rt, log.as_str()).is_ok(),
+// Whether a file with this end of its name stands beside the file.
+fn has_beside(rt: &HostRuntime, file: &str, end: &str) -> bool {
+    match format!(in rt.alloc(); "{file}{end}") {
+        Ok(beside) => metadata(rt, beside.as_str()).is_ok(),
         Err(_) => true,
     }
 }
 
-// Whether the file begins as a database's.
-fn begins_well(rt: &HostRuntime, file: &str) -> bool {
-    let mut bytes = [0u8; 16];
+// Whether all that a database holds stands in its file.
+fn is_at_rest(rt: &HostRuntime, file: &str) -> bool {
+    !has_beside(rt, file, "-wal") && !has_beside(rt, file, "-journal")
+}
+
+// The first page of a file, and what may follow it; nothing where it cannot be read.
+fn beginning_of(rt: &HostRuntime, file: &str) -> Vec<u8> {
+    let mut bytes = Vec::new(rt.alloc());
     match File::open(rt, file) {
-        Ok(mut opened) => opened.read_exact(&mut bytes).is_ok() && bytes == BEGINNING,
-        Err(_) => false,
+        Ok(opened) => {
+            let _read = opened.take(LARGEST_PAGE).read_to_end(&mut bytes);
+            bytes
+        }
+        Err(_) => bytes,
+    }
+}
+
+// The first page, where the header says its size, in two bytes from the 17th on, of which 1 stands for the largest, and
+// all of it is there.
+fn first_page(bytes: &[u8]) -> Option<&[u8]> {
+    let size = match bytes.get(16..18) {
+        Some([0, 1]) => LARGEST_PAGE as usize,
+        Some([high, low]) => usize::from(*high) * 256 + usize::from(*low),
+        _ => return None,
+    };
+    if size < LEAST_PAGE {
+        return None;
+    }
+    bytes.get(..size)
+}
+
+// Whether the page lists all tables of a file, and none with a name of a club's.
+fn lists_no_club(page: &[u8]) -> bool {
+    page.get(HEADER_BYTES) == Some(&WHOLE_TREE)
+        && !page
+            .windows(OF_A_CLUB.len())
+            .any(|name| name.eq_ignore_ascii_case(&OF_A_CLUB))
+}
+
+// Whether a log of a database stands beside the file.
+fn has_log(rt: &HostRuntime, file: &str) -> bool {
+    match format!(in rt.alloc(); "{file}-wal") {
+        Ok(log) => beginning_of(rt, log.as_str()).starts_with(&BEGINNING_OF_A_LOG),
+        Err(_) => true,
+    }
+}
+
+// What a file that is not empty is. Where a log stands beside it the log tells what the database holds, and a write
+// that was cut off may have left anything in the file.
+fn kind_of(rt: &HostRuntime, file: &str) -> Place {
+    let bytes = beginning_of(rt, file);
+    if !bytes.starts_with(&BEGINNING) {
+        return if has_log(rt, file) {
+            Place::Database
+        } else {
+            Place::Other
+        };
+    }
+    match first_page(bytes.as_slice()) {
+        Some(page) if lists_no_club(page) && is_at_rest(rt, file) => Place::Foreign,
+        _ => Place::Database,
     }
 }
 
 fn look(rt: &HostRuntime, file: &str) -> Place {
     match metadata(rt, file) {
         Ok(found) if !found.is_file() => Place::Other,
-        Ok(found) if found.len() == 0 && has_log(rt, file) => Place::Database,
+        Ok(found) if found.len() == 0 && has_beside(rt, file, "-wal") => Place::Database,
         Ok(found) if found.len() == 0 => Place::Nothing,
-        Ok(_) if begins_well(rt, file) => Place::Database,
-        Ok(_) => Place::Other,
+        Ok(_) => kind_of(rt, file),
         Err(error) if error.kind() == ErrorKind::NotFound && has_folder(rt, file) => Place::Nothing,
         Err(_) => Place::Other,
     }
 }
 
 /// Makes the file for its owner alone where a club is to be made and there is none. Else says why nothing is opened:
-/// there is no club, or what stands at the path is no database's file. Then nothing was touched.
+/// there is no club, or what stands at the path is no database's file. Then nothing was touched. A club is also made
+/// beside the tables of another program.
 pub(crate) fn prepare(rt: &HostRuntime, file: &str, purpose: Purpose) -> Result<(), Report>
     ensures { IfErr result (λ report.
         (report ≡ NotOpened) ⊎ ((report ≡ Unopened Foreign) × (purpose ≢ Making))) }
@@ -96,13 +170,11 @@ pub(crate) fn prepare(rt: &HostRuntime, file: &str, purpose: Purpose) -> Result<
     match look(rt, file) {
         Place::Database => Ok(()),
         Place::Other => Err(Report::NotOpened),
-        Place::Nothing => match purpose {
-            Purpose::Making => {
-                make_private(rt, file);
-                Ok(())
-            }
-            Purpose::Ordering => Err(Report::Unopened(OpenFault::Foreign)),
-            Purpose::Serving => Err(Report::Unopened(OpenFault::Foreign)),
-        },
+        Place::Nothing if purpose == Purpose::Making => {
+            make_private(rt, file);
+            Ok(())
+        }
+        Place::Foreign if purpose == Purpose::Making => Ok(()),
+        Place::Nothing | Place::Foreign => Err(Report::Unopened(OpenFault::Foreign)),
     }
 }
