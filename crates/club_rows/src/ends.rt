@@ -1,6 +1,6 @@
 //! How ends, sides and scores stand in the table of games.
 
-ghost use Rattle.std.specs.Prelude.{◌≡◌, Option, Some, pos};
+ghost use Rattle.std.specs.Prelude.{◌≡◌, Option, Some, IfSome, pos};
 ghost use Rattle.squares.specs.declared.sides.Side.{Side};
 ghost use Rattle.squares.specs.declared.sides.Score.{Score};
 ghost use Rattle.squares.specs.Sides.{score_text};
@@ -26,7 +26,8 @@ pub fn side_number(side: Side) -> i64
 
 /// The side of a number.
 pub fn side_of(number: i64) -> Option<Side>
-    ensures { (side : Side) → number ≡ pos (side_number side) → result ≡ Some side }
+    ensures found { (side : Side) → number ≡ pos (side_number side) → result ≡ Some side }
+    ensures only { IfSome result (λ side. number ≡ pos (side_number side)) }
 {
     match number {
         0 => Some(Side::First),
@@ -47,7 +48,8 @@ pub fn end_name<R: Rules>(end: &GameEnd<R::End>) -> &'static str
 
 /// The score of a text.
 pub fn score_of(text: &str) -> Option<Score>
-    ensures { (score : Score) → text.now ≡ score_text score → result ≡ Some score }
+    ensures found { (score : Score) → text.now ≡ score_text score → result ≡ Some score }
+    ensures only { IfSome result (λ score. text.now ≡ score_text score) }
 {
     match text {
         "2-0" => Some(Score::FirstWins),
@@ -59,8 +61,10 @@ pub fn score_of(text: &str) -> Option<Score>
 
 /// The end other than by the rules that a row names, with the score beside it.
 pub fn outside_of(name: &str, score: Option<Score>) -> Option<OutsideEnd>
-    ensures { (end : OutsideEnd) → name.now ≡ outside_text end → ((s : Score) → end ≡ Recorded s → score ≡ Some s) →
-        result ≡ Some end }
+    ensures found { (end : OutsideEnd) → name.now ≡ outside_text end → ((s : Score) → end ≡ Recorded s →
+        score ≡ Some s) → result ≡ Some end }
+    ensures only { IfSome result (λ end. (name.now ≡ outside_text end) ×
+        ((s : Score) → end ≡ Recorded s → score ≡ Some s)) }
 {
     match name {
         "Resigned" => Some(OutsideEnd::Resigned),

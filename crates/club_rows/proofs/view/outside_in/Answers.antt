@@ -17,5 +17,5 @@ read-is name score found reads (Some end) is recorded =
 pub returns-in-Some : goal.returns-in-Some
 returns-in-Some c = λ outside end result.
     read-is (string_bytes c.in-Some.name) c.score_in.result c.outside_of.result
-    (λ o name score. c.outside_of.ensures o (c.as_str.ensures.value ∙ name) score)
+    (λ o name score. c.outside_of.ensures.found o (c.as_str.ensures.value ∙ name) score)
     outside (ap (option_map (λ s. string_bytes s)) (sym c.in-Some.is) ∙ end) (λ s is. c.score_in.ensures s (result s is))
