@@ -1,3 +1,5 @@
 pub mod NextLemmas
+pub mod RepeatLemmas
 pub mod ServeLemmas
+pub mod ToldLemmas
 pub mod TurnLemmas

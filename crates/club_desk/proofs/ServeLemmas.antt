@@ -1,7 +1,7 @@
 -- What the calls of a club tell, as the desk asks it.
 use Rattle.std.proofs.Common.{◌≡◌, ◌≤◌, ℕ, List, Bool, true, false, Result, Ok, Err, refl, ap, sym, subst, ◌∙◌, arith}
-use Rattle.std.proofs.Common.{inl, true≢false}
-use Rattle.std.specs.Prelude.{◌↔◌, IsTrue, IfOk, OnOk, OnErr}
+use Rattle.std.proofs.Common.{◌⊎◌, inl, inr, true≢false}
+use Rattle.std.specs.Prelude.{◌↔◌, IsTrue, IfOk, IfErr, OnOk, OnErr}
 use Rattle.std.specs.Bool.{one_answer}
 use Rattle.sqlite.specs.State.{State, HasCleanDisk}
 use Rattle.store_tables.specs.Club.{IsExactly}
@@ -12,14 +12,14 @@ use Rattle.club_requests.specs.Limits.{last_moment}
 use Rattle.club_core.specs.State.{Request, key_holder, caller_of}
 use Rattle.club_rows.specs.Club.{ClubState, tables}
 use Rattle.store.specs.declared.fault.StoreFault.{StoreFault}
-use Rattle.store.specs.declared.fault.StoreFault.TheVariants.{Reopen as StoreReopen}
+use Rattle.store.specs.declared.fault.StoreFault.TheVariants as club
 use Rattle.club_reads.specs.Keys.{HasKey}
 use Rattle.club_changes.specs.Steps.{KeepsClub, club_next}
 use Rattle.club_reads.proofs.Proved.{key_held}
 use Rattle.http_desk.specs.declared.faults.ClubFault.{ClubFault}
-use Rattle.http_desk.specs.declared.faults.ClubFault.TheVariants.{Reopen}
-use Rattle.http_desk.specs.Served.{Serves}
-use Rattle.club_desk.specs.Faults.{told_all}
+use Rattle.http_desk.specs.declared.faults.ClubFault.TheVariants.{Memory, Reopen}
+use Rattle.http_desk.specs.Served.{IsOfCall, Serves}
+use Rattle.club_desk.specs.Faults.{told, told_all}
 use Rattle.club_desk.specs.Served.{has_key}
 use Rattle.club_desk.specs.Standing.{IsServed, IsLeft, MayLeave, served_stays}
 
@@ -53,68 +53,88 @@ pub read_stands : (old_shut new_shut : Bool) (old new : State) (s : ClubState) �
 read_stands old_shut new_shut old new s ready keeps served =
     record { ready = ready; legal = served.legal; exactly = keeps club_schema (tables s) served.exactly }
 
+-- what a call on an open club fails with
+abbrev pub IsNamed : StoreFault → Type 0
+IsNamed fault = (fault ≡ club.Store) ⊎ (fault ≡ club.Memory)
+
+-- the desk tells that a call failed, or that memory was refused
+told_of_call : (fault : StoreFault) → IsNamed fault → IsOfCall (told fault)
+told_of_call fault (inl is) = inl (ap told is)
+told_of_call fault (inr is) = inr (ap told is)
+
+pub of_call : (fault : StoreFault) (answer : ClubFault) → answer ≡ told fault → IsNamed fault → IsOfCall answer
+of_call fault answer is named = subst IsOfCall (sym is) (told_of_call fault named)
+
 module _ {A : Type 0} where
   -- a club that is shut tells the desk that it is to be opened again
-  pub told_shut : (fault : ClubFault) (found : Result A StoreFault) → fault ≡ Reopen → found ≡ Err StoreReopen
+  pub told_shut : (fault : ClubFault) (found : Result A StoreFault) → fault ≡ Reopen → found ≡ Err club.Reopen
       → told_all found ≡ Err fault
   told_shut fault found is shut = ap told_all shut ∙ ap Err (sym is)
 
   read_answers : (old_shut new_shut : Bool) (old new : State) (s : ClubState) (IsRight : A → Type 0)
       (found : Result A StoreFault) → OnOk found (new_shut ≡ false) → OnErr found (new_shut ≡ true)
-      → (old_shut ≡ false → OnlyReads old new) → OnOk found (KeepsContent old new) → IfOk found IsRight
-      → HasCleanDisk new → IsServed old_shut old s
-      → Serves (IsServed new_shut new) (IsLeft new_shut new) s s IsRight (told_all found)
-  read_answers old_shut new_shut old new s IsRight (Ok a) ready ends reads keeps right clean served =
+      → IfErr found (λ fault. old_shut ≡ false → IsNamed fault) → (old_shut ≡ false → OnlyReads old new)
+      → OnOk found (KeepsContent old new) → IfOk found IsRight → HasCleanDisk new → IsServed old_shut old s
+      → Serves (IsServed new_shut new) (IsLeft new_shut new) s s IsRight IsOfCall (told_all found)
+  read_answers old_shut new_shut old new s IsRight (Ok a) ready ends named reads keeps right clean served =
       (right, read_stands old_shut new_shut old new s ready keeps served)
-  read_answers old_shut new_shut old new s IsRight (Err fault) ready ends reads keeps right clean served =
-      read_left old_shut new_shut old new s ends reads clean served
+  read_answers old_shut new_shut old new s IsRight (Err fault) ready ends named reads keeps right clean served =
+      (told_of_call fault (named served.ready), read_left old_shut new_shut old new s ends reads clean served)
 
   -- a call that only reads, at whatever it answers
   pub read_serves : (old_shut new_shut : Bool) (old new : State) (s : ClubState) (IsRight : A → Type 0)
       (found : Result A StoreFault) (answer : Result A ClubFault) → answer ≡ told_all found
-      → OnOk found (new_shut ≡ false) → OnErr found (new_shut ≡ true) → (old_shut ≡ false → OnlyReads old new)
+      → OnOk found (new_shut ≡ false) → OnErr found (new_shut ≡ true)
+      → IfErr found (λ fault. old_shut ≡ false → IsNamed fault) → (old_shut ≡ false → OnlyReads old new)
       → OnOk found (KeepsContent old new) → IfOk found IsRight → HasCleanDisk new → IsServed old_shut old s
-      → Serves (IsServed new_shut new) (IsLeft new_shut new) s s IsRight answer
-  read_serves old_shut new_shut old new s IsRight found answer is ready ends reads keeps right clean served =
-      let P : Result A ClubFault → Type 0 = λ r. Serves (IsServed new_shut new) (IsLeft new_shut new) s s IsRight r in
+      → Serves (IsServed new_shut new) (IsLeft new_shut new) s s IsRight IsOfCall answer
+  read_serves old_shut new_shut old new s IsRight found answer is ready ends named reads keeps right clean served =
+      let P : Result A ClubFault → Type 0 = λ r.
+      Serves (IsServed new_shut new) (IsLeft new_shut new) s s IsRight IsOfCall r in
       subst P (sym is)
-      (read_answers old_shut new_shut old new s IsRight found ready ends reads keeps right clean served)
+      (read_answers old_shut new_shut old new s IsRight found ready ends named reads keeps right clean served)
 
   -- an answer that is made of what was read
   pub made_serves : (old_shut new_shut : Bool) (old new : State) (s : ClubState) (IsRight : A → Type 0)
       (made : Result A ClubFault) → new_shut ≡ false → KeepsContent old new → IfOk made IsRight
-      → IsServed old_shut old s → Serves (IsServed new_shut new) (IsLeft new_shut new) s s IsRight made
-  made_serves old_shut new_shut old new s IsRight (Ok a) ready keeps right served =
+      → IfErr made (λ fault. fault ≡ Memory) → IsServed old_shut old s
+      → Serves (IsServed new_shut new) (IsLeft new_shut new) s s IsRight IsOfCall made
+  made_serves old_shut new_shut old new s IsRight (Ok a) ready keeps right refused served =
       (right, record { ready = ready; legal = served.legal; exactly = keeps club_schema (tables s) served.exactly })
-  made_serves old_shut new_shut old new s IsRight (Err fault) ready keeps right served =
-      served_stays new_shut new s s
-      (record { ready = ready; legal = served.legal; exactly = keeps club_schema (tables s) served.exactly })
+  made_serves old_shut new_shut old new s IsRight (Err fault) ready keeps right refused served = (
+    inr refused,
+    served_stays new_shut new s s
+        (record { ready = ready; legal = served.legal; exactly = keeps club_schema (tables s) served.exactly }),
+  )
 
   apply_answers : (old_shut new_shut : Bool) (old new : State) (s : ClubState) (request : Request)
       (IsRight : A → Type 0) (found : Result A StoreFault) → KeepsClub → request.moment ≤ last_moment
-      → OnOk found (new_shut ≡ false) → OnErr found (new_shut ≡ true) → IfOk found IsRight
+      → OnOk found (new_shut ≡ false) → OnErr found (new_shut ≡ true)
+      → IfErr found (λ fault. old_shut ≡ false → IsNamed fault) → IfOk found IsRight
       → OnOk found (IsExactly (tables (club_next s request)) new) → OnErr found (MayLeave new s (club_next s request))
       → IsServed old_shut old s → Serves (IsServed new_shut new) (IsLeft new_shut new) s (club_next s request) IsRight
-      (told_all found)
-  apply_answers old_shut new_shut old new s request IsRight (Ok a) keeps within ready ends right steps left served =
-      (right, record { ready = ready; legal = keeps s request within served.legal; exactly = steps })
-  apply_answers old_shut new_shut old new s request IsRight (Err fault) keeps within ready ends right steps left
+      IsOfCall (told_all found)
+  apply_answers old_shut new_shut old new s request IsRight (Ok a) keeps within ready ends named right steps left
       served =
-      shut_left new_shut new s (club_next s request) ends left
+      (right, record { ready = ready; legal = keeps s request within served.legal; exactly = steps })
+  apply_answers old_shut new_shut old new s request IsRight (Err fault) keeps within ready ends named right steps left
+      served =
+      (told_of_call fault (named served.ready), shut_left new_shut new s (club_next s request) ends left)
 
   -- a command, at whatever it is answered
   pub apply_serves : (old_shut new_shut : Bool) (old new : State) (s : ClubState) (request : Request)
       (IsRight : A → Type 0) (found : Result A StoreFault) (answer : Result A ClubFault) → answer ≡ told_all found
       → KeepsClub → request.moment ≤ last_moment → OnOk found (new_shut ≡ false) → OnErr found (new_shut ≡ true)
-      → IfOk found IsRight → OnOk found (IsExactly (tables (club_next s request)) new)
+      → IfErr found (λ fault. old_shut ≡ false → IsNamed fault) → IfOk found IsRight
+      → OnOk found (IsExactly (tables (club_next s request)) new)
       → OnErr found (MayLeave new s (club_next s request)) → IsServed old_shut old s
-      → Serves (IsServed new_shut new) (IsLeft new_shut new) s (club_next s request) IsRight answer
-  apply_serves old_shut new_shut old new s request IsRight found answer is keeps within ready ends right steps left
-      served =
+      → Serves (IsServed new_shut new) (IsLeft new_shut new) s (club_next s request) IsRight IsOfCall answer
+  apply_serves old_shut new_shut old new s request IsRight found answer is keeps within ready ends named right steps
+      left served =
       let P : Result A ClubFault → Type 0 = λ r.
-      Serves (IsServed new_shut new) (IsLeft new_shut new) s (club_next s request) IsRight r in
+      Serves (IsServed new_shut new) (IsLeft new_shut new) s (club_next s request) IsRight IsOfCall r in
       subst P (sym is)
-      (apply_answers old_shut new_shut old new s request IsRight found keeps within ready ends right steps left
+      (apply_answers old_shut new_shut old new s request IsRight found keeps within ready ends named right steps left
       served)
 
 -- what holds of an answer for each state holds of it for this one

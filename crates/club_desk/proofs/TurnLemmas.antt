@@ -1,5 +1,6 @@
 -- What stands, and what a stop leaves, where members made requests in turn.
-use Rattle.std.proofs.Common.{◌≡◌, ◌⊎◌, ◌≤◌, ℕ, List, [], ◌∷◌, ◌++◌, Bool, false, refl, sym, subst, inl, inr}
+use Rattle.std.proofs.Common.{◌≡◌, ◌⊎◌, ◌≤◌, ℕ, List, [], ◌∷◌, ◌++◌, Bool, true, false, refl, sym, subst, inl}
+use Rattle.std.proofs.Common.{inr}
 use Rattle.std.proofs.Common.{append_assoc}
 use Rattle.std.proofs.lemmas.List.{append-nil}
 use Rattle.sqlite.specs.State.{State, HasCleanDisk}
@@ -12,8 +13,8 @@ use Rattle.club_changes.specs.Steps.{KeepsClub, club_next}
 use Rattle.store.proofs.Proved.{taken_session, one_leads, one_cut}
 use Rattle.club_desk.specs.Served.{served}
 use Rattle.club_desk.specs.Standing.{IsServed, IsLeft, MayLeave}
-use Rattle.club_desk.specs.Turns.{IsTurn, AreTurns, IsHistoryOn, IsReachableOn}
-use Rattle.http_port.specs.Visits.{HasActed}
+use Rattle.club_desk.specs.Turns.{IsTurn, AreTurns, AreWhole, IsHistoryOn, IsReachableOn}
+use Rattle.http_port.specs.Visits.{HasActed, HasServed}
 use Rattle.club_desk.proofs.NextLemmas.{seen_next}
 
 turns_more : (turns : List Session) (session : Session) (request : Request) → AreTurns turns → IsTurn request
@@ -21,12 +22,18 @@ turns_more : (turns : List Session) (session : Session) (request : Request) → 
 turns_more [] session request are turn is = ((request, turn, is), tt)
 turns_more (one ∷ turns) session request are turn is = (are.0, turns_more turns session request are.1 turn is)
 
+whole_more : (turns : List Session) (session : Session) → AreWhole turns → session.is_whole ≡ true
+    → AreWhole (turns ++ session ∷ [])
+whole_more [] session whole is = (is, tt)
+whole_more (one ∷ turns) session whole is = (whole.0, whole_more turns session whole.1 is)
+
 -- where it began
 pub stands_first : (sessions : List Session) (now : State) → IsHistory sessions now → IsHistoryOn sessions now
 stands_first sessions now stands =
     record {
       turns = [];
       are_turns = tt;
+      whole = tt;
       stands = let P : List Session → Type 0 = λ xs. IsHistory xs now in
           subst P (sym (append-nil sessions)) stands;
     }
@@ -62,6 +69,7 @@ module _ (keeps : KeepsClub) (sessions : List Session) (old : State) (on : IsHis
       record {
         turns = on.turns;
         are_turns = on.are_turns;
+        whole = on.whole;
         stands = record { after = before; legal = is.legal; leads = on.stands.leads; exactly = is.exactly };
       }
 
@@ -73,6 +81,7 @@ module _ (keeps : KeepsClub) (sessions : List Session) (old : State) (on : IsHis
       record {
         turns = on.turns ++ one ∷ [];
         are_turns = turns_more on.turns one request on.are_turns turn refl;
+        whole = whole_more on.turns one on.whole refl;
         stands = subst P (append_assoc sessions on.turns (one ∷ [])) (record {
           after = club_next before request;
           legal = is.legal;
@@ -90,10 +99,10 @@ module _ (keeps : KeepsClub) (sessions : List Session) (old : State) (on : IsHis
       (let P : ClubState → Type 0 = λ u. IsServed shut now u in subst P done.2 is)
 
   -- no call has failed so far
-  pub acted_stands : (shut : Bool) (now : State) (moment : ℕ) → moment ≤ last_moment → shut ≡ false
-      → HasActed served (IsServed shut now) (IsLeft shut now) before moment → IsHistoryOn sessions now
-  acted_stands shut now moment within ready (inl is) = stays shut now is
-  acted_stands shut now moment within ready (inr done) = elim done.1 [
+  pub acted_stands : (shut : Bool) (now : State) (moment : ℕ) (bytes : List ℕ) → moment ≤ last_moment → shut ≡ false
+      → HasActed served (IsServed shut now) (IsLeft shut now) before moment bytes → IsHistoryOn sessions now
+  acted_stands shut now moment bytes within ready (inl is) = stays shut now is
+  acted_stands shut now moment bytes within ready (inr done) = elim done.2 [
     | inl is ↦ next_stands shut now _ (seen_next before moment within done.0) is
     | inr left ↦ elim (left.stands ready) [
       | inl is ↦ stays shut now is
@@ -137,18 +146,17 @@ module _ (keeps : KeepsClub) (sessions : List Session) (old : State) (on : IsHis
       subst P done.2 left)
 
   -- whether a call has failed or not
-  pub acted_led : (shut : Bool) (now : State) (moment : ℕ) → moment ≤ last_moment
-      → HasActed served (IsServed shut now) (IsLeft shut now) before moment → IsReachableOn sessions now
-  acted_led shut now moment within (inl is) = stands_led sessions now (stays shut now is)
-  acted_led shut now moment within (inr done) = elim done.1 [
+  pub acted_led : (shut : Bool) (now : State) (moment : ℕ) (bytes : List ℕ) → moment ≤ last_moment
+      → HasActed served (IsServed shut now) (IsLeft shut now) before moment bytes → IsReachableOn sessions now
+  acted_led shut now moment bytes within (inl is) = stands_led sessions now (stays shut now is)
+  acted_led shut now moment bytes within (inr done) = elim done.2 [
     | inl is ↦ stands_led sessions now (next_stands shut now _ (seen_next before moment within done.0) is)
     | inr left ↦ next_led now _ (seen_next before moment within done.0) left.leaves
   ]
 
 -- a connection over the desk, of whatever moment
 abbrev pub Acted : Bool → State → ClubState → Type 0
-Acted shut now s = (moment : ℕ) × (moment ≤ last_moment)
-    × HasActed served (IsServed shut now) (IsLeft shut now) s moment
+Acted shut now s = HasServed served (IsServed shut now) (IsLeft shut now) s
 
 module _ (keeps : KeepsClub) (sessions : List Session) (old_shut : Bool) (old : State) (ready : old_shut ≡ false)
     (on : IsHistoryOn sessions old) where
@@ -158,11 +166,11 @@ module _ (keeps : KeepsClub) (sessions : List Session) (old_shut : Bool) (old : 
   pub turn_stands : (shut : Bool) (now : State) → shut ≡ false
       → ((s : ClubState) → IsServed old_shut old s → Acted shut now s) → IsHistoryOn sessions now
   turn_stands shut now is_open acts =
-      let (moment, within, acted) = acts on.stands.after served_before in
-      acted_stands keeps sessions old on shut now moment within is_open acted
+      let (moment, within, bytes, acted) = acts on.stands.after served_before in
+      acted_stands keeps sessions old on shut now moment bytes within is_open acted
 
   pub turn_led : (shut : Bool) (now : State) → ((s : ClubState) → IsServed old_shut old s → Acted shut now s)
       → IsReachableOn sessions now
   turn_led shut now acts =
-      let (moment, within, acted) = acts on.stands.after served_before in
-      acted_led keeps sessions old on shut now moment within acted
+      let (moment, within, bytes, acted) = acts on.stands.after served_before in
+      acted_led keeps sessions old on shut now moment bytes within acted

@@ -1,5 +1,5 @@
 -- Requests that members make at the desk, each a session of its own.
-use Rattle.std.specs.Prelude.{◌≡◌, ◌≤◌, ℕ, List, [], ◌∷◌, ◌++◌, ⊤}
+use Rattle.std.specs.Prelude.{◌≡◌, ◌≤◌, ℕ, true, List, [], ◌∷◌, ◌++◌, ⊤}
 use Rattle.sqlite.specs.Tree.{Trees}
 use Rattle.sqlite.specs.State.{State}
 use Rattle.club_requests.specs.Limits.{last_moment}
@@ -33,10 +33,16 @@ AreTurns [] = ⊤
 AreTurns (session ∷ sessions) = ((request : Request) × IsTurn request × (session.requests ≡ request ∷ []))
     × AreTurns sessions
 
--- with turns added, the sessions lead to what stands
+-- none of the sessions was cut off
+abbrev pub AreWhole : List Session → Type 0
+AreWhole [] = ⊤
+AreWhole (session ∷ sessions) = (session.is_whole ≡ true) × AreWhole sessions
+
+-- with turns added, none of which was cut off, the sessions lead to what stands
 pub record IsHistoryOn (sessions : List Session) (now : State) : Type 0 where
   pub turns : List Session
   pub are_turns : AreTurns turns
+  pub whole : AreWhole turns
   pub stands : IsHistory (sessions ++ turns) now
 
 -- with turns added, the sessions lead to whatever a stop leaves

@@ -3,6 +3,7 @@
 
 mod desk_club;
 mod faults;
+pub mod laws;
 mod shown;
 mod stretch;
 

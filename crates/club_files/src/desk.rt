@@ -1,6 +1,6 @@
 //! A stretch of serving over the files of a path, from their opening to their closing.
 
-ghost use Rattle.std.specs.Prelude.{◌≡◌, ◌⊎◌, None, Err, IfSome};
+ghost use Rattle.std.specs.Prelude.{◌≡◌, ◌⊎◌, Option, None, Ok, Err, IfSome, IfOk};
 ghost use Rattle.sqlite_wal.specs.Files.{image_at};
 ghost use Rattle.sqlite_wal.specs.Recovery.{Image};
 ghost use Rattle.sqlite_store.specs.FileStore.{state as store_state, view as store_view};
@@ -8,7 +8,11 @@ ghost use Rattle.sqlite_trees.specs.View.{IsClean};
 ghost use Rattle.sessions.specs.Finds.{AreReachable};
 ghost use Rattle.club_opening.specs.declared.fault.OpenFault.TheVariants.{Foreign};
 ghost use Rattle.club_orders.specs.declared.report.Report.TheVariants.{InUse, NotOpened, Unopened};
-ghost use Rattle.club_files.specs.ReachableOn.{AreReachableOn};
+ghost use Rattle.club_rows.specs.Club.{ClubState};
+ghost use Rattle.http_desk.specs.declared.faults.ClubFault as desk_fault;
+ghost use Rattle.club_desk.specs.Told.{IfTaken, IsOfClub};
+ghost use Rattle.club_files.specs.Found.{AreFilesOf, AreSound, IsToldOf};
+ghost use Rattle.club_files.specs.ReachableOn.{AreReachableOn, AreReachableWhole};
 
 use crate::opening::{Again, open_in_turn};
 use crate::places::Purpose;
@@ -18,12 +22,15 @@ use http_desk::ClubFault;
 use http_port::Visits;
 use sessions::close;
 use sqlite::{FileFrom, FileStore};
+use store::holds_exactly;
 
 /// A stretch of serving over the files of a path, which hold at first what `S` stands for: opens them as soon as no
 /// other program uses them, which it waits for up to five seconds, takes the club over, serves those who come until the
 /// desk is to give way, and closes. Gives the fault that further ones are to be told, or why the files were not opened;
 /// and the files where they were. Where sessions led to whatever an opening finds in the files, they lead, with
-/// commands of members added, to whatever an opening finds in them after it, of whatever a stop leaves.
+/// commands of members added, to whatever an opening finds in them after it, of whatever a stop leaves; where no fault
+/// is told, none of these was cut off. Files that are not taken over are blamed for it, and later openings find in them
+/// what this one found; those that are taken over are a club's, and of a club's files only a call that failed is told.
 pub fn stretch<S: Again, V: Visits>(
     rt: &HostRuntime,
     file: &str,
@@ -38,11 +45,22 @@ pub fn stretch<S: Again, V: Visits>(
     ensures led { IfSome result.1 (λ store. IsClean (store_view store) →
         (sessions : _) → AreReachable sessions (image_at S.Start) →
         (left : Image) → (store_state store).may_leave left → AreReachableOn sessions left) }
+    ensures whole { IfSome result.1 (λ store. IsClean (store_view store) → result.0 ≡ Ok None →
+        (sessions : _) → AreReachable sessions (image_at S.Start) →
+        (left : Image) → (store_state store).may_leave left → AreReachableWhole sessions left) }
+    ensures told { IfSome result.1 (λ store. IsClean (store_view store) →
+        (told : Option desk_fault.ClubFault) × (result.0 ≡ Ok told) ×
+        IsToldOf (image_at S.Start) (store_state store).may_leave told) }
+    ensures taken { IfSome result.1 (λ store. IsClean (store_view store) →
+        IfOk result.0 (λ told. IfTaken told (AreSound (image_at S.Start)))) }
+    ensures good { IfSome result.1 (λ store. IsClean (store_view store) →
+        (s : ClubState) → AreFilesOf s (image_at S.Start) → IfOk result.0 (λ told. IfSome told IsOfClub)) }
 {
     let conn = match open_in_turn(rt, file, Purpose::Serving, start) {
         Ok(conn) => conn,
         Err(report) => return (Err(report), None),
     };
+    holds_exactly(&conn);
     let (fault, conn) = serve_stretch(rt.alloc(), conn, visits);
     (Ok(fault), Some(close(conn)))
 }

@@ -1,22 +1,24 @@
 //! An order over the files of a path, from their opening to their closing.
 
-ghost use Rattle.std.specs.Prelude.{◌≡◌, ◌≢◌, ◌⊎◌, ◌++◌, None, IfSome};
+ghost use Rattle.std.specs.Prelude.{◌≡◌, ◌≢◌, ◌⊎◌, ◌++◌, false, None, IfSome};
 ghost use Rattle.sqlite_wal.specs.Files.{image_at};
 ghost use Rattle.sqlite_wal.specs.Recovery.{Image};
 ghost use Rattle.sqlite_store.specs.FileStore.{state as store_state, view as store_view};
 ghost use Rattle.sqlite_trees.specs.View.{IsClean};
 ghost use Rattle.sqlite.specs.Tree.{Trees};
-ghost use Rattle.store_tables.specs.Club.{Leaves};
 ghost use Rattle.club_core.specs.Answer.{answered, outcome_of};
-ghost use Rattle.club_rows.specs.Club.{ClubState, IsClub, tables};
+ghost use Rattle.club_rows.specs.Club.{ClubState};
 ghost use Rattle.club_changes.specs.Steps.{club_step};
 ghost use Rattle.sessions.specs.Finds.{IsFoundIn, AreReachable, AreVoid};
 ghost use Rattle.club_words.specs.declared.words.Task.TheVariants.{Init};
 ghost use Rattle.club_opening.specs.declared.fault.OpenFault.TheVariants.{Foreign};
-ghost use Rattle.club_orders.specs.declared.report.Report.TheVariants.{InUse, NotOpened, Unopened};
+ghost use Rattle.club_orders.specs.declared.report.Report.TheVariants.{InUse, NotOpened, Sound, Unopened};
 ghost use Rattle.club_files.specs.declared.places.Purpose.TheVariants.{Making};
 ghost use Rattle.club_orders.specs.Report.{given, Answers, IfRequest, IfLegal, IfTable, IfExport, IfVerify};
 ghost use Rattle.club_orders.specs.Report.{ListsMoves, ListsTable, WritesRecord, IsPassed, IsBegun, task_sessions};
+ghost use Rattle.club_orders.specs.Report.{IfUnopened, writes};
+ghost use Rattle.club_orders.specs.Refused.{IfTakesOver};
+ghost use Rattle.club_files.specs.Found.{AreFilesOf, AreKept, AreRefused, AreSound};
 
 use crate::opening::{Again, open_in_turn};
 use crate::places::Purpose;
@@ -26,6 +28,7 @@ use club_words::{Order, Task};
 use sessions::close;
 use sqlite::{FileFrom, FileStore};
 use std::io::Write;
+use store::holds_exactly;
 
 // For what the files of a task are opened.
 fn purpose_of(task: &Task) -> Purpose
@@ -46,7 +49,9 @@ fn purpose_of(task: &Task) -> Purpose
 /// Where sessions led to whatever an opening finds in the files, they lead, with this command as one more, to whatever
 /// an opening finds in them after it, of whatever a stop leaves. Where they were new, and a club was to be made, no
 /// session leads to that, or there is no table still. The answer is the machine's, a listing that of the game's legal
-/// moves or of the event's cross table, and a club's files are found sound.
+/// moves or of the event's cross table, and a club's files are found sound. Files that are found sound are a club's;
+/// those that are not taken as a club's are blamed for it, and later openings find in them what this one found. Only
+/// an export writes to `out`.
 pub fn obey<S: Again, W: Write>(
     rt: &HostRuntime,
     order: &Order,
@@ -61,22 +66,31 @@ pub fn obey<S: Again, W: Write>(
         (left : Image) → (store_state store).may_leave left →
         (found : Trees) → IsFoundIn left found → ∥ IsBegun result.0 found ∥₁) }
     ensures answer { IfSome result.1 (λ store. IsClean (store_view store) →
-        (s : ClubState) → IsClub s → ((found : Trees) → IsFoundIn (image_at S.Start) found → Leaves (tables s) found) →
+        (s : ClubState) → AreFilesOf s (image_at S.Start) →
         IfRequest order.entry.now.task (λ command. Answers result.0 (λ outcome.
         outcome_of outcome ≡ answered (club_step s (given command moment))))) }
     ensures moves { IfSome result.1 (λ store. IsClean (store_view store) →
-        (s : ClubState) → IsClub s → ((found : Trees) → IsFoundIn (image_at S.Start) found → Leaves (tables s) found) →
+        (s : ClubState) → AreFilesOf s (image_at S.Start) →
         IfLegal order.entry.now.task (λ game. ListsMoves s game result.0)) }
     ensures table { IfSome result.1 (λ store. IsClean (store_view store) →
-        (s : ClubState) → IsClub s → ((found : Trees) → IsFoundIn (image_at S.Start) found → Leaves (tables s) found) →
+        (s : ClubState) → AreFilesOf s (image_at S.Start) →
         IfTable order.entry.now.task (λ name. ListsTable s name result.0)) }
     ensures record_of { IfSome result.1 (λ store. IsClean (store_view store) →
-        (s : ClubState) → IsClub s → ((found : Trees) → IsFoundIn (image_at S.Start) found → Leaves (tables s) found) →
+        (s : ClubState) → AreFilesOf s (image_at S.Start) →
         IfExport order.entry.now.task (λ game.
         WritesRecord s game (W.contents out.old) (W.contents out.new) result.0)) }
     ensures passes { IfSome result.1 (λ store. IsClean (store_view store) →
-        (s : ClubState) → IsClub s → ((found : Trees) → IsFoundIn (image_at S.Start) found → Leaves (tables s) found) →
+        (s : ClubState) → AreFilesOf s (image_at S.Start) →
         IfVerify order.entry.now.task (IsPassed result.0)) }
+    ensures sound { IfSome result.1 (λ store. IsClean (store_view store) →
+        IfVerify order.entry.now.task (result.0 ≡ Sound → AreSound (image_at S.Start))) }
+    ensures refuses { IfSome result.1 (λ store. IsClean (store_view store) →
+        IfTakesOver order.entry.now.task (IfUnopened result.0
+        (AreRefused (image_at S.Start) (store_state store).may_leave))) }
+    ensures spares { IfSome result.1 (λ store. IsClean (store_view store) →
+        order.entry.now.task ≡ Init → result.0 ≡ Unopened Foreign →
+        AreKept (image_at S.Start) (store_state store).may_leave) }
+    ensures silent { writes order.entry.now.task ≡ false → out.new ≡ out.old }
     ensures led { IfSome result.1 (λ store. IsClean (store_view store) →
         (sessions : _) → AreReachable sessions (image_at S.Start) →
         (left : Image) → (store_state store).may_leave left →
@@ -86,6 +100,7 @@ pub fn obey<S: Again, W: Write>(
         Ok(conn) => conn,
         Err(report) => return (report, None),
     };
+    holds_exactly(&conn);
     let (report, conn) = act(rt.alloc(), conn, &order.task, moment, out);
     (report, Some(close(conn)))
 }

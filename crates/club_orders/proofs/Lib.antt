@@ -1,2 +1,4 @@
 pub mod RecordLemmas
+pub mod RefusalLemmas
 pub mod SessionLemmas
+pub mod WrittenLemmas

@@ -1,6 +1,7 @@
 -- What an order came to: what is printed, the status of the program, and the sessions that it adds to a club's history.
-use Rattle.std.specs.Prelude.{◌≡◌, ◌⊎◌, ℕ, List, [], ◌∷◌, ◌++◌, map, Option, Some, None, Result, Ok, Err, Bool, true}
-use Rattle.std.specs.Prelude.{false, codes, decimal, string_bytes, ⊤}
+use Rattle.std.specs.Prelude.{◌≡◌, ◌≢◌, ◌⊎◌, ℕ, List, [], ◌∷◌, ◌++◌, map, take, Option, Some, None, Result, Ok, Err}
+use Rattle.std.specs.Prelude.{Bool, true, false, codes, decimal, string_bytes, ⊤}
+use Rattle.std.specs.Io.KnownBytes.{Appends}
 use Rattle.std.specs.declared.alloc.Global.{Global}
 use Rattle.std.specs.declared.vec.Vec.{Vec}
 use Rattle.sqlite.specs.Tree.{Trees}
@@ -78,6 +79,20 @@ report_status Unread = 3
 report_status (Listening port) = 0
 report_status Unbound = 3
 report_status NoMemory = 3
+
+-- what is told where the status is that of a fault: the report itself, that memory was refused, or that what was done
+-- could not be written
+abbrev pub IsFaultText : Report → List ℕ → Type 0
+IsFaultText report text =
+    ((report_status report ≢ 0) × (text ≡ report_text report))
+    ⊎ ((text ≡ codes "store 75 Memory\n") ⊎ ((report_status report ≡ 0) × (text ≡ codes "store 77 Output\n")))
+
+-- such a text is written, or where the writer fails a beginning of it
+pub record IsFaultTold (report : Report) (before now : Option (List ℕ)) : Type 0 where
+  pub text : List ℕ
+  pub is_text : IsFaultText report text
+  pub count : ℕ
+  pub written : Appends before now (take count text)
 
 -- ---- what it adds to the history of a club
 
@@ -195,6 +210,15 @@ IsPassed _ = ⊥
 abbrev pub IfUnopened : Report → (OpenFault → Type 0) → Type 0
 IfUnopened (Unopened fault) Holds = Holds fault
 IfUnopened _ Holds = ⊤
+
+-- only an export writes to what is handed to it
+abbrev pub writes : Task → Bool
+writes task.Init = false
+writes (task.Request command) = false
+writes (task.Legal game) = false
+writes (task.Table name) = false
+writes (task.Export game) = true
+writes task.Verify = false
 
 -- The club with nothing in it stands; or none was made, and there is still no table, or it stands nevertheless.
 abbrev pub IsBegun : Report → Trees → Type 0

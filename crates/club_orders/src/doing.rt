@@ -11,16 +11,15 @@ ghost use Rattle.club_core.specs.Answer.{answered, outcome_of};
 ghost use Rattle.club_rows.specs.Club.{ClubState, IsClub, tables};
 ghost use Rattle.club_changes.specs.Steps.{club_step};
 ghost use Rattle.std.specs.Option.{option_map};
-ghost use Rattle.club_opening.specs.Blames.{NamesTable, NamesSchema};
 ghost use Rattle.club_views.specs.CrossTable.{AreTableRows};
 ghost use Rattle.store.specs.Histories.{IsReachable};
-ghost use Rattle.club_opening.specs.Places.{NamesRows};
 ghost use Rattle.club_changes.specs.Stored.{AreLegalRows};
 ghost use Rattle.club_words.specs.declared.words.Task.TheVariants.{Init};
 ghost use Rattle.club_orders.specs.Report.{given, Answers, export_report, IfRequest, IfLegal, IfTable, IfExport};
 ghost use Rattle.club_orders.specs.Report.{IfVerify, IfUnopened};
 ghost use Rattle.club_orders.specs.Report.{ListsMoves, ListsTable, WritesRecord, IsPassed, IsBegun, request_sessions};
-ghost use Rattle.club_orders.specs.Report.{task_sessions};
+ghost use Rattle.club_orders.specs.Report.{task_sessions, writes};
+ghost use Rattle.club_orders.specs.Refused.{HoldClub, IfTakesOver, IsKept, IsRefusal};
 
 use crate::report::Report;
 use clocks::Moment;
@@ -30,7 +29,7 @@ use sqlite::{Alter, Connection};
 use std::alloc::Global;
 use std::io::Write;
 use store::{
-    ExportFault, adopt, create, holds_exactly, holds_nothing, holds_what_sessions_left,
+    ExportFault, OpenFault, adopt, create, holds_exactly, holds_nothing, holds_what_sessions_left,
     leaves_what_sessions_left,
 };
 
@@ -42,6 +41,8 @@ fn init<S: Alter>(alloc: Global, conn: Connection<S>) -> (Report, Connection<S>)
     ensures begun { HasCleanDisk (state S.Store result.1) → Opens (state S.Store conn) → IsLive (state S.Store conn) →
         IsEmpty (state S.Store conn).committed.trees →
         (db : _) → (state S.Store result.1).may_leave db → IsBegun result.0 db }
+    ensures spares { HasCleanDisk (state S.Store result.1) → Opens (state S.Store conn) →
+        result.0 ≡ Report.Unopened OpenFault.Foreign → IsKept (state S.Store conn) (state S.Store result.1) }
     ensures led { HasCleanDisk (state S.Store result.1) → Opens (state S.Store conn) → IsLive (state S.Store conn) →
         (sessions : _) → IsReachable sessions (state S.Store conn).committed.trees →
         (db : _) → (state S.Store result.1).may_leave db → IsReachable sessions db }
@@ -72,6 +73,8 @@ fn request<S: Alter>(
     ensures answer { HasCleanDisk (state S.Store result.1) → Opens (state S.Store conn) → IsLive (state S.Store conn) →
         (s : ClubState) → IsClub s → Leaves (tables s) (state S.Store conn).committed.trees →
         Answers result.0 (λ outcome. outcome_of outcome ≡ answered (club_step s (given command.now moment))) }
+    ensures refuses { HasCleanDisk (state S.Store result.1) →
+        IfUnopened result.0 (IsRefusal (state S.Store conn) (state S.Store result.1)) }
     ensures led { HasCleanDisk (state S.Store result.1) → Opens (state S.Store conn) → IsLive (state S.Store conn) →
         (sessions : _) → IsReachable sessions (state S.Store conn).committed.trees →
         (db : _) → (state S.Store result.1).may_leave db →
@@ -96,7 +99,8 @@ fn request<S: Alter>(
 
 // What is reported of the legal moves of a game, where none are those of no game.
 fn listed(found: Option<Vec<String>>) -> Report
-    ensures { (s : ClubState) (game : ℕ) →
+    ensures taken { IfUnopened result (λ fault. ⊥) }
+    ensures lists { (s : ClubState) (game : ℕ) →
         AreLegalRows s game (option_map (λ texts. map (λ t. string_bytes t) texts.items) found) →
         ListsMoves s game result }
 {
@@ -114,6 +118,8 @@ fn legal<S: Alter>(alloc: Global, conn: Connection<S>, game: u64) -> (Report, Co
     ensures moves { HasCleanDisk (state S.Store result.1) → Opens (state S.Store conn) → IsLive (state S.Store conn) →
         (s : ClubState) → IsClub s → Leaves (tables s) (state S.Store conn).committed.trees →
         ListsMoves s game result.0 }
+    ensures refuses { HasCleanDisk (state S.Store result.1) →
+        IfUnopened result.0 (IsRefusal (state S.Store conn) (state S.Store result.1)) }
     ensures led { HasCleanDisk (state S.Store result.1) → Opens (state S.Store conn) → IsLive (state S.Store conn) →
         (sessions : _) → IsReachable sessions (state S.Store conn).committed.trees →
         (db : _) → (state S.Store result.1).may_leave db → IsReachable sessions db }
@@ -137,7 +143,8 @@ fn legal<S: Alter>(alloc: Global, conn: Connection<S>, game: u64) -> (Report, Co
 
 // What is reported of the cross table of an event, where none is that of no event.
 fn tabled(found: Option<Vec<String>>) -> Report
-    ensures { (s : ClubState) (name : List ℕ) →
+    ensures taken { IfUnopened result (λ fault. ⊥) }
+    ensures lists { (s : ClubState) (name : List ℕ) →
         AreTableRows s name (option_map (λ lines. map (λ t. string_bytes t) lines.items) found) →
         ListsTable s name result }
 {
@@ -155,6 +162,8 @@ fn table<S: Alter>(alloc: Global, conn: Connection<S>, event: &str) -> (Report, 
     ensures table { HasCleanDisk (state S.Store result.1) → Opens (state S.Store conn) → IsLive (state S.Store conn) →
         (s : ClubState) → IsClub s → Leaves (tables s) (state S.Store conn).committed.trees →
         ListsTable s event.now result.0 }
+    ensures refuses { HasCleanDisk (state S.Store result.1) →
+        IfUnopened result.0 (IsRefusal (state S.Store conn) (state S.Store result.1)) }
     ensures led { HasCleanDisk (state S.Store result.1) → Opens (state S.Store conn) → IsLive (state S.Store conn) →
         (sessions : _) → IsReachable sessions (state S.Store conn).committed.trees →
         (db : _) → (state S.Store result.1).may_leave db → IsReachable sessions db }
@@ -178,7 +187,8 @@ fn table<S: Alter>(alloc: Global, conn: Connection<S>, event: &str) -> (Report, 
 
 // What is reported of a record that was written, or not.
 fn exported(written: Result<bool, ExportFault>) -> Report
-    ensures { result ≡ export_report written }
+    ensures taken { IfUnopened result (λ fault. ⊥) }
+    ensures report { result ≡ export_report written }
 {
     match written {
         Ok(true) => Report::Exported,
@@ -202,6 +212,8 @@ fn export<S: Alter, W: Write>(
         IsLive (state S.Store conn) →
         (s : ClubState) → IsClub s → Leaves (tables s) (state S.Store conn).committed.trees →
         WritesRecord s game (W.contents out.old) (W.contents out.new) result.0 }
+    ensures refuses { HasCleanDisk (state S.Store result.1) →
+        IfUnopened result.0 (IsRefusal (state S.Store conn) (state S.Store result.1)) }
     ensures led { HasCleanDisk (state S.Store result.1) → Opens (state S.Store conn) → IsLive (state S.Store conn) →
         (sessions : _) → IsReachable sessions (state S.Store conn).committed.trees →
         (db : _) → (state S.Store result.1).may_leave db → IsReachable sessions db }
@@ -228,9 +240,11 @@ fn verify<S: Alter>(alloc: Global, conn: Connection<S>) -> (Report, Connection<S
         (s : ClubState) → IsClub s → Leaves (tables s) (state S.Store conn).committed.trees → IsPassed result.0 }
     ensures sound { HasCleanDisk (state S.Store result.1) → IsOpened (state S.Store conn) → result.0 ≡ Report.Sound →
         (s : ClubState) × IsClub s × IsExactly (tables s) (state S.Store result.1) }
-    ensures blames { HasCleanDisk (state S.Store result.1) → (state S.Store conn).now.schema ≡ club_schema →
-        IfUnopened result.0 (λ fault. NamesTable (state S.Store conn).now fault ⊎ (NamesSchema
-        (state S.Store conn).now fault ⊎ NamesRows (state S.Store conn).now fault)) }
+    ensures legal { HasCleanDisk (state S.Store result.1) → Opens (state S.Store conn) → IsLive (state S.Store conn) →
+        (state S.Store conn).now.schema ≡ club_schema → result.0 ≡ Report.Sound →
+        HoldClub (state S.Store conn).committed.trees }
+    ensures refuses { HasCleanDisk (state S.Store result.1) →
+        IfUnopened result.0 (IsRefusal (state S.Store conn) (state S.Store result.1)) }
     ensures led { HasCleanDisk (state S.Store result.1) → Opens (state S.Store conn) → IsLive (state S.Store conn) →
         (sessions : _) → IsReachable sessions (state S.Store conn).committed.trees →
         (db : _) → (state S.Store result.1).may_leave db → IsReachable sessions db }
@@ -253,7 +267,8 @@ fn verify<S: Alter>(alloc: Global, conn: Connection<S>) -> (Report, Connection<S
 /// the cross table of an event, writes the record of a game to `out`, or tests that the rows are those of a club. The
 /// answer is the machine's. Sessions that led to what the opening found lead, with this request as one more, to
 /// whatever a stop leaves; where there was no table, and a club was to be made, none led to it, or there is no table
-/// still.
+/// still. Tables that are not taken as a club's are blamed for it, and stay as they were found; those that are found
+/// sound are a club's.
 pub fn act<S: Alter, W: Write>(
     alloc: Global,
     conn: Connection<S>,
@@ -287,9 +302,14 @@ pub fn act<S: Alter, W: Write>(
     ensures sound { HasCleanDisk (state S.Store result.1) → IsOpened (state S.Store conn) →
         IfVerify task.now (result.0 ≡ Report.Sound →
         (s : ClubState) × IsClub s × IsExactly (tables s) (state S.Store result.1)) }
-    ensures blames { HasCleanDisk (state S.Store result.1) → (state S.Store conn).now.schema ≡ club_schema →
-        IfVerify task.now (IfUnopened result.0 (λ fault. NamesTable (state S.Store conn).now fault ⊎ (NamesSchema
-        (state S.Store conn).now fault ⊎ NamesRows (state S.Store conn).now fault))) }
+    ensures legal { HasCleanDisk (state S.Store result.1) → Opens (state S.Store conn) → IsLive (state S.Store conn) →
+        (state S.Store conn).now.schema ≡ club_schema → IfVerify task.now (result.0 ≡ Report.Sound →
+        HoldClub (state S.Store conn).committed.trees) }
+    ensures refuses { HasCleanDisk (state S.Store result.1) → IfTakesOver task.now (IfUnopened result.0
+        (IsRefusal (state S.Store conn) (state S.Store result.1))) }
+    ensures spares { HasCleanDisk (state S.Store result.1) → Opens (state S.Store conn) → task.now ≡ Init →
+        result.0 ≡ Report.Unopened OpenFault.Foreign → IsKept (state S.Store conn) (state S.Store result.1) }
+    ensures silent { writes task.now ≡ false → out.new ≡ out.old }
     ensures led { HasCleanDisk (state S.Store result.1) → Opens (state S.Store conn) → IsLive (state S.Store conn) →
         (sessions : _) → IsReachable sessions (state S.Store conn).committed.trees →
         (db : _) → (state S.Store result.1).may_leave db →

@@ -3,6 +3,7 @@
 
 pub mod doing;
 pub mod report;
+mod written;
 
 pub use doing::act;
 pub use report::{BAD_WORDS, DONE, FAULT, REFUSED, Report, print};

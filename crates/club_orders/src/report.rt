@@ -1,9 +1,10 @@
 //! What an order came to, and how it is printed.
 
-ghost use Rattle.std.specs.Prelude.{◌≡◌, ◌≢◌, ◌⊎◌, ◌++◌, ◌∷◌, [], OnOk, map, string_bytes};
+ghost use Rattle.std.specs.Prelude.{◌≡◌, ◌≢◌, ◌⊎◌, ◌++◌, ◌∷◌, ℕ, [], OnOk, map, take, string_bytes};
 ghost use Rattle.std.specs.Io.KnownBytes.{Appends};
-ghost use Rattle.club_orders.specs.Report.{report_status, report_text, lines};
+ghost use Rattle.club_orders.specs.Report.{report_status, report_text, lines, IsFaultTold};
 
+use crate::written::write_out;
 use club_requests::Outcome;
 use std::alloc::AllocError;
 use std::io::Write;
@@ -119,20 +120,22 @@ fn write_report(text: &mut String, report: &Report) -> Result<(), AllocError>
 
 // Says that a line could not be made, or not be printed.
 fn unprinted<E: Write>(err: &mut E, line: &str) -> u8
-    ensures { result ≡ 3 }
+    ensures status { result ≡ 3 }
+    ensures told { (n : ℕ) × Appends (E.contents err.old) (E.contents err.new) (take n line.now) }
 {
-    let _ = err.write_all(line.as_bytes());
+    let _is_told = write_out(err, line.as_bytes());
     FAULT
 }
 
-/// Prints a report by one call: what was done to the standard output, a refusal or a fault to the standard error.
-/// Gives the status, which is that of a fault where the line could not be written. `line` is empty, and has the room
-/// that was set aside for it.
+/// Prints a report: what was done to the standard output, a refusal or a fault to the standard error. Gives the status,
+/// which is that of a fault where the line could not be made or written. `line` is empty, and has the room that was set
+/// aside for it.
 pub fn print<O: Write, E: Write>(line: String, report: &Report, out: &mut O, err: &mut E) -> u8
     requires { string_bytes line ≡ [] }
     ensures status { (result ≡ report_status report.now) ⊎ (result ≡ 3) }
     ensures done { result ≡ 0 → Appends (O.contents out.old) (O.contents out.new) (report_text report.now) }
     ensures refused { result ≡ 1 → Appends (E.contents err.old) (E.contents err.new) (report_text report.now) }
+    ensures told { result ≡ 3 → IsFaultTold report.now (E.contents err.old) (E.contents err.new) }
     ensures silent { report_status report.now ≢ 0 → out.new ≡ out.old }
 {
     let mut line = line;
@@ -142,13 +145,14 @@ pub fn print<O: Write, E: Write>(line: String, report: &Report, out: &mut O, err
     }
     let status = report.status();
     if status == DONE {
-        return match out.write_all(line.as_bytes()) {
-            Ok(()) => DONE,
-            Err(_) => unprinted(err, "store 77 Output\n"),
-        };
+        if write_out(out, line.as_bytes()) {
+            return DONE;
+        }
+        return unprinted(err, "store 77 Output\n");
     }
-    match err.write_all(line.as_bytes()) {
-        Ok(()) => status,
-        Err(_) => FAULT,
+    if write_out(err, line.as_bytes()) {
+        status
+    } else {
+        FAULT
     }
 }

@@ -22,8 +22,56 @@ fn texts<'a>(rt: &HostRuntime, words: &'a [String]) -> Result<Vec<&'a str>, Allo
     words.iter().map(|word| word.as_str()).collect(rt.alloc())
 }
 
-/// What the words say.
+// The place of a `--` that stands before the file.
+fn dashes_at(words: &[&str]) -> Option<usize> {
+    let at = match words.get(1) {
+        Some(word) if *word == "--now" => 3,
+        Some(word) if word.starts_with("--now=") => 2,
+        _ => 1,
+    };
+    match words.get(at) {
+        Some(word) if *word == "--" => Some(at),
+        _ => None,
+    }
+}
+
+// The same file by a path that does not begin with a hyphen.
+fn plain_path(rt: &HostRuntime, file: &str) -> Result<String, AllocError> {
+    if file.starts_with('-') {
+        format!(in rt.alloc(); "./{file}")
+    } else {
+        String::from_str(rt.alloc(), file)
+    }
+}
+
+// The words with the file in place of the `--` at a place and of the word behind it.
+fn with_file<'a>(
+    rt: &HostRuntime,
+    words: &[&'a str],
+    at: usize,
+    file: &'a str,
+) -> Result<Vec<&'a str>, AllocError> {
+    let mut taken = Vec::new(rt.alloc());
+    for (place, word) in words.iter().enumerate() {
+        if place == at {
+            taken.push(file)?;
+        } else if place != at.saturating_add(1) {
+            taken.push(*word)?;
+        }
+    }
+    Ok(taken)
+}
+
+/// What the words say. Behind a `--` before it the file may begin with a hyphen.
 pub(crate) fn said(rt: &HostRuntime, words: &[String]) -> Result<Words, BadWords> {
     let words = texts(rt, words)?;
+    let Some(at) = dashes_at(words.as_slice()) else {
+        return read_words(rt.alloc(), words.as_slice());
+    };
+    let Some(file) = words.get(at.saturating_add(1)) else {
+        return read_words(rt.alloc(), words.as_slice());
+    };
+    let file = plain_path(rt, file)?;
+    let words = with_file(rt, words.as_slice(), at, file.as_str())?;
     read_words(rt.alloc(), words.as_slice())
 }

@@ -1,6 +1,9 @@
 //! The program's words, read as one order.
 
-ghost use Rattle.std.specs.Prelude.{◌≡◌};
+ghost use Rattle.std.specs.Prelude.{◌≡◌, IfOk, IfSome, Some, codes, map, option_map, string_bytes};
+ghost use Rattle.clap.specs.Words.{first_value, found_of};
+ghost use Rattle.club_words.specs.Asked.{Asks, AsksCommand, AsksImport, AsksService, AsksTask};
+ghost use Rattle.club_words.specs.Asked.{IsMomentIn, IsNumberIn, game_word, record_word, text_in};
 ghost use Rattle.club_words.specs.Imports.{with_text, task_with};
 
 use clap::error::ErrorKind;
@@ -356,17 +359,34 @@ fn club_words<'a>(alloc: Global) -> Result<clap::Command<'a>, AllocError> {
 }
 
 // A copy of a word that has to be there.
-fn text(alloc: Global, matches: &ArgMatches<'_>, name: &str) -> Result<String, AllocError> {
+fn text(alloc: Global, matches: &ArgMatches<'_>, name: &str) -> Result<String, AllocError>
+    ensures { IfOk result (λ text. string_bytes text ≡ text_in (found_of matches.now) name.now) }
+{
     String::from_str(alloc, matches.get_str(name).unwrap_or(""))
 }
 
+// A number, or another where it is not given.
+fn number_or(matches: &ArgMatches<'_>, name: &str, other: u64) -> u64
+    ensures { IsNumberIn (found_of matches.now) name.now other result }
+{
+    match matches.get_one::<u64>(name) {
+        Some(number) => number,
+        None => other,
+    }
+}
+
 // A number that has to be there.
-fn number_of(matches: &ArgMatches<'_>, name: &str) -> u64 {
-    matches.get_one::<u64>(name).unwrap_or(0)
+fn number_of(matches: &ArgMatches<'_>, name: &str) -> u64
+    ensures { IsNumberIn (found_of matches.now) name.now 0 result }
+{
+    number_or(matches, name, 0)
 }
 
 // The game of a word that the parser has passed.
-fn game_of(matches: &ArgMatches<'_>) -> Option<GameKind> {
+fn game_of(matches: &ArgMatches<'_>) -> Option<GameKind>
+    ensures { IfSome result (λ game.
+        first_value (found_of matches.now) (codes "GAME") ≡ Some (game_word game)) }
+{
     match matches.get_str("GAME") {
         Some("draughts") => Some(GameKind::Draughts),
         Some("shogi") => Some(GameKind::Shogi),
@@ -379,17 +399,54 @@ fn unknown(alloc: Global, name: &str) -> Result<BadWords, AllocError> {
     Ok(BadWords::Text(format!(in alloc; "error: unknown word '{name}'\n")?))
 }
 
+// The member that the words name.
+fn member_of(alloc: Global, words: &ArgMatches<'_>) -> Result<Command, AllocError>
+    ensures { IfOk result (AsksCommand (codes "member") (found_of words.now)) }
+{
+    Ok(Command::AddMember(AddMember {
+        name: text(alloc, words, "NAME")?,
+        key: text(alloc, words, "KEY")?,
+    }))
+}
+
 // The event that the words name.
-fn event_of(alloc: Global, words: &ArgMatches<'_>) -> Result<AddEvent, BadWords> {
+fn event_of(alloc: Global, words: &ArgMatches<'_>) -> Result<Command, BadWords>
+    ensures { IfOk result (AsksCommand (codes "event") (found_of words.now)) }
+{
     let Some(game) = game_of(words) else {
         return Err(unknown(alloc, "GAME")?);
     };
-    Ok(AddEvent {
+    Ok(Command::AddEvent(AddEvent {
         name: text(alloc, words, "NAME")?,
         game,
         budget: number_of(words, "BUDGET"),
         increment: number_of(words, "INCREMENT"),
-    })
+    }))
+}
+
+// The game that the words start.
+fn seat_of(alloc: Global, words: &ArgMatches<'_>) -> Result<Command, AllocError>
+    ensures { IfOk result (AsksCommand (codes "seat") (found_of words.now)) }
+{
+    Ok(Command::Seat(Seat {
+        key: text(alloc, words, "KEY")?,
+        event: text(alloc, words, "EVENT")?,
+        first: text(alloc, words, "FIRST")?,
+        second: text(alloc, words, "SECOND")?,
+    }))
+}
+
+// The move that the words play.
+fn move_of(alloc: Global, words: &ArgMatches<'_>) -> Result<Command, AllocError>
+    ensures { IfOk result (AsksCommand (codes "move") (found_of words.now)) }
+{
+    Ok(Command::OnGame(OnGame {
+        game: number_of(words, "GAME"),
+        command: GameCommand::Move {
+            ply: number_of(words, "PLY"),
+            text: text(alloc, words, "TEXT")?,
+        },
+    }))
 }
 
 // The import that the words ask for, without its text.
@@ -398,7 +455,11 @@ fn import_of(
     words: &ArgMatches<'_>,
     format: RecordFormat,
     part: u64,
-) -> Result<Import, AllocError> {
+) -> Result<Import, AllocError>
+    ensures given { IfOk result (AsksImport (found_of words.now)) }
+    ensures format { IfOk result (λ import. import.format ≡ format) }
+    ensures part { IfOk result (λ import. import.part ≡ part) }
+{
     Ok(Import {
         key: text(alloc, words, "KEY")?,
         event: text(alloc, words, "EVENT")?,
@@ -410,12 +471,29 @@ fn import_of(
     })
 }
 
+// The import of a record of draughts.
+fn import_pdn_of(alloc: Global, words: &ArgMatches<'_>) -> Result<Command, AllocError>
+    ensures { IfOk result (AsksCommand (codes "import-pdn") (found_of words.now)) }
+{
+    Ok(Command::Import(import_of(alloc, words, RecordFormat::Pdn, 1)?))
+}
+
+// The import of a record of shogi.
+fn import_csa_of(alloc: Global, words: &ArgMatches<'_>) -> Result<Command, AllocError>
+    ensures { IfOk result (AsksCommand (codes "import-csa") (found_of words.now)) }
+{
+    let part = number_or(words, "N", 1);
+    Ok(Command::Import(import_of(alloc, words, RecordFormat::Csa, part)?))
+}
+
 // Where the text of an import is read from.
 fn record_of(
     alloc: Global,
     name: &str,
     words: &ArgMatches<'_>,
-) -> Result<Option<String>, AllocError> {
+) -> Result<Option<String>, AllocError>
+    ensures { IfOk result (λ path. option_map string_bytes path ≡ record_word name.now (found_of words.now)) }
+{
     match name {
         "import-pdn" => Ok(Some(text(alloc, words, "RECORD")?)),
         "import-csa" => Ok(Some(text(alloc, words, "RECORD")?)),
@@ -423,41 +501,34 @@ fn record_of(
     }
 }
 
+// The command that the words of a subcommand give the club.
+fn command_of(alloc: Global, name: &str, words: &ArgMatches<'_>) -> Result<Command, BadWords>
+    ensures { IfOk result (AsksCommand name.now (found_of words.now)) }
+{
+    match name {
+        "member" => Ok(member_of(alloc, words)?),
+        "event" => Ok(event_of(alloc, words)?),
+        "seat" => Ok(seat_of(alloc, words)?),
+        "sweep" => Ok(Command::Sweep),
+        "import-pdn" => Ok(import_pdn_of(alloc, words)?),
+        "import-csa" => Ok(import_csa_of(alloc, words)?),
+        "move" => Ok(move_of(alloc, words)?),
+        _ => Err(unknown(alloc, name)?),
+    }
+}
+
 // What the words of a subcommand ask for.
-fn task_of(alloc: Global, name: &str, words: &ArgMatches<'_>) -> Result<Task, BadWords> {
-    let command = match name {
-        "init" => return Ok(Task::Init),
-        "legal" => return Ok(Task::Legal(number_of(words, "GAME"))),
-        "export" => return Ok(Task::Export(number_of(words, "GAME"))),
-        "table" => return Ok(Task::Table(text(alloc, words, "EVENT")?)),
-        "verify" => return Ok(Task::Verify),
-        "member" => Command::AddMember(AddMember {
-            name: text(alloc, words, "NAME")?,
-            key: text(alloc, words, "KEY")?,
-        }),
-        "event" => Command::AddEvent(event_of(alloc, words)?),
-        "seat" => Command::Seat(Seat {
-            key: text(alloc, words, "KEY")?,
-            event: text(alloc, words, "EVENT")?,
-            first: text(alloc, words, "FIRST")?,
-            second: text(alloc, words, "SECOND")?,
-        }),
-        "sweep" => Command::Sweep,
-        "import-pdn" => Command::Import(import_of(alloc, words, RecordFormat::Pdn, 1)?),
-        "import-csa" => {
-            let part = words.get_one::<u64>("N").unwrap_or(1);
-            Command::Import(import_of(alloc, words, RecordFormat::Csa, part)?)
-        }
-        "move" => Command::OnGame(OnGame {
-            game: number_of(words, "GAME"),
-            command: GameCommand::Move {
-                ply: number_of(words, "PLY"),
-                text: text(alloc, words, "TEXT")?,
-            },
-        }),
-        _ => return Err(unknown(alloc, name)?),
-    };
-    Ok(Task::Request(command))
+fn task_of(alloc: Global, name: &str, words: &ArgMatches<'_>) -> Result<Task, BadWords>
+    ensures { IfOk result (AsksTask name.now (found_of words.now)) }
+{
+    match name {
+        "init" => Ok(Task::Init),
+        "legal" => Ok(Task::Legal(number_of(words, "GAME"))),
+        "export" => Ok(Task::Export(number_of(words, "GAME"))),
+        "table" => Ok(Task::Table(text(alloc, words, "EVENT")?)),
+        "verify" => Ok(Task::Verify),
+        _ => Ok(Task::Request(command_of(alloc, name, words)?)),
+    }
 }
 
 // What the parser says of words that it refuses.
@@ -476,7 +547,9 @@ fn service_of(
     alloc: Global,
     all: &ArgMatches<'_>,
     words: &ArgMatches<'_>,
-) -> Result<Service, BadWords> {
+) -> Result<Service, BadWords>
+    ensures { IfOk result (AsksService (found_of all.now) (found_of words.now)) }
+{
     let Ok(port) = u16::try_from(number_of(words, "PORT")) else {
         return Err(unknown(alloc, "PORT")?);
     };
@@ -484,13 +557,15 @@ fn service_of(
         file: text(alloc, all, "FILE")?,
         now: moment_of(all),
         port,
-        count: words.get_one::<u64>("COUNT").unwrap_or(u64::MAX),
+        count: number_or(words, "COUNT", u64::MAX),
         log: words.get_flag("LOG"),
     })
 }
 
 // The moment that the words give.
-fn moment_of(all: &ArgMatches<'_>) -> Option<Moment> {
+fn moment_of(all: &ArgMatches<'_>) -> Option<Moment>
+    ensures { IsMomentIn (found_of all.now) result }
+{
     match all.get_one::<u64>("SECONDS") {
         Some(seconds) => Moment::new(seconds),
         None => None,
@@ -503,7 +578,9 @@ fn words_of(
     all: &ArgMatches<'_>,
     name: &str,
     words: &ArgMatches<'_>,
-) -> Result<Words, BadWords> {
+) -> Result<Words, BadWords>
+    ensures { IfOk result (Asks (found_of all.now) name.now (found_of words.now)) }
+{
     if name == "serve" {
         return Ok(Words::Serve(service_of(alloc, all, words)?));
     }

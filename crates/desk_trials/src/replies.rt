@@ -342,13 +342,27 @@ fn a_slow_peer_is_given_up(rt: HostRuntime) -> Result<(), Fail> {
     let mut reply = Vec::new(alloc);
     let slow = Dripping { bytes: &bytes };
     let mut reader = Deadline::new(slow, Calls { left: 50 });
-    let done = serve_one(alloc, &mut reader, &mut reply, &mut club, moment);
+    let done = serve_one(
+        alloc,
+        Vec::new(alloc),
+        &mut reader,
+        &mut reply,
+        &mut club,
+        moment,
+    );
     assert!(rt; done.err() == Some(DeskFault::Read));
     assert!(rt; reply.is_empty());
     assert!(rt; !club.played);
     let mut in_time = Deadline::new(bytes.as_slice(), Calls { left: 50 });
     let mut writer = Deadline::new(&mut reply, Calls { left: 1 });
-    let done = serve_one(alloc, &mut in_time, &mut writer, &mut club, moment);
+    let done = serve_one(
+        alloc,
+        Vec::new(alloc),
+        &mut in_time,
+        &mut writer,
+        &mut club,
+        moment,
+    );
     assert!(rt; done.is_ok());
     assert!(rt; club.played);
     Ok(())
@@ -365,6 +379,7 @@ fn a_reply_that_is_lost_is_given_again(rt: HostRuntime) -> Result<(), Fail> {
     let mut reader = bytes.as_slice();
     let done = serve_one(
         alloc,
+        Vec::new(alloc),
         &mut reader,
         &mut undisturbed,
         &mut new_club(),
@@ -378,12 +393,26 @@ fn a_reply_that_is_lost_is_given_again(rt: HostRuntime) -> Result<(), Fail> {
             return Ok(());
         };
         let mut reader = bytes.as_slice();
-        let done = serve_one(alloc, &mut reader, &mut part, &mut club, moment);
+        let done = serve_one(
+            alloc,
+            Vec::new(alloc),
+            &mut reader,
+            &mut part,
+            &mut club,
+            moment,
+        );
         assert!(rt; done.err() == Some(DeskFault::Write));
         assert!(rt; undisturbed.starts_with(&room[..n]));
         let mut again = Vec::new(alloc);
         let mut reader = bytes.as_slice();
-        let done = serve_one(alloc, &mut reader, &mut again, &mut club, moment);
+        let done = serve_one(
+            alloc,
+            Vec::new(alloc),
+            &mut reader,
+            &mut again,
+            &mut club,
+            moment,
+        );
         assert!(rt; done.is_ok());
         assert!(rt; again.as_slice() == undisturbed.as_slice());
     }

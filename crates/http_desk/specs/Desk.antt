@@ -1,6 +1,6 @@
 -- What the desk answers: by the club's state and by what the bytes amount to.
 use Rattle.std.specs.Prelude.{◌≡◌, ◌⊎◌, ℕ, Bool, ◌&&◌, List, [], Option, Some, None, Result, Ok, Err, option_map, codes}
-use Rattle.std.specs.Prelude.{if◌then◌else◌}
+use Rattle.std.specs.Prelude.{if◌then◌else◌, ⊤}
 use Rattle.std.specs.Str.{bytes_eq, is_utf8}
 use Rattle.serde_json.specs.Written.{compact_text}
 use Rattle.club_requests.specs.declared.refusals.Refusal.TheVariants.{UnknownKey, UnknownEvent, UnknownGame}
@@ -19,7 +19,9 @@ use Rattle.http_desk.specs.Routes.{legal_moves, cross_table, on_game, challenge,
 use Rattle.http_bodies.specs.Reply.{refusal_reply, json_text_reply, plain_reply, fault_reply}
 use Rattle.http_bodies.specs.Shown.{GameShown}
 use Rattle.http_bodies.specs.Bodies.{game_data, moves_data, reply_data, lined, move_text, challenge_of, answer_of}
-use Rattle.http_desk.specs.Served.{Club, Serves}
+use Rattle.http_desk.specs.Served.{Club, IsOfCall, Serves}
+use Rattle.http_desk.specs.declared.desk.Fault.{Fault}
+use Rattle.http_desk.specs.declared.desk.Fault.TheVariants as stop
 
 -- what a reply shows: JSON is its text
 pub data Answer : Type 0 where
@@ -125,18 +127,24 @@ serve_asked club s moment request (Some asked) =
 unfoldable pub serve : {S : Type 0} → Club S → S → ℕ → Request → S × Due
 serve club s moment request = serve_asked club s moment request (asked_of request.target)
 
+-- why an open club gives no answer
+abbrev pub IsStop : Fault → Type 0
+IsStop (stop.Club fault) = IsOfCall fault
+IsStop stop.Memory = ⊤
+
 -- what a call leaves to which this is due
-abbrev pub ServesDue : {S A F : Type 0} → Club S → (S → Type 0) → (S → S → Type 0) → (A → Answer) → S → S × Due
-    → Result A F → Type 0
-ServesDue club stands leaves view s due result = Serves stands leaves s due.0 (λ a. IsDue club s due.1 (view a)) result
+abbrev pub ServesDue : {S A : Type 0} → Club S → (S → Type 0) → (S → S → Type 0) → (A → Answer) → S → S × Due
+    → Result A Fault → Type 0
+ServesDue club stands leaves view s due result =
+    Serves stands leaves s due.0 (λ a. IsDue club s due.1 (view a)) IsStop result
 
 -- ---- replies
 
--- the reply tells a fault of the club, and one of two states is left
+-- the reply tells a fault of a call on the club, and one of two states is left
 abbrev pub TellsFault : {S : Type 0} → (S → S → Type 0) → S → S → Bool → List ℕ → Type 0
 TellsFault leaves s next without_body reply =
-    (fault : ClubFault) × (reply ≡ fault_reply (club_fault_number fault) (club_fault_name fault) without_body)
-    × leaves s next
+    (fault : ClubFault) × IsOfCall fault
+    × (reply ≡ fault_reply (club_fault_number fault) (club_fault_name fault) without_body) × leaves s next
 
 -- the reply shows the answer that is due, and the state behind it stands
 abbrev pub ShowsDue : {S : Type 0} → Club S → (S → Type 0) → S → S × Due → Bool → List ℕ → Type 0

@@ -5,3 +5,4 @@ pub mod Served
 pub mod Desk
 pub mod DeskViews
 pub mod Closed
+pub mod There

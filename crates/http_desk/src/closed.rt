@@ -7,7 +7,7 @@ use club_requests::{Command, Outcome, Who};
 use http_bodies::GameShown;
 use std::alloc::Global;
 
-/// A club whose file could not be taken over: it answers every call with the reason.
+/// A club whose file could not be taken over: it stands in no state, and answers every call with the reason.
 #[derive(Clone, Copy, Debug, PartialEq, Eq)]
 pub struct Closed {
     pub fault: ClubFault,
@@ -23,7 +23,7 @@ impl ServedClub for Closed {
 
     ghost IsClean = { λ b. Unit {0} };
 
-    ghost Stands = { λ b s. Unit {0} };
+    ghost Stands = { λ b s. ⊥ };
 
     ghost Leaves = { λ b s t. Unit {0} };
 

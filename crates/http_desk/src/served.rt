@@ -2,7 +2,7 @@
 ghost use Rattle.std.specs.Prelude.{◌≡◌, Err};
 ghost use Rattle.club_core.specs.Answer.{command_of, outcome_of, who_of};
 ghost use Rattle.http_bodies.specs.ShownViews.{found_view, rows_view};
-ghost use Rattle.http_desk.specs.Served.{Club, Serves};
+ghost use Rattle.http_desk.specs.Served.{Club, IsOfCall, Serves};
 
 use crate::faults::ClubFault;
 use clocks::Moment;
@@ -10,8 +10,9 @@ use club_requests::{Command, Outcome, Who};
 use http_bodies::GameShown;
 use std::alloc::Global;
 
-/// A club that stands in a state. A call that fails leaves the state before it or the one after it. A club that is shut
-/// by a fault answers every call with it.
+/// A club that stands in a state. A call that fails leaves the state before it or the one after it, and tells that a
+/// call of the database failed or that memory was refused. A club that is shut by a fault, whichever it is, answers
+/// every call with it; one that was not taken over is shut, and stands in no state.
 pub trait ServedClub {
     ghost use Rattle.http_desk.specs.declared.faults.ClubFault.{ClubFault};
 
@@ -33,7 +34,8 @@ pub trait ServedClub {
         ensures shut { (fault : ClubFault) → IsShut self.old fault →
             (result ≡ Err fault) × IsShut self.new fault }
         ensures serves { IsClean self.new → (s : State) → Stands self.old s →
-            Serves (Stands self.new) (Leaves self.new) s s (λ found. found ≡ club.has_key s key.now) result };
+            Serves (Stands self.new) (Leaves self.new) s s (λ found. found ≡ club.has_key s key.now)
+            IsOfCall result };
 
     /// A game as members see it, if there is one of that number.
     fn view_game(&mut self, alloc: Global, game: u64) -> Result<Option<GameShown>, ClubFault>
@@ -41,7 +43,8 @@ pub trait ServedClub {
         ensures shut { (fault : ClubFault) → IsShut self.old fault →
             (result ≡ Err fault) × IsShut self.new fault }
         ensures serves { IsClean self.new → (s : State) → Stands self.old s →
-            Serves (Stands self.new) (Leaves self.new) s s (λ found. club.IsGame s game (found_view found)) result };
+            Serves (Stands self.new) (Leaves self.new) s s (λ found. club.IsGame s game (found_view found))
+            IsOfCall result };
 
     /// The legal moves of a game as they are written, in the order in which they are listed.
     fn legal_rows(&mut self, alloc: Global, game: u64) -> Result<Option<Vec<String>>, ClubFault>
@@ -49,7 +52,8 @@ pub trait ServedClub {
         ensures shut { (fault : ClubFault) → IsShut self.old fault →
             (result ≡ Err fault) × IsShut self.new fault }
         ensures serves { IsClean self.new → (s : State) → Stands self.old s →
-            Serves (Stands self.new) (Leaves self.new) s s (λ rows. club.AreLegal s game (rows_view rows)) result };
+            Serves (Stands self.new) (Leaves self.new) s s (λ rows. club.AreLegal s game (rows_view rows))
+            IsOfCall result };
 
     /// The lines of an event's cross table, if there is an event of that name.
     fn table_lines(&mut self, alloc: Global, event: &str) -> Result<Option<Vec<String>>, ClubFault>
@@ -58,7 +62,7 @@ pub trait ServedClub {
             (result ≡ Err fault) × IsShut self.new fault }
         ensures serves { IsClean self.new → (s : State) → Stands self.old s →
             Serves (Stands self.new) (Leaves self.new) s s
-            (λ rows. club.AreLines s event.now (rows_view rows)) result };
+            (λ rows. club.AreLines s event.now (rows_view rows)) IsOfCall result };
 
     /// Gives the club a command.
     fn apply(
@@ -76,7 +80,7 @@ pub trait ServedClub {
             (club.step s (record { who = who_of who.now; command = command_of command.now; moment = moment })).0
             (λ outcome. outcome_of outcome ≡
             (club.step s (record { who = who_of who.now; command = command_of command.now; moment = moment })).1)
-            result };
+            IsOfCall result };
 
     /// What stands is what is left, whichever the other state is.
     ghost stays: { (b : Self) (s t : State) → Stands b s → Leaves b s t };

@@ -3,6 +3,7 @@ use Rattle.std.proofs.Common.{◌≡◌, ℕ, ◌+◌, ◌-◌, List, [], ◌++�
 use Rattle.std.proofs.Common.{refl, append_assoc, append-nil, arith, length-drop, take_all}
 use Rattle.std.proofs.Math.Seq.{take-add}
 use Rattle.std.specs.Io.KnownBytes.{Consumes, Keeps, Appends}
+use Rattle.http_head.specs.Intake.{HasTaken}
 
 pub consumes_more : (a b c : Option (List ℕ)) (x y : List ℕ) → Consumes a b x → Consumes b c y → Consumes a c (x ++ y)
 consumes_more None b c x y p q = tt
@@ -54,3 +55,16 @@ appends_slice a b c bytes at n next e p q =
 pub appends_still : (a b c : Option (List ℕ)) (bytes : List ℕ) (at next : ℕ) → next ≡ at → Appends a b (take at bytes)
     → Keeps b c → Appends a c (take next bytes)
 appends_still a b c bytes at next e p q = rw e (appends_kept a b c (take at bytes) p q)
+
+-- a piece more behind what was heard before and further
+pub taken_more : (heard bytes next piece : List ℕ) (a b c : Option (List ℕ)) → HasTaken heard bytes a b
+    → next ≡ bytes ++ piece → Consumes b c piece → HasTaken heard next a c
+taken_more heard bytes next piece a b c taken is more = (
+  taken.0 ++ piece,
+  is ∙ (ap (λ (t : List ℕ). t ++ piece) taken.1 ∙ append_assoc heard taken.0 piece),
+  consumes_more a b c taken.0 piece taken.2 more,
+)
+
+pub taken_still : (heard bytes next : List ℕ) (a b c : Option (List ℕ)) → HasTaken heard bytes a b → next ≡ bytes
+    → Keeps b c → HasTaken heard next a c
+taken_still heard bytes next a b c taken is kept = (taken.0, is ∙ taken.1, consumes_kept a b c taken.0 taken.2 kept)

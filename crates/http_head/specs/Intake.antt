@@ -1,5 +1,6 @@
 -- How far the bytes of a connection have been looked at.
-use Rattle.std.specs.Prelude.{◌≡◌, ℕ, ◌-◌, ◌≤◌, List, ◌++◌, length, take}
+use Rattle.std.specs.Prelude.{◌≡◌, ℕ, ◌-◌, ◌≤◌, List, ◌++◌, length, take, Option}
+use Rattle.std.specs.Io.KnownBytes.{Consumes}
 use Rattle.http_head.specs.declared.framing.Scan.{Scan}
 use Rattle.http_head.specs.declared.intake.Intake.{Intake}
 use Rattle.http_head.specs.declared.intake.Intake.TheVariants.{Head, Body}
@@ -21,3 +22,7 @@ pub record IsBodyOf (start count : ℕ) (bytes : List ℕ) : Type 0 where
 abbrev pub IsIntake : Intake → List ℕ → Type 0
 IsIntake (Head scan) bytes = IsScanOf scan bytes
 IsIntake (Body start count) bytes = IsBodyOf start count bytes
+
+-- to what was heard before, a reader gave these bytes more
+abbrev pub HasTaken : List ℕ → List ℕ → Option (List ℕ) → Option (List ℕ) → Type 0
+HasTaken heard bytes old new = (further : List ℕ) × (bytes ≡ heard ++ further) × Consumes old new further

@@ -1,10 +1,11 @@
 //! The bytes of a request, as a reader gives them.
 ghost use Rattle.std.specs.Prelude.{◌≡◌, ◌⊎◌, IfOk};
-ghost use Rattle.std.specs.Io.KnownBytes.{Consumes, IsAtEnd};
+ghost use Rattle.std.specs.Io.KnownBytes.{IsAtEnd};
+ghost use Rattle.http_head.specs.Intake.{HasTaken};
 ghost use Rattle.http_head.specs.Request.{IsDecided};
 
 use crate::intake::Intake;
-use std::alloc::{AllocError, Global};
+use std::alloc::AllocError;
 use std::io::{Error, ErrorKind, Read};
 
 /// Why no bytes were taken in.
@@ -27,15 +28,19 @@ pub fn is_interrupted(error: &Error) -> bool {
     matches!(error.kind(), ErrorKind::Interrupted)
 }
 
-/// Reads in large pieces until the bytes amount to something that no further bytes change, or the input ends. Each byte
-/// is looked at once.
-pub fn take_in<R: Read>(alloc: Global, reader: &mut R) -> Result<Vec<u8>, TakeFault>
-    ensures taken { IfOk result (λ v. Consumes (R.remaining reader.old) (R.remaining reader.new) v.items) }
+/// Reads on from what was heard before, in large pieces, until the bytes amount to something that no further bytes
+/// change, or the input ends. Each byte is looked at once.
+pub fn take_in<R: Read>(heard: Vec<u8>, reader: &mut R) -> Result<Vec<u8>, TakeFault>
+    ensures taken { IfOk result (λ v. HasTaken heard.items v.items (R.remaining reader.old)
+        (R.remaining reader.new)) }
     ensures enough { IfOk result (λ v. IsAtEnd (R.remaining reader.new) ⊎ IsDecided v.items) }
 {
-    let mut bytes = Vec::new(alloc);
+    let mut bytes = heard;
     let mut intake = Intake::start();
     let mut chunk = [0_u8; 4096];
+    if intake.is_enough(&bytes) {
+        return Ok(bytes);
+    }
     for _ in 0..u64::MAX {
         match reader.read(&mut chunk) {
             Ok(n) => {

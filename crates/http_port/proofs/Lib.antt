@@ -1,3 +1,2 @@
 pub mod ActedLemmas
-pub mod ReplayLemmas
 pub mod ServingLemmas

@@ -1,4 +1,3 @@
 pub mod LogLine
-pub mod Replayed
 pub mod Serving
 pub mod Visits

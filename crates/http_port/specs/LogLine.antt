@@ -1,5 +1,7 @@
 -- The line that is written of a connection: moment, method, path and status. The key that was shown is no part of it.
-use Rattle.std.specs.Prelude.{◌≡◌, ◌++◌, ℕ, List, Option, Some, None, Result, Ok, Err, codes, decimal, option_and_then}
+use Rattle.std.specs.Prelude.{◌≡◌, ◌⊎◌, ◌++◌, ℕ, List, Option, Some, None, Result, Ok, Err, codes, decimal, take}
+use Rattle.std.specs.Prelude.{option_and_then}
+use Rattle.std.specs.Io.KnownBytes.{Appends}
 use Rattle.http_head.specs.Request.{Seen, unfinished, refused, whole, Sees}
 use Rattle.http_bodies.specs.Reply.{status_in}
 use Rattle.http_desk.specs.Routes.{path_of, text_of}
@@ -45,3 +47,10 @@ abbrev pub IsLineOf : ℕ → Result Exchange DeskFault → List ℕ → Type 0
 IsLineOf moment (Ok done) line = (seen : Seen) × Sees done.bytes.items seen
     × (line ≡ line_written moment (method_written seen) (path_written seen) (status_in done.reply.items))
 IsLineOf moment (Err fault) line = line ≡ fault_line_written moment fault
+
+-- what is written of a connection: its line, or at a fault nothing or a beginning of it
+abbrev pub IsLogged : {U : Type 0} → ℕ → Result Exchange DeskFault → Option (List ℕ) → Option (List ℕ)
+    → Result U DeskFault → Type 0
+IsLogged moment done before now (Ok u) = (line : List ℕ) × IsLineOf moment done line × Appends before now line
+IsLogged moment done before now (Err fault) = (now ≡ before)
+    ⊎ ((line : List ℕ) × (n : ℕ) × IsLineOf moment done line × Appends before now (take n line))

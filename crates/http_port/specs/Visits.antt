@@ -1,9 +1,10 @@
 -- What connections do to a club, whatever their bytes are.
-use Rattle.std.specs.Prelude.{◌⊎◌, ℕ, Result, Ok, Err}
+use Rattle.std.specs.Prelude.{◌⊎◌, ◌≤◌, ◌++◌, ℕ, List, Result, Ok, Err}
+use Rattle.club_requests.specs.Limits.{last_moment}
 use Rattle.http_desk.specs.declared.faults.DeskFault.{DeskFault}
 use Rattle.http_desk.specs.Desk.{Answers, state_behind}
 use Rattle.http_desk.specs.Served.{Club}
-use Rattle.http_head.specs.Request.{Seen}
+use Rattle.http_head.specs.Request.{Seen, Sees}
 use Rattle.http_port.specs.declared.serve.Exchange.{Exchange}
 
 -- the reply is that to the bytes that were heard
@@ -13,8 +14,20 @@ IsAnswered club stands leaves s moment (Ok done) =
     Answers {F = DeskFault} club stands leaves (λ bytes. bytes) s moment done.bytes.items (Ok done.reply.items)
 IsAnswered club stands leaves s moment (Err fault) = Unit {0}
 
--- Nothing was done, or what some bytes ask for: their state stands, or a stop leaves one of the two.
-abbrev pub HasActed : {S : Type 0} → Club S → (S → Type 0) → (S → S → Type 0) → S → ℕ → Type 0
-HasActed club stands leaves s moment =
+-- Nothing was done, or what these bytes ask for, once: the state behind it stands, or a stop leaves that or the one
+-- before.
+abbrev pub HasActed : {S : Type 0} → Club S → (S → Type 0) → (S → S → Type 0) → S → ℕ → List ℕ → Type 0
+HasActed club stands leaves s moment bytes =
     stands s
-    ⊎ ((seen : Seen) × (stands (state_behind club s moment seen) ⊎ leaves s (state_behind club s moment seen)))
+    ⊎ ((seen : Seen) × Sees bytes seen
+    × (stands (state_behind club s moment seen) ⊎ leaves s (state_behind club s moment seen)))
+
+-- the same of the bytes that were heard before, and of what was heard further
+abbrev pub HasActedOn : {S : Type 0} → Club S → (S → Type 0) → (S → S → Type 0) → S → ℕ → List ℕ → Type 0
+HasActedOn club stands leaves s moment heard =
+    (further : List ℕ) × HasActed club stands leaves s moment (heard ++ further)
+
+-- one connection was served at a moment that there is
+abbrev pub HasServed : {S : Type 0} → Club S → (S → Type 0) → (S → S → Type 0) → S → Type 0
+HasServed club stands leaves s =
+    (moment : ℕ) × (moment ≤ last_moment) × (bytes : List ℕ) × HasActed club stands leaves s moment bytes

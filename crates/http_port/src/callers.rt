@@ -1,11 +1,10 @@
 //! Those who come to a port of this machine. Sockets and clocks are read here, and what they give is not proved.
 
-ghost use Rattle.http_port.specs.Visits.{HasActed};
+ghost use Rattle.http_port.specs.Visits.{HasActedOn};
 
 use crate::deadline::{Countdown, Deadline};
 use crate::heard::{Come, Heard};
 use crate::log_lines::log_line;
-use crate::replay::Replay;
 use crate::serve::{Exchange, serve_one};
 use crate::times::clock;
 use crate::visit::Visits;
@@ -486,11 +485,11 @@ impl<'a> Callers<'a> {
     ) -> Result<Exchange, DeskFault>
         ensures clean { C.IsClean club.new → C.IsClean club.old }
         ensures acts { C.IsClean club.new → (s : C.State) → C.Stands club.old s →
-            HasActed C.club (C.Stands club.new) (C.Leaves club.new) s moment }
+            HasActedOn C.club (C.Stands club.new) (C.Leaves club.new) s moment heard.items }
     {
-        let mut reader = Replay::new(heard, timed(self.rt, stream, limit));
+        let mut reader = timed(self.rt, stream, limit);
         let mut writer = timed(self.rt, stream, Duration::from_secs(WRITE_SECONDS));
-        let done = serve_one(alloc, &mut reader, &mut writer, club, moment);
+        let done = serve_one(alloc, heard, &mut reader, &mut writer, club, moment);
         done
     }
 
@@ -505,7 +504,7 @@ impl<'a> Callers<'a> {
     )
         ensures clean { C.IsClean club.new → C.IsClean club.old }
         ensures acts { C.IsClean club.new → (s : C.State) → C.Stands club.old s →
-            HasActed C.club (C.Stands club.new) (C.Leaves club.new) s moment }
+            HasActedOn C.club (C.Stands club.new) (C.Leaves club.new) s moment caller.heard.bytes.items }
     {
         let Caller { stream, heard, .. } = caller;
         let _ = stream.set_nonblocking(false);

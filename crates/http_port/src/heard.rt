@@ -1,5 +1,7 @@
 //! What has come of a request so far.
 
+ghost use Rattle.std.specs.Prelude.{◌≡◌};
+
 use http_head::{Seen, is_interrupted, read_request};
 use std::alloc::Global;
 use std::io::{ErrorKind, Read};
@@ -35,7 +37,9 @@ impl Heard {
     }
 
     /// The bytes that have come.
-    pub(crate) fn into_bytes(self) -> Vec<u8> {
+    pub(crate) fn into_bytes(self) -> Vec<u8>
+        ensures { result ≡ self.bytes }
+    {
         self.bytes
     }
 

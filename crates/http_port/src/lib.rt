@@ -1,19 +1,18 @@
-//! Those who come to a port of this machine, over any club: what a connection brings is kept and given again, one reply
-//! is made of it and written, and a line is written of each. The sockets and the machine's clock are read here.
+//! Those who come to a port of this machine, over any club: what a connection brings is kept until it can be replied
+//! to, one reply is made of it and written, and a line is written of each. The sockets and the machine's clock are read
+//! here.
 #![tactic(auto)]
 
 mod callers;
 mod deadline;
 mod heard;
 mod log_lines;
-mod replay;
 mod serve;
 mod times;
 mod visit;
 
 pub use callers::{Callers, Terms};
 pub use deadline::{Countdown, Deadline};
-pub use replay::Replay;
 pub use serve::{Exchange, serve_one, write_reply};
 pub use times::clock;
 pub use visit::{Visits, serve_closed};

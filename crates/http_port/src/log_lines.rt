@@ -3,10 +3,10 @@
 ghost use Rattle.std.specs.Prelude.{◌≡◌, IfOk, option_and_then, string_bytes};
 ghost use Rattle.http_head.specs.Request.{Seen as SeenIn, Sees};
 ghost use Rattle.http_desk.specs.Routes.{path_of, text_of};
-ghost use Rattle.http_port.specs.LogLine.{IsLineOf, fault_line_written, fault_written, line_written};
+ghost use Rattle.http_port.specs.LogLine.{IsLineOf, IsLogged, fault_line_written, fault_written, line_written};
 ghost use Rattle.http_port.specs.LogLine.{method_written, or_mark, path_written};
 
-use crate::serve::Exchange;
+use crate::serve::{Exchange, write_reply};
 use clocks::Moment;
 use http_bodies::status_of;
 use http_desk::DeskFault;
@@ -95,14 +95,18 @@ fn line_of(
     }
 }
 
-// Writes the line of a connection by one call.
+// Writes the line of a connection, or where the writer fails a beginning of it.
 pub(crate) fn log_line<W: Write>(
     alloc: Global,
     writer: &mut W,
     moment: Moment,
     done: &Result<Exchange, DeskFault>,
-) -> Result<(), AllocError> {
+) -> Result<(), DeskFault>
+    ensures { IsLogged moment done.now (W.contents writer.old) (W.contents writer.new) result }
+{
     let line = line_of(alloc, moment, done)?;
-    let _ = writer.write_all(line.as_bytes());
-    Ok(())
+    match write_reply(writer, line.as_bytes()) {
+        Ok(()) => Ok(()),
+        Err(fault) => Err(fault),
+    }
 }

@@ -1,9 +1,9 @@
 //! One connection.
-ghost use Rattle.std.specs.Prelude.{◌≡◌, ◌≤◌, ℕ, List, Some, take, IfOk, IfErr, OnOk, OnErr};
+ghost use Rattle.std.specs.Prelude.{◌≡◌, ◌≤◌, ◌++◌, ℕ, List, Some, take, IfOk, IfErr, OnOk, OnErr};
 ghost use Rattle.std.specs.Io.KnownBytes.{Appends};
 ghost use Rattle.http_desk.specs.declared.faults.ClubFault.{ClubFault};
 ghost use Rattle.http_port.specs.Serving.{Serving, ShutServing};
-ghost use Rattle.http_port.specs.Visits.{HasActed, IsAnswered};
+ghost use Rattle.http_port.specs.Visits.{HasActedOn, IsAnswered};
 
 use clocks::Moment;
 use http_desk::{DeskFault, ServedClub, answer};
@@ -47,12 +47,14 @@ pub fn write_reply<W: Write>(writer: &mut W, bytes: &[u8]) -> Result<(), DeskFau
     Err(DeskFault::Write)
 }
 
-/// Serves one connection at a moment: reads in large pieces until a reply can be given or the input ends, and writes
-/// the reply to all of the input. A reader that fails before leaves the club as it was; a writer that fails got a
-/// beginning of the reply. Whatever the reader gives, the club does what some request asks for, or nothing; and where
-/// the writer does not fail it gets the reply to the bytes that were heard.
+/// Serves one connection at a moment: to what was heard of it before, reads on in large pieces until a reply can be
+/// given or the input ends, and writes the reply to all that was heard. A reader that fails before leaves the club as
+/// it was; a writer that fails got a beginning of the reply. Whatever the reader gives, the club does what the bytes ask
+/// for that were heard before and further, once, or nothing; and where the writer does not fail it gets the reply to
+/// them.
 pub fn serve_one<R: Read, W: Write, C: ServedClub>(
     alloc: Global,
+    heard: Vec<u8>,
     reader: &mut R,
     writer: &mut W,
     club: &mut C,
@@ -60,21 +62,22 @@ pub fn serve_one<R: Read, W: Write, C: ServedClub>(
 ) -> Result<Exchange, DeskFault>
     ensures clean { C.IsClean club.new → C.IsClean club.old }
     ensures acts { C.IsClean club.new → (s : C.State) → C.Stands club.old s →
-        HasActed C.club (C.Stands club.new) (C.Leaves club.new) s moment }
+        HasActedOn C.club (C.Stands club.new) (C.Leaves club.new) s moment heard.items }
     ensures answers { C.IsClean club.new → (s : C.State) → C.Stands club.old s →
         IsAnswered C.club (C.Stands club.new) (C.Leaves club.new) s moment result }
+    ensures begins { IfOk result (λ done. (further : List ℕ) × (done.bytes.items ≡ heard.items ++ further)) }
     ensures written { IfOk result (λ done.
         Appends (W.contents writer.old) (W.contents writer.new) done.reply.items) }
     ensures serves { C.IsClean club.new → (s : C.State) (input before : List ℕ) → C.Stands club.old s →
         R.remaining reader.old ≡ Some input → W.contents writer.old ≡ Some before →
-        Serving C.club (C.Stands club.new) (C.Leaves club.new) s moment input before (R.remaining reader.new)
-        (W.contents writer.new) result }
+        Serving C.club (C.Stands club.new) (C.Leaves club.new) s moment (heard.items ++ input) before
+        (R.remaining reader.new) (W.contents writer.new) result }
     ensures shut { (fault : ClubFault) → C.IsShut club.old fault → C.IsShut club.new fault ×
         ((input before : List ℕ) → R.remaining reader.old ≡ Some input →
         W.contents writer.old ≡ Some before →
-        ShutServing fault input before (W.contents writer.new) result) }
+        ShutServing fault (heard.items ++ input) before (W.contents writer.new) result) }
 {
-    let bytes = match take_in(alloc, reader) {
+    let bytes = match take_in(heard, reader) {
         Ok(bytes) => bytes,
         Err(TakeFault::Memory) => return Err(DeskFault::Memory),
         Err(TakeFault::Read) => return Err(DeskFault::Read),

@@ -1,8 +1,6 @@
 //! Connections, one after another.
 
-ghost use Rattle.std.specs.Prelude.{◌≤◌, ℕ};
-ghost use Rattle.club_requests.specs.Limits.{last_moment};
-ghost use Rattle.http_port.specs.Visits.{HasActed};
+ghost use Rattle.http_port.specs.Visits.{HasServed};
 
 use http_desk::{Closed, ClubFault, ServedClub};
 use std::alloc::Global;
@@ -10,11 +8,11 @@ use std::alloc::Global;
 /// Those who come to the desk.
 pub trait Visits {
     /// Serves the next connection over the club, if there is one before the desk is to give way. Whatever its peer
-    /// sends, the club does what some request asks for at some moment, or nothing.
+    /// sends, the club does what some bytes ask for at some moment, once, or nothing.
     fn serve_next<C: ServedClub>(&mut self, alloc: Global, club: &mut C) -> bool
         ensures clean { C.IsClean club.new → C.IsClean club.old }
-        ensures acts { C.IsClean club.new → (s : C.State) → C.Stands club.old s → (moment : ℕ) ×
-            (moment ≤ last_moment) × HasActed C.club (C.Stands club.new) (C.Leaves club.new) s moment };
+        ensures acts { C.IsClean club.new → (s : C.State) → C.Stands club.old s →
+            HasServed C.club (C.Stands club.new) (C.Leaves club.new) s };
 }
 
 /// Tells each connection the fault, until the desk is to give way.

@@ -1,8 +1,10 @@
-use Rattle.std.proofs.Common.{sym, subst}
+use Rattle.std.proofs.Common.{sym, subst, inr}
 use Rattle.sqlite.specs.State.{HasCleanDisk}
 use Rattle.sqlite.specs.Held.{state}
 use Rattle.store.proofs.Proved.{still_stands}
-use Rattle.club_desk.specs.Turns.{IsReachableOn}
+use Rattle.store_tables.specs.Club.{IsOpened}
+use Rattle.club_desk.specs.Turns.{IsHistoryOn, IsReachableOn}
+use Rattle.club_desk.proofs.ToldLemmas.{untaken, good_told, served_told, served_taken, served_good, none_failed, stood}
 use Rattle.club_desk.proofs.TurnLemmas.{reads_led}
 use Rattle.club_desk.proofs.stretch.serve_stretch.Goals as goal
 
@@ -23,3 +25,67 @@ returns-clause-led g c clean opens live sessions led =
     (c.in-Ok.ensures.same before) stood in
     subst (λ k. IsReachableOn sessions (state g.S.Store k)) (sym same)
     (c.serve_open-has_failed.ensures.led after sessions stands)
+
+pub returns-clause-stands : goal.returns-clause-stands
+returns-clause-stands g c clean opens live none sessions led =
+    let same = c.into_connection.ensures.same in
+    let after : HasCleanDisk (state g.S.Store c.serve_open-has_failed.new.club.club.connection) =
+    subst (λ k. HasCleanDisk (state g.S.Store k)) same clean in
+    let before = c.serve_open-has_failed.ensures.clean after in
+    let stood = c.holds_what_sessions_left.ensures opens live sessions led in
+    let stands = still_stands sessions (state g.S.Store c.args.conn) (state g.S.Store c.in-Ok.club.connection)
+    (c.in-Ok.ensures.same before) stood in
+    let open_still = none_failed c.serve_open-has_failed.result c.fault_behind.result c.fault_behind.ensures none in
+    subst (λ k. IsHistoryOn sessions (state g.S.Store k)) (sym same)
+    (c.serve_open-has_failed.ensures.stands open_still after sessions stands)
+
+pub returns-in-Err-clause-told : goal.returns-in-Err-clause-told
+returns-in-Err-clause-told g c clean = inr (
+  c.in-Err.unopened.fault,
+  c.told_of_opening.ensures,
+  record {
+    blames = λ is. c.in-Err.ensures.blames clean is;
+    kept = λ opens db left.
+        g.met.S.Store.settled c.args.conn.store db opens.is_open (c.in-Err.ensures.reads.may clean db left);
+  },
+)
+
+pub returns-clause-told : goal.returns-clause-told
+returns-clause-told g c clean =
+    served_told _ _ c.serve_open-has_failed.result c.fault_behind.result c.fault_behind.ensures
+
+pub returns-in-Err-clause-taken : goal.returns-in-Err-clause-taken
+returns-in-Err-clause-taken g c clean opens live schema =
+    untaken _ c.in-Err.unopened.fault c.told_of_opening.result c.told_of_opening.ensures
+
+pub returns-clause-taken : goal.returns-clause-taken
+returns-clause-taken g c clean opens live schema =
+    let same = c.into_connection.ensures.same in
+    let after : HasCleanDisk (state g.S.Store c.serve_open-has_failed.new.club.club.connection) =
+    subst (λ k. HasCleanDisk (state g.S.Store k)) same clean in
+    let before = c.serve_open-has_failed.ensures.clean after in
+    let opened : IsOpened (state g.S.Store c.args.conn) = record {
+      is_open = opens.is_open;
+      idle = opens.autocommit;
+      schema = schema;
+      sound = (live opens.is_open).0;
+      committed = sym opens.clean;
+      settled = λ db left. g.met.S.Store.settled c.args.conn.store db opens.is_open left;
+    } in
+    let (s, is_club, at) = c.in-Ok.ensures.found before opened in
+    let shown = (c.in-Ok.ensures.unchanged before schema).0.0 in
+    served_taken _ c.serve_open-has_failed.result c.fault_behind.result c.fault_behind.ensures (record {
+      state = s;
+      legal = is_club;
+      leaves =
+          stood s (state g.S.Store c.args.conn) (state g.S.Store c.in-Ok.club.connection) at shown.now_is opens.clean;
+    })
+
+pub returns-in-Err-clause-good : goal.returns-in-Err-clause-good
+returns-in-Err-clause-good g c clean opens live s is_club left =
+    good_told c.in-Err.unopened.fault c.told_of_opening.result c.told_of_opening.ensures
+    (c.in-Err.ensures.good clean s is_club (c.holds_exactly.ensures opens live _ _ left))
+
+pub returns-clause-good : goal.returns-clause-good
+returns-clause-good g c clean opens live s is_club left =
+    served_good c.serve_open-has_failed.result c.fault_behind.result c.fault_behind.ensures

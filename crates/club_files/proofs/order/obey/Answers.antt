@@ -1,7 +1,11 @@
-use Rattle.std.proofs.Common.{◌≡◌}
 use Rattle.std.proofs.Math.Logic.{∥∥₁_elim, ∥∥₁_map}
+use Rattle.sqlite_wal.specs.Files.{image_at}
+use Rattle.sqlite_store.specs.FileStore.{state as store_state}
 use Rattle.sqlite.specs.Files.{file_state}
+use Rattle.store_tables.specs.Tables.{club_schema}
 use Rattle.sessions.proofs.Proved.{was_clean}
+use Rattle.club_files.proofs.FoundLemmas.{if_verify, verify_under, if_takes_over, if_unopened}
+use Rattle.club_files.proofs.FoundLemmas.{kept_files, refused_files, sound_files}
 use Rattle.club_files.proofs.order.obey.Goals as goal
 
 pub returns-clause-begun : goal.returns-clause-begun
@@ -15,13 +19,13 @@ returns-clause-begun g c clean is void left may found finds =
     (void _ (record { holds = here.holds; reads = here.reads })) found now)
 
 pub returns-clause-answer : goal.returns-clause-answer
-returns-clause-answer g c clean s is_club holds =
+returns-clause-answer g c clean s are =
     let after = was_clean _ _ c.close.ensures.clean clean in
     let before = was_clean _ _ c.act-report.ensures.clean after in
     let opened = c.in-Ok.ensures.opened before in
     let here = c.in-Ok.ensures.found before in
-    c.act-report.ensures.answer after opened.0 opened.1 s is_club
-    (holds _ (record { holds = here.holds; reads = here.reads }))
+    c.act-report.ensures.answer after opened.0 opened.1 s are.legal
+    (are.finds _ (record { holds = here.holds; reads = here.reads }))
 
 pub returns-clause-led : goal.returns-clause-led
 returns-clause-led g c clean sessions led left may found finds =
@@ -34,37 +38,69 @@ returns-clause-led g c clean sessions led left may found finds =
     (λ now. c.act-report.ensures.led after opened.0 opened.1 sessions was found now))
 
 pub returns-clause-moves : goal.returns-clause-moves
-returns-clause-moves g c clean s is_club holds =
+returns-clause-moves g c clean s are =
     let after = was_clean _ _ c.close.ensures.clean clean in
     let before = was_clean _ _ c.act-report.ensures.clean after in
     let opened = c.in-Ok.ensures.opened before in
     let here = c.in-Ok.ensures.found before in
-    c.act-report.ensures.moves after opened.0 opened.1 s is_club
-    (holds _ (record { holds = here.holds; reads = here.reads }))
+    c.act-report.ensures.moves after opened.0 opened.1 s are.legal
+    (are.finds _ (record { holds = here.holds; reads = here.reads }))
 
 pub returns-clause-table : goal.returns-clause-table
-returns-clause-table g c clean s is_club holds =
+returns-clause-table g c clean s are =
     let after = was_clean _ _ c.close.ensures.clean clean in
     let before = was_clean _ _ c.act-report.ensures.clean after in
     let opened = c.in-Ok.ensures.opened before in
     let here = c.in-Ok.ensures.found before in
-    c.act-report.ensures.table after opened.0 opened.1 s is_club
-    (holds _ (record { holds = here.holds; reads = here.reads }))
+    c.act-report.ensures.table after opened.0 opened.1 s are.legal
+    (are.finds _ (record { holds = here.holds; reads = here.reads }))
 
 pub returns-clause-passes : goal.returns-clause-passes
-returns-clause-passes g c clean s is_club holds =
+returns-clause-passes g c clean s are =
     let after = was_clean _ _ c.close.ensures.clean clean in
     let before = was_clean _ _ c.act-report.ensures.clean after in
     let opened = c.in-Ok.ensures.opened before in
     let here = c.in-Ok.ensures.found before in
-    c.act-report.ensures.passes after opened.0 opened.1 s is_club
-    (holds _ (record { holds = here.holds; reads = here.reads }))
+    c.act-report.ensures.passes after opened.0 opened.1 s are.legal
+    (are.finds _ (record { holds = here.holds; reads = here.reads }))
 
 pub returns-clause-record_of : goal.returns-clause-record_of
-returns-clause-record_of g c clean s is_club holds =
+returns-clause-record_of g c clean s are =
     let after = was_clean _ _ c.close.ensures.clean clean in
     let before = was_clean _ _ c.act-report.ensures.clean after in
     let opened = c.in-Ok.ensures.opened before in
     let here = c.in-Ok.ensures.found before in
-    c.act-report.ensures.record_of after opened.0 opened.1 s is_club
-    (holds _ (record { holds = here.holds; reads = here.reads }))
+    c.act-report.ensures.record_of after opened.0 opened.1 s are.legal
+    (are.finds _ (record { holds = here.holds; reads = here.reads }))
+
+pub returns-clause-sound : goal.returns-clause-sound
+returns-clause-sound g c clean =
+    let after = was_clean _ _ c.close.ensures.clean clean in
+    let before = was_clean _ _ c.act-report.ensures.clean after in
+    let opened = c.in-Ok.ensures.opened before in
+    if_verify c.args.order.now.task (λ legal is.
+    sound_files (image_at g.S.Start) (file_state c.in-Ok.conn) (c.in-Ok.ensures.found before)
+    (c.holds_exactly.ensures opened.0 opened.1 club_schema) (λ schema. legal schema is))
+    (verify_under _ _ c.args.order.now.task (λ schema. c.act-report.ensures.legal after opened.0 opened.1 schema))
+
+pub returns-clause-refuses : goal.returns-clause-refuses
+returns-clause-refuses g c clean =
+    let after = was_clean _ _ c.close.ensures.clean clean in
+    let before = was_clean _ _ c.act-report.ensures.clean after in
+    let opened = c.in-Ok.ensures.opened before in
+    if_takes_over c.args.order.now.task (λ refused.
+    if_unopened _ _ c.act-report.result.0 (λ fault refusal.
+    refused_files (image_at g.S.Start) (file_state c.in-Ok.conn) (c.in-Ok.ensures.found before)
+    (file_state c.act-report.result.1) (store_state c.close.result).may_leave (c.close.ensures.member clean) opened.0
+    (c.holds_exactly.ensures opened.0 opened.1 club_schema) fault refusal)
+    refused)
+    (c.act-report.ensures.refuses after)
+
+pub returns-clause-spares : goal.returns-clause-spares
+returns-clause-spares g c clean is foreign =
+    let after = was_clean _ _ c.close.ensures.clean clean in
+    let before = was_clean _ _ c.act-report.ensures.clean after in
+    let opened = c.in-Ok.ensures.opened before in
+    kept_files (image_at g.S.Start) (file_state c.in-Ok.conn) (c.in-Ok.ensures.found before)
+    (file_state c.act-report.result.1) (store_state c.close.result).may_leave (c.close.ensures.member clean)
+    (c.act-report.ensures.spares after opened.0 is foreign)

@@ -5,6 +5,7 @@ use Rattle.sqlite.specs.Held.{state}
 use Rattle.club_rows.specs.Club.{tables}
 use Rattle.club_orders.specs.Report.{WritesRecord}
 use Rattle.club_orders.proofs.RecordLemmas.{writes_record}
+use Rattle.club_orders.proofs.RefusalLemmas.{taken_over}
 use Rattle.club_orders.proofs.doing.export.Goals as goal
 
 pub returns-in-Err-clause-record_of : goal.returns-in-Err-clause-record_of
@@ -26,7 +27,7 @@ returns-clause-record_of g c clean opens live s is_club left =
     let here = c.in-Ok.ensures.same taken (tables s) (c.holds_exactly.ensures opens live _ _ left) in
     subst
     (λ r. WritesRecord s c.args.game (g.W.Write.contents c.args.out.now)
-    (g.W.Write.contents c.export-written.new.writer) r) (sym c.exported.ensures)
+    (g.W.Write.contents c.export-written.new.writer) r) (sym c.exported.ensures.report)
     (writes_record s c.args.game (g.W.Write.contents c.args.out.now) (g.W.Write.contents c.export-written.new.writer)
     c.export-written.result
     (IfOk-weaker c.export-written.result _ _ (λ found told. told s is_club here)
@@ -43,3 +44,15 @@ returns-clause-led g c clean opens live sessions led db left =
     let before = reads.may after db (subst (λ h. (state g.S.Store h).may_leave db) same left) in
     c.leaves_what_sessions_left.ensures sessions at db
     ((c.in-Ok.ensures.unchanged taken at.exactly.now.schema).1 db before)
+
+pub returns-in-Err-clause-refuses : goal.returns-in-Err-clause-refuses
+returns-in-Err-clause-refuses g c clean =
+    record {
+      blames = λ is. c.in-Err.ensures.blames clean is;
+      kept = λ opens db left.
+          g.met.S.Store.settled c.args.conn.store db opens.is_open (c.in-Err.ensures.reads.may clean db left);
+    }
+
+pub returns-clause-refuses : goal.returns-clause-refuses
+returns-clause-refuses g c clean =
+    taken_over _ c.exported.result c.exported.ensures.taken

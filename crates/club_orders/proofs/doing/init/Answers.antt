@@ -1,7 +1,8 @@
-use Rattle.std.proofs.Common.{[], sym, subst}
+use Rattle.std.proofs.Common.{◌≡◌, [], sym, subst}
 use Rattle.sqlite.specs.State.{HasCleanDisk}
 use Rattle.store.specs.Histories.{IsHistory}
 use Rattle.sqlite.specs.Held.{state}
+use Rattle.club_opening.specs.declared.fault.OpenFault.TheVariants.{Foreign}
 use Rattle.club_orders.proofs.doing.init.Goals as goal
 
 pub returns-in-Ok-clause-begun : goal.returns-in-Ok-clause-begun
@@ -25,3 +26,8 @@ pub returns-in-Err-clause-led : goal.returns-in-Err-clause-led
 returns-in-Err-clause-led g c clean opens live sessions led db left =
     let at = c.holds_what_sessions_left.ensures opens live sessions led in
     c.leaves_what_sessions_left.ensures sessions at db (c.in-Err.ensures.stays clean at.exactly.now.schema db left)
+
+pub returns-in-Err-clause-spares : goal.returns-in-Err-clause-spares
+returns-in-Err-clause-spares g c clean opens is db left =
+    let foreign : c.in-Err.unopened.fault ≡ Foreign = cc in
+    g.met.S.Store.settled c.args.conn.store db opens.is_open (c.in-Err.ensures.refused clean foreign db left)

@@ -50,3 +50,11 @@ returns-in-Err-apply-clause-led g c clean opens live sessions led db left =
     (c.holds_what_sessions_left.ensures opens live sessions led) in
     c.in-Err-apply.ensures.cut_off after c.in-Ok.ensures.ready sessions at db
     (subst (λ h. (state g.S.Store h).may_leave db) same left)
+
+pub returns-in-Err-clause-refuses : goal.returns-in-Err-clause-refuses
+returns-in-Err-clause-refuses g c clean =
+    record {
+      blames = λ is. c.in-Err.ensures.blames clean is;
+      kept = λ opens db left.
+          g.met.S.Store.settled c.args.conn.store db opens.is_open (c.in-Err.ensures.reads.may clean db left);
+    }

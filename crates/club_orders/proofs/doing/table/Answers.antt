@@ -5,6 +5,7 @@ use Rattle.store_tables.specs.Tables.{club_schema}
 use Rattle.club_rows.specs.Club.{tables}
 use Rattle.store.specs.Histories.{IsHistory}
 use Rattle.club_orders.proofs.SessionLemmas.{stands_still}
+use Rattle.club_orders.proofs.RefusalLemmas.{taken_over}
 use Rattle.club_orders.proofs.doing.table.Goals as goal
 
 pub returns-in-Err-clause-table : goal.returns-in-Err-clause-table
@@ -22,7 +23,7 @@ returns-in-Ok-table_rows-clause-table g c clean opens live s is_club left =
     let after = subst (λ h. HasCleanDisk (state g.S.Store h)) same clean in
     let taken : HasCleanDisk (state g.S.Store c.in-Ok.club.connection) =
     omega (arith, (c.table_rows.ensures.reads c.in-Ok.ensures.ready).clean, after) in
-    c.tabled.ensures s c.args.event.now
+    c.tabled.ensures.lists s c.args.event.now
     (c.in-Ok-table_rows.ensures.rows after s is_club
     (c.in-Ok.ensures.same taken (tables s) (c.holds_exactly.ensures opens live _ _ left)))
 
@@ -48,3 +49,15 @@ returns-in-Err-table_rows-clause-led g c clean opens live sessions led db left =
     let before = reads.may after db (subst (λ h. (state g.S.Store h).may_leave db) same left) in
     c.leaves_what_sessions_left.ensures sessions at db
     ((c.in-Ok.ensures.unchanged taken at.exactly.now.schema).1 db before)
+
+pub returns-in-Err-clause-refuses : goal.returns-in-Err-clause-refuses
+returns-in-Err-clause-refuses g c clean =
+    record {
+      blames = λ is. c.in-Err.ensures.blames clean is;
+      kept = λ opens db left.
+          g.met.S.Store.settled c.args.conn.store db opens.is_open (c.in-Err.ensures.reads.may clean db left);
+    }
+
+pub returns-in-Ok-table_rows-clause-refuses : goal.returns-in-Ok-table_rows-clause-refuses
+returns-in-Ok-table_rows-clause-refuses g c clean =
+    taken_over _ c.tabled.result c.tabled.ensures.taken

@@ -2,9 +2,10 @@ use Rattle.std.proofs.Common.{sym, subst}
 use Rattle.sqlite.specs.State.{HasCleanDisk}
 use Rattle.sqlite.specs.Held.{state}
 use Rattle.club_rows.specs.Club.{tables}
-use Rattle.store_tables.specs.Club.{IsExactly}
+use Rattle.store_tables.specs.Club.{IsExactly, IsOpened}
 use Rattle.store.specs.Histories.{IsHistory}
 use Rattle.club_orders.proofs.SessionLemmas.{stands_still}
+use Rattle.club_orders.proofs.RefusalLemmas.{stood}
 use Rattle.club_orders.proofs.doing.verify.Goals as goal
 
 pub returns-in-Ok-clause-sound : goal.returns-in-Ok-clause-sound
@@ -31,3 +32,32 @@ pub returns-in-Err-clause-led : goal.returns-in-Err-clause-led
 returns-in-Err-clause-led g c clean opens live sessions led db left =
     let at = c.holds_what_sessions_left.ensures opens live sessions led in
     c.leaves_what_sessions_left.ensures sessions at db (c.in-Err.ensures.reads.may clean db left)
+
+pub returns-in-Err-clause-refuses : goal.returns-in-Err-clause-refuses
+returns-in-Err-clause-refuses g c clean =
+    record {
+      blames = λ is. c.in-Err.ensures.blames clean is;
+      kept = λ opens db left.
+          g.met.S.Store.settled c.args.conn.store db opens.is_open (c.in-Err.ensures.reads.may clean db left);
+    }
+
+pub returns-in-Ok-clause-legal : goal.returns-in-Ok-clause-legal
+returns-in-Ok-clause-legal g c clean opens live schema is =
+    let same = c.into_connection-conn.ensures.same in
+    let taken = subst (λ h. HasCleanDisk (state g.S.Store h)) same clean in
+    let opened : IsOpened (state g.S.Store c.args.conn) = record {
+      is_open = opens.is_open;
+      idle = opens.autocommit;
+      schema = schema;
+      sound = (live opens.is_open).0;
+      committed = sym opens.clean;
+      settled = λ db left. g.met.S.Store.settled c.args.conn.store db opens.is_open left;
+    } in
+    let (s, is_club, at) = c.in-Ok.ensures.found taken opened in
+    let shown = (c.in-Ok.ensures.unchanged taken schema).0.0 in
+    record {
+      state = s;
+      legal = is_club;
+      leaves =
+          stood s (state g.S.Store c.args.conn) (state g.S.Store c.in-Ok.club.connection) at shown.now_is opens.clean;
+    }

@@ -1,5 +1,6 @@
-use Rattle.std.proofs.Common.{Result, Ok, Err}
+use Rattle.std.proofs.Common.{◌++◌, Some, Result, Ok, Err, refl}
 use Rattle.http_desk.specs.declared.faults.DeskFault.{DeskFault}
+use Rattle.http_port.proofs.ActedLemmas.{answered_acted_on, consumes_on}
 use Rattle.http_port.proofs.ServingLemmas.{served, stopped, shut_served}
 use Rattle.http_port.specs.declared.serve.Exchange.{Exchange}
 use Rattle.http_port.proofs.serve.serve_one.Goals as goal
@@ -8,33 +9,45 @@ pub returns-in-Ok-write_reply-clause-serves : goal.returns-in-Ok-write_reply-cla
 returns-in-Ok-write_reply-clause-serves g c clean s input before stands reader writer =
     let written : Result (Unit {0}) DeskFault = Ok tt in
     served g.C.ServedClub.club (g.C.ServedClub.Stands c.answer.new.club) (g.C.ServedClub.Leaves c.answer.new.club) s
-    c.args.moment input before
+    c.args.moment (c.args.heard.items ++ input) before
     c.in-Ok.bytes.items c.deref.result.now c.in-Ok-answer.reply.items c.deref-2.result.now
-    (g.R.Read.remaining c.args.reader.now) (g.R.Read.remaining c.take_in.new.reader)
+    (Some (c.args.heard.items ++ input)) (g.R.Read.remaining c.take_in.new.reader)
     (g.W.Write.contents c.args.writer.now) (g.W.Write.contents c.write_reply.new.writer) written
-    reader writer c.deref.ensures.value c.deref-2.ensures.value c.in-Ok.ensures.taken c.in-Ok.ensures.enough
+    refl writer c.deref.ensures.value c.deref-2.ensures.value
+    (consumes_on c.args.heard.items input c.in-Ok.bytes.items c.in-Ok.ensures.taken.0
+    (g.R.Read.remaining c.args.reader.now) (g.R.Read.remaining c.take_in.new.reader) reader c.in-Ok.ensures.taken.1
+    c.in-Ok.ensures.taken.2)
+    c.in-Ok.ensures.enough
     (c.in-Ok-answer.ensures.replies clean s stands) c.in-Ok-write_reply.ensures.ok tt tt
 
 pub returns-in-Err-write_reply-clause-serves : goal.returns-in-Err-write_reply-clause-serves
 returns-in-Err-write_reply-clause-serves g c clean s input before stands reader writer =
     served g.C.ServedClub.club (g.C.ServedClub.Stands c.answer.new.club) (g.C.ServedClub.Leaves c.answer.new.club) s
-    c.args.moment input before
+    c.args.moment (c.args.heard.items ++ input) before
     c.in-Ok.bytes.items c.deref.result.now c.in-Ok-answer.reply.items c.deref-2.result.now
-    (g.R.Read.remaining c.args.reader.now) (g.R.Read.remaining c.take_in.new.reader)
+    (Some (c.args.heard.items ++ input)) (g.R.Read.remaining c.take_in.new.reader)
     (g.W.Write.contents c.args.writer.now) (g.W.Write.contents c.write_reply.new.writer)
     (let failed : Result Exchange DeskFault = Err c.in-Err-write_reply.fault in failed)
-    reader writer c.deref.ensures.value c.deref-2.ensures.value c.in-Ok.ensures.taken c.in-Ok.ensures.enough
+    refl writer c.deref.ensures.value c.deref-2.ensures.value
+    (consumes_on c.args.heard.items input c.in-Ok.bytes.items c.in-Ok.ensures.taken.0
+    (g.R.Read.remaining c.args.reader.now) (g.R.Read.remaining c.take_in.new.reader) reader c.in-Ok.ensures.taken.1
+    c.in-Ok.ensures.taken.2)
+    c.in-Ok.ensures.enough
     (c.in-Ok-answer.ensures.replies clean s stands) tt c.in-Err-write_reply.ensures.beginning
     c.in-Err-write_reply.ensures.fault
 
 pub returns-in-Err-clause-serves : goal.returns-in-Err-clause-serves
 returns-in-Err-clause-serves g c clean s input before stands reader writer =
     stopped Exchange g.C.ServedClub.club (g.C.ServedClub.Stands c.answer.new.club) (g.C.ServedClub.Leaves c.answer.new.club) s
-    c.args.moment input before
+    c.args.moment (c.args.heard.items ++ input) before
     c.in-Ok.bytes.items c.deref.result.now
-    (g.R.Read.remaining c.args.reader.now) (g.R.Read.remaining c.take_in.new.reader)
+    (Some (c.args.heard.items ++ input)) (g.R.Read.remaining c.take_in.new.reader)
     (g.W.Write.contents c.args.writer.now) c.in-Err.fault
-    reader writer c.deref.ensures.value c.in-Ok.ensures.taken c.in-Ok.ensures.enough c.in-Err.ensures.fault
+    refl writer c.deref.ensures.value
+    (consumes_on c.args.heard.items input c.in-Ok.bytes.items c.in-Ok.ensures.taken.0
+    (g.R.Read.remaining c.args.reader.now) (g.R.Read.remaining c.take_in.new.reader) reader c.in-Ok.ensures.taken.1
+    c.in-Ok.ensures.taken.2)
+    c.in-Ok.ensures.enough c.in-Err.ensures.fault
     (c.in-Err.ensures.replies clean s stands)
 
 pub returns-in-Ok-write_reply-clause-shut : goal.returns-in-Ok-write_reply-clause-shut
@@ -43,11 +56,15 @@ returns-in-Ok-write_reply-clause-shut g c fault shut =
     let written : Result (Unit {0}) DeskFault = Ok tt in (
       told.0,
       λ input before reader writer.
-          shut_served fault input before
+          shut_served fault (c.args.heard.items ++ input) before
           c.in-Ok.bytes.items c.deref.result.now c.in-Ok-answer.reply.items c.deref-2.result.now
-          (g.R.Read.remaining c.args.reader.now) (g.R.Read.remaining c.take_in.new.reader)
+          (Some (c.args.heard.items ++ input)) (g.R.Read.remaining c.take_in.new.reader)
           (g.W.Write.contents c.args.writer.now) (g.W.Write.contents c.write_reply.new.writer) written
-          reader writer c.deref.ensures.value c.deref-2.ensures.value c.in-Ok.ensures.taken c.in-Ok.ensures.enough
+          refl writer c.deref.ensures.value c.deref-2.ensures.value
+          (consumes_on c.args.heard.items input c.in-Ok.bytes.items c.in-Ok.ensures.taken.0
+          (g.R.Read.remaining c.args.reader.now) (g.R.Read.remaining c.take_in.new.reader) reader
+          c.in-Ok.ensures.taken.1 c.in-Ok.ensures.taken.2)
+          c.in-Ok.ensures.enough
           told.1 c.in-Ok-write_reply.ensures.ok tt tt,
     )
 
@@ -56,11 +73,36 @@ returns-in-Err-write_reply-clause-shut g c fault shut =
     let told = c.in-Ok-answer.ensures.shut fault shut in (
       told.0,
       λ input before reader writer.
-          shut_served fault input before
+          shut_served fault (c.args.heard.items ++ input) before
           c.in-Ok.bytes.items c.deref.result.now c.in-Ok-answer.reply.items c.deref-2.result.now
-          (g.R.Read.remaining c.args.reader.now) (g.R.Read.remaining c.take_in.new.reader)
+          (Some (c.args.heard.items ++ input)) (g.R.Read.remaining c.take_in.new.reader)
           (g.W.Write.contents c.args.writer.now) (g.W.Write.contents c.write_reply.new.writer)
           (let failed : Result Exchange DeskFault = Err c.in-Err-write_reply.fault in failed)
-          reader writer c.deref.ensures.value c.deref-2.ensures.value c.in-Ok.ensures.taken c.in-Ok.ensures.enough
+          refl writer c.deref.ensures.value c.deref-2.ensures.value
+          (consumes_on c.args.heard.items input c.in-Ok.bytes.items c.in-Ok.ensures.taken.0
+          (g.R.Read.remaining c.args.reader.now) (g.R.Read.remaining c.take_in.new.reader) reader
+          c.in-Ok.ensures.taken.1 c.in-Ok.ensures.taken.2)
+          c.in-Ok.ensures.enough
           told.1 tt c.in-Err-write_reply.ensures.beginning c.in-Err-write_reply.ensures.fault,
     )
+
+pub returns-in-Ok-write_reply-clause-acts : goal.returns-in-Ok-write_reply-clause-acts
+returns-in-Ok-write_reply-clause-acts g c clean s stands =
+    answered_acted_on g.C.ServedClub.club (g.C.ServedClub.Stands c.answer.new.club)
+    (g.C.ServedClub.Leaves c.answer.new.club) (λ v. v.items) s c.args.moment c.args.heard.items
+    c.in-Ok.ensures.taken.0 c.in-Ok.bytes.items c.deref.result.now c.answer.result c.deref.ensures.value
+    c.in-Ok.ensures.taken.1 (c.answer.ensures.replies clean s stands)
+
+pub returns-in-Err-write_reply-clause-acts : goal.returns-in-Err-write_reply-clause-acts
+returns-in-Err-write_reply-clause-acts g c clean s stands =
+    answered_acted_on g.C.ServedClub.club (g.C.ServedClub.Stands c.answer.new.club)
+    (g.C.ServedClub.Leaves c.answer.new.club) (λ v. v.items) s c.args.moment c.args.heard.items
+    c.in-Ok.ensures.taken.0 c.in-Ok.bytes.items c.deref.result.now c.answer.result c.deref.ensures.value
+    c.in-Ok.ensures.taken.1 (c.answer.ensures.replies clean s stands)
+
+pub returns-in-Err-clause-acts : goal.returns-in-Err-clause-acts
+returns-in-Err-clause-acts g c clean s stands =
+    answered_acted_on g.C.ServedClub.club (g.C.ServedClub.Stands c.answer.new.club)
+    (g.C.ServedClub.Leaves c.answer.new.club) (λ v. v.items) s c.args.moment c.args.heard.items
+    c.in-Ok.ensures.taken.0 c.in-Ok.bytes.items c.deref.result.now c.answer.result c.deref.ensures.value
+    c.in-Ok.ensures.taken.1 (c.answer.ensures.replies clean s stands)

@@ -18,7 +18,7 @@ returns-clause-serves g c clean s served =
     (λ outcome. outcome_of outcome ≡ answered (club_step s asked))
     c.apply.result c.told_all.result c.told_all.ensures c.requests_keep_clubs.ensures
     (omega (arith, c.seconds-within.ensures.value, c.seconds-within.ensures.range))
-    c.apply.ensures.goes_on c.apply.ensures.ends
+    c.apply.ensures.goes_on c.apply.ensures.ends c.apply.ensures.named
     (if_ok _ _ c.apply.result (c.apply.ensures.answer clean) (λ outcome is. is s served.legal served.exactly))
     (on_ok c.apply.result (c.apply.ensures.step clean) (λ is. is s served.legal served.exactly))
     (on_err c.apply.result (c.apply.ensures.fault clean) (λ left. left served.ready s served.legal served.exactly))

@@ -23,7 +23,7 @@ returns-clause-serves g c clean s served =
     (state g.S.Store c.args.self.now.club.connection) (state g.S.Store c.has_key.new.self.connection) s
     (λ found. found ≡ has_key s c.args.key.now)
     c.has_key.result c.told_all.result c.told_all.ensures c.has_key.ensures.goes_on c.has_key.ensures.ends
-    c.has_key.ensures.reads (c.has_key.ensures.kept clean)
+    c.has_key.ensures.named c.has_key.ensures.reads (c.has_key.ensures.kept clean)
     (if_ok _ _ c.has_key.result (c.has_key.ensures.held clean)
     (λ found held. key_is s c.args.key.now found (held s served.legal served.exactly)))
     clean served

@@ -23,6 +23,6 @@ returns-clause-serves g c clean s served =
     (state g.S.Store c.args.self.now.club.connection) (state g.S.Store c.legal_rows.new.self.connection) s
     (λ rows. AreLegalRows s c.args.game (rows_view rows))
     c.legal_rows.result c.told_all.result c.told_all.ensures c.legal_rows.ensures.goes_on c.legal_rows.ensures.ends
-    c.legal_rows.ensures.reads (c.legal_rows.ensures.kept clean)
+    c.legal_rows.ensures.named c.legal_rows.ensures.reads (c.legal_rows.ensures.kept clean)
     (if_ok _ _ c.legal_rows.result (c.legal_rows.ensures.rows clean) (λ rows are. are s served.legal served.exactly))
     clean served

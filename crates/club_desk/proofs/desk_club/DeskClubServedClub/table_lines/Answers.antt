@@ -23,6 +23,6 @@ returns-clause-serves g c clean s served =
     (state g.S.Store c.args.self.now.club.connection) (state g.S.Store c.table_rows.new.self.connection) s
     (λ rows. AreTableRows s c.args.event.now (rows_view rows))
     c.table_rows.result c.told_all.result c.told_all.ensures c.table_rows.ensures.goes_on c.table_rows.ensures.ends
-    c.table_rows.ensures.reads (c.table_rows.ensures.kept clean)
+    c.table_rows.ensures.named c.table_rows.ensures.reads (c.table_rows.ensures.kept clean)
     (if_ok _ _ c.table_rows.result (c.table_rows.ensures.rows clean) (λ rows are. are s served.legal served.exactly))
     clean served

@@ -1,0 +1,84 @@
+-- What is told of a stretch.
+use Rattle.std.proofs.Common.{◌≡◌, ◌⊎◌, ◌∙◌, Bool, true, false, Option, Some, None, refl, sym, subst, ap, inl, inr}
+use Rattle.std.specs.Prelude.{IfSome}
+use Rattle.sqlite.specs.Effect.{Database, IsDatabase}
+use Rattle.sqlite.specs.State.{State}
+use Rattle.store_tables.specs.Contents.{Content}
+use Rattle.store_tables.specs.Club.{Holds, IsExactly, Leaves}
+use Rattle.club_rows.specs.Club.{ClubState, tables}
+use Rattle.club_opening.specs.declared.fault.OpenFault.{OpenFault}
+use Rattle.club_opening.specs.declared.fault.OpenFault.TheVariants as opening
+use Rattle.http_desk.specs.declared.faults.ClubFault.{ClubFault}
+use Rattle.club_desk.specs.Faults.{told_of_opening}
+use Rattle.club_desk.specs.Told.{IfTaken, IsOfClub, IsTold, fault_behind}
+
+-- ---- the club was not taken over
+
+untaken_told : (Holds : Type 0) (fault : OpenFault) → IfTaken (Some (told_of_opening fault)) Holds
+untaken_told Holds opening.Foreign = tt
+untaken_told Holds (opening.Schema number) = tt
+untaken_told Holds (opening.Damaged table) = tt
+untaken_told Holds opening.Store = tt
+untaken_told Holds opening.Memory = tt
+
+pub untaken : (Holds : Type 0) (fault : OpenFault) (told : ClubFault) → told ≡ told_of_opening fault
+    → IfTaken (Some told) Holds
+untaken Holds fault told is =
+    let P : ClubFault → Type 0 = λ t. IfTaken (Some t) Holds in subst P (sym is) (untaken_told Holds fault)
+
+pub good_told : (fault : OpenFault) (told : ClubFault) → told ≡ told_of_opening fault
+    → (fault ≡ opening.Store) ⊎ (fault ≡ opening.Memory) → IsOfClub told
+good_told fault told is (inl store) = inr (inl (is ∙ ap told_of_opening store))
+good_told fault told is (inr memory) = inr (inr (is ∙ ap told_of_opening memory))
+
+-- ---- it was taken over and served
+
+told_behind : (old new : State) (has_failed : Bool) → IsTold old new (fault_behind has_failed)
+told_behind old new true = inl refl
+told_behind old new false = tt
+
+pub served_told : (old new : State) (has_failed : Bool) (told : Option ClubFault) → told ≡ fault_behind has_failed
+    → IsTold old new told
+served_told old new has_failed told is =
+    let P : Option ClubFault → Type 0 = λ t. IsTold old new t in subst P (sym is) (told_behind old new has_failed)
+
+taken_behind : (Holds : Type 0) (has_failed : Bool) → Holds → IfTaken (fault_behind has_failed) Holds
+taken_behind Holds true holds = holds
+taken_behind Holds false holds = holds
+
+pub served_taken : (Holds : Type 0) (has_failed : Bool) (told : Option ClubFault) → told ≡ fault_behind has_failed
+    → Holds → IfTaken told Holds
+served_taken Holds has_failed told is holds =
+    let P : Option ClubFault → Type 0 = λ t. IfTaken t Holds in subst P (sym is) (taken_behind Holds has_failed holds)
+
+good_behind : (has_failed : Bool) → IfSome (fault_behind has_failed) IsOfClub
+good_behind true = inl refl
+good_behind false = tt
+
+pub served_good : (has_failed : Bool) (told : Option ClubFault) → told ≡ fault_behind has_failed
+    → IfSome told IsOfClub
+served_good has_failed told is =
+    let P : Option ClubFault → Type 0 = λ t. IfSome t IsOfClub in subst P (sym is) (good_behind has_failed)
+
+none_behind : (has_failed : Bool) → fault_behind has_failed ≡ None → has_failed ≡ false
+none_behind true is = cc
+none_behind false is = refl
+
+pub none_failed : (has_failed : Bool) (told : Option ClubFault) → told ≡ fault_behind has_failed → told ≡ None
+    → has_failed ≡ false
+none_failed has_failed told is none = none_behind has_failed (sym is ∙ none)
+
+-- ---- what stands behind an examination stood before it
+
+left_of : (content : Content) (db : Database) → Holds db content → Leaves content db.trees
+left_of content db holds =
+    record {
+      sound = subst (λ schema. IsDatabase (record { schema = schema; trees = db.trees })) holds.schema holds.sound;
+      tables = holds.tables;
+    }
+
+pub stood : (s : ClubState) (old new : State) → IsExactly (tables s) new → new.now ≡ old.now → old.now ≡ old.committed
+    → Leaves (tables s) old.committed.trees
+stood s old new exactly same clean =
+    let P : Database → Type 0 = λ db. Leaves (tables s) db.trees in
+    subst P (same ∙ clean) (left_of (tables s) new.now exactly.now)

@@ -1,0 +1,27 @@
+-- A request that comes again at the desk after the club accepted it.
+use Rattle.std.specs.Prelude.{◌≡◌, ℕ, List, Some, true}
+use Rattle.club_requests.specs.Outcome.{Reply, accepted}
+use Rattle.club_core.specs.State.{Command, key_holder}
+use Rattle.club_rows.specs.Club.{ClubState, IsClub}
+use Rattle.club_laws.specs.Laws.{StillRepeats}
+use Rattle.club_changes.specs.Steps.{club_step}
+use Rattle.store.specs.Histories.{Session, Reaches}
+use Rattle.http_head.specs.Request as head
+use Rattle.http_desk.specs.Desk.{serve, serve_command}
+use Rattle.club_desk.specs.Served.{has_key, served}
+
+-- what it asks the club for: this command of the one who shows the key, about the game or the challenge of that number
+pub record AsksFor (request : head.Request) (key : List ℕ) (number : ℕ) (command : Command) : Type 0 where
+  pub is : (s : ClubState) (moment : ℕ) → has_key s key ≡ true
+      → serve served s moment request ≡ serve_command served s moment key number (Some command)
+
+-- Whatever sessions came between, with their ends and openings, and whatever the moment is: it changes nothing, and is
+-- due the answer that it was given. An offer of a draw is so only as long as no move came since.
+abbrev pub AnswersAlike : Type 0
+AnswersAlike =
+    (before after later : ClubState) (moment again : ℕ) (request : head.Request) (key : List ℕ) (number : ℕ)
+    (command : Command) (reply : Reply) (between : List Session) →
+    IsClub before → AsksFor request key number command →
+    club_step before (record { who = key_holder key; command = command; moment = moment }) ≡ accepted after reply →
+    Reaches after between later → StillRepeats later command →
+    serve served later again request ≡ (later, (serve served before moment request).1)

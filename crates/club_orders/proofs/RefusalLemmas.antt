@@ -1,0 +1,45 @@
+-- What is reported where a club was taken over, and what stands where it is found sound.
+use Rattle.std.proofs.Common.{◌≡◌, ◌∙◌, subst}
+use Rattle.sqlite.specs.Effect.{Database, IsDatabase}
+use Rattle.sqlite.specs.State.{State}
+use Rattle.store_tables.specs.Contents.{Content}
+use Rattle.store_tables.specs.Club.{Holds, IsExactly, Leaves}
+use Rattle.club_rows.specs.Club.{ClubState, tables}
+use Rattle.club_opening.specs.declared.fault.OpenFault.{OpenFault}
+use Rattle.club_orders.specs.declared.report.Report.{Report}
+use Rattle.club_orders.specs.declared.report.Report.TheVariants.{Ready, Sound, Answered, Listed, Exported, Unwritten}
+use Rattle.club_orders.specs.declared.report.Report.TheVariants.{Unopened, Stopped, InUse, NotOpened, NoMoment, Unread}
+use Rattle.club_orders.specs.declared.report.Report.TheVariants.{Listening, Unbound, NoMemory}
+use Rattle.club_orders.specs.Report.{IfUnopened}
+
+-- no tables were refused
+pub taken_over : (P : OpenFault → Type 0) (report : Report) → IfUnopened report (λ fault. ⊥) → IfUnopened report P
+taken_over P Ready taken = tt
+taken_over P Sound taken = tt
+taken_over P (Answered outcome) taken = tt
+taken_over P (Listed texts) taken = tt
+taken_over P Exported taken = tt
+taken_over P Unwritten taken = tt
+taken_over P (Unopened fault) taken = absurd taken
+taken_over P (Stopped fault) taken = tt
+taken_over P InUse taken = tt
+taken_over P NotOpened taken = tt
+taken_over P NoMoment taken = tt
+taken_over P Unread taken = tt
+taken_over P (Listening port) taken = tt
+taken_over P Unbound taken = tt
+taken_over P NoMemory taken = tt
+
+left_of : (content : Content) (db : Database) → Holds db content → Leaves content db.trees
+left_of content db holds =
+    record {
+      sound = subst (λ schema. IsDatabase (record { schema = schema; trees = db.trees })) holds.schema holds.sound;
+      tables = holds.tables;
+    }
+
+-- what stands behind an examination stood before it
+pub stood : (s : ClubState) (old new : State) → IsExactly (tables s) new → new.now ≡ old.now → old.now ≡ old.committed
+    → Leaves (tables s) old.committed.trees
+stood s old new exactly same clean =
+    let P : Database → Type 0 = λ db. Leaves (tables s) db.trees in
+    subst P (same ∙ clean) (left_of (tables s) new.now exactly.now)

@@ -1,0 +1,127 @@
+-- What the program's words ask for, by the texts that the parser found of them.
+use Rattle.std.specs.Prelude.{◌≡◌, ◌⊎◌, ◌<◌, ◌≤◌, ◌^◌, ℕ, Bool, List, [], Option, Some, None, option_map, unwrap_or}
+use Rattle.std.specs.Prelude.{codes, string_bytes, if◌then◌else◌, ◌||◌, true, false}
+use Rattle.std.specs.Str.{bytes_eq}
+use Rattle.std.specs.Str.Parse.{IsNumeral, digits_value, without_leading_plus}
+use Rattle.clap.specs.Words.{first_value, one_text}
+use Rattle.clap.specs.declared.parser.matches.Found.{Found}
+use Rattle.club_rules.specs.declared.names.GameKind.{GameKind}
+use Rattle.club_rules.specs.declared.names.GameKind.TheVariants.{Draughts, Shogi}
+use Rattle.club_rules.specs.declared.records.RecordFormat.TheVariants.{Pdn, Csa}
+use Rattle.club_requests.specs.declared.requests.GameCommand.{GameCommand}
+use Rattle.club_requests.specs.declared.requests.GameCommand.TheVariants.{Move}
+use Rattle.club_requests.specs.declared.requests.Import.{Import}
+use Rattle.club_requests.specs.declared.requests.Command.{Command}
+use Rattle.club_requests.specs.declared.requests.Command.TheVariants.{AddMember, AddEvent, Seat, OnGame, Sweep}
+use Rattle.club_requests.specs.declared.requests.Command.TheVariants.{Import as ImportOf}
+use Rattle.club_words.specs.declared.words.Task.{Task}
+use Rattle.club_words.specs.declared.words.Task.TheVariants.{Init, Request, Legal, Table, Export, Verify}
+use Rattle.club_words.specs.declared.words.Order.{Order}
+use Rattle.club_words.specs.declared.words.Service.{Service}
+use Rattle.club_words.specs.declared.words.Words.{Words}
+use Rattle.club_words.specs.declared.words.Words.TheVariants as words
+
+-- the text of a word: empty where there is none
+abbrev pub text_in : Found → List ℕ → List ℕ
+text_in found name = unwrap_or (first_value found name) []
+
+-- digits, perhaps behind a plus, of a number that fits 64 bits
+abbrev pub IsWhole : List ℕ → Type 0
+IsWhole text = IsNumeral 10 (without_leading_plus text) × (digits_value 10 (without_leading_plus text) < 2 ^ 64)
+
+-- the number that such a text writes
+abbrev pub number_of : List ℕ → ℕ
+number_of text = digits_value 10 (without_leading_plus text)
+
+-- the number of a word: another where it is not given
+pub record IsNumberIn (found : Found) (name : List ℕ) (other n : ℕ) : Type 0 where
+  pub given : (text : List ℕ) → one_text found name ≡ Some text → IsWhole text → n ≡ number_of text
+  pub absent : one_text found name ≡ None → n ≡ other
+
+-- the moment that `--now` gives
+pub record IsMomentIn (found : Found) (now : Option ℕ) : Type 0 where
+  pub given : (text : List ℕ) → one_text found (codes "SECONDS") ≡ Some text → IsWhole text
+      → number_of text ≤ 253402300799 → now ≡ Some (number_of text)
+  pub absent : one_text found (codes "SECONDS") ≡ None → now ≡ None
+
+-- whether a flag is given
+pub record IsFlagIn (found : Found) (name : List ℕ) (is_given : Bool) : Type 0 where
+  pub given : one_text found name ≡ Some (codes "true") → is_given ≡ true
+  pub absent : one_text found name ≡ None → is_given ≡ false
+  pub other : one_text found name ≡ Some (codes "false") → is_given ≡ false
+
+abbrev pub game_word : GameKind → List ℕ
+game_word Draughts = codes "draughts"
+game_word Shogi = codes "shogi"
+
+-- ---- the words of a subcommand
+
+-- the words of an import, whose text is read later
+pub record AsksImport (found : Found) (given : Import) : Type 0 where
+  pub key : string_bytes given.key ≡ text_in found (codes "KEY")
+  pub event : string_bytes given.event ≡ text_in found (codes "EVENT")
+  pub first : string_bytes given.first ≡ text_in found (codes "FIRST")
+  pub second : string_bytes given.second ≡ text_in found (codes "SECOND")
+  pub text : given.text.items ≡ []
+
+abbrev pub AsksGiven : List ℕ → Found → Import → Type 0
+AsksGiven name found given = AsksImport found given
+    × (((name ≡ codes "import-pdn") × (given.format ≡ Pdn) × (given.part ≡ 1))
+    ⊎ ((name ≡ codes "import-csa") × (given.format ≡ Csa) × IsNumberIn found (codes "N") 1 given.part))
+
+abbrev pub AsksMove : Found → GameCommand → Type 0
+AsksMove found (Move ply text) = IsNumberIn found (codes "PLY") 0 ply
+    × (string_bytes text ≡ text_in found (codes "TEXT"))
+AsksMove found _ = ⊥
+
+-- the subcommand of this name asks the club for this
+abbrev pub AsksCommand : List ℕ → Found → Command → Type 0
+AsksCommand name found (AddMember c) = (name ≡ codes "member")
+    × (string_bytes c.name ≡ text_in found (codes "NAME")) × (string_bytes c.key ≡ text_in found (codes "KEY"))
+AsksCommand name found (AddEvent c) = (name ≡ codes "event")
+    × (string_bytes c.name ≡ text_in found (codes "NAME"))
+    × (first_value found (codes "GAME") ≡ Some (game_word c.game))
+    × IsNumberIn found (codes "BUDGET") 0 c.budget × IsNumberIn found (codes "INCREMENT") 0 c.increment
+AsksCommand name found (Seat c) = (name ≡ codes "seat")
+    × (string_bytes c.key ≡ text_in found (codes "KEY")) × (string_bytes c.event ≡ text_in found (codes "EVENT"))
+    × (string_bytes c.first ≡ text_in found (codes "FIRST"))
+    × (string_bytes c.second ≡ text_in found (codes "SECOND"))
+AsksCommand name found (ImportOf c) = AsksGiven name found c
+AsksCommand name found (OnGame c) = (name ≡ codes "move") × IsNumberIn found (codes "GAME") 0 c.game
+    × AsksMove found c.command
+AsksCommand name found Sweep = name ≡ codes "sweep"
+AsksCommand name found _ = ⊥
+
+-- the subcommand of this name asks for this
+abbrev pub AsksTask : List ℕ → Found → Task → Type 0
+AsksTask name found Init = name ≡ codes "init"
+AsksTask name found (Legal game) = (name ≡ codes "legal") × IsNumberIn found (codes "GAME") 0 game
+AsksTask name found (Export game) = (name ≡ codes "export") × IsNumberIn found (codes "GAME") 0 game
+AsksTask name found (Table event) = (name ≡ codes "table") × (string_bytes event ≡ text_in found (codes "EVENT"))
+AsksTask name found Verify = name ≡ codes "verify"
+AsksTask name found (Request command) = AsksCommand name found command
+
+-- where the record of an import is read from
+abbrev pub record_word : List ℕ → Found → Option (List ℕ)
+record_word name found =
+    if bytes_eq name (codes "import-pdn") || bytes_eq name (codes "import-csa")
+    then Some (text_in found (codes "RECORD")) else None
+
+-- ---- all words: those before the name of a subcommand, and its own
+
+pub record AsksOrder (all : Found) (name : List ℕ) (found : Found) (order : Order) : Type 0 where
+  pub file : string_bytes order.file ≡ text_in all (codes "FILE")
+  pub now : IsMomentIn all order.now
+  pub task : AsksTask name found order.task
+  pub from : option_map string_bytes order.record ≡ record_word name found
+
+pub record AsksService (all found : Found) (service : Service) : Type 0 where
+  pub file : string_bytes service.file ≡ text_in all (codes "FILE")
+  pub now : IsMomentIn all service.now
+  pub port : IsNumberIn found (codes "PORT") 0 service.port
+  pub count : IsNumberIn found (codes "COUNT") 18446744073709551615 service.count
+  pub log : IsFlagIn found (codes "LOG") service.log
+
+abbrev pub Asks : Found → List ℕ → Found → Words → Type 0
+Asks all name found (words.Order order) = AsksOrder all name found order
+Asks all name found (words.Serve service) = (name ≡ codes "serve") × AsksService all found service

@@ -1,0 +1,41 @@
+-- That every route of the desk is in its table, and is found.
+use Rattle.std.specs.Prelude.{◌≡◌, ℕ, List, Some, option_map, Ok, codes}
+use Rattle.matchit.specs.Order.{lookup}
+use Rattle.matchit.specs.Route.{Scan, parse_route}
+use Rattle.http_desk.specs.declared.routes.Page.{Page}
+use Rattle.http_desk.specs.declared.routes.Page.TheVariants.{GameView, LegalMoves, CrossTable, MakeMove, OfferDraw}
+use Rattle.http_desk.specs.declared.routes.Page.TheVariants.{AcceptDraw, Resign, ClaimTime, Challenge, Withdraw, Answer}
+use Rattle.http_desk.specs.Routes.{page_of, routes}
+
+-- the text of a route reads, and its pattern leads to the page
+pub record LeadsTo (text : List ℕ) (page : Page) : Type 0 where
+  pub scan : Scan
+  pub reads : parse_route text ≡ Ok scan
+  pub leads : option_map (λ route. route.value) (lookup scan.pattern routes) ≡ Some page
+
+pub record AreThere : Type 0 where
+  pub game : LeadsTo (codes "/games/{id}") GameView
+  pub legal : LeadsTo (codes "/games/{id}/legal") LegalMoves
+  pub table : LeadsTo (codes "/events/{name}/table") CrossTable
+  pub moves : LeadsTo (codes "/games/{id}/moves/{ply}") MakeMove
+  pub offer : LeadsTo (codes "/games/{id}/draw/{ply}/offer") OfferDraw
+  pub accept : LeadsTo (codes "/games/{id}/draw/{ply}/accept") AcceptDraw
+  pub resigns : LeadsTo (codes "/games/{id}/resign") Resign
+  pub claims : LeadsTo (codes "/games/{id}/claim-time") ClaimTime
+  pub opens : LeadsTo (codes "/challenges/{number}") Challenge
+  pub withdraws : LeadsTo (codes "/challenges/{number}/withdraw") Withdraw
+  pub answers : LeadsTo (codes "/answers/{member}/{number}") Answer
+
+-- the page of a path of each kind
+pub record AreFound : Type 0 where
+  pub game : page_of (codes "/games/7") ≡ Some GameView
+  pub legal : page_of (codes "/games/7/legal") ≡ Some LegalMoves
+  pub table : page_of (codes "/events/autumn/table") ≡ Some CrossTable
+  pub moves : page_of (codes "/games/7/moves/5") ≡ Some MakeMove
+  pub offer : page_of (codes "/games/7/draw/5/offer") ≡ Some OfferDraw
+  pub accept : page_of (codes "/games/7/draw/5/accept") ≡ Some AcceptDraw
+  pub resigns : page_of (codes "/games/7/resign") ≡ Some Resign
+  pub claims : page_of (codes "/games/7/claim-time") ≡ Some ClaimTime
+  pub opens : page_of (codes "/challenges/3") ≡ Some Challenge
+  pub withdraws : page_of (codes "/challenges/3/withdraw") ≡ Some Withdraw
+  pub answers : page_of (codes "/answers/anna/3") ≡ Some Answer
