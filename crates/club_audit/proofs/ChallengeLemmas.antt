@@ -3,7 +3,7 @@ use Rattle.std.proofs.Common.{◌≡◌, inl, inr, ℕ, zero, suc, ◌+◌, ◌<
 use Rattle.std.proofs.Common.{true, refl, ap, sym, subst, ◌∙◌, arith}
 use Rattle.std.specs.Prelude.{slice_get, nat_le}
 use Rattle.std.proofs.lemmas.Bool.{and_parts}
-use Rattle.std.proofs.lemmas.Option.{same_Some, slice_get_within}
+use Rattle.std.proofs.lemmas.Option.{same_Some}
 use Rattle.sqlite_rules.specs.Lists.{Has}
 use Rattle.club_core.specs.declared.challenges.Challenge.{Challenge}
 use Rattle.club_core.specs.declared.challenges.Standing.{Standing}
@@ -25,7 +25,8 @@ use Rattle.club_rows.specs.EachOnce.{AreEachOnce}
 use Rattle.club_rows.specs.Tables.{challenge_row, event_row, numbered_from, row_of_game}
 use Rattle.club_rows.proofs.Proved.{challenge-had, columns-told, same-pos}
 use Rattle.club_audit.specs.Audit.{HasPeople}
-use Rattle.club_audit.specs.ChallengeAudit.{AreChallenges, HasItsGame, IsChallengeAmong, IsChallengeOf, IsRowOfPairing}
+use Rattle.club_audit.specs.ChallengeAudit.{AreChallenges, HasItsGame, IsChallengeAmong, IsChallengeOf, IsGameAmong}
+use Rattle.club_audit.specs.ChallengeAudit.{IsRowOfPairing}
 use Rattle.club_audit.specs.ChallengeKeys.{key_in}
 use Rattle.club_audit.proofs.GameLemmas.{placed-some, some-placed, same-count}
 use Rattle.club_audit.proofs.PlacedLemmas.{each-cons, numbered-at, numbered-back, numbered-length}
@@ -38,20 +39,25 @@ row-has [] n x at = cc
 row-has (y ∷ ys) zero x at = inl (ap challenge_cells (same_Some x y (sym at)))
 row-has (y ∷ ys) (suc n) x at = inr (row-has ys n x at)
 
-placed-within : {A : Type 0} (xs : List A) (id : ℕ) (x : A) → place xs id ≡ Some x → id ≤ length xs
-placed-within xs zero x at = omega arith
-placed-within xs (suc n) x at = let within = slice_get_within xs n x at in omega (arith, within)
-
 -- ---- the game of a challenge
 
 accepted-same : (a b : ℕ) → ◌≡◌ {A = Standing} (Accepted a) (Accepted b) → a ≡ b
 accepted-same a b is = cc
 
 -- a game that an accepted challenge names, and whose row is of its event and its members, is the one
-pub its-game-found : (games : List GameRecord) (c : Challenge) (id : ℕ) (row : GameRecord) → c.standing ≡ Accepted id
-    → place games id ≡ Some row → IsRowOfPairing row (pairing_for c) → HasItsGame games c
-its-game-found games c id row is at of =
-    λ n stands. (row, subst (λ k. place games k ≡ Some row) (accepted-same id n (sym is ∙ stands)) at, of)
+pub its-game-found : (games : List GameRecord) (c : Challenge) (id : ℕ) → c.standing ≡ Accepted id
+    → IsGameAmong games id (pairing_for c) → HasItsGame games c
+its-game-found games c id is among =
+    λ n stands. subst (λ k. IsGameAmong games k (pairing_for c)) (accepted-same id n (sym is ∙ stands)) among
+
+-- the row is not of the game with this id, or not of this event and these players
+abbrev pub IsOther : ℕ → Pairing → GameRecord → Type 0
+IsOther id pairing row = row.id ≡ pos id → ¬ IsRowOfPairing row pairing
+
+pub none-among : (games : List GameRecord) (id : ℕ) (pairing : Pairing)
+    → ((k : ℕ) (row : GameRecord) → slice_get games k ≡ Some row → IsOther id pairing row)
+    → ¬ IsGameAmong games id pairing
+none-among games id pairing none among = none among.place among.row among.at among.id_is among.of
 
 -- ---- keys
 
@@ -89,7 +95,8 @@ module _ (rows : Rows) where
   -- rows, each of them that of a challenge, are the rows of a list
   challenges-from : (rs : List ChallengeRow) → Each (IsChallengeOf rows) rs → (cs : List Challenge)
       × (map challenge_cells rs ≡ map challenge_row cs) × Each (IsChallengeAmong rows) cs
-  challenges-from [] each = ([], refl, λ n x at. cc)
+      × Each (λ c. HasShortGame c.standing) cs
+  challenges-from [] each = ([], refl, λ n x at. cc, λ n x at. cc)
   challenges-from (r ∷ rs) each =
       let one = each 0 r refl in
       let rest = challenges-from rs (λ n x at. each (suc n) x at) in
@@ -98,13 +105,14 @@ module _ (rows : Rows) where
         one.challenge ∷ rest.0,
         (λ i. head i ∷ tail i),
         each-cons (IsChallengeAmong rows) one.challenge rest.0 one.among rest.2,
+        each-cons (λ (c : Challenge). HasShortGame c.standing) one.challenge rest.0 one.short.game rest.3,
       )
 
   pub challenges-are : Each (IsChallengeOf rows) rows.challenges.items → AreApart key_in rows.challenges.items
       → (cs : List Challenge) × AreChallenges cs rows
   challenges-are each apart =
       let rs = rows.challenges.items in
-      let (cs, same, legal) = challenges-from rs each in (
+      let (cs, same, legal, short) = challenges-from rs each in (
         cs,
         record {
           rows_are = record {
@@ -115,6 +123,7 @@ module _ (rows : Rows) where
                 apart i j r s at there (key-of-cells r s (r_is ∙ sym s_is));
           };
           legal = legal;
+          short = short;
           numbers = λ i j c d one two alike.
               let (r, at, r_is) = map-got challenge_cells rs i (challenge_row c)
               (ap (λ l. slice_get l i) same ∙ map-at challenge_row cs i c one) in
@@ -142,32 +151,24 @@ module _ (rows : Rows) where
         (map-at challenge_cells rows.challenges.items i r one ∙ ap Some cells_same)
         (map-at challenge_cells rows.challenges.items j s two)
 
-    module _ (members : length rows.members.items ≤ 200) (events : length rows.events.items ≤ 50)
-        (games : length rows.games.items ≤ 5000) where
-      short-game : (s : Standing) → ((id : ℕ) → s ≡ Accepted id → id ≤ length rows.games.items) → HasShortGame s
-      short-game Open low = tt
-      short-game Withdrawn low = tt
-      short-game Refused low = tt
-      short-game (Accepted id) low = let least = low id refl in omega (arith, least, games)
-
+    module _ (members : length rows.members.items ≤ 200) (events : length rows.events.items ≤ 50) where
       short-number : (n : ℕ) → is_challenge_number n ≡ true → n < 2 ^ 32
       short-number n is = let low = le-true n 9999 (and_parts (nat_le 1 n) (nat_le n 9999) is).1 in omega (arith, low)
 
-      short-numbers : (c : Challenge) → IsChallengeAmong rows c → HasShortNumbers c
-      short-numbers c among = record {
+      short-numbers : (c : Challenge) → IsChallengeAmong rows c → HasShortGame c.standing → HasShortNumbers c
+      short-numbers c among short = record {
         member = let low = among.member.1 in omega (arith, low, members);
         own_number = short-number c.number among.number;
         event = let low = among.event.1 in omega (arith, low, events);
         other = let low = among.other.1 in omega (arith, low, members);
-        game = short-game c.standing (λ id is. let named = among.game id is in
-            placed-within rows.games.items id named.0 named.1);
+        game = short;
       }
 
       pub each-shown : Each (IsChallengeOf rows) rows.challenges.items
       each-shown n r at =
           let (m, c, there, is) = shown-at n r at in
           let among = are.legal m c there in
-          record { challenge = c; cells = is; short = short-numbers c among; among = among }
+          record { challenge = c; cells = is; short = short-numbers c among (are.short m c there); among = among }
 
 -- ---- the challenges of a club with these games
 
@@ -190,6 +191,13 @@ module _ (s : ClubState) where
       columns-told both_games.shogi (terms_at (place s.events g.event)) id g row cells in
       record { event = told.numbers.event; first = told.numbers.first; second = told.numbers.second }
 
+  row-id : (id : ℕ) (row : GameRecord) (any : ClubGame) → game_cells row ≡ row_of_game both_games s.events id any
+      → row.id ≡ pos id
+  row-id id row (draughts g) cells = let told =
+      columns-told both_games.draughts (terms_at (place s.events g.event)) id g row cells in told.numbers.id
+  row-id id row (shogi g) cells = let told =
+      columns-told both_games.shogi (terms_at (place s.events g.event)) id g row cells in told.numbers.id
+
   module _ (rows : Rows) (people : HasPeople s rows) (games : List ClubGame)
       (rows_are : map game_cells rows.games.items ≡ numbered_from (row_of_game both_games s.events) 1 games) where
     members-same : length rows.members.items ≡ length s.members
@@ -198,26 +206,39 @@ module _ (s : ClubState) where
     events-same : length rows.events.items ≡ length s.events
     events-same = numbered-length event_cells event_row 1 rows.events.items s.events people.events.rows_are
 
-    game-named : (id : ℕ) (row : GameRecord) (p : Pairing) → place rows.games.items id ≡ Some row → IsRowOfPairing row p
-        → (any : ClubGame) × (place games id ≡ Some any) × (pairing_of any ≡ p)
-    game-named zero row p at of = cc
-    game-named (suc n) row p at of =
+    placed-next : (n id : ℕ) → pos (1 + n) ≡ pos id → id ≡ suc n
+    placed-next n id is = sym (same-pos _ _ is) ∙ omega arith
+
+    game-named : (id : ℕ) (p : Pairing) → IsGameAmong rows.games.items id p → (any : ClubGame)
+        × (place games id ≡ Some any) × (pairing_of any ≡ p)
+    game-named id p among =
+        let n = among.place in
         let (any, there, cells) = numbered-at game_cells (row_of_game both_games s.events) 1 rows.games.items games
-        rows_are n row at in
-        let told = pairing-told (1 + n) row any cells in (
+        rows_are n among.row among.at in
+        let told = pairing-told (1 + n) among.row any cells in
+        let id_is : id ≡ suc n = placed-next n id (sym (row-id (1 + n) among.row any cells) ∙ among.id_is) in (
           any,
-          there,
-          pairing-same (pairing_of any) p (sym told.event ∙ of.event) (sym told.first ∙ of.first)
-              (sym told.second ∙ of.second),
+          ap (place games) id_is ∙ there,
+          pairing-same (pairing_of any) p (sym told.event ∙ among.of.event) (sym told.first ∙ among.of.first)
+              (sym told.second ∙ among.of.second),
         )
 
     row-named : (id : ℕ) (any : ClubGame) (p : Pairing) → place games id ≡ Some any → pairing_of any ≡ p
-        → (row : GameRecord) × (place rows.games.items id ≡ Some row) × IsRowOfPairing row p
+        → IsGameAmong rows.games.items id p
     row-named zero any p at of = cc
     row-named (suc n) any p at of =
         let (row, there, cells) = numbered-back game_cells (row_of_game both_games s.events) 1 rows.games.items games
         rows_are n any at in
-        (row, there, subst (IsRowOfPairing row) of (pairing-told (1 + n) row any cells))
+        record {
+          place = n;
+          row = row;
+          at = there;
+          id_is = row-id (1 + n) row any cells ∙ ap pos (next-id n);
+          of = subst (IsRowOfPairing row) of (pairing-told (1 + n) row any cells);
+        }
+      where
+        next-id : (n : ℕ) → 1 + n ≡ suc n
+        next-id n = omega arith
 
     -- challenges among the rows are legal in the club with the games of these rows
     pub challenges-of : Each (IsChallengeAmong rows) s.challenges
@@ -233,7 +254,7 @@ module _ (s : ClubState) where
           apart = among.apart;
           event = let high = among.event.1 in
               placed-some s.events c.event among.event.0 (omega (arith, high, events-same));
-          accepted = λ id is. let (row, there, of) = among.game id is in game-named id row (pairing_for c) there of;
+          accepted = λ id is. game-named id (pairing_for c) (among.game id is);
         }
 
     -- and the challenges of such a club are among them
@@ -253,6 +274,19 @@ module _ (s : ClubState) where
           game = λ id is. let (any, there, of) = legal.accepted id is in row-named id any (pairing_for c) there of;
         }
 
+-- the game that a challenge of a legal club names has a short id
+club-short : (s : ClubState) → IsClub s → (c : Challenge) → IsLegalChallenge s c → (t : Standing) → c.standing ≡ t
+    → HasShortGame t
+club-short s club c legal Open is = tt
+club-short s club c legal Withdrawn is = tt
+club-short s club c legal Refused is = tt
+club-short s club c legal (Accepted id) is =
+    let (any, there, of) = legal.accepted id is in
+    let within = some-placed s.games id (rw there refl) in
+    let few = club.game_count in
+    let high = within.1 in
+    omega (arith, high, few)
+
 -- the rows of a legal club's challenges, each once, are those that the audit lets pass
 pub club-challenges : (s : ClubState) (rows : Rows) → IsClub s → HasPeople s rows
     → map game_cells rows.games.items ≡ numbered_from (row_of_game both_games s.events) 1 s.games
@@ -261,5 +295,6 @@ pub club-challenges : (s : ClubState) (rows : Rows) → IsClub s → HasPeople s
 club-challenges s rows club people games_are rows_are = record {
   rows_are = rows_are;
   legal = challenges-among s rows people s.games games_are club.challenges;
+  short = λ n c at. club-short s club c (club.challenges n c at) c.standing refl;
   numbers = club.challenge_numbers;
 }

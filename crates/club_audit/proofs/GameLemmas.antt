@@ -23,15 +23,18 @@ use Rattle.club_core.specs.LegalState.{Each, IsGameOf}
 use Rattle.club_core.specs.State.{draughts, shogi, place, kind_at, terms_at}
 use Rattle.club_core.specs.View.{IsRowOf, Shows, clocks_in, terms_of}
 use Rattle.club_laws.proofs.Proved.{in-place}
-use Rattle.store_tables.specs.Cells.{event_cells, move_cells}
+use Rattle.store_tables.specs.Cells.{event_cells, seen_cells}
 use Rattle.store_tables.specs.declared.rows.EventRow.{EventRow}
 use Rattle.store_tables.specs.declared.rows.GameRecord.{GameRecord}
 use Rattle.store_tables.specs.declared.rows.MemberRow.{MemberRow}
 use Rattle.store_tables.specs.declared.rows.MoveRow.{MoveRow}
 use Rattle.store_tables.specs.declared.rows.Rows.{Rows}
 use Rattle.store_tables.specs.Cells.{member_cells}
-use Rattle.club_audit.specs.Audit.{AreMembers, AreEvents, GivesTerms, HasPeople, NamesEvent, IsWithin, EndsBy, HaveGame}
-use Rattle.club_audit.specs.Audit.{IsGameAt}
+use Rattle.club_audit.specs.Audit.{AreAllOf, AreMembers, AreEvents, GivesTerms, HasPeople, NamesEvent, IsWithin, EndsBy}
+use Rattle.club_audit.specs.Audit.{HaveGame, IsGameAt}
+use Rattle.club_audit.specs.GameAudit.{HaveAll, StandsAt}
+use Rattle.club_rows.specs.EachOnce.{AreEachOnce}
+use Rattle.store_tables.specs.declared.rows.SeenRow.{SeenRow}
 use Rattle.club_rows.specs.Club.{ClubGame, ClubState, both_games}
 use Rattle.club_rows.specs.Replay.{terms_with}
 use Rattle.club_rows.specs.Shown.{AreRowsOf}
@@ -195,50 +198,73 @@ HasKind row kind = row.game ≡ pos (kind_number kind)
 module _ (s : ClubState) (rows : Rows) (people : HasPeople s rows) (index : ℕ) (row : GameRecord)
     (moves : List MoveRow) where
   -- the rows of a game of one kind that is played in an event of this kind are those of a game of the club
-  pub game-shown : {P M E T : Type 0} {rules : GameRules P M E T} {kind : GameKind} → Kind rules kind
-      → (event first second : ℕ) (e : EventRow) (budget increment : ℕ) → NamesEvent rows row event first second e
-      → GivesTerms e budget increment → HasKind e kind → row.id ≡ pos (index + 1)
-      → HaveGame rules (terms_with budget increment) s.last row moves → (g : ClubGame)
-      × IsGameAt s (index + 1) row moves g
-  game-shown {rules = rules} {kind = kind} k event first second e budget increment named gives has_kind id_is have =
-      let terms = terms_with budget increment in
-      let game = have.game in
-      let are = have.are in
-      let told : IsToldBy rules have.id game row = columns-told rules terms have.id game row are.row in
-      let id_same : have.id ≡ index + 1 = same-pos _ _ (sym told.numbers.id ∙ id_is) in
-      let event_same : game.event ≡ event = same-pos _ _ (sym told.numbers.event ∙ named.event_is) in
-      let first_same : game.first ≡ first = same-pos _ _ (sym told.numbers.first ∙ named.first_is) in
-      let second_same : game.second ≡ second = same-pos _ _ (sym told.numbers.second ∙ named.second_is) in
-      let (known, at, parts) = event-at s.events rows.events.items people.events event e named.row_is in
-      let stands : place s.events game.event ≡ Some known = ap (place s.events) event_same ∙ at in
-      let same : known.terms ≡ terms = terms-are known e event budget increment parts gives in
-      let by : terms_at (place s.events game.event) ≡ terms = ap terms_at stands ∙ same in
-      let count = same-count s.members rows.members.items people.members in (
-        k.into game,
-        record {
-          legal = k.is_legal s game (record {
-            event = known;
-            in_event = stands;
-            of_kind = kinds-alike known.game kind (same-pos _ _ (sym parts.game_is ∙ has_kind));
-            legal = subst (λ t. IsLegalGame rules t game) (sym same) are.legal;
-            first = subst (λ n. IsSome (place s.members n)) (sym first_same)
-                (placed-some s.members first named.first_low (omega (arith, named.first_high, count)));
-            second = subst (λ n. IsSome (place s.members n)) (sym second_same)
-                (placed-some s.members second named.second_low (omega (arith, named.second_high, count)));
-            key = are.fits.key;
-            start = have.within.start;
-            entries = have.within.entries;
-            lost_by_time =
-                subst
-                (λ t. game.outside ≡ Some Time → (clocks_of game t).since + left_of (turn_of rules game)
-                (clocks_of game t) < s.last) (sym same) have.within.lost_by_time;
-          });
-          row_is = are.row
-              ∙ ((λ i. game_row rules (sym by i) (id_same i) game) ∙ sym (k.row s.events (index + 1) game));
-          moves_are = are.moves
-              ∙ ((λ i. move_rows rules (sym by i) (id_same i) game) ∙ sym (k.moves s.events (index + 1) game));
-        },
-      )
+  module _ {P M E T : Type 0} {rules : GameRules P M E T} {kind : GameKind} (k : Kind rules kind)
+      (event : ℕ) (e : EventRow) (budget increment : ℕ) (named : NamesEvent rows row event e)
+      (gives : GivesTerms e budget increment) (has_kind : HasKind e kind) (stands_at : StandsAt rows index row) where
+    game-stands : (have : HaveGame rules (terms_with budget increment) s.last row moves)
+        → (have.id ≡ index + 1) × IsGameAt s (index + 1) row moves (k.into have.game)
+    game-stands have =
+        let terms = terms_with budget increment in
+        let players = stands_at.players in
+        let game = have.game in
+        let are = have.are in
+        let told : IsToldBy rules have.id game row = columns-told rules terms have.id game row are.row in
+        let id_same : have.id ≡ index + 1 = same-pos _ _ (sym told.numbers.id ∙ stands_at.id) in
+        let event_same : game.event ≡ event = same-pos _ _ (sym told.numbers.event ∙ named.event_is) in
+        let first_same : game.first ≡ stands_at.first = same-pos _ _ (sym told.numbers.first ∙ players.first_is) in
+        let second_same : game.second ≡ stands_at.second = same-pos _ _ (sym told.numbers.second ∙ players.second_is)
+        in
+        let (known, at, parts) = event-at s.events rows.events.items people.events event e named.row_is in
+        let stands : place s.events game.event ≡ Some known = ap (place s.events) event_same ∙ at in
+        let same : known.terms ≡ terms = terms-are known e event budget increment parts gives in
+        let by : terms_at (place s.events game.event) ≡ terms = ap terms_at stands ∙ same in
+        let count = same-count s.members rows.members.items people.members in (
+          id_same,
+          record {
+            legal = k.is_legal s game (record {
+              event = known;
+              in_event = stands;
+              of_kind = kinds-alike known.game kind (same-pos _ _ (sym parts.game_is ∙ has_kind));
+              legal = subst (λ t. IsLegalGame rules t game) (sym same) are.legal;
+              first = subst (λ n. IsSome (place s.members n)) (sym first_same)
+                  (placed-some s.members stands_at.first players.first_low
+                  (omega (arith, players.first_high, count)));
+              second = subst (λ n. IsSome (place s.members n)) (sym second_same)
+                  (placed-some s.members stands_at.second players.second_low
+                  (omega (arith, players.second_high, count)));
+              key = are.fits.key;
+              start = have.within.start;
+              entries = have.within.entries;
+              lost_by_time =
+                  subst
+                  (λ t. game.outside ≡ Some Time → (clocks_of game t).since + left_of (turn_of rules game)
+                  (clocks_of game t) < s.last) (sym same) have.within.lost_by_time;
+            });
+            row_is = are.row
+                ∙ ((λ i. game_row rules (sym by i) (id_same i) game) ∙ sym (k.row s.events (index + 1) game));
+            moves_are = are.moves
+                ∙ ((λ i. move_rows rules (sym by i) (id_same i) game) ∙ sym (k.moves s.events (index + 1) game));
+          },
+        )
+
+    pub game-shown : HaveGame rules (terms_with budget increment) s.last row moves → (g : ClubGame)
+        × IsGameAt s (index + 1) row moves g
+    game-shown have = (k.into have.game, (game-stands have).1)
+
+    -- and so are all its rows
+    pub all-shown : (seen : List SeenRow) → HaveAll rules (terms_with budget increment) s.last row moves seen
+        → (g : ClubGame) × AreAllOf s (index + 1) row moves seen g
+    all-shown seen have =
+        let all = game-stands
+        (record { id = have.id; game = have.game; are = have.are; within = have.within }) in (
+          k.into have.game,
+          record {
+            at = all.1;
+            seen_are =
+                subst (AreEachOnce (map seen_cells seen))
+                (ap (λ n. seen_rows rules n have.game) all.0 ∙ sym (k.seen (index + 1) have.game)) have.seen_are;
+          },
+        )
 
   -- what the rows tell of a game of one kind
   module _ {P M E T : Type 0} {rules : GameRules P M E T} {kind : GameKind} (k : Kind rules kind) (g : Game M)
@@ -250,28 +276,35 @@ module _ (s : ClubState) (rows : Rows) (people : HasPeople s rows) (index : ℕ)
     told-at = columns-told rules (terms_at (place s.events g.event)) (index + 1) g row
         (is.row_is ∙ k.row s.events (index + 1) g)
 
-    -- the game's event has a row, and its players exist
-    pub names-event : (e : EventRow) × NamesEvent rows row g.event g.first g.second e
+    -- the game's event has a row
+    pub names-event : (e : EventRow) × NamesEvent rows row g.event e
     names-event =
         let (e, stands, parts) = event-back s.events rows.events.items people.events g.event of-game.event
         of-game.in_event in
+        (e, record { event_is = told-at.numbers.event; row_is = stands })
+
+    -- it has its place, and its players exist
+    pub game-stands-at : index < 5000 → StandsAt rows index row
+    game-stands-at low =
         let count = same-count s.members rows.members.items people.members in
         let one = some-placed s.members g.first of-game.first in
-        let two = some-placed s.members g.second of-game.second in (
-          e,
-          record {
-            event_is = told-at.numbers.event;
+        let two = some-placed s.members g.second of-game.second in
+        record {
+          low = low;
+          id = told-at.numbers.id;
+          first = g.first;
+          second = g.second;
+          players = record {
             first_is = told-at.numbers.first;
             second_is = told-at.numbers.second;
-            row_is = stands;
             first_low = one.0;
             first_high = omega (arith, one.1, count);
             second_low = two.0;
             second_high = omega (arith, two.1, count);
-          },
-        )
+          };
+        }
 
-    module _ (event first second : ℕ) (e : EventRow) (named : NamesEvent rows row event first second e) where
+    module _ (event : ℕ) (e : EventRow) (named : NamesEvent rows row event e) where
       -- the row that is named is that of the game's event
       named-parts : EventParts g.event of-game.event e
       named-parts =
@@ -304,14 +337,14 @@ module _ (s : ClubState) (rows : Rows) (people : HasPeople s rows) (index : ℕ)
         by-terms = ap terms_at of-game.in_event ∙ known-terms
 
         -- the rows are those of a legal game by these seconds
-        pub rows-of : index < 5000 → AreRowsOf rules (terms_with budget increment) (index + 1) row moves g
-        rows-of low =
+        pub rows-of : index < 5000 → s.last ≤ 253402300799
+            → AreRowsOf rules (terms_with budget increment) (index + 1) row moves g
+        rows-of low last =
             let one = some-placed s.members g.first of-game.first in
             let two = some-placed s.members g.second of-game.second in
             let three = some-placed s.events g.event (some-is _ of-game.event of-game.in_event) in
             let few = people.members.count in
             let events = people.events.count in
-            let last = people.within in
             record {
               budget = gives.has_budget;
               increment = gives.has_increment;
@@ -342,27 +375,31 @@ module _ (s : ClubState) (rows : Rows) (people : HasPeople s rows) (index : ℕ)
 
   -- ---- a game of either kind
 
-  pub any-names : (g : ClubGame) → IsGameAt s (index + 1) row moves g → (event first second : ℕ) × (e : EventRow)
-      × NamesEvent rows row event first second e
-  any-names (draughts g) is = let (e, named) = names-event in_draughts g is in (g.event, g.first, g.second, e, named)
-  any-names (shogi g) is = let (e, named) = names-event in_shogi g is in (g.event, g.first, g.second, e, named)
+  pub any-names : (g : ClubGame) → IsGameAt s (index + 1) row moves g → (event : ℕ) × (e : EventRow)
+      × NamesEvent rows row event e
+  any-names (draughts g) is = let (e, named) = names-event in_draughts g is in (g.event, e, named)
+  any-names (shogi g) is = let (e, named) = names-event in_shogi g is in (g.event, e, named)
 
-  module _ (event first second : ℕ) (e : EventRow) (named : NamesEvent rows row event first second e) where
+  pub any-stands : (g : ClubGame) → IsGameAt s (index + 1) row moves g → index < 5000 → StandsAt rows index row
+  any-stands (draughts g) is low = game-stands-at in_draughts g is low
+  any-stands (shogi g) is low = game-stands-at in_shogi g is low
+
+  module _ (event : ℕ) (e : EventRow) (named : NamesEvent rows row event e) where
     pub any-gives : (g : ClubGame) → IsGameAt s (index + 1) row moves g → (budget increment : ℕ)
         × GivesTerms e budget increment
-    any-gives (draughts g) is = (_, _, gives-terms in_draughts g is event first second e named)
-    any-gives (shogi g) is = (_, _, gives-terms in_shogi g is event first second e named)
+    any-gives (draughts g) is = (_, _, gives-terms in_draughts g is event e named)
+    any-gives (shogi g) is = (_, _, gives-terms in_shogi g is event e named)
 
     pub any-kind : (g : ClubGame) → IsGameAt s (index + 1) row moves g → (kind : GameKind) × HasKind e kind
-    any-kind (draughts g) is = (Draughts, has-kind in_draughts g is event first second e named)
-    any-kind (shogi g) is = (Shogi, has-kind in_shogi g is event first second e named)
+    any-kind (draughts g) is = (Draughts, has-kind in_draughts g is event e named)
+    any-kind (shogi g) is = (Shogi, has-kind in_shogi g is event e named)
 
     any-event : (g : ClubGame) → IsGameAt s (index + 1) row moves g → (known : Event)
         × (place s.events (event_in g) ≡ Some known) × (e.game ≡ pos (kind_number known.game))
     any-event (draughts g) is =
-        (is.legal.event, is.legal.in_event, (named-parts in_draughts g is event first second e named).game_is)
+        (is.legal.event, is.legal.in_event, (named-parts in_draughts g is event e named).game_is)
     any-event (shogi g) is =
-        (is.legal.event, is.legal.in_event, (named-parts in_shogi g is event first second e named).game_is)
+        (is.legal.event, is.legal.in_event, (named-parts in_shogi g is event e named).game_is)
 
     -- in an event of this kind the game is of this kind
     pub game-in : {P M E T : Type 0} {rules : GameRules P M E T} {kind : GameKind} (k : Kind rules kind)
@@ -371,35 +408,37 @@ module _ (s : ClubState) (rows : Rows) (people : HasPeople s rows) (index : ℕ)
         let (known, at, game_is) = any-event g is in
         k.back s g is.legal (ap kind_at at ∙ kinds-alike known.game kind (same-pos _ _ (sym game_is ∙ has_kind)))
 
-    -- and its rows are those of a game of this kind
-    pub rows-in : {P M E T : Type 0} {rules : GameRules P M E T} {kind : GameKind} → Kind rules kind → (g : ClubGame)
-        → IsGameAt s (index + 1) row moves g → (budget increment : ℕ) → GivesTerms e budget increment → HasKind e kind
-        → index < 5000
-        → (game : Game M) × AreRowsOf rules (terms_with budget increment) (index + 1) row moves game
-        × EndsBy rules (terms_with budget increment) s.last game
-    rows-in k g is budget increment gives has_kind low =
-        let (game, same) = game-in k g is has_kind in
-        let one = subst (IsGameAt s (index + 1) row moves) same is in (
-          game,
-          rows-of k game one event first second e named budget increment gives low,
-          in-time k game one event first second e named budget increment gives,
-        )
+    module _ {P M E T : Type 0} {rules : GameRules P M E T} {kind : GameKind} (k : Kind rules kind)
+        (budget increment : ℕ) (gives : GivesTerms e budget increment) (has_kind : HasKind e kind) (low : index < 5000)
+        (last : s.last ≤ 253402300799) where
+      -- and its rows are those of a game of this kind
+      pub game-had : (g : ClubGame) → IsGameAt s (index + 1) row moves g
+          → HaveGame rules (terms_with budget increment) s.last row moves
+      game-had g is =
+          let (game, same) = game-in k g is has_kind in
+          let one = subst (IsGameAt s (index + 1) row moves) same is in
+          record {
+            id = index + 1;
+            game = game;
+            are = rows-of k game one event e named budget increment gives low last;
+            within = in-time k game one event e named budget increment gives;
+          }
 
-    -- its moves are few, and its positions have their rows
-    pub seen-in : {P M E T : Type 0} {rules : GameRules P M E T} {kind : GameKind} → Kind rules kind → (g : ClubGame)
-        → IsGameAt s (index + 1) row moves g → HasKind e kind
-        → (terms : Terms) × (game : Game M) × (length game.entries ≤ 600)
-        × (map move_cells moves ≡ move_rows rules terms (index + 1) game)
-        × (rows_of_seen both_games (index + 1) g ≡ seen_rows rules (index + 1) game)
-    seen-in k g is has_kind =
-        let (game, same) = game-in k g is has_kind in
-        let one = subst (IsGameAt s (index + 1) row moves) same is in (
-          terms_at (place s.events game.event),
-          game,
-          (of-game k game one).legal.plies,
-          one.moves_are ∙ k.moves s.events (index + 1) game,
-          ap (rows_of_seen both_games (index + 1)) same ∙ k.seen (index + 1) game,
-        )
+      -- all of them
+      pub all-had : (seen : List SeenRow) (g : ClubGame) → AreAllOf s (index + 1) row moves seen g
+          → HaveAll rules (terms_with budget increment) s.last row moves seen
+      all-had seen g is =
+          let (game, same) = game-in k g is.at has_kind in
+          let one = subst (IsGameAt s (index + 1) row moves) same is.at in
+          record {
+            id = index + 1;
+            game = game;
+            are = rows-of k game one event e named budget increment gives low last;
+            within = in-time k game one event e named budget increment gives;
+            seen_are =
+                subst (AreEachOnce (map seen_cells seen))
+                (ap (rows_of_seen both_games (index + 1)) same ∙ k.seen (index + 1) game) is.seen_are;
+          }
 
   -- the row has the game's id
   pub any-id : (g : ClubGame) → IsGameAt s (index + 1) row moves g → row.id ≡ pos (index + 1)

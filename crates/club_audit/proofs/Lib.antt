@@ -1,6 +1,9 @@
 pub mod AuditLemmas
 pub mod ChallengeLemmas
+pub mod EventRules
+pub mod FirstLemmas
 pub mod GameLemmas
+pub mod GamePlaces
 pub mod KeyLemmas
 pub mod MatchLemmas
 pub mod NumberLemmas
@@ -11,3 +14,4 @@ pub mod SeenCounts
 pub mod SeenMoves
 pub mod StandingLemmas
 pub mod StandingsTold
+pub mod WrongLemmas

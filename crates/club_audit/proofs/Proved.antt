@@ -1,4 +1,7 @@
 -- What is proved of an audit's reading of the tables, for the proofs of crates above.
 pub use Rattle.club_audit.proofs.AuditLemmas.{game-elsewhere, id-told, keys-in, keys-of, take-got}
 pub use Rattle.club_audit.proofs.ChallengeLemmas.{challenges-of, club-challenges}
+pub use Rattle.club_audit.proofs.FirstLemmas.{all-right, none-named}
+pub use Rattle.club_audit.proofs.GamePlaces.{club-right, right-club}
+pub use Rattle.club_audit.proofs.PeopleLemmas.{events-count, members-count}
 pub use Rattle.club_audit.proofs.PlacedLemmas.{numbered-append, numbered-at, numbered-length}

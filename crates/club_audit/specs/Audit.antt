@@ -1,11 +1,13 @@
 -- What the rows of single tables are tested for: the members, the events, the challenges and the games of a legal club.
-use Rattle.std.specs.Prelude.{◌≡◌, ◌≢◌, ◌+◌, ◌<◌, ◌≤◌, ℕ, pos, List, map, length, Some, IsTrue, string_bytes}
+use Rattle.std.specs.Prelude.{◌≡◌, ◌≢◌, ◌+◌, ◌<◌, ◌≤◌, ℕ, pos, List, map, length, Option, Some, IsTrue}
+use Rattle.std.specs.Prelude.{string_bytes}
 use Rattle.std.specs.Option.{option_map}
 use Rattle.club_rules.specs.GameRules.{GameRules}
 use Rattle.club_core.specs.declared.rows.GameEnd.TheVariants.{Outside}
 use Rattle.club_core.specs.declared.rows.GameView.{GameView}
 use Rattle.club_requests.specs.declared.outside_end.OutsideEnd.TheVariants.{Time}
 use Rattle.club_requests.specs.Limits.{last_moment, most_members, most_events, most_games, is_budget, is_increment}
+use Rattle.club_core.specs.declared.challenges.Challenge.{Challenge}
 use Rattle.club_core.specs.Members.{Member}
 use Rattle.club_core.specs.Events.{Event, Terms}
 use Rattle.club_core.specs.Game.{Game, clocks_of, left_of, turn_of}
@@ -19,6 +21,8 @@ use Rattle.store_tables.specs.declared.rows.MoveRow.{MoveRow}
 use Rattle.store_tables.specs.declared.rows.GameRecord.{GameRecord}
 use Rattle.store_tables.specs.declared.rows.Rows.{Rows}
 use Rattle.store_tables.specs.declared.rows.SeenRow.{SeenRow}
+use Rattle.store_tables.specs.declared.names.Table.{Table}
+use Rattle.store_tables.specs.declared.names.Table.TheVariants.{Members, Events, Challenges, Games, Meta}
 use Rattle.club_rows.specs.Club.{ClubState, ClubGame, both_games}
 use Rattle.club_rows.specs.EachOnce.{AreEachOnce}
 use Rattle.club_rows.specs.Shown.{AreRowsOf}
@@ -76,19 +80,24 @@ pub record AreEvents (events : List Event) (rows : List EventRow) : Type 0 where
 
 -- ---- games
 
--- the club's last moment, its members and its events are those of the rows
+-- the club's members and its events are those of the rows
 pub record HasPeople (s : ClubState) (rows : Rows) : Type 0 where
-  pub moment : rows.meta.last ≡ pos s.last
-  pub within : s.last ≤ last_moment
   pub members : AreMembers s.members rows.members.items
   pub events : AreEvents s.events rows.events.items
 
--- the game names this event, whose row is this one, and two players who are members
-pub record NamesEvent (rows : Rows) (game : GameRecord) (event first second : ℕ) (row : EventRow) : Type 0 where
+-- the club as it would be if this were the moment of its last command
+abbrev pub until : ℕ → ClubState → ClubState
+until last s = record s { last = last }
+
+-- the game names this event, whose row is this one
+pub record NamesEvent (rows : Rows) (game : GameRecord) (event : ℕ) (row : EventRow) : Type 0 where
   pub event_is : game.event ≡ pos event
+  pub row_is : place rows.events.items event ≡ Some row
+
+-- the game names these players, who are members
+pub record NamesPlayers (rows : Rows) (game : GameRecord) (first second : ℕ) : Type 0 where
   pub first_is : game.first ≡ pos first
   pub second_is : game.second ≡ pos second
-  pub row_is : place rows.events.items event ≡ Some row
   pub first_low : 0 < first
   pub first_high : first ≤ length rows.members.items
   pub second_low : 0 < second
@@ -100,6 +109,10 @@ pub record IsWithin {R P M E T : Type 0} (rules : GameRules P M E T) (view : Gam
     pub since : view.row.since ≤ last
     pub lost_by_time : view.row.end ≡ Some (Outside Time)
         → view.row.since + left_of (rules.turn view.position) (clocks_in view.row) < last
+
+-- the same of the last moment that is given, if one is
+abbrev pub IsWithinGiven : {R P M E T : Type 0} → GameRules P M E T → GameView R P M E T → Option ℕ → Type 0
+IsWithinGiven rules view last = (n : ℕ) → last ≡ Some n → n ≤ last_moment → IsWithin rules view n
 
 -- no moment of the game is above the last one, and a side that lost by its time had run out of it before then
 pub record EndsBy {P M E T : Type 0} (rules : GameRules P M E T) (terms : Terms) (last : ℕ) (game : Game M) : Type 0
@@ -131,11 +144,26 @@ pub record AreAllOf (s : ClubState) (id : ℕ) (row : GameRecord) (moves : List 
 
 -- ---- a club but for the moves and the positions of its games
 
--- The rows are those of the members, the events and the challenges of a legal club; there are no more games than a club
--- may have, and no two with one key.
+-- there are no more games than a club may have, and no two with one key
+pub record AreApartGames (games : List GameRecord) : Type 0 where
+  pub few : length games ≤ most_games
+  pub keys : AreApartIfAny (λ r. option_map (λ s. string_bytes s) r.key) games
+
+-- The rows are those of the last moment, the members, the events and the challenges of a legal club; there are no more
+-- games than a club may have, and no two with one key.
 pub record HaveRegister (rows : Rows) : Type 0 where
   pub state : ClubState
+  pub moment : rows.meta.last ≡ pos state.last
+  pub within : state.last ≤ last_moment
   pub people : HasPeople state rows
   pub challenges : AreChallenges state.challenges rows
-  pub few : length rows.games.items ≤ most_games
-  pub keys : AreApartIfAny (λ r. option_map (λ s. string_bytes s) r.key) rows.games.items
+  pub games : AreApartGames rows.games.items
+
+-- what each table has then
+abbrev pub IsRightInRegister : Rows → Table → Type 0
+IsRightInRegister rows Members = (ms : List Member) × AreMembers ms rows.members.items
+IsRightInRegister rows Events = (es : List Event) × AreEvents es rows.events.items
+IsRightInRegister rows Challenges = (cs : List Challenge) × AreChallenges cs rows
+IsRightInRegister rows Games = AreApartGames rows.games.items
+IsRightInRegister rows Meta = (n : ℕ) × (rows.meta.last ≡ pos n) × (n ≤ last_moment)
+IsRightInRegister rows t = Unit {0}

@@ -1,17 +1,16 @@
 -- What the rows of challenges are tested for: those of the challenges of a legal club.
-use Rattle.std.specs.Prelude.{◌≡◌, ◌≢◌, ◌<◌, ◌≤◌, ℕ, pos, List, map, length, Some, IsTrue}
+use Rattle.std.specs.Prelude.{◌≡◌, ◌≢◌, ◌<◌, ◌≤◌, ℕ, pos, List, map, length, Some, IsTrue, slice_get}
 use Rattle.club_core.specs.declared.challenges.Challenge.{Challenge}
 use Rattle.club_core.specs.declared.challenges.Standing.TheVariants.{Accepted}
 use Rattle.club_core.specs.Challenges.{goes_by, pairing_for}
 use Rattle.club_core.specs.LegalState.{Each, AreApart}
 use Rattle.club_requests.specs.Limits.{is_challenge_number}
 use Rattle.club_core.specs.Seats.{Pairing}
-use Rattle.club_core.specs.State.{place}
 use Rattle.store_tables.specs.Cells.{challenge_cells}
 use Rattle.store_tables.specs.declared.rows.ChallengeRow.{ChallengeRow}
 use Rattle.store_tables.specs.declared.rows.GameRecord.{GameRecord}
 use Rattle.store_tables.specs.declared.rows.Rows.{Rows}
-use Rattle.club_rows.specs.ChallengeRows.{HasShortNumbers}
+use Rattle.club_rows.specs.ChallengeRows.{HasShortGame, HasShortNumbers}
 use Rattle.club_rows.specs.EachOnce.{AreEachOnce}
 use Rattle.club_rows.specs.Tables.{challenge_row}
 
@@ -21,10 +20,17 @@ pub record IsRowOfPairing (game : GameRecord) (pairing : Pairing) : Type 0 where
   pub first : game.first ≡ pos pairing.first
   pub second : game.second ≡ pos pairing.second
 
+-- one of the rows of games has this id, and is of this event and of these players
+pub record IsGameAmong (games : List GameRecord) (id : ℕ) (pairing : Pairing) : Type 0 where
+  pub place : ℕ
+  pub row : GameRecord
+  pub at : slice_get games place ≡ Some row
+  pub id_is : row.id ≡ pos id
+  pub of : IsRowOfPairing row pairing
+
 -- a challenge that was accepted names one of the games, of its event and between its two members on their sides
 abbrev pub HasItsGame : List GameRecord → Challenge → Type 0
-HasItsGame games c = (id : ℕ) → c.standing ≡ Accepted id → (game : GameRecord) × (place games id ≡ Some game)
-    × IsRowOfPairing game (pairing_for c)
+HasItsGame games c = (id : ℕ) → c.standing ≡ Accepted id → IsGameAmong games id (pairing_for c)
 
 -- the id is that of one of these
 abbrev pub IsIdAmong : {A : Type 0} → List A → ℕ → Type 0
@@ -46,8 +52,10 @@ pub record IsChallengeOf (rows : Rows) (row : ChallengeRow) : Type 0 where
   pub short : HasShortNumbers challenge
   pub among : IsChallengeAmong rows challenge
 
--- The rows are those of these challenges, each once and in whatever order, and they are challenges of a legal club.
+-- The rows are those of these challenges, each once and in whatever order, and they are challenges of a legal club; a
+-- game that is named has an id of 32 bits.
 pub record AreChallenges (challenges : List Challenge) (rows : Rows) : Type 0 where
   pub rows_are : AreEachOnce (map challenge_cells rows.challenges.items) (map challenge_row challenges)
   pub legal : Each (IsChallengeAmong rows) challenges
+  pub short : Each (λ c. HasShortGame c.standing) challenges
   pub numbers : AreApart goes_by challenges

@@ -1,5 +1,5 @@
--- When all rows of one game are those of a legal game of its event.
-use Rattle.std.specs.Prelude.{◌≡◌, ℕ, pos, List, map}
+-- When all rows of one game are those of a legal game of its event, and which table is wrong first.
+use Rattle.std.specs.Prelude.{◌≡◌, ◌+◌, ◌<◌, ◌≤◌, ℕ, pos, List, map, Option, Some}
 use Rattle.club_rules.specs.declared.names.GameKind.{GameKind}
 use Rattle.club_rules.specs.declared.names.GameKind.TheVariants.{Draughts, Shogi}
 use Rattle.club_rules.specs.GameRules.{GameRules}
@@ -10,12 +10,16 @@ use Rattle.store_tables.specs.declared.rows.EventRow.{EventRow}
 use Rattle.store_tables.specs.declared.rows.GameRecord.{GameRecord}
 use Rattle.store_tables.specs.declared.rows.MoveRow.{MoveRow}
 use Rattle.store_tables.specs.declared.rows.SeenRow.{SeenRow}
-use Rattle.club_audit.specs.Audit.{EndsBy, GivesTerms}
-use Rattle.club_rows.specs.Club.{both_games}
+use Rattle.store_tables.specs.declared.rows.Rows.{Rows}
+use Rattle.store_tables.specs.declared.names.Table.{Table}
+use Rattle.store_tables.specs.declared.names.Table.TheVariants.{Events, Moves, Games, Seen, Meta}
+use Rattle.club_requests.specs.Limits.{last_moment, most_games}
+use Rattle.club_audit.specs.Audit.{AreAllOf, EndsBy, GivesTerms, HaveGame, IsGameAt, NamesEvent, NamesPlayers, until}
+use Rattle.club_rows.specs.Club.{both_games, ClubGame, ClubState}
 use Rattle.club_rows.specs.Replay.{terms_with}
 use Rattle.club_rows.specs.EachOnce.{AreEachOnce}
 use Rattle.club_rows.specs.Seen.{seen_rows}
-use Rattle.club_rows.specs.Shown.{AreRowsOf}
+use Rattle.club_rows.specs.Shown.{AreMovesOf, AreRowsOf}
 use Rattle.club_rows.specs.Tables.{kind_number}
 
 -- the rows are all those of some legal game of these rules and terms, up to the last moment
@@ -41,3 +45,62 @@ pub record AreOfEvent (event : EventRow) (last : ℕ)
   pub increment : ℕ
   pub terms : GivesTerms event budget increment
   pub all : HaveAllOf kind (terms_with budget increment) last row moves seen
+
+-- ---- table by table
+
+-- What the rows of a table are, of a game that is played by these rules and terms, where those of the tables before it
+-- are so: the moves those of a legal game, the game's row its own up to whatever moment, the positions all of its own,
+-- and no moment of it above the last one, if one is given.
+abbrev pub IsRightIn : {P M E T : Type 0} → GameRules P M E T → Terms → Option ℕ → GameRecord → List MoveRow
+    → List SeenRow → Table → Type 0
+IsRightIn rules terms last row moves seen Moves = AreMovesOf rules terms row moves
+IsRightIn rules terms last row moves seen Games = HaveGame rules terms last_moment row moves
+IsRightIn rules terms last row moves seen Seen = HaveAll rules terms last_moment row moves seen
+IsRightIn rules terms last row moves seen Meta =
+    (n : ℕ) → last ≡ Some n → n ≤ last_moment → HaveAll rules terms n row moves seen
+IsRightIn rules terms last row moves seen t = Unit {0}
+
+-- the same, by the rules of the kind
+abbrev pub IsRightOf : GameKind → Terms → Option ℕ → GameRecord → List MoveRow → List SeenRow → Table → Type 0
+IsRightOf Draughts terms last row moves seen t = IsRightIn both_games.draughts terms last row moves seen t
+IsRightOf Shogi terms last row moves seen t = IsRightIn both_games.shogi terms last row moves seen t
+
+-- the event's row gives a kind and terms
+pub record GivesRules (event : EventRow) : Type 0 where
+  pub kind : GameKind
+  pub kind_is : event.game ≡ pos (kind_number kind)
+  pub budget : ℕ
+  pub increment : ℕ
+  pub terms : GivesTerms event budget increment
+
+-- the same, by the kind and the terms that the event's row gives
+abbrev pub IsRightBy : EventRow → Option ℕ → GameRecord → List MoveRow → List SeenRow → Table → Type 0
+IsRightBy event last row moves seen t =
+    (kind : GameKind) (budget increment : ℕ) → event.game ≡ pos (kind_number kind) → GivesTerms event budget increment
+    → IsRightOf kind (terms_with budget increment) last row moves seen t
+
+-- and the event's row gives them
+abbrev pub IsRightInEvent : EventRow → Option ℕ → GameRecord → List MoveRow → List SeenRow → Table → Type 0
+IsRightInEvent event last row moves seen Events = GivesRules event
+IsRightInEvent event last row moves seen t = IsRightBy event last row moves seen t
+
+-- The same of the game at this place, from 0, of a club with these members and events, among so many games as it may
+-- have. The moves of a game that names no event are passed over.
+abbrev pub IsRightAt : ClubState → Rows → ℕ → GameRecord → List MoveRow → List SeenRow → Option ℕ → Table → Type 0
+IsRightAt s rows place row moves seen last Moves =
+    (id : ℕ) (event : EventRow) → NamesEvent rows row id event → IsRightBy event last row moves seen Moves
+IsRightAt s rows place row moves seen last Games =
+    (place < most_games) × (g : ClubGame) × IsGameAt (until last_moment s) (place + 1) row moves g
+IsRightAt s rows place row moves seen last Seen =
+    (g : ClubGame) × AreAllOf (until last_moment s) (place + 1) row moves seen g
+IsRightAt s rows place row moves seen last Meta =
+    (n : ℕ) → last ≡ Some n → n ≤ last_moment → (g : ClubGame) × AreAllOf (until n s) (place + 1) row moves seen g
+IsRightAt s rows place row moves seen last t = Unit {0}
+
+-- the game stands at its place, from 0, among so many as a club may have, and its players are members
+pub record StandsAt (rows : Rows) (place : ℕ) (game : GameRecord) : Type 0 where
+  pub low : place < most_games
+  pub id : game.id ≡ pos (place + 1)
+  pub first : ℕ
+  pub second : ℕ
+  pub players : NamesPlayers rows game first second

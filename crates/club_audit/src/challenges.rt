@@ -1,14 +1,12 @@
 //! Whether the rows of challenges are those of a legal club.
 
-ghost use Rattle.std.specs.Prelude.{◌≡◌, ◌<◌, ◌≤◌, List, length, true, false, IfOk, Option};
-ghost use Rattle.std.specs.Option.{option_map};
+ghost use Rattle.std.specs.Prelude.{◌≡◌, ◌<◌, ◌≤◌, List, length, pos, true, false, IfOk};
 ghost use Rattle.club_core.specs.declared.challenges.Challenge as core;
 ghost use Rattle.club_core.specs.Answer.{pairing_of};
 ghost use Rattle.club_core.specs.LegalState.{Each, AreApart};
-ghost use Rattle.club_requests.specs.Limits.{most_members, most_events, most_games};
-ghost use Rattle.club_core.specs.State.{place};
+ghost use Rattle.club_requests.specs.Limits.{most_members, most_events};
 ghost use Rattle.club_audit.specs.ChallengeAudit.{AreChallenges, HasItsGame, IsChallengeAmong, IsChallengeOf};
-ghost use Rattle.club_audit.specs.ChallengeAudit.{IsRowOfPairing};
+ghost use Rattle.club_audit.specs.ChallengeAudit.{IsGameAmong, IsRowOfPairing};
 ghost use Rattle.club_audit.specs.ChallengeKeys.{key_in};
 
 use club_core::{Challenge, Pairing, Standing};
@@ -43,16 +41,6 @@ fn is_id(id: u32, count: usize) -> bool
     0 < id && id as usize <= count
 }
 
-// The row of the game of an id, if there is one.
-fn game_at(games: &[GameRecord], id: u32) -> Option<&GameRecord>
-    ensures { option_map (λ r. r.now) result ≡ place games.now id }
-{
-    if id == 0 {
-        return None;
-    }
-    games.get(id as usize - 1)
-}
-
 // Whether the game's row is of that event and of those players, each on that side.
 fn is_row_of_pairing(game: &GameRecord, pairing: Pairing) -> bool
     ensures sound { result ≡ true → IsRowOfPairing game.now (pairing_of pairing) }
@@ -63,16 +51,37 @@ fn is_row_of_pairing(game: &GameRecord, pairing: Pairing) -> bool
         && game.second == i64::from(pairing.second)
 }
 
+// Whether the row is of the game with this id, and of that event and those players.
+fn is_game_of(row: &GameRecord, id: u32, pairing: Pairing) -> bool
+    ensures sound { result ≡ true → (row.now.id ≡ pos id) × IsRowOfPairing row.now (pairing_of pairing) }
+    ensures complete { row.now.id ≡ pos id → IsRowOfPairing row.now (pairing_of pairing) → result ≡ true }
+{
+    if row.id != i64::from(id) {
+        return false;
+    }
+    is_row_of_pairing(row, pairing)
+}
+
+// Whether one of the rows is so.
+fn is_game_among(games: &[GameRecord], id: u32, pairing: Pairing) -> bool
+    ensures sound { result ≡ true → IsGameAmong games.now id (pairing_of pairing) }
+    ensures complete { IsGameAmong games.now id (pairing_of pairing) → result ≡ true }
+{
+    for row in games {
+        if is_game_of(row, id, pairing) {
+            return true;
+        }
+    }
+    false
+}
+
 // Whether a challenge, where it was accepted, names a game of its event between its members on their sides.
 fn has_its_game(games: &[GameRecord], challenge: &Challenge) -> bool
     ensures sound { result ≡ true → HasItsGame games.now challenge.now }
     ensures complete { HasItsGame games.now challenge.now → result ≡ true }
 {
     match challenge.standing {
-        Standing::Accepted { game } => match game_at(games, game) {
-            Some(row) => is_row_of_pairing(row, challenge.pairing()),
-            None => false,
-        },
+        Standing::Accepted { game } => is_game_among(games, game, challenge.pairing()),
         _ => true,
     }
 }
@@ -139,11 +148,10 @@ fn share_number(alloc: Global, challenges: &[ChallengeRow]) -> Result<bool, Memo
 }
 
 /// Whether the rows of challenges are those of a club with these members, events and games.
-pub(crate) fn are_challenges(alloc: Global, rows: &Rows) -> Result<bool, Memory>
+pub fn are_challenges(alloc: Global, rows: &Rows) -> Result<bool, Memory>
     ensures sound { IfOk result (λ are. are ≡ true → (cs : List core.Challenge) × AreChallenges cs rows.now) }
     ensures complete { IfOk result (λ are. length rows.now.members.items ≤ most_members →
-        length rows.now.events.items ≤ most_events → length rows.now.games.items ≤ most_games →
-        (cs : List core.Challenge) → AreChallenges cs rows.now → are ≡ true) }
+        length rows.now.events.items ≤ most_events → (cs : List core.Challenge) → AreChallenges cs rows.now → are ≡ true) }
 {
     if !are_each_challenges(rows, &rows.challenges) {
         return Ok(false);

@@ -1,38 +1,93 @@
-//! Whether all rows of one game are those of a legal game of its event.
+//! Whether all rows of one game are those of a legal game of its event, and which table is wrong first.
 
-ghost use Rattle.std.specs.Prelude.{◌≡◌, ℕ, None, IfOk};
-ghost use Rattle.club_audit.specs.GameAudit.{HaveAll, AreOfEvent};
+ghost use Rattle.std.specs.Prelude.{◌≡◌, None, Some, true, IfOk, IsTrue};
+ghost use Rattle.club_core.specs.Game.{left_of};
+ghost use Rattle.club_core.specs.View.{clocks_in};
+ghost use Rattle.club_requests.specs.Limits.{is_budget, is_increment};
+ghost use Rattle.club_audit.specs.Audit.{IsWithin, IsWithinGiven};
+ghost use Rattle.club_audit.specs.FirstWrong.{IsFirstWrong};
+ghost use Rattle.club_audit.specs.GameAudit.{AreOfEvent, IsRightIn, IsRightInEvent};
 ghost use Rattle.club_rows.specs.Replay.{terms_given};
 
-use crate::audit::wrong_by_rules;
 use crate::people::terms_of;
 use crate::seen_audit::are_seen;
 use clocks::Moment;
+use club_core::{GameEnd, GameView};
 use club_games::{Draughts, Shogi};
+use club_requests::OutsideEnd;
 use club_rows::kinds::kind_of;
 use club_rows::numbers::id;
 use club_rows::replay::Terms;
+use club_rows::view::{Shown, view_of};
 use club_rules::{GameKind, Memory, Rules};
+use squares::Side;
 use std::alloc::Global;
 use store_tables::{EventRow, GameRecord, MoveRow, SeenRow, Table};
 
-// The first wrong table by all rows of a game that is played by these rules and terms, up to the last moment.
+// The seconds that the side to move has left.
+fn left_to_mover<R: Rules>(view: &GameView<R>) -> u64
+    ensures { result ≡ left_of (R.rules.turn view.now.position) (clocks_in view.now.row) }
+{
+    match R::turn(&view.position) {
+        Side::First => view.row.left_first,
+        Side::Second => view.row.left_second,
+    }
+}
+
+// Whether no moment of the game is above the last one, and a side that lost by its time had run out of it before then.
+fn is_within<R: Rules>(view: &GameView<R>, last: Moment) -> bool
+    ensures sound { result ≡ true → IsWithin R.rules view.now last }
+    ensures complete { IsWithin R.rules view.now last → result ≡ true }
+{
+    if view.row.since > last {
+        return false;
+    }
+    let elapsed = last.seconds() - view.row.since.seconds();
+    match &view.row.end {
+        Some(GameEnd::Outside(OutsideEnd::Time)) => left_to_mover(view) < elapsed,
+        Some(GameEnd::Outside(OutsideEnd::Resigned)) => true,
+        Some(GameEnd::Outside(OutsideEnd::Agreed)) => true,
+        Some(GameEnd::Outside(OutsideEnd::Recorded(_))) => true,
+        Some(GameEnd::Rule(_)) => true,
+        None => true,
+    }
+}
+
+// The same of the last moment that is given, if one is.
+fn is_within_given<R: Rules>(view: &GameView<R>, last: Option<Moment>) -> bool
+    ensures sound { result ≡ true → IsWithinGiven R.rules view.now last }
+    ensures complete { IsWithinGiven R.rules view.now last → result ≡ true }
+{
+    match last {
+        Some(last) => {
+            let _within = last.seconds();
+            is_within(view, last)
+        }
+        None => true,
+    }
+}
+
+// The first wrong table by all rows of a game that is played by these rules and terms, up to the last moment, if one
+// is given.
 fn wrong_of_all<R: Rules>(
     alloc: Global,
     game: &GameRecord,
     terms: Terms,
     moves: &[MoveRow],
     seen: &[SeenRow],
-    last: Moment,
+    last: Option<Moment>,
 ) -> Result<Option<Table>, Memory>
-    ensures sound { IfOk result (λ wrong. wrong ≡ None →
-        HaveAll R.rules (terms_given terms) last game.now moves.now seen.now) }
-    ensures complete { IfOk result (λ wrong. HaveAll R.rules (terms_given terms) last game.now moves.now seen.now →
-        wrong ≡ None) }
+    requires budget { IsTrue (is_budget terms.budget) }
+    requires increment { IsTrue (is_increment terms.increment) }
+    ensures { IfOk result (IsFirstWrong (IsRightIn R.rules (terms_given terms) last game.now moves.now seen.now)) }
 {
-    match wrong_by_rules::<R>(alloc, game, terms, moves, last)? {
-        Some(table) => return Ok(Some(table)),
-        None => {}
+    let played = match view_of::<R>(alloc, game, terms, moves)? {
+        Shown::Game(played) => played,
+        Shown::WrongMoves => return Ok(Some(Table::Moves)),
+        Shown::WrongGame => return Ok(Some(Table::Games)),
+    };
+    if !is_within_given(&played.view, Moment::new(Moment::LAST)) {
+        return Ok(Some(Table::Games));
     }
     let number = match id(game.id) {
         Some(number) => number,
@@ -41,7 +96,34 @@ fn wrong_of_all<R: Rules>(
     if !are_seen::<R>(alloc, number, moves, seen)? {
         return Ok(Some(Table::Seen));
     }
+    if !is_within_given(&played.view, last) {
+        return Ok(Some(Table::Meta));
+    }
     Ok(None)
+}
+
+// The first wrong table by all rows of one game, of the event of that row, up to the last moment, if one is given.
+pub(crate) fn wrong_in_event(
+    alloc: Global,
+    event: &EventRow,
+    game: &GameRecord,
+    moves: &[MoveRow],
+    seen: &[SeenRow],
+    last: Option<Moment>,
+) -> Result<Option<Table>, Memory>
+    ensures { IfOk result (IsFirstWrong (IsRightInEvent event.now last game.now moves.now seen.now)) }
+{
+    let terms = match terms_of(event) {
+        Some(terms) => terms,
+        None => return Ok(Some(Table::Events)),
+    };
+    match kind_of(event.game) {
+        Some(GameKind::Draughts) => {
+            wrong_of_all::<Draughts>(alloc, game, terms, moves, seen, last)
+        }
+        Some(GameKind::Shogi) => wrong_of_all::<Shogi>(alloc, game, terms, moves, seen, last),
+        None => Ok(Some(Table::Events)),
+    }
 }
 
 /// The first wrong table by all rows of one game, of the event of that row, up to the last moment; none where they are
@@ -56,16 +138,9 @@ pub fn audit_game(
 ) -> Result<Option<Table>, Memory>
     ensures sound { IfOk result (λ wrong. wrong ≡ None → AreOfEvent event.now last game.now moves.now seen.now) }
     ensures complete { IfOk result (λ wrong. AreOfEvent event.now last game.now moves.now seen.now → wrong ≡ None) }
+    ensures first { IfOk result (IsFirstWrong (IsRightInEvent event.now (Some last) game.now moves.now seen.now)) }
 {
-    let terms = match terms_of(event) {
-        Some(terms) => terms,
-        None => return Ok(Some(Table::Events)),
-    };
-    match kind_of(event.game) {
-        Some(GameKind::Draughts) => {
-            wrong_of_all::<Draughts>(alloc, game, terms, moves, seen, last)
-        }
-        Some(GameKind::Shogi) => wrong_of_all::<Shogi>(alloc, game, terms, moves, seen, last),
-        None => Ok(Some(Table::Events)),
-    }
+    let _within = last.seconds();
+    let wrong = wrong_in_event(alloc, event, game, moves, seen, Some(last))?;
+    Ok(wrong)
 }

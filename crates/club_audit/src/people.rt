@@ -69,7 +69,7 @@ fn is_member(members: &[MemberRow], place: usize, member: &MemberRow) -> bool
 }
 
 /// Whether the rows are those of the members of a legal club.
-pub(crate) fn are_members(members: &[MemberRow]) -> bool
+pub fn are_members(members: &[MemberRow]) -> bool
     ensures sound { result ≡ true → (ms : List Member) × AreMembers ms members.now }
     ensures complete { (ms : List Member) → AreMembers ms members.now → result ≡ true }
 {
@@ -153,7 +153,7 @@ fn is_event(events: &[EventRow], place: usize, event: &EventRow) -> bool
 }
 
 /// Whether the rows are those of the events of a legal club.
-pub(crate) fn are_events(events: &[EventRow]) -> bool
+pub fn are_events(events: &[EventRow]) -> bool
     ensures sound { result ≡ true → (es : List Event) × AreEvents es events.now }
     ensures complete { (es : List Event) → AreEvents es events.now → result ≡ true }
 {

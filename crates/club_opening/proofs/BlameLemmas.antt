@@ -1,5 +1,5 @@
 -- From what was read of a table to what a fault says of it, and to the content.
-use Rattle.std.proofs.Common.{◌≡◌, ℕ, List, [], ◌∷◌, inl, inr, refl, subst, sym, ap, ◌∙◌, Some, pos, get_or, slice_get}
+use Rattle.std.proofs.Common.{◌≡◌, ◌⊎◌, ℕ, List, [], ◌∷◌, inl, inr, refl, subst, sym, ap, ◌∙◌, Some, pos, get_or, slice_get}
 use Rattle.std.proofs.Common.{map}
 use Rattle.std.specs.List.{AllByRecursion}
 use Rattle.std.specs.List.Sorted.{IsPermutation, IsSorted}
@@ -29,7 +29,8 @@ use Rattle.store_sql.specs.declared.fault.ReadFault.{ReadFault}
 use Rattle.store_sql.specs.Read.{Blames as BlamesRead}
 use Rattle.club_opening.specs.Faults.{told}
 use Rattle.club_opening.specs.declared.fault.OpenFault.TheVariants.{Schema}
-use Rattle.club_opening.specs.Blames.{IsOneMeta, HasTypes, Blames, NamesTable, NamesSchema, AreRead}
+use Rattle.club_opening.specs.Blames.{IsMetaRead, IsOneMeta, HasTypes, Blames, NamesTable, NamesSchema, AreRead}
+use Rattle.club_opening.specs.Places.{NamesRows}
 use Rattle.store_sql.specs.Read.{IsReadAs}
 
 -- a fault of a table, as it is told
@@ -107,6 +108,21 @@ read_before table count rows old mid new it same =
       same =
           unchanged_then old mid new it.same same;
     }
+
+pub meta_before : (row : MetaRow) (old mid new : State) → IsMetaRead row old mid → IsUnchanged mid new
+    → IsMetaRead row old new
+meta_before row old mid new (inl one) same =
+    inl (read_before (meta 0) 1 (meta_cells row ∷ []) old mid new one.0 same, one.1, one.2)
+meta_before row old mid new (inr missing) same = inr missing
+
+-- what is said of rows of a database that did not change
+pub rows_blamed_before : (old mid : State) (fault : OpenFault) → IsUnchanged old mid → NamesTable mid.now fault
+    ⊎ NamesRows mid.now fault → NamesTable old.now fault
+    ⊎ (NamesSchema old.now fault ⊎ NamesRows old.now fault)
+rows_blamed_before old mid fault same (inl table) =
+    inl (subst (λ (d : Database). NamesTable d fault) same.0.now_is table)
+rows_blamed_before old mid fault same (inr rows) =
+    inr (inr (subst (λ (d : Database). NamesRows d fault) same.0.now_is rows))
 
 pub names_schema : (found : MetaRow) (old new : State) → IsReadAs (meta 0) 1 (meta_cells found ∷ []) old new
     → found.id ≡ pos 1 → (found.schema ≡ pos 1 → ⊥) → NamesSchema old.now (Schema found.schema)

@@ -19,7 +19,7 @@ use Rattle.store_tables.specs.declared.names.Table.{Table}
 use Rattle.store_tables.specs.declared.names.Table.TheVariants.{Members, Events, Challenges, Moves, Games, Seen, Scores}
 use Rattle.store_tables.specs.declared.names.Table.TheVariants.{Meta}
 use Rattle.store_tables.specs.declared.rows.Rows.{Rows}
-use Rattle.store_tables.proofs.Proved.{in_order, one_list, places_rise}
+use Rattle.store_tables.proofs.Proved.{ids_of, in_order, one_list, places_rise}
 use Rattle.club_rows.specs.Club.{ClubGame, both_games, ClubState, IsClub}
 use Rattle.club_rows.specs.Tables.{member_row, event_row, numbered_from, row_of_game, tables_of}
 use Rattle.club_rows.proofs.Proved.{members-typed, events-typed, moves-typed, games-typed, scores_typed, seen-typed}
@@ -27,10 +27,14 @@ use Rattle.club_changes.proofs.Proved.{challenges_typed, moved}
 use Rattle.club_opening.proofs.OnceLemmas.{challenges_are}
 use Rattle.club_opening.specs.Blames.{AreRead, HasTypes, NamesTable, NamesSchema}
 use Rattle.store_sql.specs.Read.{IsReadAs}
-use Rattle.club_opening.specs.Places.{ArePlaces, HasPlaces, IsRegisterOf, NamesRows}
+use Rattle.club_opening.specs.Places.{IsRegisterOf, NamesRows}
+use Rattle.club_audit.specs.Audit.{AreEvents, AreMembers}
+use Rattle.club_core.specs.Members.{Member}
+use Rattle.store_tables.specs.declared.rows.EventRow.{EventRow}
+use Rattle.store_tables.specs.declared.rows.MemberRow.{MemberRow}
 use Rattle.store_sql.specs.Read.{BeginWithPlaces}
 use Rattle.club_opening.specs.declared.fault.OpenFault.{OpenFault}
-use Rattle.club_opening.specs.declared.fault.OpenFault.TheVariants.{Store, Memory}
+use Rattle.club_opening.specs.declared.fault.OpenFault.TheVariants.{Damaged, Store, Memory}
 
 -- ---- places
 
@@ -46,40 +50,9 @@ one-more k = omega arith
 heads : {A : Type 0} (x y : A) (xs ys : List A) → x ∷ xs ≡ y ∷ ys → (x ≡ y) × (xs ≡ ys)
 heads x y xs ys is = (cc, cc)
 
-module _ {R A : Type 0} (cells : R → Row) (row : ℕ → A → Row) (id : R → ℤ)
-    (tells : (r : R) (n : ℕ) (x : A) → cells r ≡ row n x → id r ≡ pos n) where
-  ids_from : (n : ℕ) (rows : List R) (xs : List A) → map cells rows ≡ numbered_from row n xs → (k : ℕ)
-      → k < length (map id rows) → get_or (map id rows) k (pos 0) ≡ pos (n + k)
-  ids_from n [] xs are k low = absurd (omega arith)
-  ids_from n (r ∷ rs) [] are k low = cc
-  ids_from n (r ∷ rs) (x ∷ xs) are zero low = tells r n x (heads _ _ _ _ are).0 ∙ ap pos (here-is n)
-  ids_from n (r ∷ rs) (x ∷ xs) are (suc k) low = ids_from (suc n) rs xs (heads _ _ _ _ are).1 k (omega (arith, low))
-      ∙ ap pos (next-is n k)
-
-  ids_are : (rows : List R) (xs : List A) → map cells rows ≡ numbered_from row 1 xs → ArePlaces (map id rows)
-  ids_are rows xs are k low = ids_from 1 rows xs are k low ∙ ap pos (one-more k)
-
 row_id : (events : List Event) (n : ℕ) (any : ClubGame) → column (row_of_game both_games events n any) 0 ≡ Int (pos n)
 row_id events n (draughts g) = refl
 row_id events n (shogi g) = refl
-
-same-int : (a b : ℤ) → Int a ≡ Int b → a ≡ b
-same-int a b is = cc
-
--- the ids of a club's rows are places
-pub register_places : (s : ClubState) (rows : Rows) → IsRegisterOf s rows → (t : Table) → HasPlaces t rows
-register_places s rows stored Members = ids_are member_cells member_row (λ r. r.id)
-    (λ r n x is. same-int _ _ (ap (λ c. column c 0) is)) rows.members.items s.members stored.members
-register_places s rows stored Events = ids_are event_cells event_row (λ r. r.id)
-    (λ r n x is. same-int _ _ (ap (λ c. column c 0) is)) rows.events.items s.events stored.events
-register_places s rows stored Games =
-    ids_are game_cells (row_of_game both_games s.events) (λ r. r.id)
-    (λ r n x is. same-int _ _ (ap (λ c. column c 0) is ∙ row_id s.events n x)) rows.games.items s.games stored.games
-register_places s rows stored Challenges = tt
-register_places s rows stored Moves = tt
-register_places s rows stored Seen = tt
-register_places s rows stored Scores = tt
-register_places s rows stored Meta = tt
 
 -- rows that are numbered from 1 begin with their places
 numbered_begin : {A : Type 0} (row : ℕ → A → Row) → ((n : ℕ) (x : A) → column (row n x) 0 ≡ Int (pos n))
@@ -138,6 +111,52 @@ one_last : (last moment : ℤ) (schema : ℤ) (id : ℤ)
 one_last last moment schema id (inl is) = cc
 one_last last moment schema id (inr none) = absurd none
 
+-- rows of members that were read of a legal club are its own, and so are those of events
+pub members_read : (s : ClubState) (rows : List MemberRow) (old new : State) → Holds old.now (tables_of both_games s)
+    → IsReadAs (members 1) 1 (map member_cells rows) old new → map member_cells rows ≡ tables_of both_games s 1
+members_read s rows old new holds read =
+    ids_read (members 1) (map member_cells rows) (tables_of both_games s 1) old new read
+    (ids_of (members 1) (old.now.trees 1) (map member_cells rows) (λ r. refl) read.once read.apart)
+    holds.tables.1.0.rows (begin_places member_row (λ n x. refl) s.members)
+
+pub events_read : (s : ClubState) (rows : List EventRow) (old new : State) → Holds old.now (tables_of both_games s)
+    → IsReadAs (events 4) 1 (map event_cells rows) old new → map event_cells rows ≡ tables_of both_games s 4
+events_read s rows old new holds read =
+    ids_read (events 4) (map event_cells rows) (tables_of both_games s 4) old new read
+    (ids_of (events 4) (old.now.trees 4) (map event_cells rows) (λ r. refl) read.once read.apart)
+    holds.tables.1.1.0.rows (begin_places event_row (λ n x. refl) s.events)
+
+-- members that are those of no legal club are blamed, and so are events
+pub members_blamed : (rows : List MemberRow) (old new : State)
+    → IsReadAs (members 1) 1 (map member_cells rows) old new → ((ms : List Member) → ¬ AreMembers ms rows)
+    → NamesRows old.now (Damaged Members)
+members_blamed rows old new read none = (
+  Members,
+  refl,
+  λ s club holds.
+      none s.members (record {
+        rows_are = members_read s rows old new holds read;
+        legal = club.members;
+        count = club.member_count;
+        names = club.member_names;
+        keys = club.member_keys;
+      }),
+)
+
+pub events_blamed : (rows : List EventRow) (old new : State) → IsReadAs (events 4) 1 (map event_cells rows) old new
+    → ((es : List Event) → ¬ AreEvents es rows) → NamesRows old.now (Damaged Events)
+events_blamed rows old new read none = (
+  Events,
+  refl,
+  λ s club holds.
+      none s.events (record {
+        rows_are = events_read s rows old new holds read;
+        legal = club.events;
+        count = club.event_count;
+        names = club.event_names;
+      }),
+)
+
 -- the rows that were read of a legal club are its own
 pub club_read : (s : ClubState) → IsClub s → (rows : Rows) (old new : State) → Holds old.now (tables_of both_games s)
     → AreRead rows old new → HaveIds rows → IsRegisterOf s rows
@@ -146,13 +165,15 @@ club_read s club rows old new holds read ids =
     let db = old.now.trees in
     let t = holds.tables in
     record {
-      last = one_last rows.meta.last (pos s.last) rows.meta.schema rows.meta.id
-          (moved (meta 0) db (meta_cells rows.meta ∷ []) (made 0) read.meta.keeps t.0.rows (meta_cells rows.meta)
-          (inl refl));
-      members = ids_read (members 1) (map member_cells rows.members.items) (made 1) old new read.members ids.members
-          t.1.0.rows (begin_places member_row (λ n x. refl) s.members);
-      events = ids_read (events 4) (map event_cells rows.events.items) (made 4) old new read.events ids.events
-          t.1.1.0.rows (begin_places event_row (λ n x. refl) s.events);
+      last = elim read.meta [
+        | inl one ↦
+            one_last rows.meta.last (pos s.last) rows.meta.schema rows.meta.id
+            (moved (meta 0) db (meta_cells rows.meta ∷ []) (made 0) one.0.keeps t.0.rows (meta_cells rows.meta)
+            (inl refl))
+        | inr missing ↦ absurd (missing.1 made holds (club_typed s club Meta))
+      ];
+      members = members_read s rows.members.items old new holds read.members;
+      events = events_read s rows.events.items old new holds read.events;
       challenges = challenges_are s (map challenge_cells rows.challenges.items) old new holds read.challenges;
       games = ids_read (games 10) (map game_cells rows.games.items) (made 10) old new read.games ids.games
           t.1.1.1.1.1.0.rows (begin_places (row_of_game both_games s.events) (row_id s.events) s.games);

@@ -1,12 +1,11 @@
 -- The games that were read of a database, one after another, and the club that they are.
 use Rattle.std.proofs.Common.{◌≡◌, ◌≢◌, ◌⊎◌, ℕ, suc, pos, ◌+◌, ◌-◌, ◌<◌, ◌≤◌, List, [], ◌∷◌, ◌++◌, length, map, take}
 use Rattle.std.proofs.Common.{Some, None, Option, refl, ap, sym, subst, subst₂, ◌∙◌, arith, inl, inr, length-append}
-use Rattle.std.specs.Prelude.{slice_get}
+use Rattle.std.specs.Prelude.{IfSome, ℤ, slice_get}
 use Rattle.std.specs.List.Sorted.{IsPermutation}
 use Rattle.std.proofs.lemmas.List.{map-append, length-map}
 use Rattle.std.proofs.lemmas.List.Sorted.{length_permutation}
-use Rattle.std.specs.Option.{option_map}
-use Rattle.std.proofs.lemmas.Option.{get_or_from_slice_get, slice_get-map, slice_get_within}
+use Rattle.std.proofs.lemmas.Option.{same_Some, slice_get_within}
 use Rattle.sqlite.specs.Effect.{Database}
 use Rattle.sqlite.specs.State.{State, IsUnchanged}
 use Rattle.sqlite.specs.Tree.{Trees}
@@ -18,6 +17,7 @@ use Rattle.store_tables.specs.Club.{Holds}
 use Rattle.store_tables.specs.Content.{AreApart, cells}
 use Rattle.store_tables.specs.Tables.{moves, seen}
 use Rattle.store_tables.specs.declared.names.Table.{Table}
+use Rattle.store_tables.specs.declared.names.Table.TheVariants.{Meta}
 use Rattle.store_tables.specs.declared.rows.GameRecord.{GameRecord}
 use Rattle.store_tables.specs.declared.rows.MoveRow.{MoveRow}
 use Rattle.store_tables.specs.declared.rows.Rows.{Rows}
@@ -27,11 +27,15 @@ use Rattle.store_sql.specs.Read.{AreCounted, AreReadOf, beginning_with}
 use Rattle.club_rows.specs.Club.{both_games, ClubGame, ClubState, IsClub, tables}
 use Rattle.club_rows.specs.Tables.{numbered_from, row_of_game, rows_of_moves, rows_of_seen}
 use Rattle.club_audit.specs.Audit.{AreAllOf, HasPeople}
-use Rattle.club_audit.proofs.Proved.{id-told, take-got, numbered-append, numbered-at, numbered-length}
+use Rattle.club_audit.specs.FirstWrong.{IsFirstWrong}
+use Rattle.club_audit.specs.GameAudit.{IsRightAt}
+use Rattle.club_audit.proofs.Proved.{all-right, club-right, id-told, none-named, numbered-append, numbered-at}
+use Rattle.club_audit.proofs.Proved.{numbered-length, right-club, take-got}
+use Rattle.club_rows.proofs.Proved.{same-pos}
 use Rattle.club_opening.specs.Examined.{AreGamesFound, AreLeftAfter, IsFoundAs, IsGameFound, IsPlayExamined, NamesPlay}
-use Rattle.club_opening.specs.Examined.{WereFound, moves_in, past, seen_in}
+use Rattle.club_opening.specs.Examined.{IsOf, NoneIsLeft, WereFound, moves_in, past, seen_in}
 use Rattle.club_opening.specs.Blames.{NamesTable}
-use Rattle.club_opening.specs.Places.{ArePlaces, IsRegisterOf}
+use Rattle.club_opening.specs.Places.{IsMomentOf, IsNoRegister, IsRegisterOf}
 use Rattle.club_changes.specs.Steps.{HaveSame}
 use Rattle.club_opening.specs.declared.fault.OpenFault.{OpenFault}
 use Rattle.club_opening.specs.declared.fault.OpenFault.TheVariants.{Damaged}
@@ -42,8 +46,6 @@ use Rattle.club_opening.proofs.PastLemmas.{past_step}
 
 pub people_of : (s : ClubState) (rows : Rows) → IsClub s → IsRegisterOf s rows → HasPeople s rows
 people_of s rows club register = record {
-  moment = register.last;
-  within = club.last;
   members =
       record {
         rows_are = register.members;
@@ -55,6 +57,27 @@ people_of s rows club register = record {
       };
   events =
       record { rows_are = register.events; legal = club.events; count = club.event_count; names = club.event_names };
+}
+
+-- what a moment was read of
+pub moment_told : (stored : ℤ) (last : Option ℕ) → IfSome last (λ m. pos m ≡ stored)
+    → IfSome last (λ m. m ≤ 253402300799) → (last ≡ None → (n : ℕ) → n ≤ 253402300799 → stored ≢ pos n)
+    → IsMomentOf stored last
+moment_told stored None some range none = none refl
+moment_told stored (Some n) some range none = (sym some, range)
+
+-- the last moment of a club is the one that its row tells
+pub moment_of : (stored : ℤ) (last : Option ℕ) → IsMomentOf stored last → (m : ℕ) → stored ≡ pos m → m ≤ 253402300799
+    → last ≡ Some m
+moment_of stored None none m is low = absurd (none m low is)
+moment_of stored (Some n) told m is low = ap (λ k. Some k) (same-pos n m (sym told.0 ∙ is))
+
+pub club_of : (s : ClubState) (rows : Rows) (last : Option ℕ) → IsMomentOf rows.meta.last last → IsClub s
+    → IsRegisterOf s rows → IsOf s rows last
+club_of s rows last told club register = record {
+  people = people_of s rows club register;
+  moment = moment_of rows.meta.last last told s.last register.last club.last;
+  within = club.last;
 }
 
 next : (n : ℕ) → 1 + n ≡ n + 1
@@ -74,23 +97,18 @@ module _ (rows : Rows) (place : ℕ) (game : GameRecord) (ms : List MoveRow) (ss
       two.once
 
   -- rows that were judged to be all those of a legal game
-  all_found : ((s : ClubState) → HasPeople s rows → (g : ClubGame) × AreAllOf s (place + 1) game ms ss g)
-      → (s : ClubState) → HasPeople s rows → (g : ClubGame) × IsFoundAs s (place + 1) game old.now.trees g
-  all_found sound s people =
-      let (g, all) = sound s people in (
-        g,
-        record {
-          legal = all.at.legal;
-          row_is = all.at.row_is;
-          moves_are = same_on _ (map move_cells ms) _ (turned_same _ _ one.once) (same_by _ _ all.at.moves_are);
-          seen_are = same_on _ (map seen_cells ss) _ (turned_same _ _ seen_once) all.seen_are.same;
-        },
-      )
+  found_as : (s : ClubState) (g : ClubGame) → AreAllOf s (place + 1) game ms ss g
+      → IsFoundAs s (place + 1) game old.now.trees g
+  found_as s g all = record {
+    legal = all.at.legal;
+    row_is = all.at.row_is;
+    moves_are = same_on _ (map move_cells ms) _ (turned_same _ _ one.once) (same_by _ _ all.at.moves_are);
+    seen_are = same_on _ (map seen_cells ss) _ (turned_same _ _ seen_once) all.seen_are.same;
+  }
 
   -- those of a club's game are judged so
   game_all : slice_get rows.games.items place ≡ Some game → (s : ClubState) → IsClub s → IsRegisterOf s rows
-      → Holds old.now (tables s) → HasPeople s rows
-      × ((place < 5000) × ((g : ClubGame) × AreAllOf s (place + 1) game ms ss g))
+      → Holds old.now (tables s) → (place < 5000) × ((g : ClubGame) × AreAllOf s (place + 1) game ms ss g)
   game_all at s club register holds =
       let (g, stands, cells) = numbered-at game_cells (row_of_game both_games s.events) 1 rows.games.items s.games
       register.games place game at in
@@ -102,58 +120,68 @@ module _ (rows : Rows) (place : ℕ) (game : GameRecord) (ms : List MoveRow) (ss
       let here : mid.now ≡ old.now = one.same.0.now_is in
       let are_moves = own_moves s club old.now holds place g stands (map move_cells ms) old mid refl first in
       let are_seen = own_seen s club old.now holds place g stands (map seen_cells ss) mid new here second in (
-        people_of s rows club register,
+        omega (arith, most, within),
         (
-          omega (arith, most, within),
-          (
-            g,
-            subst (λ n. AreAllOf s n game ms ss g) (next place) (record {
-              at = record { legal = club.games place g stands; row_is = cells; moves_are = are_moves };
-              seen_are = are_seen;
-            }),
-          ),
+          g,
+          subst (λ n. AreAllOf s n game ms ss g) (next place) (record {
+            at = record { legal = club.games place g stands; row_is = cells; moves_are = are_moves };
+            seen_are = are_seen;
+          }),
         ),
       )
 
-  -- so a table that is named then is damaged
-  game_blamed : slice_get rows.games.items place ≡ Some game → (t : Table) (wrong : Option Table) → wrong ≡ Some t
-      → ((s : ClubState) → HasPeople s rows → place < 5000 → (g : ClubGame) → AreAllOf s (place + 1) game ms ss g
-      → wrong ≡ None) → NamesPlay rows old.now (Damaged t)
-  game_blamed at t wrong is complete = (
-    t,
-    refl,
-    λ s club register holds.
-        let (people, more) = game_all at s club register holds in
-        let (low, known) = more in
-        let (g, all) = known in
-        let none = complete s people low g all in
-        clash wrong is none,
-  )
-    where
-      clash : (o : Option Table) → o ≡ Some t → o ≡ None → ⊥
-      clash o some none = let both = sym some ∙ none in cc
+  module _ (last : Option ℕ) (told : IsMomentOf rows.meta.last last) (wrong : Option Table)
+      (first : (s : ClubState) → HasPeople s rows → IsFirstWrong (IsRightAt s rows place game ms ss last) wrong) where
+    game_found_as : wrong ≡ None → (s : ClubState) → IsOf s rows last → (g : ClubGame)
+        × IsFoundAs s (place + 1) game old.now.trees g
+    game_found_as none s of =
+        let right = all-right (IsRightAt s rows place game ms ss last) wrong (first s of.people) none Meta in
+        let (g, all) = right-club s rows of.people place game ms ss last of.within of.moment right in
+        (g, found_as s g all)
 
-  -- what was judged of a game's rows
-  pub game_found : slice_get rows.games.items place ≡ Some game → (wrong : Option Table)
-      → (wrong ≡ None → (s : ClubState) → HasPeople s rows → (g : ClubGame) × AreAllOf s (place + 1) game ms ss g)
-      → ((s : ClubState) → HasPeople s rows → place < 5000 → (g : ClubGame) → AreAllOf s (place + 1) game ms ss g
-      → wrong ≡ None) → IsGameFound rows place game (length ms) (length ss) wrong old new
-  game_found at wrong sound complete = record {
-    same = unchanged_then old mid new one.same two.same;
-    moves_number = sym (length-map ms move_cells) ∙ length_permutation _ (map move_cells ms) one.once;
-    seen_number = sym (length-map ss seen_cells) ∙ length_permutation _ (map seen_cells ss) seen_once;
-    found = λ none. all_found (sound none);
-    blamed = λ t is. game_blamed at t wrong is complete;
-  }
+    -- a table that is named is damaged
+    game_blamed : slice_get rows.games.items place ≡ Some game → (t : Table) → wrong ≡ Some t
+        → NamesPlay rows old.now (Damaged t)
+    game_blamed at t is = (
+      t,
+      refl,
+      λ s club register holds.
+          let people = people_of s rows club register in
+          let of = club_of s rows last told club register in
+          let (low, known) = game_all at s club register holds in
+          let (g, all) = known in
+          let right = club-right s rows people place game ms ss last club.last low g all (λ n some. same_moment s n some of.moment)
+          in
+          let none = none-named (IsRightAt s rows place game ms ss last) wrong (first s people) right in
+          clash wrong is none,
+    )
+      where
+        clash : (o : Option Table) → o ≡ Some t → o ≡ None → ⊥
+        clash o some none = let both = sym some ∙ none in cc
+
+        same_moment : (s : ClubState) (n : ℕ) → last ≡ Some n → last ≡ Some s.last → s.last ≡ n
+        same_moment s n some is_last = same_Some s.last n (sym is_last ∙ some)
+
+    -- what was judged of a game's rows
+    pub game_found : slice_get rows.games.items place ≡ Some game
+        → IsGameFound rows last place game (length ms) (length ss) wrong old new
+    game_found at = record {
+      same = unchanged_then old mid new one.same two.same;
+      moves_number = sym (length-map ms move_cells) ∙ length_permutation _ (map move_cells ms) one.once;
+      seen_number = sym (length-map ss seen_cells) ∙ length_permutation _ (map seen_cells ss) seen_once;
+      found = game_found_as;
+      blamed = game_blamed at;
+    }
 
 -- ---- one game after another
 
-pub left_start : (rows : Rows) (ms ss : ℕ) (old : State) → IsUnchanged old old → ms ≡ length (moves_in old.now.trees)
-    → ss ≡ length (seen_in old.now.trees) → AreLeftAfter rows 0 ms ss None old old
-left_start rows ms ss old same one two = record {
+pub left_start : (rows : Rows) (last : Option ℕ) (ms ss : ℕ) (known : Option Table) (old : State)
+    → ((t : Table) → known ≡ Some t → IsNoRegister rows) → IsUnchanged old old → ms ≡ length (moves_in old.now.trees)
+    → ss ≡ length (seen_in old.now.trees) → AreLeftAfter rows last 0 ms ss known old old
+left_start rows last ms ss known old none same one two = record {
   same = same;
   found =
-      λ none s people. record {
+      λ free s of. record {
         games = [];
         number_of = refl;
         legal = λ n x at. cc;
@@ -162,9 +190,9 @@ left_start rows ms ss old same one two = record {
             λ n g at. cc;
         seen_are = λ n g at. cc;
       };
-  blamed = λ t is. cc;
-  moves_left = one;
-  seen_left = two;
+  blamed = λ t is. (t, refl, λ s club register holds. none t is s club register);
+  moves_left = λ free s of. one;
+  seen_left = λ free s of. two;
 }
 
 found_more : (s : ClubState) (rows : List GameRecord) (db : Trees) (k : ℕ) (row : GameRecord) → WereFound s rows db k
@@ -201,16 +229,6 @@ found_more s rows db k row was at (g, is) =
       ];
     }
 
--- the id of the game at a place
-id_at : (games : List GameRecord) (k : ℕ) (game : GameRecord) → ArePlaces (map (λ r. r.id) games)
-    → slice_get games k ≡ Some game → game.id ≡ pos (suc k)
-id_at games k game places at =
-    let within = slice_get_within games k game at in
-    let there : slice_get (map (λ r. r.id) games) k ≡ Some game.id = slice_get-map (λ r. r.id) games k
-    ∙ ap (option_map (λ r. r.id)) at in
-    sym (get_or_from_slice_get (map (λ r. r.id) games) k game.id (pos 0) there)
-    ∙ (places k (omega (arith, within, length-map games (λ r. r.id))) ∙ ap pos (sym (next_suc k)))
-
 taken : (m own k rest : ℕ) → m ≡ k → k ≡ own + rest → m - own ≡ rest
 taken m own k rest is parts = omega (arith, is, parts)
 
@@ -225,35 +243,50 @@ pub record IsOneOf (w v u : Option Table) : Type 0 where
   pub some : (t : Table) → u ≡ Some t → (w ≡ Some t) ⊎ (v ≡ Some t)
 
 -- with one game more, its rows are no longer left
-pub left_more : (rows : Rows) (k : ℕ) (game : GameRecord) (ms ss a b : ℕ) (w v u : Option Table) (old mid new : State)
-    → ArePlaces (map (λ r. r.id) rows.games.items) → slice_get rows.games.items k ≡ Some game
-    → AreLeftAfter rows k ms ss w old mid
-    → IsGameFound rows k game a b v mid new → IsOneOf w v u → AreLeftAfter rows (k + 1) (ms - a) (ss - b) u old new
-left_more rows k game ms ss a b w v u old mid new places at was is one_of =
-    let trees : mid.now.trees ≡ old.now.trees = ap (λ (d : Database). d.trees) was.same.0.now_is in
-    let id : game.id ≡ pos (suc k) = id_at rows.games.items k game places at in
-    let own_moves : a ≡ length (beginning_with (pos (suc k)) (moves_in old.now.trees)) = is.moves_number
-    ∙ (λ i. length (beginning_with (id i) (moves_in (trees i)))) in
-    let own_seen : b ≡ length (beginning_with (pos (suc k)) (seen_in old.now.trees)) = is.seen_number
-    ∙ (λ i. length (beginning_with (id i) (seen_in (trees i)))) in
-    record {
-      same = unchanged_then old mid new was.same is.same;
-      found = λ none s people.
-          let neither = one_of.none none in
-          let (g, of) = is.found neither.1 s people in
-          found_more s rows.games.items old.now.trees k game (was.found neither.0 s people) at
-          (g, subst (λ t. IsFoundAs s (k + 1) game t g) trees of);
-      blamed = λ t named. elim (one_of.some t named) [
-        | inl before ↦ was.blamed t before
-        | inr here ↦ play_back rows old mid (Damaged t) was.same (is.blamed t here)
-      ];
-      moves_left = ap (λ n. ms - n) own_moves ∙
-          (taken ms _ _ _ was.moves_left (past_step k (moves_in old.now.trees))
-          ∙ ap (λ n. length (past n (moves_in old.now.trees))) (next_suc k));
-      seen_left = ap (λ n. ss - n) own_seen
-          ∙ (taken ss _ _ _ was.seen_left (past_step k (seen_in old.now.trees))
-          ∙ ap (λ n. length (past n (seen_in old.now.trees))) (next_suc k));
-    }
+module _ (rows : Rows) (last : Option ℕ) (k : ℕ) (game : GameRecord) (ms ss a b : ℕ) (w v u : Option Table)
+    (old mid new : State) (at : slice_get rows.games.items k ≡ Some game)
+    (was : AreLeftAfter rows last k ms ss w old mid) (is : IsGameFound rows last k game a b v mid new)
+    (one_of : IsOneOf w v u) where
+  trees_same_after : mid.now.trees ≡ old.now.trees
+  trees_same_after = ap (λ (d : Database). d.trees) was.same.0.now_is
+
+  game_id : u ≡ None → (s : ClubState) → IsOf s rows last → game.id ≡ pos (suc k)
+  game_id none s of =
+      let neither = one_of.none none in
+      let (g, found) = is.found neither.1 s of in
+      id-told s (k + 1) game g found.row_is ∙ ap pos (sym (next_suc k))
+
+  pub left_more : AreLeftAfter rows last (k + 1) (ms - a) (ss - b) u old new
+  left_more = record {
+    same = unchanged_then old mid new was.same is.same;
+    found = λ none s of.
+        let neither = one_of.none none in
+        let (g, found) = is.found neither.1 s of in
+        found_more s rows.games.items old.now.trees k game (was.found neither.0 s of) at
+        (g, subst (λ t. IsFoundAs s (k + 1) game t g) trees_same_after found);
+    blamed = λ t named. elim (one_of.some t named) [
+      | inl before ↦ was.blamed t before
+      | inr here ↦ play_back rows old mid (Damaged t) was.same (is.blamed t here)
+    ];
+    moves_left = λ none s of.
+        let id = game_id none s of in
+        let own : a ≡ length (beginning_with (pos (suc k)) (moves_in old.now.trees)) = is.moves_number
+        ∙ (λ i. length (beginning_with (id i) (moves_in (trees_same_after i)))) in
+        ap (λ n. ms - n) own
+        ∙ (taken ms _ _ _ (was.moves_left (one_of.none none).0 s of) (past_step k (moves_in old.now.trees))
+        ∙ ap (λ n. length (past n (moves_in old.now.trees))) (next_suc k));
+    seen_left = λ none s of.
+        let id = game_id none s of in
+        let own : b ≡ length (beginning_with (pos (suc k)) (seen_in old.now.trees)) = is.seen_number
+        ∙ (λ i. length (beginning_with (id i) (seen_in (trees_same_after i)))) in
+        ap (λ n. ss - n) own
+        ∙ (taken ss _ _ _ (was.seen_left (one_of.none none).0 s of) (past_step k (seen_in old.now.trees))
+        ∙ ap (λ n. length (past n (seen_in old.now.trees))) (next_suc k));
+  }
+
+-- a table that was known to be wrong is not forgotten
+abbrev pub IsKept : Option Table → Option Table → Type 0
+IsKept known wrong = wrong ≡ None → known ≡ None
 
 -- What is left over names a table, where it is something.
 pub record NamesLeft (count : ℕ) (o : Option Table) : Type 0 where
@@ -261,57 +294,58 @@ pub record NamesLeft (count : ℕ) (o : Option Table) : Type 0 where
   pub some : (t : Table) → o ≡ Some t → 0 < count
 
 -- when the rows of all games were read
-module _ (rows : Rows) (k ms ss : ℕ) (w a u b v : Option Table) (old new : State)
-    (was : AreLeftAfter rows k ms ss w old new) (all : k ≡ length rows.games.items)
-    (moves_left : NamesLeft ms a) (seen_left : NamesLeft ss b) (one_of : IsOneOf w a u) (then_of : IsOneOf u b v) where
-  -- all were found, if no table is named
-  pub left_all : v ≡ None → AreGamesFound rows old new
-  left_all none =
-      let (early, no_seen) = then_of.none none in
-      let (before, no_moves) = one_of.none early in
-      record {
-        same = was.same;
-        found = λ s people. subst (WereFound s rows.games.items old.now.trees) all (was.found before s people);
-        moves_none = ap (λ n. length (past n (moves_in old.now.trees))) (sym all)
-            ∙ (sym was.moves_left ∙ moves_left.none no_moves);
-        seen_none = ap (λ n. length (past n (seen_in old.now.trees))) (sym all)
-            ∙ (sym was.seen_left ∙ seen_left.none no_seen);
-      }
-
+module _ (rows : Rows) (last : Option ℕ) (told : IsMomentOf rows.meta.last last) (k ms ss : ℕ)
+    (w a u b v : Option Table) (old new : State) (was : AreLeftAfter rows last k ms ss w old new)
+    (all : k ≡ length rows.games.items) (moves_left : NamesLeft ms a) (seen_left : NamesLeft ss b)
+    (one_of : IsOneOf w a u) (then_of : IsOneOf u b v) where
   counts : (s : ClubState) → IsRegisterOf s rows → k ≡ length s.games
   counts s register = all ∙ numbered-length game_cells (row_of_game both_games s.events) 1 rows.games.items s.games
       register.games
 
-  -- where a row is left, no club has the tables
-  moves_blamed : 0 < ms → (t : Table) → NamesPlay rows old.now (Damaged t)
-  moves_blamed some t = (
-    t,
-    refl,
-    λ s club register holds.
-        let none = (none_left s club old.now holds).0 in
-        let left = was.moves_left ∙ ap (λ n. length (past n (moves_in old.now.trees))) (counts s register) in
-        omega (arith, some, left, none),
-  )
-
-  seen_blamed : 0 < ss → (t : Table) → NamesPlay rows old.now (Damaged t)
-  seen_blamed some t = (
-    t,
-    refl,
-    λ s club register holds.
-        let none = (none_left s club old.now holds).1 in
-        let left = was.seen_left ∙ ap (λ n. length (past n (seen_in old.now.trees))) (counts s register) in
-        omega (arith, some, left, none),
-  )
+  -- where no table was wrong before and a row is left, no club has the tables
+  left_blames : (o : Option Table) → o ≡ w → (0 < ms) ⊎ (0 < ss) → (s : ClubState) → IsClub s → IsRegisterOf s rows
+      → ¬ Holds old.now (tables s)
+  left_blames (Some t) is some s club register holds = (was.blamed t (sym is)).2 s club register holds
+  left_blames None is (inl some) s club register holds =
+      let none = (none_left s club old.now holds).0 in
+      let left = was.moves_left (sym is) s (club_of s rows last told club register)
+      ∙ ap (λ n. length (past n (moves_in old.now.trees))) (counts s register) in
+      omega (arith, some, left, none)
+  left_blames None is (inr some) s club register holds =
+      let none = (none_left s club old.now holds).1 in
+      let left = was.seen_left (sym is) s (club_of s rows last told club register)
+      ∙ ap (λ n. length (past n (seen_in old.now.trees))) (counts s register) in
+      omega (arith, some, left, none)
 
   -- a table that is named is that of a game, or has rows that are left
-  pub left_blamed : (t : Table) → v ≡ Some t → NamesPlay rows old.now (Damaged t)
+  left_blamed : (t : Table) → v ≡ Some t → NamesPlay rows old.now (Damaged t)
   left_blamed t named = elim (then_of.some t named) [
-    | inr last ↦ seen_blamed (seen_left.some t last) t
+    | inr from_seen ↦ (t, refl, left_blames w refl (inr (seen_left.some t from_seen)))
     | inl early ↦ elim (one_of.some t early) [
-      | inr last ↦ moves_blamed (moves_left.some t last) t
+      | inr from_moves ↦ (t, refl, left_blames w refl (inl (moves_left.some t from_moves)))
       | inl before ↦ was.blamed t before
     ]
   ]
+
+  -- all were found, if no table is named
+  pub left_all : AreGamesFound rows last v old new
+  left_all = record {
+    same = was.same;
+    found = λ none s of.
+        let (early, no_seen) = then_of.none none in
+        let (before, no_moves) = one_of.none early in
+        subst (WereFound s rows.games.items old.now.trees) all (was.found before s of);
+    none_left = λ none s of.
+        let (early, no_seen) = then_of.none none in
+        let (before, no_moves) = one_of.none early in
+        record {
+          moves = ap (λ n. length (past n (moves_in old.now.trees))) (sym all)
+              ∙ (sym (was.moves_left before s of) ∙ moves_left.none no_moves);
+          seen = ap (λ n. length (past n (seen_in old.now.trees))) (sym all)
+              ∙ (sym (was.seen_left before s of) ∙ seen_left.none no_seen);
+        };
+    blamed = left_blamed;
+  }
 
 -- what a fault says of a database that did not change
 pub blamed_before : (rows : Rows) (old mid : State) (fault : OpenFault) → IsUnchanged old mid → NamesTable mid.now fault
@@ -341,24 +375,19 @@ module _ (old one two : State) (m n : ℕ) (moves_are : AreCounted 8 m old one) 
       ∙ (sym (length-map (one.now.trees 12) (cells (seen 12)))
       ∙ ap (λ (t : Trees). length (seen_in t)) (seen_trees ∙ trees_same))
 
-  pub play_examined : (rows : Rows) (new : State) → AreGamesFound rows two new → IsPlayExamined rows old new
-  play_examined rows new found =
+  pub play_examined : (rows : Rows) (last : Option ℕ) (wrong : Option Table) (new : State)
+      → AreGamesFound rows last wrong two new → IsPlayExamined rows last wrong old new
+  play_examined rows last wrong new found =
       let back : two.now.trees ≡ old.now.trees = sym trees_same in
       record {
         games = record {
           same = unchanged_then old two new both_same found.same;
-          found = λ s people. subst (λ (t : Trees). WereFound s rows.games.items t (length rows.games.items)) back
-              (found.found s people);
-          moves_none = ap (λ (t : Trees). length (past (length rows.games.items) (moves_in t))) trees_same
-              ∙ found.moves_none;
-          seen_none = ap (λ (t : Trees). length (past (length rows.games.items) (seen_in t))) trees_same
-              ∙ found.seen_none;
+          found = λ none s of. subst (λ (t : Trees). WereFound s rows.games.items t (length rows.games.items)) back
+              (found.found none s of);
+          none_left = λ none s of. subst (λ (t : Trees). NoneIsLeft t (length rows.games.items)) back
+              (found.none_left none s of);
+          blamed = λ t is. play_back rows old two (Damaged t) both_same (found.blamed t is);
         };
         moves_apart = moves_are.apart;
         seen_apart = subst (λ (t : Trees). AreApart (t 12)) seen_trees seen_are.apart;
       }
-
--- a moment that is out of range is no club's
-pub moment_blamed : (rows : Rows) (db : Database) → ((n : ℕ) → n ≤ 253402300799 → rows.meta.last ≢ pos n) → (t : Table)
-    → NamesPlay rows db (Damaged t)
-moment_blamed rows db none t = (t, refl, λ s club register holds. none s.last club.last register.last)

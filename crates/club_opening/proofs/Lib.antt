@@ -5,6 +5,5 @@ pub mod GroupRows
 pub mod MoveOrderLemmas
 pub mod OnceLemmas
 pub mod PastLemmas
-pub mod PlaceLemmas
 pub mod Proved
 pub mod RegisterLemmas

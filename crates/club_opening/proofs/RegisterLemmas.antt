@@ -1,5 +1,6 @@
 -- The rows of a club that are read whole, and the club that they and its games are.
-use Rattle.std.proofs.Common.{◌≡◌, true, false, true≢false, ◌==◌, ◌≤◌, List, [], ◌∷◌, length, map, refl, ap, sym}
+use Rattle.std.proofs.Common.{◌≡◌, true, false, true≢false, ◌==◌, ◌≤◌, ℕ, pos, List, [], ◌∷◌, length, map, Option}
+use Rattle.std.proofs.Common.{Some, None, refl, ap, sym}
 use Rattle.std.proofs.Common.{subst, ◌∙◌, ◌⊎◌, arith, inl, inr}
 use Rattle.std.specs.Prelude.{if◌then◌else◌}
 use Rattle.std.proofs.lemmas.List.{take_all}
@@ -15,7 +16,7 @@ use Rattle.store_tables.specs.Content.{AreApart, Keeps, cells}
 use Rattle.store_tables.specs.Contents.{Content}
 use Rattle.store_tables.specs.Club.{Holds, IsExactly, IsOpened, Leaves}
 use Rattle.store_tables.specs.Reading.{KeepsMay}
-use Rattle.store_tables.specs.Tables.{club_schema, moves, scores as scored, seen}
+use Rattle.store_tables.specs.Tables.{club_schema, meta, moves, scores as scored, seen}
 use Rattle.store_tables.specs.declared.names.Table.TheVariants.{Scores}
 use Rattle.store_tables.specs.declared.rows.Rows.{Rows}
 use Rattle.store_tables.specs.declared.rows.ScoreRow.{ScoreRow}
@@ -25,11 +26,15 @@ use Rattle.club_rows.specs.Club.{both_games, ClubState, IsClub, tables}
 use Rattle.club_rows.specs.EachOnce.{AreEachOnce}
 use Rattle.club_rows.specs.Scores.{scores_in}
 use Rattle.club_rows.specs.Tables.{rows_of_moves, rows_of_seen, tables_of}
-use Rattle.club_audit.specs.Audit.{HaveRegister}
+use Rattle.club_audit.specs.Audit.{AreApartGames, AreEvents, AreMembers, HasPeople}
+use Rattle.club_audit.specs.ChallengeAudit.{AreChallenges}
+use Rattle.club_core.specs.declared.challenges.Challenge.{Challenge}
+use Rattle.club_core.specs.Events.{Event}
+use Rattle.club_core.specs.Members.{Member}
 use Rattle.club_audit.specs.Standings.{AreGamesOf}
 use Rattle.club_audit.proofs.Proved.{challenges-of, club-challenges, game-elsewhere, keys-in, keys-of, numbered-length}
-use Rattle.club_opening.specs.Blames.{AreRead, NamesSchema, NamesTable}
-use Rattle.club_opening.specs.Examined.{AreScoresExamined, IsPlayExamined, NamesPlay, moves_in, past, seen_in}
+use Rattle.club_opening.specs.Blames.{AreRead, IsMetaRead, NamesSchema, NamesTable}
+use Rattle.club_opening.specs.Examined.{AreScoresExamined, IsOf, IsPlayExamined, NamesPlay, moves_in, past, seen_in}
 use Rattle.club_opening.specs.Places.{IsRegisterOf, NamesRows}
 use Rattle.club_changes.specs.Steps.{HaveSame}
 use Rattle.club_opening.specs.declared.fault.OpenFault.{OpenFault}
@@ -42,15 +47,17 @@ use Rattle.club_changes.proofs.Proved.{moves_had, exactly_same}
 use Rattle.club_opening.proofs.OnceLemmas.{scores_are}
 use Rattle.club_opening.proofs.PastLemmas.{table_gathered}
 
--- the rows of a legal club are a register
-pub register_of : (s : ClubState) (rows : Rows) → IsClub s → IsRegisterOf s rows → HaveRegister rows
-register_of s rows club register =
+-- the challenges of a legal club are those of its register, and its games stand beside one another
+pub register_challenges : (s : ClubState) (rows : Rows) → IsClub s → IsRegisterOf s rows
+    → AreChallenges s.challenges rows
+register_challenges s rows club register =
+    club-challenges s rows club (people_of s rows club register) register.games register.challenges
+
+pub register_apart : (s : ClubState) (rows : Rows) → IsClub s → IsRegisterOf s rows → AreApartGames rows.games.items
+register_apart s rows club register =
     let same = numbered-length game_cells _ 1 rows.games.items s.games register.games in
     let most = club.game_count in
     record {
-      state = s;
-      people = people_of s rows club register;
-      challenges = club-challenges s rows club (people_of s rows club register) register.games register.challenges;
       few = omega (arith, same, most);
       keys = keys-in s s.games rows.games.items register.games club.game_keys;
     }
@@ -76,16 +83,19 @@ keeps_shown table db = record {
   only = λ r h. has_map (cells table) (db table.tree) r h;
 }
 
-module _ (rows : Rows) (old mid after new : State) (opened : IsOpened old) (read : AreRead rows old mid)
-    (play : IsPlayExamined rows mid after) (scores : AreScoresExamined rows after new) (may : KeepsMay old new) where
+module _ (rows : Rows) (last : Option ℕ) (old mid after new : State) (opened : IsOpened old)
+    (read : AreRead rows old mid)
+    (one : IsReadAs (meta 0) 1 (meta_cells rows.meta ∷ []) old mid × (rows.meta.id ≡ pos 1)
+    × (rows.meta.schema ≡ pos 1)) (play : IsPlayExamined rows last None mid after)
+    (scores : AreScoresExamined rows after new) (may : KeepsMay old new) where
   mid_is : mid.now ≡ old.now
-  mid_is = read.meta.same.0.now_is
+  mid_is = read.same.0.now_is
 
   trees_are : mid.now.trees ≡ old.now.trees
   trees_are = ap (λ (d : Database). d.trees) mid_is
 
   after_same : IsUnchanged old after
-  after_same = unchanged_then old mid after read.meta.same play.games.same
+  after_same = unchanged_then old mid after read.same play.games.same
 
   later_trees : after.now.trees ≡ old.now.trees
   later_trees = ap (λ (d : Database). d.trees) after_same.0.now_is
@@ -95,7 +105,7 @@ module _ (rows : Rows) (old mid after new : State) (opened : IsOpened old) (read
     schema = opened.schema;
     sound = opened.sound;
     tables = (
-      record { rows = read.meta.keeps; apart = read.meta.apart },
+      record { rows = one.0.keeps; apart = one.0.apart },
       (
         record { rows = read.members.keeps; apart = read.members.apart },
         (
@@ -148,33 +158,44 @@ module _ (rows : Rows) (old mid after new : State) (opened : IsOpened old) (read
 
   -- ---- the club
 
-  module _ (register : HaveRegister rows) where
+  module _ (ms : List Member) (es : List Event) (cs : List Challenge) (n : ℕ) (are_ms : AreMembers ms rows.members.items)
+      (are_es : AreEvents es rows.events.items) (are_cs : AreChallenges cs rows) (apart : AreApartGames rows.games.items)
+      (moment : rows.meta.last ≡ pos n) (within : n ≤ 253402300799) (is_last : last ≡ Some n) where
+    abbrev known : ClubState
+    known = record { last = n; members = ms; events = es; games = []; challenges = cs }
+
+    people : HasPeople known rows
+    people = record { members = are_ms; events = are_es }
+
+    of_rows : IsOf known rows last
+    of_rows = record { people = people; moment = is_last; within = within }
+
     -- the tables that were examined are those of a legal club
     pub examined_club : (t : ClubState) × IsClub t × IsExactly (tables t) new
     examined_club =
-        let s = register.state in
-        let people = register.people in
-        let found = play.games.found s people in
+        let s = known in
+        let found = play.games.found refl s of_rows in
+        let none = play.games.none_left refl s of_rows in
         let rows_are = ap (map game_cells) (sym (take_all (length rows.games.items) rows.games.items (omega arith)))
         ∙ found.rows_are in
-        let few : length found.games ≤ 5000 = let count = found.number_of in let low = register.few in
+        let few : length found.games ≤ 5000 = let count = found.number_of in let low = apart.few in
         omega (arith, count, low) in
         let t : ClubState = record s { games = found.games } in
         let are_moves : HaveSame (moves_in mid.now.trees) (tables_of both_games t 8) =
         table_gathered (rows_of_moves both_games s.events) (λ id g z h. moves_had both_games s.events id g z h)
         (moves_in mid.now.trees) found.games
-        (subst (λ n. length (past n (moves_in mid.now.trees)) ≡ 0) (sym found.number_of) play.games.moves_none)
+        (subst (λ n. length (past n (moves_in mid.now.trees)) ≡ 0) (sym found.number_of) none.moves)
         found.moves_are in
         let are_seen : HaveSame (seen_in mid.now.trees) (tables_of both_games t 12) =
         table_gathered (rows_of_seen both_games) (λ id g z h. seen_had id g z h) (seen_in mid.now.trees) found.games
-        (subst (λ n. length (past n (seen_in mid.now.trees)) ≡ 0) (sym found.number_of) play.games.seen_none)
+        (subst (λ n. length (past n (seen_in mid.now.trees)) ≡ 0) (sym found.number_of) none.seen)
         found.seen_are in
         let are_scores = scores.are t (record { few = few; rows_are = rows_are }) in
         let are_meta : ◌≡◌ {A = List Row} (meta_cells rows.meta ∷ []) (tables_of both_games t 0) = λ i.
-        (Int (read.id i) ∷ Int (read.schema i) ∷ Int (people.moment i) ∷ []) ∷ [] in (
+        (Int (one.1 i) ∷ Int (one.2 i) ∷ Int (moment i) ∷ []) ∷ [] in (
           t,
           record {
-            last = people.within;
+            last = within;
             members = people.members.legal;
             member_count = people.members.count;
             member_names = people.members.names;
@@ -184,9 +205,9 @@ module _ (rows : Rows) (old mid after new : State) (opened : IsOpened old) (read
             event_names = people.events.names;
             games = λ n any at. game-elsewhere s found.games any (found.legal n any at);
             game_count = few;
-            game_keys = keys-of s found.games rows.games.items rows_are register.keys;
-            challenges = challenges-of s rows people found.games rows_are register.challenges.legal;
-            challenge_numbers = register.challenges.numbers;
+            game_keys = keys-of s found.games rows.games.items rows_are apart.keys;
+            challenges = challenges-of s rows people found.games rows_are are_cs.legal;
+            challenge_numbers = are_cs.numbers;
           },
           exactly_same (content_with rows scores.rows_of old.now.trees) (tables t) new (
             same_by _ _ are_meta,
@@ -195,7 +216,7 @@ module _ (rows : Rows) (old mid after new : State) (opened : IsOpened old) (read
               (
                 same_by _ _ people.events.rows_are,
                 (
-                  register.challenges.rows_are.same,
+                  are_cs.rows_are.same,
                   (
                     subst (λ (d : Trees). HaveSame (moves_in d) (tables_of both_games t 8)) trees_are are_moves,
                     (
@@ -211,6 +232,12 @@ module _ (rows : Rows) (old mid after new : State) (opened : IsOpened old) (read
             ),
           ) exactly,
         )
+
+-- the row of `meta` was read, where its moment is one
+pub meta_found : (rows : Rows) (old mid : State) (n : ℕ) → rows.meta.last ≡ pos n → IsMetaRead rows.meta old mid
+    → IsReadAs (meta 0) 1 (meta_cells rows.meta ∷ []) old mid × (rows.meta.id ≡ pos 1) × (rows.meta.schema ≡ pos 1)
+meta_found rows old mid n is (inl one) = one
+meta_found rows old mid n is (inr missing) = absurd (missing.0 n is)
 
 -- ---- what is blamed
 

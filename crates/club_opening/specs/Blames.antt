@@ -1,10 +1,10 @@
 -- What reading a table of a club's database tells, and what a fault says of its rows.
-use Rattle.std.specs.Prelude.{◌≡◌, ◌≢◌, ◌⊎◌, ℤ, pos, List, [], ◌∷◌, map}
+use Rattle.std.specs.Prelude.{◌≡◌, ◌≢◌, ◌⊎◌, ℕ, ℤ, pos, List, [], ◌∷◌, map}
 use Rattle.std.specs.List.{AllByRecursion}
 use Rattle.sqlite.specs.Order.{Row}
 use Rattle.sqlite.specs.Table.{Table as Definition}
 use Rattle.sqlite.specs.Effect.{Database}
-use Rattle.sqlite.specs.State.{State}
+use Rattle.sqlite.specs.State.{State, IsUnchanged}
 use Rattle.sqlite.specs.declared.types.Value.TheVariants.{Int}
 use Rattle.sqlite_rules.specs.Lists.{Has}
 use Rattle.store_tables.specs.Cells.{meta_cells, member_cells, event_cells, challenge_cells, game_cells}
@@ -14,24 +14,13 @@ use Rattle.store_tables.specs.Contents.{Content}
 use Rattle.store_tables.specs.Club.{Holds}
 use Rattle.store_sql.specs.Read.{IsReadAs}
 use Rattle.store_tables.specs.Tables.{meta, members, events, challenges, games}
+use Rattle.store_tables.specs.declared.rows.MetaRow.{MetaRow}
 use Rattle.store_tables.specs.declared.rows.Rows.{Rows}
 use Rattle.store_tables.specs.declared.names.Table.{Table}
 use Rattle.store_tables.specs.declared.names.Table.TheVariants.{Members, Events, Challenges, Moves, Games, Seen, Scores}
 use Rattle.store_tables.specs.declared.names.Table.TheVariants.{Meta}
 use Rattle.club_opening.specs.declared.fault.OpenFault.{OpenFault}
 use Rattle.club_opening.specs.declared.fault.OpenFault.TheVariants.{Schema, Damaged, Store, Memory}
-
--- ---- what is read
-
--- Each table but those of moves, positions and scores has its rows, and the schema is number 1.
-pub record AreRead (rows : Rows) (old new : State) : Type 0 where
-  pub meta : IsReadAs (meta 0) 1 (meta_cells rows.meta ∷ []) old new
-  pub members : IsReadAs (members 1) 1 (map member_cells rows.members.items) old new
-  pub events : IsReadAs (events 4) 1 (map event_cells rows.events.items) old new
-  pub challenges : IsReadAs (challenges 6) 2 (map challenge_cells rows.challenges.items) old new
-  pub games : IsReadAs (games 10) 1 (map game_cells rows.games.items) old new
-  pub id : rows.meta.id ≡ pos 1
-  pub schema : rows.meta.schema ≡ pos 1
 
 -- ---- what is blamed
 
@@ -51,6 +40,22 @@ HasTypes Games content = AllByRecursion IsGame (content 10)
 HasTypes Seen content = AllByRecursion IsSeen (content 12)
 HasTypes Scores content = AllByRecursion IsScore (content 14)
 HasTypes Meta content = IsOneMeta (content 0)
+
+-- This is the one row of `meta`, with schema 1; or there is none, and this has a moment that no club has.
+abbrev pub IsMetaRead : MetaRow → State → State → Type 0
+IsMetaRead row old new =
+    (IsReadAs (meta 0) 1 (meta_cells row ∷ []) old new × (row.id ≡ pos 1) × (row.schema ≡ pos 1))
+    ⊎
+    (((n : ℕ) → row.last ≢ pos n) × ((content : Content) → Holds old.now content → ¬ HasTypes Meta content))
+
+-- Each table but those of moves, positions and scores has its rows, and the schema is number 1, where `meta` has its row.
+pub record AreRead (rows : Rows) (old new : State) : Type 0 where
+  pub meta : IsMetaRead rows.meta old new
+  pub members : IsReadAs (members 1) 1 (map member_cells rows.members.items) old new
+  pub events : IsReadAs (events 4) 1 (map event_cells rows.events.items) old new
+  pub challenges : IsReadAs (challenges 6) 2 (map challenge_cells rows.challenges.items) old new
+  pub games : IsReadAs (games 10) 1 (map game_cells rows.games.items) old new
+  pub same : IsUnchanged old new
 
 -- Memory was refused, or the table is called damaged, and then for this reason.
 abbrev pub Faults : Table → Type 0 → OpenFault → Type 0

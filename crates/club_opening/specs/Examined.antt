@@ -1,5 +1,5 @@
 -- The rows of a club's games in a database, and how many of its games were found there.
-use Rattle.std.specs.Prelude.{◌≡◌, ◌+◌, ℕ, zero, suc, pos, not, List, [], ◌∷◌, map, take, length, filter, Option, Some}
+use Rattle.std.specs.Prelude.{◌≡◌, ◌≤◌, ◌+◌, ℕ, zero, suc, pos, not, List, [], ◌∷◌, map, take, length, filter, Option, Some}
 use Rattle.std.specs.Prelude.{None, slice_get}
 use Rattle.sqlite.specs.Order.{Row}
 use Rattle.sqlite.specs.Tree.{Trees}
@@ -20,7 +20,7 @@ use Rattle.store_tables.specs.declared.names.Table.{Table}
 use Rattle.store_tables.specs.declared.rows.Rows.{Rows}
 use Rattle.club_audit.specs.Audit.{HasPeople}
 use Rattle.club_audit.specs.Standings.{AreGamesOf}
-use Rattle.club_opening.specs.Places.{IsRegisterOf}
+use Rattle.club_opening.specs.Places.{IsRegisterOf, last_moment}
 use Rattle.club_changes.specs.Steps.{HaveSame}
 use Rattle.club_opening.specs.declared.fault.OpenFault.{OpenFault}
 use Rattle.club_opening.specs.declared.fault.OpenFault.TheVariants.{Damaged}
@@ -62,35 +62,51 @@ abbrev pub NamesPlay : Rows → Database → OpenFault → Type 0
 NamesPlay rows db fault = (t : Table) × (fault ≡ Damaged t)
     × ((s : ClubState) → IsClub s → IsRegisterOf s rows → ¬ Holds db (tables s))
 
+-- the club has these members and events, and its last moment is this one
+pub record IsOf (s : ClubState) (rows : Rows) (last : Option ℕ) : Type 0 where
+  pub people : HasPeople s rows
+  pub moment : last ≡ Some s.last
+  pub within : s.last ≤ last_moment
+
 -- What was read of a game's rows tells: how many are of its moves and of its positions, and that all of them are those
 -- of a legal game at its place, or a wrong table.
-pub record IsGameFound (rows : Rows) (place : ℕ) (game : GameRecord) (moves seen : ℕ) (wrong : Option Table)
-    (old new : State) : Type 0 where
+pub record IsGameFound (rows : Rows) (last : Option ℕ) (place : ℕ) (game : GameRecord) (moves seen : ℕ)
+    (wrong : Option Table) (old new : State) : Type 0 where
   pub same : IsUnchanged old new
   pub moves_number : moves ≡ length (beginning_with game.id (moves_in old.now.trees))
   pub seen_number : seen ≡ length (beginning_with game.id (seen_in old.now.trees))
-  pub found : wrong ≡ None → (s : ClubState) → HasPeople s rows → (g : ClubGame)
+  pub found : wrong ≡ None → (s : ClubState) → IsOf s rows last → (g : ClubGame)
       × IsFoundAs s (place + 1) game old.now.trees g
   pub blamed : (t : Table) → wrong ≡ Some t → NamesPlay rows old.now (Damaged t)
 
--- what was read of all games tells
-pub record AreGamesFound (rows : Rows) (old new : State) : Type 0 where
+-- none of the rows of moves and of positions is another's than those of the first so many games
+pub record NoneIsLeft (db : Trees) (count : ℕ) : Type 0 where
+  pub moves : length (past count (moves_in db)) ≡ 0
+  pub seen : length (past count (seen_in db)) ≡ 0
+
+-- What was read of all games tells: they are those of a club, and no row is another's, or a wrong table.
+pub record AreGamesFound (rows : Rows) (last : Option ℕ) (wrong : Option Table) (old new : State) : Type 0 where
   pub same : IsUnchanged old new
-  pub found : (s : ClubState) → HasPeople s rows → WereFound s rows.games.items old.now.trees (length rows.games.items)
-  pub moves_none : length (past (length rows.games.items) (moves_in old.now.trees)) ≡ 0
-  pub seen_none : length (past (length rows.games.items) (seen_in old.now.trees)) ≡ 0
+  pub found : wrong ≡ None → (s : ClubState) → IsOf s rows last
+      → WereFound s rows.games.items old.now.trees (length rows.games.items)
+  pub none_left : wrong ≡ None → (s : ClubState) → IsOf s rows last
+      → NoneIsLeft old.now.trees (length rows.games.items)
+  pub blamed : (t : Table) → wrong ≡ Some t → NamesPlay rows old.now (Damaged t)
 
 -- and what is left of the rows when so many games were read, of which a table was wrong or none
-pub record AreLeftAfter (rows : Rows) (place moves seen : ℕ) (wrong : Option Table) (old new : State) : Type 0 where
+pub record AreLeftAfter (rows : Rows) (last : Option ℕ) (place moves seen : ℕ) (wrong : Option Table) (old new : State)
+    : Type 0 where
   pub same : IsUnchanged old new
-  pub found : wrong ≡ None → (s : ClubState) → HasPeople s rows → WereFound s rows.games.items old.now.trees place
+  pub found : wrong ≡ None → (s : ClubState) → IsOf s rows last → WereFound s rows.games.items old.now.trees place
   pub blamed : (t : Table) → wrong ≡ Some t → NamesPlay rows old.now (Damaged t)
-  pub moves_left : moves ≡ length (past place (moves_in old.now.trees))
-  pub seen_left : seen ≡ length (past place (seen_in old.now.trees))
+  pub moves_left : wrong ≡ None → (s : ClubState) → IsOf s rows last
+      → moves ≡ length (past place (moves_in old.now.trees))
+  pub seen_left : wrong ≡ None → (s : ClubState) → IsOf s rows last
+      → seen ≡ length (past place (seen_in old.now.trees))
 
 -- what was read of all games tells, with the rowids of both tables
-pub record IsPlayExamined (rows : Rows) (old new : State) : Type 0 where
-  pub games : AreGamesFound rows old new
+pub record IsPlayExamined (rows : Rows) (last : Option ℕ) (wrong : Option Table) (old new : State) : Type 0 where
+  pub games : AreGamesFound rows last wrong old new
   pub moves_apart : AreApart (old.now.trees 8)
   pub seen_apart : AreApart (old.now.trees 12)
 

@@ -1,100 +1,40 @@
-//! Which table of a club is wrong.
+//! Which table of a club is wrong, by the rows that are read whole.
 
-ghost use Rattle.std.specs.Prelude.{◌≡◌, ◌≢◌, ◌+◌, ◌^◌, ◌<◌, ℤ, pos, true, false, None, IfSome, IfErr, OnOk, map};
-ghost use Rattle.club_audit.specs.Audit.{HaveRegister};
-ghost use Rattle.club_opening.specs.Places.{ArePlaces, HasPlaces, BlamesRows};
+ghost use Rattle.std.specs.Prelude.{◌≡◌, ◌≤◌, ℕ, pos, None, Some, IfErr, IfOk, OnOk, List};
+ghost use Rattle.club_audit.specs.Audit.{AreApartGames};
+ghost use Rattle.club_audit.specs.ChallengeAudit.{AreChallenges};
+ghost use Rattle.club_core.specs.declared.challenges.Challenge.{Challenge};
+ghost use Rattle.club_opening.specs.Places.{BlamesRows, IsNoRegister, last_moment};
 
 use crate::fault::OpenFault;
+use club_audit::{are_apart, are_challenges};
+use club_rows::numbers::moment;
 use std::alloc::Global;
-use store_tables::{EventRow, GameRecord, MemberRow, Rows, Table};
+use store_tables::{Rows, Table};
 
-/// A row with an id.
-trait Numbered {
-    ghost number: { Self → ℤ };
-
-    fn number(&self) -> i64
-        ensures { result ≡ number self.now };
-}
-
-impl Numbered for MemberRow {
-    ghost number = { λ r. r.id };
-
-    fn number(&self) -> i64 {
-        self.id
-    }
-}
-
-impl Numbered for EventRow {
-    ghost number = { λ r. r.id };
-
-    fn number(&self) -> i64 {
-        self.id
-    }
-}
-
-impl Numbered for GameRecord {
-    ghost number = { λ r. r.id };
-
-    fn number(&self) -> i64 {
-        self.id
-    }
-}
-
-/// Whether an id is that of the row at this index, from 0.
-fn is_place(id: i64, index: usize) -> bool
-    requires { index + 1 < 2 ^ 64 }
-    ensures all { result ≡ true → id ≡ pos (index + 1) }
-    ensures none { result ≡ false → id ≢ pos (index + 1) }
-{
-    match usize::try_from(id) {
-        Ok(place) => place == index + 1,
-        Err(_) => false,
-    }
-}
-
-/// Whether the ids count from 1.
-fn are_places<T: Numbered>(rows: &[T]) -> bool
-    ensures all { result ≡ true → ArePlaces (map T.number rows.now) }
-    ensures none { result ≡ false → ¬ ArePlaces (map T.number rows.now) }
-{
-    'rows: for i in 0..rows.len() {
-        if !is_place(rows[i].number(), i) {
-            return false;
-        }
-    }
-    true
-}
-
-// A table whose ids are no places, looked for in the order of their names here.
-fn misplaced(rows: &Rows) -> Option<Table>
-    ensures none { result ≡ None → (t : _) → HasPlaces t rows.now }
-    ensures wrong { IfSome result (λ t. ¬ HasPlaces t rows.now) }
-{
-    if !are_places(&rows.members) {
-        return Some(Table::Members);
-    }
-    if !are_places(&rows.events) {
-        return Some(Table::Events);
-    }
-    if !are_places(&rows.games) {
-        return Some(Table::Games);
-    }
-    None
-}
-
-/// Tests that the rows are those of a legal club, but for the moves, the positions and the scores of its games.
-pub(crate) fn audit(alloc: Global, rows: &Rows) -> Result<(), OpenFault>
-    ensures register { OnOk result (HaveRegister rows.now) }
-    ensures places { OnOk result (ArePlaces (map (λ r. r.id) rows.now.games.items)) }
+/// Tests that the challenges are those of a club with these members, events and games, and whether these games stand
+/// beside one another and there is a last moment. A fault names the challenges; of the others the first that is wrong is
+/// given back, since what is wrong in the rows of moves and of positions is named before it.
+pub(crate) fn audit(alloc: Global, rows: &Rows) -> Result<Option<Table>, OpenFault>
+    ensures challenges { OnOk result ((cs : List Challenge) × AreChallenges cs rows.now) }
+    ensures games { IfOk result (λ wrong. wrong ≡ None → AreApartGames rows.now.games.items) }
+    ensures moment { IfOk result (λ wrong. wrong ≡ None →
+        (n : ℕ) × (rows.now.meta.last ≡ pos n) × (n ≤ last_moment)) }
+    ensures remembered { IfOk result (λ wrong. (t : Table) → wrong ≡ Some t → IsNoRegister rows.now) }
     ensures fault { IfErr result (BlamesRows rows.now) }
 {
-    match misplaced(rows) {
-        Some(table) => return Err(OpenFault::Damaged(table)),
-        None => {}
+    match are_challenges(alloc, rows) {
+        Ok(true) => {}
+        Ok(false) => return Err(OpenFault::Damaged(Table::Challenges)),
+        Err(_) => return Err(OpenFault::Memory),
     }
-    match club_audit::wrong_register(alloc, rows) {
-        Ok(Some(table)) => Err(OpenFault::Damaged(table)),
-        Ok(None) => Ok(()),
-        Err(_) => Err(OpenFault::Memory),
+    match are_apart(alloc, &rows.games) {
+        Ok(true) => {}
+        Ok(false) => return Ok(Some(Table::Games)),
+        Err(_) => return Err(OpenFault::Memory),
+    }
+    match moment(rows.meta.last) {
+        Some(_) => Ok(None),
+        None => Ok(Some(Table::Meta)),
     }
 }

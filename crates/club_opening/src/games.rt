@@ -1,6 +1,6 @@
 //! Examining the games of a club, one after another: each by its row, and by those of its moves and of its positions.
 
-ghost use Rattle.std.specs.Prelude.{◌≡◌, ◌⊎◌, ◌+◌, ◌<◌, ◌≤◌, ◌^◌, pos, None, Some, IsTrue, IfOk, IfErr, OnOk, map};
+ghost use Rattle.std.specs.Prelude.{◌≡◌, ◌⊎◌, ◌<◌, ◌≤◌, None, Some, IsTrue, IfOk, IfErr, map};
 ghost use Rattle.std.specs.Prelude.{length, slice_get};
 ghost use Rattle.sqlite.specs.State.{HasCleanDisk};
 ghost use Rattle.sqlite.specs.Held.{state};
@@ -8,7 +8,8 @@ ghost use Rattle.store_tables.specs.Reading.{OnlyReads};
 ghost use Rattle.store_tables.specs.Tables.{club_schema};
 ghost use Rattle.store_sql.specs.Read.{AreCounted, AreReadOf};
 ghost use Rattle.club_opening.specs.Blames.{Blames, NamesTable};
-ghost use Rattle.club_opening.specs.Places.{ArePlaces, order};
+ghost use Rattle.club_audit.specs.FirstWrong.{order};
+ghost use Rattle.club_opening.specs.Places.{IsMomentOf, IsNoRegister};
 ghost use Rattle.club_opening.specs.Examined.{AreGamesFound, IsGameFound, NamesPlay, moves_in, seen_in};
 
 use crate::fault::OpenFault;
@@ -120,22 +121,31 @@ fn read_of<T: Select, S: Alter>(
     }
 }
 
+/// The moment, if one is given.
+fn given(last: &Option<Moment>) -> Option<Moment>
+    ensures { result ≡ last.now }
+{
+    match last {
+        Some(last) => Some(*last),
+        None => None,
+    }
+}
+
 /// Reads all rows of the game at this place, from 0, and tests whether they are those of a legal game, up to the last
-/// moment.
+/// moment, if there is one.
 fn examine_game<S: Alter>(
     alloc: Global,
     conn: &mut Connection<S>,
     rows: &Rows,
     place: usize,
     game: &GameRecord,
-    last: Moment,
+    last: &Option<Moment>,
 ) -> Result<Found, OpenFault>
-    requires room { place + 1 < 2 ^ 64 }
-    requires last { rows.now.meta.last ≡ pos last }
+    requires last { IsMomentOf rows.now.meta.last last.now }
     requires at { slice_get rows.now.games.items place ≡ Some game.now }
     ensures reads { OnlyReads (state S.Store conn.old) (state S.Store conn.new) }
     ensures found { HasCleanDisk (state S.Store conn.new) → IfOk result (λ found.
-        (state S.Store conn.old).now.schema ≡ club_schema → IsGameFound rows.now place game.now found.own.moves
+        (state S.Store conn.old).now.schema ≡ club_schema → IsGameFound rows.now last.now place game.now found.own.moves
         found.own.seen found.wrong (state S.Store conn.old) (state S.Store conn.new)) }
     ensures blames { HasCleanDisk (state S.Store conn.new) → IfErr result (λ e.
         (state S.Store conn.old).now.schema ≡ club_schema →
@@ -149,7 +159,7 @@ fn examine_game<S: Alter>(
         Ok(seen) => seen,
         Err(fault) => return Err(fault),
     };
-    match wrong_game(alloc, rows, place, game, &moves, &seen, last) {
+    match wrong_game(alloc, rows, place, game, &moves, &seen, given(last)) {
         Ok(wrong) => Ok(Found {
             own: Counts {
                 moves: moves.len(),
@@ -162,23 +172,25 @@ fn examine_game<S: Alter>(
 }
 
 /// Reads the rows of all games, one game after another, of so many rows of moves and of positions, and tests that
-/// they are those of legal games, up to the last moment, and that there are no others. Of tables whose rows tell
-/// another game the first is named.
+/// they are those of legal games, up to the last moment, if there is one, and that there are no others: the first wrong
+/// table by them, or the one that is known, whichever is named first.
 pub(crate) fn examine_games<S: Alter>(
     alloc: Global,
     conn: &mut Connection<S>,
     rows: &Rows,
-    last: Moment,
+    last: Option<Moment>,
     all: Counts,
-) -> Result<(), OpenFault>
-    requires last { rows.now.meta.last ≡ pos last }
-    requires places { ArePlaces (map (λ r. r.id) rows.now.games.items) }
+    known: Option<Table>,
+) -> Result<Option<Table>, OpenFault>
+    requires last { IsMomentOf rows.now.meta.last last }
+    requires known { (t : _) → known ≡ Some t → IsNoRegister rows.now }
     ensures reads { OnlyReads (state S.Store conn.old) (state S.Store conn.new) }
-    ensures found { HasCleanDisk (state S.Store conn.new) → OnOk result (
+    ensures found { HasCleanDisk (state S.Store conn.new) → IfOk result (λ wrong.
         (state S.Store conn.old).now.schema ≡ club_schema → IsTrue (state S.Store conn.old).is_open →
         all.moves ≡ length (moves_in (state S.Store conn.old).now.trees) →
         all.seen ≡ length (seen_in (state S.Store conn.old).now.trees) →
-        AreGamesFound rows.now (state S.Store conn.old) (state S.Store conn.new)) }
+        AreGamesFound rows.now last wrong (state S.Store conn.old) (state S.Store conn.new)) }
+    ensures known { IfOk result (λ wrong. wrong ≡ None → known ≡ None) }
     ensures blames { HasCleanDisk (state S.Store conn.new) → IfErr result (λ e.
         (state S.Store conn.old).now.schema ≡ club_schema → IsTrue (state S.Store conn.old).is_open →
         all.moves ≡ length (moves_in (state S.Store conn.old).now.trees) →
@@ -187,9 +199,9 @@ pub(crate) fn examine_games<S: Alter>(
 {
     let mut moves = all.moves;
     let mut seen = all.seen;
-    let mut wrong = None;
+    let mut wrong = known;
     for (place, game) in rows.games.iter().enumerate() {
-        let found = match examine_game(alloc, conn, rows, place, game, last) {
+        let found = match examine_game(alloc, conn, rows, place, game, &last) {
             Ok(found) => found,
             Err(fault) => return Err(fault),
         };
@@ -198,8 +210,5 @@ pub(crate) fn examine_games<S: Alter>(
         wrong = first_of(wrong, found.wrong);
     }
     let with_moves = first_of(wrong, left_over(moves, Table::Moves));
-    match first_of(with_moves, left_over(seen, Table::Seen)) {
-        Some(table) => Err(OpenFault::Damaged(table)),
-        None => Ok(()),
-    }
+    Ok(first_of(with_moves, left_over(seen, Table::Seen)))
 }

@@ -1,6 +1,6 @@
 //! Examining the tables of a database that was opened.
 
-ghost use Rattle.std.specs.Prelude.{◌≡◌, ◌⊎◌, IfErr, OnOk, map};
+ghost use Rattle.std.specs.Prelude.{◌≡◌, ◌⊎◌, None, Some, IfErr, IfOk, OnOk};
 ghost use Rattle.sqlite.specs.State.{HasCleanDisk, IsUnchanged};
 ghost use Rattle.sqlite.specs.Held.{state};
 ghost use Rattle.store_tables.specs.Club.{IsExactly, IsOpened};
@@ -9,37 +9,39 @@ ghost use Rattle.store_tables.specs.Tables.{club_schema};
 ghost use Rattle.club_opening.specs.Blames.{NamesTable, NamesSchema};
 ghost use Rattle.club_opening.specs.Examined.{AreScoresExamined, IsPlayExamined, NamesPlay};
 ghost use Rattle.club_rows.specs.Club.{IsClub, tables};
-ghost use Rattle.club_opening.specs.Places.{ArePlaces, NamesRows};
+ghost use Rattle.club_opening.specs.Places.{IsMomentOf, IsNoRegister, NamesRows};
 
 use crate::audit::audit;
 use crate::fault::OpenFault;
 use crate::games::{Counts, count_of, examine_games};
 use crate::read::{read, read_rows};
+use clocks::Moment;
 use club_audit::scores_are;
 use club_rows::numbers::moment;
 use sqlite::{Alter, Connection};
 use std::alloc::Global;
 use store_tables::{MoveRow, Rows, ScoreRow, SeenRow, Table};
 
-/// Tests that the moves and the positions are those of the games, which were read.
+/// Tests that the moves and the positions are those of the games, which were read: the first wrong table by them, or the
+/// one that is known, whichever is named first.
 fn examine_play<S: Alter>(
     alloc: Global,
     conn: &mut Connection<S>,
     rows: &Rows,
-) -> Result<(), OpenFault>
-    requires places { ArePlaces (map (λ r. r.id) rows.now.games.items) }
+    last: Option<Moment>,
+    known: Option<Table>,
+) -> Result<Option<Table>, OpenFault>
+    requires last { IsMomentOf rows.now.meta.last last }
+    requires known { (t : _) → known ≡ Some t → IsNoRegister rows.now }
     ensures reads { OnlyReads (state S.Store conn.old) (state S.Store conn.new) }
-    ensures found { HasCleanDisk (state S.Store conn.new) → OnOk result (
+    ensures found { HasCleanDisk (state S.Store conn.new) → IfOk result (λ wrong.
         (state S.Store conn.old).now.schema ≡ club_schema →
-        IsPlayExamined rows.now (state S.Store conn.old) (state S.Store conn.new)) }
+        IsPlayExamined rows.now last wrong (state S.Store conn.old) (state S.Store conn.new)) }
+    ensures known { IfOk result (λ wrong. wrong ≡ None → known ≡ None) }
     ensures blames { HasCleanDisk (state S.Store conn.new) → IfErr result (λ e.
         (state S.Store conn.old).now.schema ≡ club_schema →
         NamesTable (state S.Store conn.old).now e ⊎ NamesPlay rows.now (state S.Store conn.old).now e) }
 {
-    let last = match moment(rows.meta.last) {
-        Some(last) => last,
-        None => return Err(OpenFault::Damaged(Table::Meta)),
-    };
     let moves = match count_of::<MoveRow, S>(alloc, conn, Table::Moves) {
         Ok(count) => count,
         Err(fault) => return Err(fault),
@@ -48,8 +50,8 @@ fn examine_play<S: Alter>(
         Ok(count) => count,
         Err(fault) => return Err(fault),
     };
-    match examine_games(alloc, conn, rows, last, Counts { moves, seen }) {
-        Ok(()) => Ok(()),
+    match examine_games(alloc, conn, rows, last, Counts { moves, seen }, known) {
+        Ok(wrong) => Ok(wrong),
         Err(fault) => Err(fault),
     }
 }
@@ -79,7 +81,21 @@ fn examine_scores<S: Alter>(
     }
 }
 
-/// Tests that the tables are those of a club, and changes nothing.
+/// The wrong table, where it is named before the scores.
+fn before_scores(wrong: Option<Table>) -> Option<Table>
+    ensures some { (t : _) → result ≡ Some t → wrong ≡ Some t }
+    ensures none { result ≡ None → (wrong ≡ None) ⊎ (wrong ≡ Some Table.Meta) }
+    ensures meta { wrong ≡ Some Table.Meta → result ≡ None }
+{
+    match wrong {
+        Some(Table::Meta) => None,
+        Some(table) => Some(table),
+        None => None,
+    }
+}
+
+/// Tests that the tables are those of a club, and changes nothing. Of wrong tables the first is named, in the order
+/// members, events, challenges, moves, games, positions, scores, `meta`.
 pub fn examine<S: Alter>(alloc: Global, conn: &mut Connection<S>) -> Result<(), OpenFault>
     ensures reads { OnlyReads (state S.Store conn.old) (state S.Store conn.new) }
     ensures found { HasCleanDisk (state S.Store conn.new) → OnOk result (IsOpened (state S.Store conn.old) → (s : _) ×
@@ -95,16 +111,25 @@ pub fn examine<S: Alter>(alloc: Global, conn: &mut Connection<S>) -> Result<(), 
         Ok(rows) => rows,
         Err(fault) => return Err(fault),
     };
-    match audit(alloc, &rows) {
-        Ok(()) => {}
+    let known = match audit(alloc, &rows) {
+        Ok(known) => known,
         Err(fault) => return Err(fault),
-    }
-    match examine_play(alloc, conn, &rows) {
-        Ok(()) => {}
+    };
+    let last = moment(rows.meta.last);
+    let wrong = match examine_play(alloc, conn, &rows, last, known) {
+        Ok(wrong) => wrong,
         Err(fault) => return Err(fault),
+    };
+    match before_scores(wrong) {
+        Some(table) => return Err(OpenFault::Damaged(table)),
+        None => {}
     }
     match examine_scores(alloc, conn, &rows) {
-        Ok(()) => Ok(()),
-        Err(fault) => Err(fault),
+        Ok(()) => {}
+        Err(fault) => return Err(fault),
+    }
+    match wrong {
+        Some(table) => Err(OpenFault::Damaged(table)),
+        None => Ok(()),
     }
 }

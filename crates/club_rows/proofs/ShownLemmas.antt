@@ -1,6 +1,6 @@
 -- What is shown of a game that was replayed, where its row stands.
 use Rattle.std.proofs.Common.{◌≡◌, ℕ, ◌<◌, ◌≤◌, ◌^◌, List, [], length, map, take, Option, Some, None, false, refl, ap}
-use Rattle.std.proofs.Common.{sym, ◌∙◌, subst, arith}
+use Rattle.std.proofs.Common.{sym, ◌∙◌, subst, subst₂, arith, pos, inl, inr}
 use Rattle.std.specs.Prelude.{is_some, IsSome, IfSome, IsTrue}
 use Rattle.std.proofs.Math.Seq.{take-length}
 use Rattle.club_rules.specs.GameRules.{GameRules}
@@ -17,7 +17,8 @@ use Rattle.store_tables.specs.declared.rows.MoveRow.{MoveRow}
 use Rattle.club_rows.specs.Tables.{game_row}
 use Rattle.club_rows.specs.Replay.{WasReplayed, IsPlayedAs, Replays, game_from}
 use Rattle.club_rows.specs.Tally.{IsTallyOf}
-use Rattle.club_rows.specs.Shown.{IsHistoryOf, AreRowsOf, ShowsGame, IsSoundIfShown, StandsAs}
+use Rattle.club_rows.specs.Shown.{AreMovesOf, IsHistoryOf, AreRowsOf, IsUnstarted, IsWrongAsTold, ShowsGame}
+use Rattle.club_rows.specs.Shown.{IsSoundIfShown, StandsAs}
 use Rattle.club_rows.specs.Told.{HasNumbers, AreIds, IsTold, game_told}
 use Rattle.club_rows.specs.declared.replay.Replayed.{Replayed}
 use Rattle.club_rows.specs.declared.view.Numbers.{Numbers}
@@ -27,7 +28,7 @@ use Rattle.club_rows.specs.declared.view.Shown.{Shown}
 use Rattle.club_rows.specs.declared.view.Shown.TheVariants as shown
 use Rattle.club_rows.proofs.ToldLemmas.{IsToldBy, columns-told, same-pos, told-outside, told-recorded, rows-played}
 use Rattle.club_rows.proofs.ToldLemmas.{row-stands, stands-legal, legal-stands, is_some-none}
-use Rattle.club_rows.proofs.WholeLemmas.{played-count, rows-alike}
+use Rattle.club_rows.proofs.WholeLemmas.{none-played, played-count, rows-alike}
 
 -- games with the same parts are one
 games-are : {M : Type 0} (a b : Game M) → a.key ≡ b.key → a.event ≡ b.event → a.first ≡ b.first → a.second ≡ b.second
@@ -199,3 +200,85 @@ module _ {R P M E T : Type 0} (rules : GameRules P M E T) (terms : Terms) (store
       subst (λ x. Shows rules game x.view) (sym stands.0) shows-it,
       subst (IsHistoryOf rules game) (sym stands.0) (subst (λ x. IsHistoryOf rules x full) game-same history),
     )
+
+-- ---- what is wrong
+
+module _ {P M E T : Type 0} (rules : GameRules P M E T) (terms : Terms) (stored : GameRecord) (moves : List MoveRow)
+    (number from : ℕ) (id_is : stored.id ≡ pos number) (start_is : stored.start ≡ pos from) where
+  -- rows that are those of no game's moves are wrong
+  pub moves-wrong : ((game : Game M) → ¬ IsPlayedAs rules terms number from moves game)
+      → ¬ AreMovesOf rules terms stored moves
+  moves-wrong none (inl empty) =
+      none (game_from from [])
+      (subst (λ ms. IsPlayedAs rules terms number from ms (game_from from [])) (sym empty)
+      (none-played rules terms number from))
+  moves-wrong none (inr have) =
+      none have.game
+      (subst₂ (λ i f. IsPlayedAs rules terms i f moves have.game) (same-pos _ _ (sym have.id_is ∙ id_is))
+      (same-pos _ _ (sym have.start_is ∙ start_is)) have.played)
+
+  -- those that were replayed are not
+  pub moves-right : {R : Type 0} (replayed : Replayed R P M E T) → number < 2 ^ 32 → from ≤ 253402300799
+      → WasReplayed rules terms number from moves (length moves) replayed → AreMovesOf rules terms stored moves
+  moves-right replayed short within was = inr (record {
+    id = number;
+    start = from;
+    id_is = id_is;
+    start_is = start_is;
+    short = short;
+    within = within;
+    game = game_from from was.entries;
+    played = subst (λ ms. IsPlayedAs rules terms number from ms (game_from from was.entries)) (take-length moves)
+        was.played;
+  })
+
+-- with a row that has no id, or no start, only a game without moves goes
+pub unstarted-wrong : {R P M E T : Type 0} (rules : GameRules P M E T) (terms : Terms) (stored : GameRecord)
+    (moves : List MoveRow) → ((id start : ℕ) → stored.id ≡ pos id → stored.start ≡ pos start → id < 2 ^ 32
+    → start ≤ 253402300799 → ⊥) → (s : Shown R P M E T) → IsUnstarted moves s
+    → IsWrongAsTold rules terms stored moves s
+unstarted-wrong rules terms stored moves never (shown.Game v) is = tt
+unstarted-wrong rules terms stored moves never shown.WrongMoves some = λ are. elim are [
+  | inl empty ↦ some empty
+  | inr have ↦ never have.id have.start have.id_is have.start_is have.short have.within
+]
+unstarted-wrong rules terms stored moves never shown.WrongGame empty = (
+  inl empty,
+  λ id game are.
+      let told = columns-told rules terms id game stored are.row in
+      never id game.start told.numbers.id told.numbers.start are.fits.id are.fits.start,
+)
+
+-- of what was shown after a replay nothing but the row can be wrong
+pub told-wrong : {R P M E T : Type 0} (rules : GameRules P M E T) (terms : Terms) (stored : GameRecord)
+    (moves : List MoveRow) → AreMovesOf rules terms stored moves → (s : Shown R P M E T)
+    → (given : ℕ) (full : Played R P M E T) → StandsAs rules stored given full s
+    → ((id : ℕ) (game : Game M) → AreRowsOf rules terms id stored moves game → ShowsGame rules terms game s)
+    → IsWrongAsTold rules terms stored moves s
+told-wrong rules terms stored moves right (shown.Game v) given full stands complete = tt
+told-wrong rules terms stored moves right shown.WrongMoves given full stands complete = absurd stands
+told-wrong rules terms stored moves right shown.WrongGame given full stands complete = (right, complete)
+
+-- the numbers that were read first are those of the row
+pub same-numbers : (stored : GameRecord) (given : Numbers) (number from : ℕ) → stored.id ≡ pos number
+    → stored.start ≡ pos from → HasNumbers stored given.game given.event given.first given.second given.start
+    → (number ≡ given.game) × (from ≡ given.start)
+same-numbers stored given number from id_is start_is has =
+    (same-pos _ _ (sym id_is ∙ has.id), same-pos _ _ (sym start_is ∙ has.start))
+
+-- a row without the numbers of a game is no game's
+pub row-wrong : {P M E T : Type 0} (rules : GameRules P M E T) (terms : Terms) (stored : GameRecord)
+    (moves : List MoveRow) → ((id event first second start : ℕ) → AreIds id event first second start
+    → ¬ HasNumbers stored id event first second start) → (id : ℕ) (game : Game M)
+    → ¬ AreRowsOf rules terms id stored moves game
+row-wrong rules terms stored moves none id game is =
+    let told = columns-told rules terms id game stored is.row in
+    none id game.event game.first game.second game.start
+    (record {
+      id = is.fits.id;
+      event = is.fits.event;
+      first = is.fits.first;
+      second = is.fits.second;
+      start =
+          is.fits.start;
+    }) told.numbers

@@ -51,6 +51,29 @@ pub take-got : {A : Type 0} (xs : List A) (k : ℕ) (x : A) → slice_get xs k �
 take-got xs k x at = take_more xs k x (slice_get_within xs k x at)
     ∙ ap (λ y. take k xs ++ y ∷ []) (get_or_from_slice_get xs k x x at)
 
+-- no row is that of a game in which no move was played
+pub none-played : {P M E T : Type 0} (rules : GameRules P M E T) (terms : Terms) (id from : ℕ)
+    → IsPlayedAs rules terms id from [] (game_from from [])
+none-played rules terms id from =
+    record {
+      legal = record {
+        line = IsPlayedLine-none rules rules.start;
+        plies = omega arith;
+        timely = tt;
+        outside_alone = λ some. absurd (absent OutsideEnd some);
+        offer = tt;
+        agreed = λ is. absurd cc;
+        recorded = λ score is. absurd cc;
+        players = λ same. absurd (omega (arith, same));
+      };
+      start = refl;
+      moments = λ n x at. absurd cc;
+      moves = refl;
+    }
+  where
+    absent : (A : Type 0) → IsSome {T = A} None → ⊥
+    absent A is = cc
+
 module _ {P M E T : Type 0} (rules : GameRules P M E T) (terms : Terms) (id : ℕ) where
   abbrev pub row_at : ℕ → List (Entry M) → Entry M → Row
   row_at start es e = entry_row rules terms id (game_from start es) e
@@ -155,27 +178,10 @@ module _ {P M E T : Type 0} (rules : GameRules P M E T) (terms : Terms) (id : �
           record {
             entries = [];
             replays = replays;
-            played = record {
-              legal = record {
-                line = IsPlayedLine-none rules rules.start;
-                plies = omega arith;
-                timely = tt;
-                outside_alone = λ some. absurd (absent OutsideEnd some);
-                offer = tt;
-                agreed = λ is. absurd cc;
-                recorded = λ score is. absurd cc;
-                players = λ same. absurd (omega (arith, same));
-              };
-              start = refl;
-              moments = λ n x at. absurd cc;
-              moves = refl;
-            };
+            played = none-played rules terms id from;
             count = refl;
             only = λ game is. refl;
           }
-        where
-          absent : (A : Type 0) → IsSome {T = A} None → ⊥
-          absent A is = cc
 
       -- one row more was replayed
       pub was-more : ((p : P) (m : M) → rules.check p m ≡ Ok tt → rules.read_move p (rules.write_move p m) ≡ Ok m)

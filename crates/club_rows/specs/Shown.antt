@@ -1,11 +1,12 @@
 -- When rows are those of a legal game, and what they show of it.
-use Rattle.std.specs.Prelude.{◌≡◌, ◌<◌, ◌≤◌, ◌^◌, ℕ, List, map, IsTrue, IfSome, true}
+use Rattle.std.specs.Prelude.{◌≡◌, ◌≢◌, ◌<◌, ◌≤◌, ◌^◌, ◌⊎◌, ℕ, pos, List, [], map, IsTrue, IfSome, true}
 use Rattle.club_rules.specs.GameRules.{GameRules}
 use Rattle.club_requests.specs.Limits.{is_name, is_budget, is_increment, last_moment}
 use Rattle.club_core.specs.Events.{Terms}
 use Rattle.club_core.specs.Game.{Game, moves_of}
 use Rattle.club_core.specs.Legal.{IsLegalGame}
 use Rattle.club_core.specs.LegalState.{Each}
+use Rattle.club_rows.specs.Replay.{IsPlayedAs}
 use Rattle.club_rows.specs.Told.{may_stand}
 use Rattle.club_core.specs.View.{IsRowOf, Shows, IsSound, terms_of}
 use Rattle.store_tables.specs.Cells.{game_cells, move_cells}
@@ -46,6 +47,22 @@ pub record AreRowsOf {P M E T : Type 0} (rules : GameRules P M E T) (terms : Ter
   pub row : game_cells stored ≡ game_row rules terms id game
   pub moves : map move_cells stored_moves ≡ move_rows rules terms id game
 
+-- the rows are those of the moves of some legal game that has the id and the start of this row
+pub record HaveGameFrom {P M E T : Type 0} (rules : GameRules P M E T) (terms : Terms) (stored : GameRecord)
+    (stored_moves : List MoveRow) : Type 0 where
+  pub id : ℕ
+  pub start : ℕ
+  pub id_is : stored.id ≡ pos id
+  pub start_is : stored.start ≡ pos start
+  pub short : id < 2 ^ 32
+  pub within : start ≤ last_moment
+  pub game : Game M
+  pub played : IsPlayedAs rules terms id start stored_moves game
+
+-- no move was played, or the rows are those of the moves of such a game
+abbrev pub AreMovesOf : {P M E T : Type 0} → GameRules P M E T → Terms → GameRecord → List MoveRow → Type 0
+AreMovesOf rules terms stored stored_moves = (stored_moves ≡ []) ⊎ HaveGameFrom rules terms stored stored_moves
+
 -- the moves are the game's, and the tally is that of its line
 pub record IsHistoryOf {R P M E T : Type 0} (rules : GameRules P M E T) (game : Game M)
     (played : Played R P M E T) : Type 0 where
@@ -67,6 +84,20 @@ IsSoundIfShown {R} {P} {M} {E} {T} rules terms row moves (shown.Game played) =
     × Shows rules game played.view × IsSound rules played.view × IsHistoryOf rules game played
 IsSoundIfShown rules terms row moves shown.WrongMoves = Unit {0}
 IsSoundIfShown rules terms row moves shown.WrongGame = Unit {0}
+
+-- moves that are called wrong are wrong; those of a row that is called wrong are not, and the row is
+abbrev pub IsWrongAsTold : {R P M E T : Type 0} → GameRules P M E T → Terms → GameRecord → List MoveRow
+    → Shown R P M E T → Type 0
+IsWrongAsTold rules terms row moves (shown.Game played) = Unit {0}
+IsWrongAsTold rules terms row moves shown.WrongMoves = ¬ AreMovesOf rules terms row moves
+IsWrongAsTold {M = M} rules terms row moves shown.WrongGame =
+    AreMovesOf rules terms row moves × ((id : ℕ) (game : Game M) → ¬ AreRowsOf rules terms id row moves game)
+
+-- with a row that has no id or no start the moves are called wrong, where there are some, and else the row
+abbrev pub IsUnstarted : {R P M E T : Type 0} → List MoveRow → Shown R P M E T → Type 0
+IsUnstarted moves (shown.Game played) = ⊥
+IsUnstarted moves shown.WrongMoves = moves ≢ []
+IsUnstarted moves shown.WrongGame = moves ≡ []
 
 -- a game is shown where its row may stand and is the one that is stored under that id
 abbrev pub StandsAs : {R P M E T : Type 0} → GameRules P M E T → GameRecord → ℕ → Played R P M E T → Shown R P M E T

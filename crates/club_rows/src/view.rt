@@ -1,7 +1,7 @@
 //! The view of a game that its rows give, if they are those of a legal game.
 
 ghost use Rattle.std.specs.Prelude.{◌≡◌, ◌≢◌, ◌≤◌, ◌<◌, ◌^◌, ℕ, List, pos, Option, None, Some, true, false, IfOk};
-ghost use Rattle.std.specs.Prelude.{IfSome, length, string_bytes, is_some};
+ghost use Rattle.std.specs.Prelude.{IfSome, IsTrue, length, string_bytes, is_some};
 ghost use Rattle.std.specs.Option.{option_map};
 ghost use Rattle.squares.specs.declared.sides.Score.{Score};
 ghost use Rattle.squares.specs.Sides.{score_text};
@@ -14,7 +14,8 @@ ghost use Rattle.club_core.specs.View.{IsSound, Shows, rule_in, terms_of};
 ghost use Rattle.club_requests.specs.OutsideEnd.{outside_text};
 ghost use Rattle.club_rows.specs.Tables.{side_number};
 ghost use Rattle.club_rows.specs.Replay.{IsCounted, IsReplayed, Replays, WasReplayed, game_from, terms_given};
-ghost use Rattle.club_rows.specs.Shown.{AreRowsOf, ShowsGame, IsSoundIfShown, StandsAs};
+ghost use Rattle.club_requests.specs.Limits.{is_budget, is_increment};
+ghost use Rattle.club_rows.specs.Shown.{AreRowsOf, IsUnstarted, IsWrongAsTold, ShowsGame, IsSoundIfShown, StandsAs};
 ghost use Rattle.club_rows.specs.declared.view.Told.{Told};
 ghost use Rattle.club_rows.specs.Told.{HasNumbers, IsTold, AreIds, game_told, may_have_key, may_have_offer};
 ghost use Rattle.club_rows.specs.Told.{may_have_end, may_stand};
@@ -401,8 +402,20 @@ fn stands<R: Rules>(
     Ok(Shown::Game(played))
 }
 
+// What is shown where the id or the start of a row is none: with these moves, no game.
+fn shown_without_start<R: Rules>(moves: &[MoveRow]) -> Shown<R>
+    ensures { IsUnstarted moves.now result }
+{
+    if moves.is_empty() {
+        Shown::WrongGame
+    } else {
+        Shown::WrongMoves
+    }
+}
+
 /// The view of the game whose row and moves these are, with no ply asked of, if they are those of a legal game that is
-/// played by these terms.
+/// played by these terms. Moves that are those of no legal game with the id and the start of the row are wrong
+/// whatever else the row has.
 pub fn view_of<R: Rules>(
     alloc: Global,
     row: &GameRecord,
@@ -413,14 +426,24 @@ pub fn view_of<R: Rules>(
     ensures complete { IfOk result (λ shown. (id : ℕ) (game : Game R.Move) →
         AreRowsOf R.rules (terms_given terms) id row.now moves.now game →
         ShowsGame R.rules (terms_given terms) game shown) }
+    ensures wrong { IfOk result (λ shown. IsTrue (is_budget terms.budget) → IsTrue (is_increment terms.increment) →
+        IsWrongAsTold R.rules (terms_given terms) row.now moves.now shown) }
 {
+    let number = match id(row.id) {
+        Some(number) => number,
+        None => return Ok(shown_without_start(moves)),
+    };
+    let start = match moment(row.start) {
+        Some(start) => start,
+        None => return Ok(shown_without_start(moves)),
+    };
+    let game = match replay::<R>(alloc, terms, number, start, moves)? {
+        Some(game) => game,
+        None => return Ok(Shown::WrongMoves),
+    };
     let numbers = match numbers_in(row) {
         Some(numbers) => numbers,
         None => return Ok(Shown::WrongGame),
-    };
-    let game = match replay::<R>(alloc, terms, numbers.game, numbers.start, moves)? {
-        Some(game) => game,
-        None => return Ok(Shown::WrongMoves),
     };
     let played = viewed(alloc, row, &numbers, terms, game)?;
     let shown = stands(alloc, row, numbers.game, played)?;

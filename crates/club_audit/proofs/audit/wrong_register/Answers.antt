@@ -1,10 +1,9 @@
-use Rattle.std.proofs.Common.{◌≡◌, [], pos, sym, subst, arith}
+use Rattle.std.proofs.Common.{◌≡◌, [], pos, subst, arith}
 use Rattle.std.proofs.lemmas.Int.{ints}
-use Rattle.club_core.specs.LegalState.{AreApartIfAny}
-use Rattle.club_audit.specs.Audit.{AreMembers, AreEvents}
+use Rattle.club_audit.specs.Audit.{AreApartGames, AreEvents, AreMembers, IsRightInRegister}
+use Rattle.club_audit.proofs.FirstLemmas.{first-challenges}
+use Rattle.club_audit.proofs.PeopleLemmas.{events-count, members-count}
 use Rattle.club_rows.specs.Club.{ClubState}
-use Rattle.club_audit.proofs.AuditLemmas.{key_in}
-use Rattle.club_audit.proofs.PeopleLemmas.{members-count, events-count}
 use Rattle.club_audit.proofs.audit.wrong_register.Goals as goal
 
 pub returns-in-Some-clause-sound : goal.returns-in-Some-clause-sound
@@ -18,15 +17,15 @@ returns-in-Some-clause-sound c = λ _.
     let s : ClubState = record { last = c.in-Some.field-0; members = ms; events = es; games = []; challenges = cs } in
     record {
       state = s;
+      moment = moment;
+      within = c.in-Some.ensures.range;
       people = record {
-        moment = moment;
-        within = c.in-Some.ensures.range;
         members = subst (AreMembers ms) c.deref.ensures.value are_members;
         events = subst (AreEvents es) c.deref-2.ensures.value are_events;
       };
       challenges = are_challenges;
-      few = omega (arith, rows.games.ok.0, c.len.ensures, c.if-len.false);
-      keys = subst (AreApartIfAny key_in) c.deref-3.ensures.value (c.in_ok-share_key.ensures.apart c.if-branch.false);
+      games = subst AreApartGames c.deref-3.ensures.value
+          (c.in_ok-are_apart.ensures.sound c.if-not-branch-2.false);
     }
 
 pub returns-then-not-branch-clause-complete : goal.returns-then-not-branch-clause-complete
@@ -34,24 +33,20 @@ returns-then-not-branch-clause-complete c = λ register.
     let rows = c.args.rows.now in
     let members = members-count register.state.members rows.members.items register.people.members in
     let events = events-count register.state.events rows.events.items register.people.events in
-    let yes = c.in_ok-are_challenges.ensures.complete members events register.few register.state.challenges
-    register.challenges in
+    let yes = c.in_ok-are_challenges.ensures.complete members events register.state.challenges register.challenges in
     let no = c.if-not-branch.true in
     absurd cc
 
-pub returns-then-not-branch-clause-blamed : goal.returns-then-not-branch-clause-blamed
-returns-then-not-branch-clause-blamed c = λ _ few cs are.
+pub returns-then-not-branch-clause-first : goal.returns-then-not-branch-clause-first
+returns-then-not-branch-clause-first c =
     let rows = c.args.rows.now in
-    let (ms, are_members) = c.are_members.ensures.sound c.if-not-are_members.false in
-    let (es, are_events) = c.are_events.ensures.sound c.if-not-are_events.false in
-    let members = members-count ms rows.members.items (subst (AreMembers ms) c.deref.ensures.value are_members) in
-    let events = events-count es rows.events.items (subst (AreEvents es) c.deref-2.ensures.value are_events) in
-    let yes = c.in_ok-are_challenges.ensures.complete members events few cs are in
+    let (ms, are_ms) = c.are_members.ensures.sound c.if-not-are_members.false in
+    let (es, are_es) = c.are_events.ensures.sound c.if-not-are_events.false in
+    let are_members = subst (AreMembers ms) c.deref.ensures.value are_ms in
+    let are_events = subst (AreEvents es) c.deref-2.ensures.value are_es in
+    first-challenges (IsRightInRegister rows) (ms, are_members) (es, are_events)
+    (λ it. let (cs, are) = it in
+    let yes = c.in_ok-are_challenges.ensures.complete (members-count ms rows.members.items are_members)
+    (events-count es rows.events.items are_events) cs are in
     let no = c.if-not-branch.true in
-    absurd cc
-
-pub returns-then-branch-clause-complete : goal.returns-then-branch-clause-complete
-returns-then-branch-clause-complete c = λ register.
-    absurd
-    (c.in_ok-share_key.ensures.shared c.if-branch.true
-    (subst (AreApartIfAny key_in) (sym c.deref-3.ensures.value) register.keys))
+    absurd cc)

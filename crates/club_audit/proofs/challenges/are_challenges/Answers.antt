@@ -8,10 +8,10 @@ use Rattle.club_audit.proofs.challenges.are_challenges.Goals as goal
 
 pub returns-then-not-are_each_challenges-clause-complete :
     goal.returns-then-not-are_each_challenges-clause-complete
-returns-then-not-are_each_challenges-clause-complete c = λ members events games cs are.
+returns-then-not-are_each_challenges-clause-complete c = λ members events cs are.
     let rows = c.args.rows.now in
     let yes = c.are_each_challenges.ensures.complete
-    (subst (Each (IsChallengeOf rows)) (sym c.deref.ensures.value) (each-shown rows cs are members events games)) in
+    (subst (Each (IsChallengeOf rows)) (sym c.deref.ensures.value) (each-shown rows cs are members events)) in
     let no = c.if-not-are_each_challenges.true in
     absurd cc
 
@@ -25,7 +25,7 @@ returns-clause-sound c = λ are.
     (c.in_ok-shared.ensures.apart (not-true c.in_ok-shared.shared are)))
 
 pub returns-clause-complete : goal.returns-clause-complete
-returns-clause-complete c = λ members events games cs are.
+returns-clause-complete c = λ members events cs are.
     elim (cases_Bool c.in_ok-shared.shared) [
       | inl shared ↦
           absurd

@@ -1,4 +1,8 @@
-use Rattle.std.proofs.Common.{◌≡◌, length, ap, sym, subst₂, ◌∙◌, arith, rules}
+use Rattle.std.proofs.Common.{◌≡◌, length, ap, sym, subst, subst₂, ◌∙◌, arith, rules}
+use Rattle.club_audit.specs.Audit.{HasPeople}
+use Rattle.club_audit.specs.FirstWrong.{IsFirstWrong}
+use Rattle.club_audit.specs.GameAudit.{IsRightAt}
+use Rattle.club_rows.specs.Club.{ClubState}
 use Rattle.sqlite.specs.Effect.{Database}
 use Rattle.sqlite.specs.Held.{state}
 use Rattle.sqlite.specs.State.{HasCleanDisk}
@@ -21,8 +25,12 @@ returns-in-Ok-wrong_game-clause-found g c clean has =
     let many_moves : c.len.result ≡ length ms = search rules in
     let many_seen : c.len-in-Ok-wrong_game.result ≡ length ss = search rules in
     let wrong = c.in-Ok-wrong_game.wrong in
-    subst₂ (λ a b. IsGameFound c.args.rows.now c.args.place c.args.game.now a b wrong s0 s2) (sym many_moves)
-    (sym many_seen)
-    (game_found c.args.rows.now c.args.place c.args.game.now ms ss s0 s1 s2 one two c.requires.at wrong
-    (rw (sym c.deref.ensures.value, sym c.deref-2.ensures.value) c.in-Ok-wrong_game.ensures.sound)
-    (rw (sym c.deref.ensures.value, sym c.deref-2.ensures.value) c.in-Ok-wrong_game.ensures.complete))
+    let rows = c.args.rows.now in
+    let game = c.args.game.now in
+    let first : (s : ClubState) → HasPeople s rows
+    → IsFirstWrong (IsRightAt s rows c.args.place game ms ss c.given.result) wrong =
+    rw (sym c.deref.ensures.value, sym c.deref-2.ensures.value) c.in-Ok-wrong_game.ensures in
+    subst₂ (λ a b. IsGameFound rows c.args.last.now c.args.place game a b wrong s0 s2) (sym many_moves) (sym many_seen)
+    (game_found rows c.args.place game ms ss s0 s1 s2 one two c.args.last.now c.requires.last wrong
+    (subst (λ l. (s : ClubState) → HasPeople s rows
+    → IsFirstWrong (IsRightAt s rows c.args.place game ms ss l) wrong) c.given.ensures first) c.requires.at)

@@ -1,4 +1,4 @@
-use Rattle.std.proofs.Common.{◌≡◌, ◌+◌, length, Some, refl, sym, ap, subst₂, ◌∙◌, arith, inr}
+use Rattle.std.proofs.Common.{◌≡◌, ◌+◌, length, Some, refl, sym, ap, subst₂, ◌∙◌, arith}
 use Rattle.std.specs.Prelude.{slice_get}
 use Rattle.std.proofs.lemmas.Option.{slice_get_read}
 use Rattle.sqlite.specs.Effect.{Database}
@@ -8,7 +8,7 @@ use Rattle.sqlite.proofs.StateLemmas.{unchanged}
 use Rattle.store_tables.specs.Tables.{club_schema}
 use Rattle.store_tables.proofs.Proved.{reads_nothing, reads_then}
 use Rattle.club_opening.specs.Examined.{AreLeftAfter}
-use Rattle.club_opening.proofs.ExaminedLemmas.{IsOneOf, NamesLeft, blamed_before, left_all, left_blamed, left_more, left_start}
+use Rattle.club_opening.proofs.ExaminedLemmas.{IsOneOf, NamesLeft, blamed_before, left_all, left_more, left_start}
 use Rattle.club_opening.proofs.games.examine_games.Goals as goal
 
 pub loop-place-init : goal.loop-place-init
@@ -17,8 +17,9 @@ loop-place-init g c =
     record {
       items = c.deref-game-items.ensures.value;
       reads = reads_nothing s0;
-      left = λ clean has is_open one two. left_start c.args.rows.now c.args.all.moves c.args.all.seen s0
-          (unchanged s0 is_open) one two;
+      kept = λ none. none;
+      left = λ clean has is_open one two. left_start c.args.rows.now c.args.last c.args.all.moves c.args.all.seen
+          c.args.known s0 c.requires.known (unchanged s0 is_open) one two;
     }
 
 pub loop-place-preserved : goal.loop-place-preserved
@@ -40,14 +41,15 @@ loop-place-preserved g c =
     record {
       items = c.loop-place.invariant.items;
       reads = reads_then s0 mid new c.loop-place.invariant.reads c.examine_game.ensures.reads;
+      kept = λ none. c.loop-place.invariant.kept (one_of.none none).0;
       left = λ clean has is_open one two.
           let early : HasCleanDisk mid = omega (arith, c.examine_game.ensures.reads.clean) in
           let was = c.loop-place.invariant.left early has is_open one two in
           let still : mid.now.schema ≡ club_schema = ap (λ (d : Database). d.schema) was.same.0.now_is ∙ has in
-          subst₂ (λ a b. AreLeftAfter rows (k + 1) a b c.first_of-wrong.result s0 new)
+          subst₂ (λ a b. AreLeftAfter rows c.args.last (k + 1) a b c.first_of-wrong.result s0 new)
           (sym c.saturating_sub-moves.ensures) (sym c.saturating_sub-seen.ensures)
-          (left_more rows k game c.loop-place.moves c.loop-place.seen found.own.moves found.own.seen c.loop-place.wrong
-          found.wrong c.first_of-wrong.result s0 mid new c.requires.places stands was
+          (left_more rows c.args.last k game c.loop-place.moves c.loop-place.seen found.own.moves found.own.seen
+          c.loop-place.wrong found.wrong c.first_of-wrong.result s0 mid new stands was
           (c.in-Ok.ensures.found clean still) one_of);
     }
 
@@ -60,8 +62,8 @@ returns-in-Err-clause-blames g c clean has is_open one two =
     let still : mid.now.schema ≡ club_schema = ap (λ (d : Database). d.schema) was.same.0.now_is ∙ has in
     blamed_before c.args.rows.now s0 mid c.in-Err.fault was.same (c.in-Err.ensures.blames clean still)
 
-pub returns-in-Some-clause-blames : goal.returns-in-Some-clause-blames
-returns-in-Some-clause-blames g c clean has is_open one two =
+pub returns-clause-found : goal.returns-clause-found
+returns-clause-found g c clean has is_open one two =
     let rows = c.args.rows.now in
     let l = c.loop-place in
     let s0 = state g.S.Store c.args.conn.now in
@@ -74,28 +76,12 @@ returns-in-Some-clause-blames g c clean has is_open one two =
     record { none = c.left_over-2.ensures.none; some = λ t is. (c.left_over-2.ensures.some t is).1 } in
     let first : IsOneOf l.wrong c.left_over.result c.first_of-with_moves.result =
     record { none = c.first_of-with_moves.ensures.none; some = c.first_of-with_moves.ensures.some } in
-    let last : IsOneOf c.first_of-with_moves.result c.left_over-2.result c.first_of.result =
+    let then : IsOneOf c.first_of-with_moves.result c.left_over-2.result c.first_of.result =
     record { none = c.first_of.ensures.none; some = c.first_of.ensures.some } in
-    inr
-    (left_blamed rows l.place l.moves l.seen l.wrong c.left_over.result c.first_of-with_moves.result
-    c.left_over-2.result c.first_of.result s0 s (l.invariant.left clean has is_open one two) all of_moves of_seen
-    first last c.in-Some.table c.in-Some.is)
+    left_all rows c.args.last c.requires.last l.place l.moves l.seen l.wrong c.left_over.result
+    c.first_of-with_moves.result c.left_over-2.result c.first_of.result s0 s (l.invariant.left clean has is_open one two)
+    all of_moves of_seen first then
 
-pub returns-in-None-clause-found : goal.returns-in-None-clause-found
-returns-in-None-clause-found g c clean has is_open one two =
-    let rows = c.args.rows.now in
-    let l = c.loop-place in
-    let s0 = state g.S.Store c.args.conn.now in
-    let s = state g.S.Store l.conn in
-    let items = ap length l.invariant.items in
-    let all : l.place ≡ length rows.games.items = omega (arith, items, c.loop-place-test.false) in
-    let of_moves : NamesLeft l.moves c.left_over.result =
-    record { none = c.left_over.ensures.none; some = λ t is. (c.left_over.ensures.some t is).1 } in
-    let of_seen : NamesLeft l.seen c.left_over-2.result =
-    record { none = c.left_over-2.ensures.none; some = λ t is. (c.left_over-2.ensures.some t is).1 } in
-    let first : IsOneOf l.wrong c.left_over.result c.first_of-with_moves.result =
-    record { none = c.first_of-with_moves.ensures.none; some = c.first_of-with_moves.ensures.some } in
-    let last : IsOneOf c.first_of-with_moves.result c.left_over-2.result c.first_of.result =
-    record { none = c.first_of.ensures.none; some = c.first_of.ensures.some } in
-    left_all rows l.place l.moves l.seen l.wrong c.left_over.result c.first_of-with_moves.result c.left_over-2.result
-    c.first_of.result s0 s (l.invariant.left clean has is_open one two) all of_moves of_seen first last c.in-None.is
+pub returns-clause-known : goal.returns-clause-known
+returns-clause-known g c = λ none.
+    c.loop-place.invariant.kept (c.first_of-with_moves.ensures.none (c.first_of.ensures.none none).0).0

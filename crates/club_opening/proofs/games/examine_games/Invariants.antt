@@ -4,15 +4,18 @@ use Rattle.sqlite.specs.Held.{state}
 use Rattle.store_tables.specs.Reading.{OnlyReads}
 use Rattle.store_tables.specs.Tables.{club_schema}
 use Rattle.club_opening.specs.Examined.{AreLeftAfter, moves_in, seen_in}
+use Rattle.club_opening.proofs.ExaminedLemmas.{IsKept}
 use Rattle.club_opening.proofs.games.examine_games.Given as goal
 
 abbrev pub invariant-loop-place : goal.invariant-loop-place
 invariant-loop-place g l = record {
   items : l.game-items ≡ l.rows.games.items;
   reads : OnlyReads (state g.S.Store l.fn.conn) (state g.S.Store l.conn);
+  kept : IsKept l.fn.known l.wrong;
   left : HasCleanDisk (state g.S.Store l.conn) → (state g.S.Store l.fn.conn).now.schema ≡ club_schema
       → IsTrue (state g.S.Store l.fn.conn).is_open
       → l.fn.all.moves ≡ length (moves_in (state g.S.Store l.fn.conn).now.trees)
       → l.fn.all.seen ≡ length (seen_in (state g.S.Store l.fn.conn).now.trees)
-      → AreLeftAfter l.rows l.place l.moves l.seen l.wrong (state g.S.Store l.fn.conn) (state g.S.Store l.conn);
+      → AreLeftAfter l.rows l.fn.last l.place l.moves l.seen l.wrong (state g.S.Store l.fn.conn)
+      (state g.S.Store l.conn);
 }

@@ -1,18 +1,10 @@
-use Rattle.std.proofs.Common.{arith, inr}
-use Rattle.std.proofs.lemmas.Int.{ints}
+use Rattle.std.proofs.Common.{arith}
 use Rattle.sqlite.specs.Held.{state}
 use Rattle.sqlite.specs.State.{HasCleanDisk}
-use Rattle.store_tables.specs.declared.names.Table.TheVariants.{Meta}
 use Rattle.club_opening.proofs.BlameLemmas.{still}
-use Rattle.club_opening.proofs.ExaminedLemmas.{blamed_before, both_same, moment_blamed, moves_number, play_examined}
+use Rattle.club_opening.proofs.ExaminedLemmas.{blamed_before, both_same, moves_number, play_examined}
 use Rattle.club_opening.proofs.ExaminedLemmas.{seen_number}
 use Rattle.club_opening.proofs.opening.examine_play.Goals as goal
-
-pub returns-in-None-clause-blames : goal.returns-in-None-clause-blames
-returns-in-None-clause-blames g c clean has =
-    inr
-    (moment_blamed c.args.rows.now (state g.S.Store c.args.conn.now).now
-    (λ n low is. c.moment.ensures.none c.in-None.is n low (omega (arith, ints, is))) Meta)
 
 pub returns-in-Ok-examine_games-clause-found : goal.returns-in-Ok-examine_games-clause-found
 returns-in-Ok-examine_games-clause-found g c clean has =
@@ -26,7 +18,8 @@ returns-in-Ok-examine_games-clause-found g c clean has =
     let moves = c.in-Ok.ensures.counted clean1 has in
     let seen = c.in-Ok-count_of.ensures.counted clean2 (still s0 s1 moves.same has) in
     let same = both_same s0 s1 s2 c.in-Ok.count c.in-Ok-count_of.count moves seen in
-    play_examined s0 s1 s2 c.in-Ok.count c.in-Ok-count_of.count moves seen c.args.rows.now s3
+    play_examined s0 s1 s2 c.in-Ok.count c.in-Ok-count_of.count moves seen c.args.rows.now c.args.last
+    c.in-Ok-examine_games.wrong s3
     (c.in-Ok-examine_games.ensures.found clean (still s0 s2 same has) same.0.is_open
     (moves_number s0 s1 s2 c.in-Ok.count c.in-Ok-count_of.count moves seen)
     (seen_number s0 s1 s2 c.in-Ok.count c.in-Ok-count_of.count moves seen))

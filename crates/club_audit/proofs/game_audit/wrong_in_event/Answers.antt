@@ -1,0 +1,32 @@
+use Rattle.std.proofs.Common.{rules}
+use Rattle.std.proofs.lemmas.Result.{IfOk-weaker}
+use Rattle.club_rules.specs.declared.names.GameKind.TheVariants.{Draughts, Shogi}
+use Rattle.club_audit.proofs.EventRules.{event-first, no-kind, no-terms}
+use Rattle.club_audit.proofs.GameLemmas.{HasKind}
+use Rattle.club_audit.proofs.game_audit.wrong_in_event.Goals as goal
+
+pub returns-in-None : goal.returns-in-None
+returns-in-None c =
+    no-terms c.args.event.now c.args.last c.args.game.now c.args.moves.now c.args.seen.now
+    (c.terms_of.ensures.none c.in-None.is)
+
+pub returns-in-None-kind_of : goal.returns-in-None-kind_of
+returns-in-None-kind_of c =
+    no-kind c.args.event.now c.args.last c.args.game.now c.args.moves.now c.args.seen.now
+    (λ kind is. c.kind_of.ensures.none c.in-None-kind_of.is kind (search (rules, is)))
+
+pub returns-in-Some-Draughts : goal.returns-in-Some-Draughts
+returns-in-Some-Draughts c =
+    let has_kind : HasKind c.args.event.now Draughts = search rules in
+    let terms = c.in-Some.terms in
+    IfOk-weaker c.wrong_of_all.result _ _
+    (λ wrong first. event-first c.args.event.now c.args.last c.args.game.now c.args.moves.now c.args.seen.now Draughts
+    terms.budget terms.increment has_kind c.in-Some.ensures.some wrong first) c.wrong_of_all.ensures
+
+pub returns-in-Some-Shogi : goal.returns-in-Some-Shogi
+returns-in-Some-Shogi c =
+    let has_kind : HasKind c.args.event.now Shogi = search rules in
+    let terms = c.in-Some.terms in
+    IfOk-weaker c.wrong_of_all-in-Some-Shogi.result _ _
+    (λ wrong first. event-first c.args.event.now c.args.last c.args.game.now c.args.moves.now c.args.seen.now Shogi
+    terms.budget terms.increment has_kind c.in-Some.ensures.some wrong first) c.wrong_of_all-in-Some-Shogi.ensures

@@ -1,0 +1,26 @@
+-- The first of the tables that is wrong, in the order in which they are looked at.
+use Rattle.std.specs.Prelude.{◌<◌, ℕ, Option, Some, None, IfSome}
+use Rattle.store_tables.specs.declared.names.Table.{Table}
+use Rattle.store_tables.specs.declared.names.Table.TheVariants.{Members, Events, Challenges, Moves, Games, Seen, Scores}
+use Rattle.store_tables.specs.declared.names.Table.TheVariants.{Meta}
+
+-- the place of a table in the order in which they are looked at
+abbrev pub order : Table → ℕ
+order Members = 0
+order Events = 1
+order Challenges = 2
+order Moves = 3
+order Games = 4
+order Seen = 5
+order Scores = 6
+order Meta = 7
+
+-- the table comes before the one that is named, if one is
+abbrev pub Precedes : Table → Option Table → Type 0
+Precedes t None = Unit {0}
+Precedes t (Some named) = order t < order named
+
+-- The table that is named is not right, and each before it is; where none is named, all are.
+pub record IsFirstWrong (IsRight : Table → Type 0) (wrong : Option Table) : Type 0 where
+  pub before : (t : Table) → Precedes t wrong → IsRight t
+  pub named : IfSome wrong (λ t. ¬ IsRight t)
