@@ -69,13 +69,6 @@ def is_typed(table, row):
                for name, value in row.items())
 
 
-def is_outside(value):
-    """Whether a number is no moment, or a text no UTF-8."""
-    if isinstance(value, str):
-        return any("\udc00" <= letter <= "\udcff" for letter in value)
-    return value is not None and not 0 <= value <= LAST_MOMENT
-
-
 class Audit:
     """The rows of a club, each a map from its columns."""
 
@@ -89,25 +82,14 @@ class Audit:
         for moves in self.moves.values():
             moves.sort(key=lambda it: it["ply"] if type(it["ply"]) is int else 0)
 
-    def verdicts(self, is_alone):
-        """What verify may say: of the tables that one change damages it names the first, or one that comes sooner.
-
-        Of those that several changes damage it may name any, as it is not said which of them comes first.
-        """
+    def verdicts(self):
+        """What verify may say: the first table that is wrong, or games or seen sooner, where a row has another type."""
         meta = self.rows["meta"]
         if [it["id"] for it in meta] == [1] and type(meta[0]["schema"]) is int and meta[0]["schema"] != 1:
             return [f"store 71 Schema {meta[0]['schema']}"]
         wrong = [table for table in COLUMNS if self.is_wrong(table)]
-        sooner = [table for table in wrong[1:] if not is_alone or self.comes_sooner(table, wrong[0])]
+        sooner = [table for table in wrong[1:] if table in ("games", "seen") and not self.are_typed(table)]
         return [f"store 72 Damaged {table}" for table in wrong[:1] + sooner] or ["sound"]
-
-    def comes_sooner(self, table, first):
-        """Values that no row of a club holds, games by wrong ids, no row of meta, a moment that meta does not reach."""
-        rows = self.rows[table]
-        if not self.are_typed(table) or any(is_outside(value) for row in rows for value in row.values()):
-            return True
-        is_meta = table == "meta" and ([it["id"] for it in rows] != [1] or first in ("seen", "scores"))
-        return is_meta or table == "games" and not is_numbered(rows, 5000)
 
     def is_wrong(self, table):
         """Rows that cannot be read for what another table lacks are wrong with that."""
@@ -237,8 +219,8 @@ def quoted(name):
     return f'"{name}"'
 
 
-def verdicts_on(rows, is_alone=True):
-    return Audit(rows).verdicts(is_alone)
+def verdicts_on(rows):
+    return Audit(rows).verdicts()
 
 
 # ---- a club with all that a club has
@@ -444,7 +426,7 @@ def case(test, name, file, given):
             with contextlib.suppress(sqlite3.IntegrityError):
                 found.execute(*words)
                 done.append(words)
-        wanted = verdicts_on(read_rows(found), len(done) < 2)
+        wanted = verdicts_on(read_rows(found))
     before = sum_of(file)
     ran = subprocess.run([test.program, file, "verify"], capture_output=True, timeout=60)
     said = (ran.stdout + ran.stderr).decode(errors="replace").removesuffix("\n")
