@@ -1,10 +1,10 @@
 #!/usr/bin/env python3
-"""Gives each command on a game early, late and at its last ply: in a game of draughts of 133 plies, in one of shogi of 600.
+"""Gives each command on a game early, late and at its last ply: in draughts of 133 plies, in shogi of 600.
 
     python3 tests/late.py [PROGRAM]
 
-The line of shogi is made here: rooks walk along their ranks, by ways of five and of four moves, so that a position comes
-back each 40 plies, and before it stands for the fourth time both sides push a pawn. That of draughts stands in
+The line of shogi is made here: rooks walk along their ranks, by ways of five and of four moves, so that a position
+comes back each 40 plies, and before it stands for the fourth time both sides push a pawn. That of draughts stands in
 tests/long_game.txt; it ends where a side has no piece. Prints 'ok NAME' or 'not ok NAME' for each.
 """
 import contextlib

@@ -43,8 +43,8 @@ def club(*words):
 
 def seated(file, budget=86400):
     """A club of two members with a game of draughts, in a new file."""
-    orders = "init", "member anna keyanna1", "member bert keybert2", f"event cup draughts {budget} 0", "seat g cup anna bert"
-    for words in orders:
+    members = "member anna keyanna1", "member bert keybert2"
+    for words in ("init", *members, f"event cup draughts {budget} 0", "seat g cup anna bert"):
         assert club(file, *words.split())[0] == 0, words
 
 
@@ -164,7 +164,7 @@ def faults():
 
 
 def full_disk():
-    """A disk that takes no more: the first to write is told 73, who comes in the same stretch 74, and nothing is lost."""
+    """A disk that takes no more: who writes is told 73, who comes in the same stretch 74, and nothing is lost."""
     seated("d.db")
 
     def little():
@@ -239,7 +239,8 @@ def lost_replies():
         verdict("a resignation", 200, ask(port, "POST", "/games/1/resign")[0])
     verdict("each ply is there once", (4, 4), one("l.db", "SELECT count(*), plies FROM moves, games"))
     with desk("l.db") as port:
-        verdict("each ply again, the game being over and the desk another", kept, [move(port, it) for it in (1, 2, 3, 4)])
+        again = [move(port, ply) for ply in (1, 2, 3, 4)]
+        verdict("each ply again, the game being over and the desk another", kept, again)
 
 
 def main():
