@@ -14,6 +14,7 @@ NAMES = {
     50: "UnknownKey", 51: "NotAllowed", 52: "UnknownEvent", 53: "UnknownGame", 54: "UnknownChallenge",
     55: "NotAPlayer", 56: "GameOver", 57: "WrongPly", 58: "Conflict", 59: "NotYourTurn", 60: "OutOfTime",
     61: "TimeLeft", 62: "NoOffer", 63: "NotInThisGame", 64: "NameTaken", 65: "BadValue", 66: "Full",
+    67: "NotDeclarable",
     80: "BadHead", 81: "BadBody", 82: "NoRoute", 83: "WrongMethod", 84: "NoLength", 85: "TooLong", 86: "HeadTooLong",
     87: "NotImplemented", 88: "BadHost",
 }
@@ -160,6 +161,13 @@ class Game:
             raise Refused(61)
         return self.lost_by(1 - side, "Time")
 
+    def declare(self, member, ply):
+        """Of a king that has entered: no event has declarations."""
+        side = self.side(member)
+        self.must_run()
+        self.must_be_next(ply)
+        raise Refused(67 if side == self.turn() else 59)
+
     def shown(self):
         return {"end": self.end, "event": self.event["name"], "first": self.players[0], "game": self.number,
                 "left": self.left, "moves": self.texts, "offer": self.offer and self.players[self.offer[0]],
@@ -233,6 +241,9 @@ class Club:
 
     def do_claim(self, member, number):
         return self.game_of(number).claim(member, self.moment)
+
+    def do_declare(self, member, number, ply):
+        return self.game_of(number).declare(member, ply)
 
     def do_challenge(self, member, number, event, first, rival):
         self.event_of(event)

@@ -22,6 +22,7 @@ ROUTES = (  # method, path, name, and the keys of its body with their kinds
     ("POST", "/games/ID/draw/ID/accept", "accept", ()),
     ("POST", "/games/ID/resign", "resign", ()),
     ("POST", "/games/ID/claim-time", "claim", ()),
+    ("POST", "/games/ID/declare/ID", "declare", ()),
     ("POST", "/challenges/ID", "challenge", (("event", str), ("first", bool), ("other", str))),
     ("POST", "/challenges/ID/withdraw", "withdraw", ()),
     ("POST", "/answers/NAME/ID", "answer", (("accept", bool),)),

@@ -99,6 +99,8 @@ class OfficersClub(Club):
                 and (found.texts, found.result) == (moves, score)):
             return f"repeated game {found.number}\n"
         self.must_be_free(key, first, second)
+        if kind == "csa" and line.declared:
+            raise Refused(46)  # no event has declarations
         game = self.seat(key, event, first, second, self.now())
         for move in line.moves:
             game.played(game.turn(), move, 0)

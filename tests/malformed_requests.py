@@ -5,6 +5,7 @@ WHOLE = (  # each route once
     ("GET", "/games/1", None), ("GET", "/games/1/legal", None), ("GET", "/events/autumn/table", None),
     ("POST", "/games/1/moves/1", '{"move":"32-28"}'), ("POST", "/games/1/draw/1/offer", ""),
     ("POST", "/games/1/draw/1/accept", ""), ("POST", "/games/1/resign", ""), ("POST", "/games/1/claim-time", ""),
+    ("POST", "/games/1/declare/1", ""),
     ("POST", "/challenges/1", '{"event":"autumn","first":true,"other":"bert"}'),
     ("POST", "/challenges/1/withdraw", ""), ("POST", "/answers/bert/1", '{"accept":false}'),
 )

@@ -89,6 +89,17 @@ def is_far(side, rank, ranks):
     return rank <= ranks if side == "b" else rank > 9 - ranks
 
 
+def may_declare(position):
+    """The king of the side to move has entered, by the rule of 27 points."""
+    turn, board, hands = position
+    camp = [kind for (_, rank), (side, kind, _) in board.items() if side == turn and is_far(turn, rank, 3)]
+    pieces = [kind for kind in camp if kind != "K"] + [kind for side, kind in hands if side == turn
+                                                       for _ in range(hands[side, kind])]
+    points = sum(5 if kind in "RB" else 1 for kind in pieces)
+    enough = points >= (28 if turn == "b" else 27)
+    return "K" in camp and len(camp) > 10 and enough and not is_checked(board, turn)
+
+
 def must_promote(side, kind, rank):
     return kind in "PL" and is_far(side, rank, 1) or kind == "N" and is_far(side, rank, 2)
 
@@ -208,6 +219,7 @@ class Line:
     def __init__(self):
         self.position = read_sfen(OPENING)
         self.moves, self.checks, self.seen, self.given = [], {"b": 0, "w": 0}, {}, []
+        self.declared = False  # whether a record says that it ended so
         self.count()
 
     def count(self):
@@ -423,6 +435,10 @@ def said_score(line, end, word):
         score = "1-1"
     elif word in ("%+ILLEGAL_ACTION", "%-ILLEGAL_ACTION"):
         score = lost["b" if word[1] == "+" else "w"]
+    elif word == "%KACHI":
+        if not may_declare(line.position):
+            raise Refused(46)
+        score, line.declared = lost[other(mover)], True
     else:
         raise Refused(44)
     needed = {"%TSUMI": "NoMove", "%SENNICHITE": "Fourfold"}.get(word)

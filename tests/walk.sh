@@ -178,6 +178,9 @@ both 0 'accepted game 10' import-csa checkmate fuji anna bert "$records/checkmat
 both 0 "$(cat "$records/checkmate.csa")" export 10
 both 0 'accepted game 11' import-csa perpetual fuji anna bert "$records/perpetual.csa"
 both 0 "$(cat "$records/perpetual.csa")" export 11
+# A king that has entered: it may declare after these 82 plies, and no event has declarations.
+both 1 'refused 46 ResultDiffers' import-csa entered fuji anna bert "$records/entered.csa"
+both 1 'refused 46 ResultDiffers' import-csa entered fuji anna bert - < <(sed '/^-3334FU$/d' "$records/entered.csa")
 reads '9|12|Fourfold|1-1
 10|'"$(grep -c '^[-+][0-9]' "$records/checkmate.csa")"'|NoMove|2-0
 11|'"$(grep -c '^[-+][0-9]' "$records/perpetual.csa")"'|PerpetualCheck|0-2' 'SELECT id, plies, "end", result FROM games WHERE id > 8 ORDER BY id' both.db

@@ -97,8 +97,6 @@ class CsaRecord:
             self.put_side(statement[0], end)
             self.plies += 1
         elif END.fullmatch(statement):
-            if statement == "%KACHI":
-                raise Refused("the end %KACHI, a win by declaration, is none that the club has")
             if not self.sided:
                 raise Refused(f"{statement} stands where a move or the line + is due")
             self.ended = True

@@ -21,8 +21,8 @@ HEADERS = {"先手": "N+", "後手": "N-", "棋戦": "$EVENT:", "場所": "$SITE
 MOMENT = re.compile(r"([0-9]{4})[/-]([0-9]{1,2})[/-]([0-9]{1,2})(?:\s*\([^)]*\))?"
                     r"(?:\s+([0-9]{1,2}):([0-9]{2})(?::([0-9]{2}))?)?")
 ENDS = {"投了": "%TORYO", "中断": "%CHUDAN", "千日手": "%SENNICHITE", "持将棋": "%JISHOGI", "詰み": "%TSUMI",
-        "切れ負け": "%TIME_UP", "反則負け": "%ILLEGAL_MOVE"}
-OTHER_ENDS = ("入玉勝ち", "不戦敗", "封じ手", "待った", "不詰", "反則勝ち")
+        "切れ負け": "%TIME_UP", "反則負け": "%ILLEGAL_MOVE", "入玉勝ち": "%KACHI"}
+OTHER_ENDS = ("不戦敗", "封じ手", "待った", "不詰", "反則勝ち")
 LOSING = ("%TORYO", "%TSUMI", "%TIME_UP", "%ILLEGAL_MOVE")
 TOTAL = re.compile(r"まで[ 　]*(?P<plies>[0-9]+)[ 　]*手(?:で|にて)?[ 　]*(?P<how>.*)")
 WON = re.compile(r"(?P<late>時間切れにより|切れ負けにより)?(?P<side>[先後])手の(?P<what>勝ち|反則負け)")
@@ -150,11 +150,13 @@ class KifRecord:
         won = WON.fullmatch(how)
         winner = won and (OTHER_SIDE[won["side"]] if won["what"] == "反則負け" else won["side"])
         last = "後先"[len(self.moves) % 2]
+        ended = self.end and self.end[0]
+        winning = last if ended in LOSING else OTHER_SIDE[last] if ended == "%KACHI" else None
         if self.end is None:
             self.end = self.told_end(told, won, winner == last), None
             self.notes.add(f"{told} is written {self.end[0]}")
-        elif won and (self.end[0] not in LOSING or winner != last) or ENDS.get(how, self.end[0]) != self.end[0]:
-            raise Refused(f"{told} and the end {self.end[0]} differ")
+        elif won and winner != winning or ENDS.get(how, ended) != ended:
+            raise Refused(f"{told} and the end {ended} differ")
 
     def told_end(self, told, won, by_last):
         """The end that the line of the total alone says.
@@ -164,7 +166,7 @@ class KifRecord:
         """
         if won and by_last and won["what"] == "勝ち":
             return "%TIME_UP" if won["late"] else "%TORYO"
-        if self.total["how"] in ("中断", "千日手", "持将棋"):
+        if self.total["how"] in ("中断", "千日手", "持将棋", "入玉勝ち"):
             return ENDS[self.total["how"]]
         raise Refused(f"{told} is not understood")
 

@@ -14,10 +14,9 @@ use Rattle.store_tables.specs.declared.names.Table.{Table}
 use Rattle.store_tables.specs.declared.names.Table.TheVariants.{Members, Events, Challenges, Moves, Games, Seen, Scores}
 use Rattle.store_tables.specs.declared.names.Table.TheVariants.{Meta}
 use Rattle.club_rows.specs.Club.{both_games}
-use Rattle.club_rows.specs.Replay.{terms_with}
 use Rattle.club_rows.specs.Tables.{kind_number}
 use Rattle.club_rows.proofs.Proved.{kinds-alike, same-pos}
-use Rattle.club_audit.specs.Audit.{EndsBy, GivesTerms}
+use Rattle.club_audit.specs.Audit.{EndsBy, GivesTerms, terms_told}
 use Rattle.club_audit.specs.FirstWrong.{IsFirstWrong}
 use Rattle.club_audit.specs.GameAudit.{AreOfEvent, HaveAll, HaveAllOf, IsRightIn, IsRightInEvent, IsRightOf}
 use Rattle.club_audit.proofs.FirstLemmas.{all-right, first-as, first-events, none-named}
@@ -62,21 +61,21 @@ module _ (event : EventRow) (last : Option ℕ) (row : GameRecord) (moves : List
   module _ (kind : GameKind) (budget increment : ℕ) (kind_is : event.game ≡ pos (kind_number kind))
       (gives : GivesTerms event budget increment) where
     abbrev Of : Table → Type 0
-    Of = IsRightOf kind (terms_with budget increment) last row moves seen
+    Of = IsRightOf kind (terms_told budget increment) last row moves seen
 
     same-kind : (k : GameKind) → event.game ≡ pos (kind_number k) → kind ≡ k
     same-kind k is = kinds-alike kind k (same-pos _ _ (sym kind_is ∙ is))
 
-    same-terms : (b i : ℕ) → GivesTerms event b i → terms_with budget increment ≡ terms_with b i
+    same-terms : (b i : ℕ) → GivesTerms event b i → terms_told budget increment ≡ terms_told b i
     same-terms b i other =
         let one : budget ≡ b = same-pos _ _ (sym gives.budget_is ∙ other.budget_is) in
         let two : increment ≡ i = same-pos _ _ (sym gives.increment_is ∙ other.increment_is) in
-        λ j. terms_with (one j) (two j)
+        λ j. terms_told (one j) (two j)
 
     by-any : (t : Table) → Of t → (k : GameKind) (b i : ℕ) → event.game ≡ pos (kind_number k) → GivesTerms event b i
-        → IsRightOf k (terms_with b i) last row moves seen t
+        → IsRightOf k (terms_told b i) last row moves seen t
     by-any t right k b i is other =
-        subst (λ x. IsRightOf x (terms_with b i) last row moves seen t) (same-kind k is)
+        subst (λ x. IsRightOf x (terms_told b i) last row moves seen t) (same-kind k is)
         (subst (λ x. IsRightOf kind x last row moves seen t) (same-terms b i other) right)
 
     unit-of-events : (k : GameKind) (terms : Terms) → IsRightOf k terms last row moves seen Events
@@ -101,7 +100,7 @@ module _ (event : EventRow) (last : Option ℕ) (row : GameRecord) (moves : List
 
     from-event : (t : Table) → In t → Of t
     from-event Members right = right kind budget increment kind_is gives
-    from-event Events right = unit-of-events kind (terms_with budget increment)
+    from-event Events right = unit-of-events kind (terms_told budget increment)
     from-event Challenges right = right kind budget increment kind_is gives
     from-event Moves right = right kind budget increment kind_is gives
     from-event Games right = right kind budget increment kind_is gives
@@ -136,7 +135,7 @@ module _ (event : EventRow) (last : ℕ) (low : last ≤ 253402300799) (row : Ga
         budget = rules.budget;
         increment = rules.increment;
         terms = rules.terms;
-        all = all-of-kind rules.kind (terms_with rules.budget rules.increment)
+        all = all-of-kind rules.kind (terms_told rules.budget rules.increment)
             (right rules.kind rules.budget rules.increment rules.kind_is rules.terms);
       }
 
@@ -167,4 +166,4 @@ module _ (event : EventRow) (last : ℕ) (low : last ≤ 253402300799) (row : Ga
   event-complete of =
       none-named Right wrong first
       (λ t. to-event event (Some last) row moves seen of.kind of.budget of.increment of.kind_is of.terms t
-      (by-kind of.kind (terms_with of.budget of.increment) of.all t))
+      (by-kind of.kind (terms_told of.budget of.increment) of.all t))

@@ -19,7 +19,7 @@ use Rattle.club_core.specs.Events.{Event, Terms}
 use Rattle.club_core.specs.Game.{Entry, Game, Clocks, clocks_of, end_with, left_of, moments_of, opening_clocks}
 use Rattle.club_core.specs.Game.{rule_end, spend, spend_all, turn_of}
 use Rattle.club_core.specs.Legal.{IsTimely, IsLegalGame}
-use Rattle.club_core.specs.LegalState.{Each, IsGameOf}
+use Rattle.club_core.specs.LegalState.{Each, IsLegalEvent, IsGameOf}
 use Rattle.club_core.specs.State.{draughts, shogi, place, kind_at, terms_at}
 use Rattle.club_core.specs.View.{IsRowOf, Shows, clocks_in, terms_of}
 use Rattle.club_laws.proofs.Proved.{in-place}
@@ -31,12 +31,11 @@ use Rattle.store_tables.specs.declared.rows.MoveRow.{MoveRow}
 use Rattle.store_tables.specs.declared.rows.Rows.{Rows}
 use Rattle.store_tables.specs.Cells.{member_cells}
 use Rattle.club_audit.specs.Audit.{AreAllOf, AreMembers, AreEvents, GivesTerms, HasPeople, NamesEvent, IsWithin, EndsBy}
-use Rattle.club_audit.specs.Audit.{HaveGame, IsGameAt}
+use Rattle.club_audit.specs.Audit.{HaveGame, IsGameAt, terms_told}
 use Rattle.club_audit.specs.GameAudit.{HaveAll, StandsAt}
 use Rattle.club_rows.specs.EachOnce.{AreEachOnce}
 use Rattle.store_tables.specs.declared.rows.SeenRow.{SeenRow}
 use Rattle.club_rows.specs.Club.{ClubGame, ClubState, both_games}
-use Rattle.club_rows.specs.Replay.{terms_with}
 use Rattle.club_rows.specs.Shown.{AreRowsOf}
 use Rattle.club_rows.specs.Tables.{event_row, member_row, kind_number, game_row, move_rows, rows_of_seen}
 use Rattle.club_rows.specs.Seen.{seen_rows}
@@ -184,12 +183,12 @@ module _ {R P M E T : Type 0} (rules : GameRules P M E T) (terms : Terms) (game 
 
 -- ---- a game of the club
 
-terms-are : (e : Event) (row : EventRow) (id budget increment : ℕ) → EventParts id e row
-    → GivesTerms row budget increment → e.terms ≡ terms_with budget increment
-terms-are e row id budget increment parts gives =
+terms-are : (e : Event) (row : EventRow) (id budget increment : ℕ) → IsLegalEvent e → EventParts id e row
+    → GivesTerms row budget increment → e.terms ≡ terms_told budget increment
+terms-are e row id budget increment legal parts gives =
     let b : e.terms.budget ≡ budget = same-pos _ _ (sym parts.budget_is ∙ gives.budget_is) in
     let i : e.terms.increment ≡ increment = same-pos _ _ (sym parts.increment_is ∙ gives.increment_is) in
-    λ j. record { budget = b j; increment = i j }
+    λ j. record { budget = b j; increment = i j; declares = legal.declares j }
 
 -- the row has the number of this kind
 abbrev pub HasKind : EventRow → GameKind → Type 0
@@ -201,10 +200,10 @@ module _ (s : ClubState) (rows : Rows) (people : HasPeople s rows) (index : ℕ)
   module _ {P M E T : Type 0} {rules : GameRules P M E T} {kind : GameKind} (k : Kind rules kind)
       (event : ℕ) (e : EventRow) (budget increment : ℕ) (named : NamesEvent rows row event e)
       (gives : GivesTerms e budget increment) (has_kind : HasKind e kind) (stands_at : StandsAt rows index row) where
-    game-stands : (have : HaveGame rules (terms_with budget increment) s.last row moves)
+    game-stands : (have : HaveGame rules (terms_told budget increment) s.last row moves)
         → (have.id ≡ index + 1) × IsGameAt s (index + 1) row moves (k.into have.game)
     game-stands have =
-        let terms = terms_with budget increment in
+        let terms = terms_told budget increment in
         let players = stands_at.players in
         let game = have.game in
         let are = have.are in
@@ -216,7 +215,8 @@ module _ (s : ClubState) (rows : Rows) (people : HasPeople s rows) (index : ℕ)
         in
         let (known, at, parts) = event-at s.events rows.events.items people.events event e named.row_is in
         let stands : place s.events game.event ≡ Some known = ap (place s.events) event_same ∙ at in
-        let same : known.terms ≡ terms = terms-are known e event budget increment parts gives in
+        let same : known.terms ≡ terms = terms-are known e event budget increment
+        (in-place IsLegalEvent s.events event known people.events.legal at) parts gives in
         let by : terms_at (place s.events game.event) ≡ terms = ap terms_at stands ∙ same in
         let count = same-count s.members rows.members.items people.members in (
           id_same,
@@ -247,12 +247,12 @@ module _ (s : ClubState) (rows : Rows) (people : HasPeople s rows) (index : ℕ)
           },
         )
 
-    pub game-shown : HaveGame rules (terms_with budget increment) s.last row moves → (g : ClubGame)
+    pub game-shown : HaveGame rules (terms_told budget increment) s.last row moves → (g : ClubGame)
         × IsGameAt s (index + 1) row moves g
     game-shown have = (k.into have.game, (game-stands have).1)
 
     -- and so are all its rows
-    pub all-shown : (seen : List SeenRow) → HaveAll rules (terms_with budget increment) s.last row moves seen
+    pub all-shown : (seen : List SeenRow) → HaveAll rules (terms_told budget increment) s.last row moves seen
         → (g : ClubGame) × AreAllOf s (index + 1) row moves seen g
     all-shown seen have =
         let all = game-stands
@@ -330,15 +330,17 @@ module _ (s : ClubState) (rows : Rows) (people : HasPeople s rows) (index : ℕ)
       has-kind = named-parts.game_is ∙ ap (λ x. pos (kind_number x)) of-game.of_kind
 
       module _ (budget increment : ℕ) (gives : GivesTerms e budget increment) where
-        known-terms : of-game.event.terms ≡ terms_with budget increment
-        known-terms = terms-are of-game.event e g.event budget increment named-parts gives
+        known-terms : of-game.event.terms ≡ terms_told budget increment
+        known-terms = terms-are of-game.event e g.event budget increment
+            (in-place IsLegalEvent s.events g.event of-game.event people.events.legal of-game.in_event)
+            named-parts gives
 
-        by-terms : terms_at (place s.events g.event) ≡ terms_with budget increment
+        by-terms : terms_at (place s.events g.event) ≡ terms_told budget increment
         by-terms = ap terms_at of-game.in_event ∙ known-terms
 
         -- the rows are those of a legal game by these seconds
         pub rows-of : index < 5000 → s.last ≤ 253402300799
-            → AreRowsOf rules (terms_with budget increment) (index + 1) row moves g
+            → AreRowsOf rules (terms_told budget increment) (index + 1) row moves g
         rows-of low last =
             let one = some-placed s.members g.first of-game.first in
             let two = some-placed s.members g.second of-game.second in
@@ -364,7 +366,7 @@ module _ (s : ClubState) (rows : Rows) (people : HasPeople s rows) (index : ℕ)
             }
 
         -- the game ends by the club's last moment
-        pub in-time : EndsBy rules (terms_with budget increment) s.last g
+        pub in-time : EndsBy rules (terms_told budget increment) s.last g
         in-time = record {
           start = of-game.start;
           entries = of-game.entries;
@@ -413,7 +415,7 @@ module _ (s : ClubState) (rows : Rows) (people : HasPeople s rows) (index : ℕ)
         (last : s.last ≤ 253402300799) where
       -- and its rows are those of a game of this kind
       pub game-had : (g : ClubGame) → IsGameAt s (index + 1) row moves g
-          → HaveGame rules (terms_with budget increment) s.last row moves
+          → HaveGame rules (terms_told budget increment) s.last row moves
       game-had g is =
           let (game, same) = game-in k g is has_kind in
           let one = subst (IsGameAt s (index + 1) row moves) same is in
@@ -426,7 +428,7 @@ module _ (s : ClubState) (rows : Rows) (people : HasPeople s rows) (index : ℕ)
 
       -- all of them
       pub all-had : (seen : List SeenRow) (g : ClubGame) → AreAllOf s (index + 1) row moves seen g
-          → HaveAll rules (terms_with budget increment) s.last row moves seen
+          → HaveAll rules (terms_told budget increment) s.last row moves seen
       all-had seen g is =
           let (game, same) = game-in k g is.at has_kind in
           let one = subst (IsGameAt s (index + 1) row moves) same is.at in

@@ -1,5 +1,24 @@
 -- Which table is the first wrong one, by all rows of a game at its place in a club.
-use Rattle.std.proofs.Common.{◌≡◌, ◌≢◌, ◌+◌, ◌<◌, ◌≤◌, ℕ, pos, List, Option, Some, None, Bool, true, false, refl, ap, sym, subst}
+use Rattle.std.proofs.Common.{
+  ◌≡◌,
+  ◌≢◌,
+  ◌+◌,
+  ◌<◌,
+  ◌≤◌,
+  ℕ,
+  pos,
+  List,
+  Option,
+  Some,
+  None,
+  Bool,
+  true,
+  false,
+  refl,
+  ap,
+  sym,
+  subst,
+}
 use Rattle.std.proofs.Common.{◌∙◌, arith, inl, inr, ◌⊎◌}
 use Rattle.std.proofs.lemmas.Bool.{cases_Bool}
 use Rattle.std.proofs.lemmas.Option.{same_Some}
@@ -17,10 +36,9 @@ use Rattle.store_tables.specs.declared.names.Table.{Table}
 use Rattle.store_tables.specs.declared.names.Table.TheVariants.{Members, Events, Challenges, Moves, Games, Seen, Scores}
 use Rattle.store_tables.specs.declared.names.Table.TheVariants.{Meta}
 use Rattle.club_rows.specs.Club.{ClubGame, ClubState, both_games}
-use Rattle.club_rows.specs.Replay.{terms_with}
 use Rattle.club_rows.specs.Tables.{kind_number}
 use Rattle.club_rows.proofs.Proved.{in_draughts, in_shogi, same-pos}
-use Rattle.club_audit.specs.Audit.{AreAllOf, GivesTerms, HasPeople, IsGameAt, NamesEvent, until}
+use Rattle.club_audit.specs.Audit.{AreAllOf, GivesTerms, HasPeople, IsGameAt, NamesEvent, terms_told, until}
 use Rattle.club_audit.specs.FirstWrong.{IsFirstWrong, Precedes}
 use Rattle.club_audit.specs.GameAudit.{GivesRules, IsRightAt, IsRightBy, IsRightInEvent, IsRightOf, StandsAt}
 use Rattle.club_audit.proofs.FirstLemmas.{first-as, first-games, first-moves}
@@ -90,7 +108,7 @@ module _ (s : ClubState) (rows : Rows) (people : HasPeople s rows) (index : ℕ)
 
     module _ (stands : StandsAt rows index row) where
       game-of : (kind : GameKind) (budget increment : ℕ) → e.game ≡ pos (kind_number kind)
-          → GivesTerms e budget increment → IsRightOf kind (terms_with budget increment) last row moves seen Games
+          → GivesTerms e budget increment → IsRightOf kind (terms_told budget increment) last row moves seen Games
           → (g : ClubGame) × IsGameAt (until 253402300799 s) (index + 1) row moves g
       game-of Draughts budget increment kind_is gives have =
           game-shown (until 253402300799 s) rows (people-until 253402300799) index row moves in_draughts id e budget
@@ -100,7 +118,7 @@ module _ (s : ClubState) (rows : Rows) (people : HasPeople s rows) (index : ℕ)
           increment named gives kind_is stands have
 
       all-of : (kind : GameKind) (budget increment : ℕ) → e.game ≡ pos (kind_number kind)
-          → GivesTerms e budget increment → IsRightOf kind (terms_with budget increment) last row moves seen Seen
+          → GivesTerms e budget increment → IsRightOf kind (terms_told budget increment) last row moves seen Seen
           → (g : ClubGame) × AreAllOf (until 253402300799 s) (index + 1) row moves seen g
       all-of Draughts budget increment kind_is gives have =
           all-shown (until 253402300799 s) rows (people-until 253402300799) index row moves in_draughts id e budget
@@ -110,7 +128,7 @@ module _ (s : ClubState) (rows : Rows) (people : HasPeople s rows) (index : ℕ)
           increment named gives kind_is stands seen have
 
       end-of : (kind : GameKind) (budget increment : ℕ) → e.game ≡ pos (kind_number kind)
-          → GivesTerms e budget increment → IsRightOf kind (terms_with budget increment) last row moves seen Meta
+          → GivesTerms e budget increment → IsRightOf kind (terms_told budget increment) last row moves seen Meta
           → (n : ℕ) → last ≡ Some n → n ≤ 253402300799
           → (g : ClubGame) × AreAllOf (until n s) (index + 1) row moves seen g
       end-of Draughts budget increment kind_is gives have n is low =
@@ -122,7 +140,7 @@ module _ (s : ClubState) (rows : Rows) (people : HasPeople s rows) (index : ℕ)
 
       game-in-kind : (g : ClubGame) → IsGameAt (until 253402300799 s) (index + 1) row moves g → (kind : GameKind)
           (budget increment : ℕ) → e.game ≡ pos (kind_number kind) → GivesTerms e budget increment
-          → IsRightOf kind (terms_with budget increment) last row moves seen Games
+          → IsRightOf kind (terms_told budget increment) last row moves seen Games
       game-in-kind g is Draughts budget increment kind_is gives =
           game-had (until 253402300799 s) rows (people-until 253402300799) index row moves id e named in_draughts budget
           increment gives kind_is stands.low (omega arith) g is
@@ -132,7 +150,7 @@ module _ (s : ClubState) (rows : Rows) (people : HasPeople s rows) (index : ℕ)
 
       all-in-kind : (g : ClubGame) → AreAllOf (until 253402300799 s) (index + 1) row moves seen g → (kind : GameKind)
           (budget increment : ℕ) → e.game ≡ pos (kind_number kind) → GivesTerms e budget increment
-          → IsRightOf kind (terms_with budget increment) last row moves seen Seen
+          → IsRightOf kind (terms_told budget increment) last row moves seen Seen
       all-in-kind g is Draughts budget increment kind_is gives =
           all-had (until 253402300799 s) rows (people-until 253402300799) index row moves id e named in_draughts budget
           increment gives kind_is stands.low (omega arith) seen g is
@@ -141,7 +159,7 @@ module _ (s : ClubState) (rows : Rows) (people : HasPeople s rows) (index : ℕ)
           increment gives kind_is stands.low (omega arith) seen g is
 
       end-in-kind : At Meta → (kind : GameKind) (budget increment : ℕ) → e.game ≡ pos (kind_number kind)
-          → GivesTerms e budget increment → IsRightOf kind (terms_with budget increment) last row moves seen Meta
+          → GivesTerms e budget increment → IsRightOf kind (terms_told budget increment) last row moves seen Meta
       end-in-kind right Draughts budget increment kind_is gives = λ n is low.
           let (g, all) = right n is low in
           all-had (until n s) rows (people-until n) index row moves id e named in_draughts budget increment gives
@@ -286,15 +304,16 @@ module _ (s : ClubState) (rows : Rows) (people : HasPeople s rows) (index : ℕ)
     where
       by-kind : (id : ℕ) (e : EventRow) → NamesEvent rows row id e → (kind : GameKind) (budget increment : ℕ)
           → e.game ≡ pos (kind_number kind) → GivesTerms e budget increment
-          → IsRightOf kind (terms_with budget increment) last row moves seen Moves
+          → IsRightOf kind (terms_told budget increment) last row moves seen Moves
       by-kind id e named Draughts budget increment kind_is gives =
           let have = game-had s rows people index row moves id e named in_draughts budget increment gives kind_is low
           within g all.at in
-          moves-of both_games.draughts (terms_with budget increment) row moves have.id have.game have.are
+          moves-of both_games.draughts (terms_told budget increment) row moves have.id have.game have.are
       by-kind id e named Shogi budget increment kind_is gives =
-          let have = game-had s rows people index row moves id e named in_shogi budget increment gives kind_is low within
+          let have = game-had s rows people index row moves id e named in_shogi budget increment gives kind_is low
+          within
           g all.at in
-          moves-of both_games.shogi (terms_with budget increment) row moves have.id have.game have.are
+          moves-of both_games.shogi (terms_told budget increment) row moves have.id have.game have.are
   club-right low g all moment Games =
       (low, g, later-game s 253402300799 within (index + 1) row moves g all.at)
   club-right low g all moment Seen = (g, later-all s 253402300799 within (index + 1) row moves seen g all)

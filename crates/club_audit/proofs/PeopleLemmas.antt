@@ -11,7 +11,7 @@ use Rattle.club_core.specs.LegalState.{IsLegalMember, IsLegalEvent}
 use Rattle.store_tables.specs.Cells.{member_cells, event_cells}
 use Rattle.store_tables.specs.declared.rows.MemberRow.{MemberRow}
 use Rattle.store_tables.specs.declared.rows.EventRow.{EventRow}
-use Rattle.club_audit.specs.Audit.{IsMemberAt, AreMembers, IsEventAt, AreEvents}
+use Rattle.club_audit.specs.Audit.{IsMemberAt, AreMembers, IsEventAt, AreEvents, terms_told}
 use Rattle.club_rows.specs.Tables.{member_row, event_row, kind_number}
 use Rattle.club_audit.proofs.PlacedLemmas.{numbered-of, numbered-at, numbered-back, numbered-length}
 
@@ -117,7 +117,7 @@ event-parts id e r is = record { id_is = cc; name_is = cc; game_is = cc; budget_
 
 abbrev pub event_told : EventRow → GameKind → ℕ → ℕ → Event
 event_told r kind budget increment =
-    record { name = string_bytes r.name; game = kind; terms = record { budget = budget; increment = increment } }
+    record { name = string_bytes r.name; game = kind; terms = terms_told budget increment }
 
 pub event-cells : (id budget increment : ℕ) (kind : GameKind) (r : EventRow) → r.id ≡ pos id
     → r.game ≡ pos (kind_number kind) → r.budget ≡ pos budget → r.increment ≡ pos increment

@@ -49,13 +49,15 @@ module _ {P M E T : Type 0} (rules : GameRules P M E T) (terms : Terms) (row : G
     pub wrong-moves : ¬ AreMovesOf rules terms row moves → IsFirstWrong Right (Some Moves)
     wrong-moves wrong = first-moves Right tt tt tt wrong
 
-    pub wrong-row : AreMovesOf rules terms row moves × ((id : ℕ) (game : Game M) → ¬ AreRowsOf rules terms id row moves game)
+    pub wrong-row : AreMovesOf rules terms row moves × ((id : ℕ) (game : Game M) → ¬ AreRowsOf rules terms id row
+        moves game)
         → IsFirstWrong Right (Some Games)
     wrong-row it = first-games Right tt tt tt it.0 (λ have. it.1 have.id have.game have.are)
 
     -- of rows that show a game
     module _ {R : Type 0} (view : GameView R P M E T) (id : ℕ) (game : Game M)
-        (are : AreRowsOf rules terms id row moves game) (shows : Shows rules game view) (terms_are : terms_of view ≡ terms)
+        (are : AreRowsOf rules terms id row moves game) (shows : Shows rules game view) (terms_are : terms_of view ≡
+        terms)
         (complete : (n : ℕ) (g : Game M) → AreRowsOf rules terms n row moves g
         → (terms_of view ≡ terms) × Shows rules g view) where
       game-until : (n : ℕ) → IsWithin rules view n → HaveGame rules terms n row moves

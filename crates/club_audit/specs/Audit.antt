@@ -1,5 +1,5 @@
 -- What the rows of single tables are tested for: the members, the events, the challenges and the games of a legal club.
-use Rattle.std.specs.Prelude.{◌≡◌, ◌≢◌, ◌+◌, ◌<◌, ◌≤◌, ℕ, pos, List, map, length, Option, Some, IsTrue}
+use Rattle.std.specs.Prelude.{◌≡◌, ◌≢◌, ◌+◌, ◌<◌, ◌≤◌, ℕ, pos, List, map, length, Option, Some, false, IsTrue}
 use Rattle.std.specs.Prelude.{string_bytes}
 use Rattle.std.specs.Option.{option_map}
 use Rattle.club_rules.specs.GameRules.{GameRules}
@@ -59,6 +59,10 @@ pub record GivesTerms (row : EventRow) (budget increment : ℕ) : Type 0 where
   pub increment_is : row.increment ≡ pos increment
   pub has_budget : IsTrue (is_budget budget)
   pub has_increment : IsTrue (is_increment increment)
+
+-- the terms that an event's row tells: no event of these tables has declarations
+abbrev pub terms_told : ℕ → ℕ → Terms
+terms_told budget increment = record { budget = budget; increment = increment; declares = false }
 
 -- where the other row is of another event, it has another name
 abbrev pub IsOtherEvent : EventRow → EventRow → Type 0

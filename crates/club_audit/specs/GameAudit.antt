@@ -14,9 +14,9 @@ use Rattle.store_tables.specs.declared.rows.Rows.{Rows}
 use Rattle.store_tables.specs.declared.names.Table.{Table}
 use Rattle.store_tables.specs.declared.names.Table.TheVariants.{Events, Moves, Games, Seen, Meta}
 use Rattle.club_requests.specs.Limits.{last_moment, most_games}
-use Rattle.club_audit.specs.Audit.{AreAllOf, EndsBy, GivesTerms, HaveGame, IsGameAt, NamesEvent, NamesPlayers, until}
+use Rattle.club_audit.specs.Audit.{AreAllOf, EndsBy, GivesTerms, HaveGame, IsGameAt, NamesEvent, NamesPlayers}
+use Rattle.club_audit.specs.Audit.{terms_told, until}
 use Rattle.club_rows.specs.Club.{both_games, ClubGame, ClubState}
-use Rattle.club_rows.specs.Replay.{terms_with}
 use Rattle.club_rows.specs.EachOnce.{AreEachOnce}
 use Rattle.club_rows.specs.Seen.{seen_rows}
 use Rattle.club_rows.specs.Shown.{AreMovesOf, AreRowsOf}
@@ -44,7 +44,7 @@ pub record AreOfEvent (event : EventRow) (last : ℕ)
   pub budget : ℕ
   pub increment : ℕ
   pub terms : GivesTerms event budget increment
-  pub all : HaveAllOf kind (terms_with budget increment) last row moves seen
+  pub all : HaveAllOf kind (terms_told budget increment) last row moves seen
 
 -- ---- table by table
 
@@ -77,7 +77,7 @@ pub record GivesRules (event : EventRow) : Type 0 where
 abbrev pub IsRightBy : EventRow → Option ℕ → GameRecord → List MoveRow → List SeenRow → Table → Type 0
 IsRightBy event last row moves seen t =
     (kind : GameKind) (budget increment : ℕ) → event.game ≡ pos (kind_number kind) → GivesTerms event budget increment
-    → IsRightOf kind (terms_with budget increment) last row moves seen t
+    → IsRightOf kind (terms_told budget increment) last row moves seen t
 
 -- and the event's row gives them
 abbrev pub IsRightInEvent : EventRow → Option ℕ → GameRecord → List MoveRow → List SeenRow → Table → Type 0

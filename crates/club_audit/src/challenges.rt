@@ -150,8 +150,9 @@ fn share_number(alloc: Global, challenges: &[ChallengeRow]) -> Result<bool, Memo
 /// Whether the rows of challenges are those of a club with these members, events and games.
 pub fn are_challenges(alloc: Global, rows: &Rows) -> Result<bool, Memory>
     ensures sound { IfOk result (λ are. are ≡ true → (cs : List core.Challenge) × AreChallenges cs rows.now) }
-    ensures complete { IfOk result (λ are. length rows.now.members.items ≤ most_members →
-        length rows.now.events.items ≤ most_events → (cs : List core.Challenge) → AreChallenges cs rows.now → are ≡ true) }
+    ensures complete { IfOk result (λ are.
+        length rows.now.members.items ≤ most_members → length rows.now.events.items ≤ most_events →
+        (cs : List core.Challenge) → AreChallenges cs rows.now → are ≡ true) }
 {
     if !are_each_challenges(rows, &rows.challenges) {
         return Ok(false);

@@ -47,6 +47,7 @@ fn is_within<R: Rules>(view: &GameView<R>, last: Moment) -> bool
         Some(GameEnd::Outside(OutsideEnd::Time)) => left_to_mover(view) < elapsed,
         Some(GameEnd::Outside(OutsideEnd::Resigned)) => true,
         Some(GameEnd::Outside(OutsideEnd::Agreed)) => true,
+        Some(GameEnd::Outside(OutsideEnd::Declared)) => true,
         Some(GameEnd::Outside(OutsideEnd::Recorded(_))) => true,
         Some(GameEnd::Rule(_)) => true,
         None => true,

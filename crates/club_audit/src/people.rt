@@ -5,7 +5,8 @@ ghost use Rattle.club_core.specs.Members.{Member};
 ghost use Rattle.club_core.specs.Events.{Event};
 ghost use Rattle.club_core.specs.LegalState.{Each};
 ghost use Rattle.club_audit.specs.Audit.{IsOtherMember, IsMemberAt, AreMembers, GivesTerms, IsOtherEvent, IsEventAt};
-ghost use Rattle.club_audit.specs.Audit.{AreEvents};
+ghost use Rattle.club_audit.specs.Audit.{AreEvents, terms_told};
+ghost use Rattle.club_rows.specs.Replay.{terms_given};
 
 use club_requests::values::{MOST_EVENTS, MOST_MEMBERS, is_budget, is_increment};
 use club_requests::{is_member_key, is_name};
@@ -84,9 +85,10 @@ pub fn are_members(members: &[MemberRow]) -> bool
     true
 }
 
-/// The seconds that an event gives, unless they are outside their limits.
+/// What an event gives its players, unless the seconds are outside their limits.
 pub fn terms_of(event: &EventRow) -> Option<Terms>
     ensures some { IfSome result (λ t. GivesTerms event.now t.budget t.increment) }
+    ensures told { IfSome result (λ t. terms_given t ≡ terms_told t.budget t.increment) }
     ensures none { result ≡ None → (budget increment : ℕ) → ¬ GivesTerms event.now budget increment }
 {
     let budget = match counted(event.budget) {
@@ -103,7 +105,11 @@ pub fn terms_of(event: &EventRow) -> Option<Terms>
     if !is_increment(increment) {
         return None;
     }
-    Some(Terms { budget, increment })
+    Some(Terms {
+        budget,
+        increment,
+        declares: false,
+    })
 }
 
 // Whether the other row, where it is another event's, has another name.

@@ -1,5 +1,5 @@
 -- What is decided of a command on a game of the club, and the rows of a game that starts.
-use Rattle.std.proofs.Common.{◌≡◌, inl, inr, ℕ, zero, suc, ◌+◌, ◌-◌, ◌<◌, ◌≤◌, ◌^◌, List, []}
+use Rattle.std.proofs.Common.{◌≡◌, Bool, inl, inr, ℕ, zero, suc, ◌+◌, ◌-◌, ◌<◌, ◌≤◌, ◌^◌, List, []}
 use Rattle.std.proofs.Common.{◌∷◌, ◌++◌, length, Option, Some, None, refl, ap, sym, subst}
 use Rattle.std.proofs.Common.{subst₂, ℤ, pos, ◌∙◌, arith}
 use Rattle.std.specs.Prelude.{slice_get, slice_set, IsTrue}
@@ -241,13 +241,14 @@ module _ {P M E T : Type 0} {laws : GameRules P M E T} {kind : GameKind} (k : Ki
 pub seated_cells : {P M E T : Type 0} (laws : GameRules P M E T) (r : GameRecord) (row : GameRow E) (terms : Terms)
     (p : Pairing) (id : ℕ) (key : Option (List ℕ)) (moment : ℕ) → IsTrue (is_budget terms.budget)
     →
-    ((increment : ℕ) → IsRowOf laws (record { budget = terms.budget; increment = increment }) (seated key p moment)
+    ((increment : ℕ) (declares : Bool)
+    → IsRowOf laws (record { budget = terms.budget; increment = increment; declares = declares }) (seated key p moment)
     row)
     → (row.left_first < 2 ^ 63 → row.left_second < 2 ^ 63 → (terms : Terms) (game : Game M)
     → IsRowOf laws terms game row → game_cells r ≡ game_row laws terms id game)
     → game_cells r ≡ game_row laws terms id (seated key p moment)
 seated_cells {P} {M} laws r row terms p id key moment legal shows cells =
-    let is_row = shows terms.increment in
+    let is_row = shows terms.increment terms.declares in
     let budget : terms.budget ≤ 31536000 = budget_most terms.budget legal in
     let first : row.left_first ≡ terms.budget = ap (λ c. c.left_first) is_row.clocks in
     let second : row.left_second ≡ terms.budget = ap (λ c. c.left_second) is_row.clocks in

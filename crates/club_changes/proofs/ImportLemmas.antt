@@ -23,10 +23,10 @@ use Rattle.club_requests.specs.declared.refusals.Refusal.{Refusal}
 use Rattle.club_requests.specs.declared.requests.Caller.{Caller}
 use Rattle.club_requests.specs.declared.requests.Caller.TheVariants.{Officer, Member}
 use Rattle.club_core.specs.Answer.{members_of, event_of, events_of, keyed_of, outcome_of, answered}
-use Rattle.club_core.specs.Events.{Terms, Event, event_kind, has_event_name}
+use Rattle.club_core.specs.Events.{Terms, Event, event_kind, event_declares, has_event_name}
 use Rattle.club_core.specs.Game.{Game}
 use Rattle.club_core.specs.Imports.{Import, Imported, imported, has_part, reading_of_import, repeat_of_import}
-use Rattle.club_core.specs.Imports.{import_tests, import_refusal, import_between, import_found}
+use Rattle.club_core.specs.Imports.{read_in, import_tests, import_refusal, import_between, import_found}
 use Rattle.club_core.specs.LegalState.{IsLegalIn}
 use Rattle.club_requests.specs.Limits.{is_name}
 use Rattle.club_core.specs.Members.{find_id}
@@ -158,23 +158,24 @@ between_adds event first second games (record_is.refused refusal) i id two is = 
 module _ {P M E T : Type 0} (laws : GameRules P M E T) (records : GameRecords M) (given : Import)
     (first second : Option ℕ) (under : Option KeyedGame) (old : Option (Game M)) (games : ℕ) (i : Imported M) (id : ℕ)
   where
-    found_adds : (event : Option ℕ) → accepted i (game_seated id)
-        ≡ import_found laws records given event first second under old games → AddsNext games i id
-    found_adds None is = cc
-    found_adds (Some event) is =
+    found_adds : (declares : Bool) (event : Option ℕ) → accepted i (game_seated id)
+        ≡ import_found laws records given declares event first second under old games → AddsNext games i id
+    found_adds declares None is = cc
+    found_adds declares (Some event) is =
         let read = reading_of_import laws records given in
+        let admitted = read_in records.format declares read in
         let (allowed, added) = adds_unless (repeat_of_import laws records given event first second under old games)
         (import_refusal laws records given event first second under old games)
-        (import_between event first second games read) i (game_seated id) is in
+        (import_between event first second games admitted) i (game_seated id) is in
         let tests = none-holds (import_tests laws records given event first second under old games) allowed in
         let good = three-true (is_name given.key) (are_two first second) (has_part read) (not-false _ tests.1.0) in
-        between_adds event first second games read i id good.1 added
+        between_adds event first second games admitted i id good.1 added
 
-    pub officer_adds : (who : Caller) (event : Option ℕ)
+    pub officer_adds : (who : Caller) (declares : Bool) (event : Option ℕ)
         → accepted i (game_seated id) ≡ by_officer who
-        (import_found laws records given event first second under old games) → AddsNext games i id
-    officer_adds Officer event is = found_adds event is
-    officer_adds (Member m) event is = cc
+        (import_found laws records given declares event first second under old games) → AddsNext games i id
+    officer_adds Officer declares event is = found_adds declares event is
+    officer_adds (Member m) declares event is = cc
 
 -- ---- in the club
 
@@ -272,6 +273,7 @@ module _ {P M E T : Type 0} {laws : GameRules P M E T} {kind : GameKind} (k : Ki
         let look = import_looked_up laws records s given old in
         let looked : imported_by laws records known who given old ≡ by_officer who look =
         λ j. by_officer who (import_found laws records given
+        (event_declares (is.events_are j) given.event)
         (find_id (has_event_name given.event) (is.events_are j))
         (find_id (has_member_name given.first) (is.members_are j))
         (find_id (has_member_name given.second) (is.members_are j))
@@ -391,11 +393,13 @@ pub by_known : {P M E T : Type 0} (laws : GameRules P M E T) (records : GameReco
     → ms ≡ known.members.items → es ≡ known.events.items
     →
     by_officer who
-    (import_found laws records given (find_id (has_event_name given.event) (events_of es))
+    (import_found laws records given (event_declares (events_of es) given.event)
+    (find_id (has_event_name given.event) (events_of es))
     (find_id (has_member_name given.first) (members_of ms)) (find_id (has_member_name given.second) (members_of ms))
     (option_map keyed_of known.keyed) old known.games) ≡ imported_by laws records known who given old
 by_known laws records known who given old ms es members events =
     λ j. by_officer who (import_found laws records given
+    (event_declares (events_of (events j)) given.event)
     (find_id (has_event_name given.event) (events_of (events j)))
     (find_id (has_member_name given.first) (members_of (members j)))
     (find_id (has_member_name given.second) (members_of (members j)))

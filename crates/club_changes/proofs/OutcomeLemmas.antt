@@ -18,7 +18,7 @@ use Rattle.club_core.specs.Members as core_members
 use Rattle.club_core.specs.Members.{find_id, member_step, same_member, member_refusal}
 use Rattle.club_requests.specs.Limits.{is_name, is_budget, is_increment}
 use Rattle.club_core.specs.Events.{Event, has_event_name, has_good_values, event_step, same_event, event_refusal}
-use Rattle.club_core.specs.Events.{event_tests}
+use Rattle.club_core.specs.Events.{event_tests, plain}
 use Rattle.club_core.specs.Seats.{Pairing, KeyedGame, pair, seat_found, seat_step, same_seats, seat_refusal}
 use Rattle.club_core.specs.Seats.{has_member_name}
 use Rattle.club_core.specs.State.{state_after, is_accepted, add_member, add_event, seat, seated, seated_as, kind_at}
@@ -170,13 +170,13 @@ pub event_decided : (s : ClubState) (moment : ℕ) (who : Caller) (e : Event) (o
     → IsDecided s (caller_step s moment who (add_event e)) (record { outcome = o; changes = Some c })
 event_decided s moment who e o c club answer is_in are =
     let f = with_events s moment in
-    put_decided s (caller_step s moment who (add_event e)) (f (s.events ++ e ∷ [])) o c moment []
+    put_decided s (caller_step s moment who (add_event e)) (f (s.events ++ plain e ∷ [])) o c moment []
     (event_row (1 + length s.events) e ∷ []) [] [] [] []
     (answer ∙ sym (answered_officer s f who (event_step s.events e)))
-    (officer_added s f who (same_event s.events e) (event_refusal s.events e) (s.events ++ e ∷ [])
+    (officer_added s f who (same_event s.events e) (event_refusal s.events e) (s.events ++ plain e ∷ [])
     (event_added (length s.events + 1)) (ap is_accepted (sym answer) ∙ is_in))
     are
-    (event_next both_games s e moment club.games)
+    (event_next both_games s (plain e) moment club.games)
 
 -- ---- what an accepted command meets
 
@@ -200,7 +200,7 @@ pub event_limits : (who : Caller) (events : List Event) (e : Event) (o : given.O
 event_limits who events e o answer is_in =
     let none : event_refusal events e ≡ None =
     unrefused_by who (same_event events e) (event_refusal events e)
-    (accepted (events ++ e ∷ []) (event_added (length events + 1))) (ap is_accepted (sym answer) ∙ is_in) in
+    (accepted (events ++ plain e ∷ []) (event_added (length events + 1))) (ap is_accepted (sym answer) ∙ is_in) in
     let fails = none-holds (event_tests events e) none in
     three_true (is_name e.name) (is_budget e.terms.budget) (is_increment e.terms.increment)
     (not-false (has_good_values e) fails.1.0)

@@ -25,7 +25,7 @@ use Rattle.club_requests.specs.declared.requests.Caller.{Caller}
 use Rattle.club_requests.specs.declared.refusals.Refusal.{Refusal}
 use Rattle.club_core.specs.declared.rows.Offer.{Offer}
 use Rattle.club_requests.specs.declared.outside_end.OutsideEnd.{OutsideEnd}
-use Rattle.club_requests.specs.declared.outside_end.OutsideEnd.TheVariants.{Resigned, Agreed, Time}
+use Rattle.club_requests.specs.declared.outside_end.OutsideEnd.TheVariants.{Resigned, Agreed, Time, Declared}
 use Rattle.club_requests.specs.Limits.{is_budget, is_increment, most_plies}
 use Rattle.club_requests.specs.Outcome.{Reply, MoveReply, moved, draw_offered, Outcome, accepted, repeated}
 use Rattle.club_requests.specs.Outcome.{refused, unless, unless_repeat}
@@ -35,12 +35,13 @@ use Rattle.club_core.specs.Game.{Game, Entry, Clocks, moves_of, spend, spend_all
 use Rattle.club_core.specs.Game.{last_position, result_of}
 use Rattle.club_core.specs.Legal.{IsLegalGame}
 use Rattle.club_core.specs.LegalState.{Each}
-use Rattle.club_core.specs.Step.{GameCommand, move, offer_draw, accept_draw, resign, claim_time, played, offered}
+use Rattle.club_core.specs.Step.{GameCommand, move, offer_draw, accept_draw, resign, claim_time, declare}
+use Rattle.club_core.specs.Step.{played, offered}
 use Rattle.club_core.specs.Step.{plays, ends, by_side, side_step, caller_side, may_give, asked_ply}
 use Rattle.club_core.specs.Step.{repeat_of, repeat_of_offer, repeat_of_accept, repeat_of_resign, repeat_of_claim}
 use Rattle.club_core.specs.Step.{move_refusal, offer_refusal, accept_refusal, resign_refusal, claim_refusal, move_at}
 use Rattle.club_core.specs.Step.{checked, game_step, reply_of_move, move_tests, offer_tests, accept_tests, resign_tests}
-use Rattle.club_core.specs.Step.{claim_tests}
+use Rattle.club_core.specs.Step.{claim_tests, repeat_of_declare, declare_refusal, declare_tests}
 use Rattle.club_core.specs.declared.settling.Settled.{Settled}
 use Rattle.club_core.specs.View.{concluded, HasMade, IsConcluded, IsMade, IsRowOf, Stood, StoodAfter}
 use Rattle.club_core.proofs.Proved.{AreRules, checked-legal, none-holds, reply-played, moves_of-played, made-played}
@@ -126,6 +127,8 @@ module _ {P M E T : Type 0} (laws : GameRules P M E T) (terms : Terms) (g : Game
       (ends_done Resigned)
   side_done side claim_time = unless_done (repeat_of_claim laws g side) (claim_refusal laws terms g moment side)
       (ends laws g Time) (ends_done Time)
+  side_done side (declare ply) = unless_done (repeat_of_declare laws terms g side ply)
+      (declare_refusal laws terms g side ply) (ends laws g Declared) (ends_done Declared)
 
   by_done : (side : Option Side) (command : GameCommand) → IsDone (by_side laws terms g moment side command)
   by_done None command = tt
@@ -179,6 +182,9 @@ module _ {P M E T : Type 0} (laws : GameRules P M E T) (terms : Terms) (g : Game
   side_running side claim_time = unless_running (repeat_of_claim laws g side) (claim_refusal laws terms g moment side)
       (ends laws g Time)
       (λ none. is_some-none (result_of laws g) (none-holds (claim_tests laws terms g moment side) none).0)
+  side_running side (declare ply) = unless_running (repeat_of_declare laws terms g side ply)
+      (declare_refusal laws terms g side ply) (ends laws g Declared)
+      (λ none. is_some-none (result_of laws g) (none-holds (declare_tests laws terms g side ply) none).0)
 
   by_running : (side : Option Side) (command : GameCommand) → WasRunning (by_side laws terms g moment side command)
   by_running None command = tt
@@ -232,6 +238,8 @@ module _ {P M E T : Type 0} (laws : GameRules P M E T) (terms : Terms) (g : Game
         (ends laws g Resigned) line
     side_legal side claim_time = unless_legal (repeat_of_claim laws g side) (claim_refusal laws terms g moment side)
         (ends laws g Time) line
+    side_legal side (declare ply) = unless_legal (repeat_of_declare laws terms g side ply)
+        (declare_refusal laws terms g side ply) (ends laws g Declared) line
 
     by_legal : (side : Option Side) (command : GameCommand) → HasLegalLine (by_side laws terms g moment side command)
     by_legal None command = tt

@@ -16,7 +16,8 @@ pub use Rattle.club_changes.proofs.PlayedLemmas.{decided_players, seen_by_step, 
 pub use Rattle.club_changes.proofs.PlayedLemmas.{step_legal}
 pub use Rattle.club_changes.proofs.PutSame.{AreAtPlaces, gathered_had, gathered_has, ids_agree, ids_same, numbered_had}
 pub use Rattle.club_changes.proofs.PutSame.{numbered_has, numbered_length, numbered_places, one_line, take_next}
-pub use Rattle.club_changes.proofs.ReadRows.{all_read, first_is, first_mapped, member_read, none_mapped, one_more_read}
+pub use Rattle.club_changes.proofs.ReadRows.{all_read, first_is, first_mapped, member_read, none_mapped, one_more_of}
+pub use Rattle.club_changes.proofs.ReadRows.{one_more_read}
 pub use Rattle.club_changes.proofs.ReadRows.{placed, score_first}
 pub use Rattle.club_changes.proofs.SameLemmas.{exactly_same, leaves_same}
 pub use Rattle.club_changes.proofs.SweptTables.{member_refused}

@@ -24,16 +24,24 @@ use Rattle.club_changes.proofs.PutSame.{numbered_at, numbered_length, at_get, ta
 
 module _ {A B R : Type 0} (of : B → A) (cells : R → Row) (row : ℕ → A → Row) (rows : List R) (all : List A)
     (same : map cells rows ≡ numbered_from row 1 all) where
+  -- one row more was read, by what stands at its place
+  pub one_more_of : (k : ℕ) (r : R) (done news : List B) (b : B) → map of done ≡ take k all → k < length rows
+      → r ≡ get_or rows k r → news ≡ done ++ b ∷ []
+      → ((x : A) → slice_get all k ≡ Some x → cells r ≡ row (1 + k) x → of b ≡ x)
+      → map of news ≡ take (k + 1) all
+  one_more_of k r done news b so_far within is more reads =
+      let (x, at, stands) = numbered_at row cells 1 rows all same k r (at_get rows k r within is) in
+      ap (map of) more
+      ∙ (map-append of done (b ∷ [])
+      ∙ (ap (λ l. l ++ of b ∷ []) so_far
+      ∙ (ap (λ y. take k all ++ y ∷ []) (reads x at stands) ∙ sym (take_next all k x at))))
+
   -- one row more was read
   pub one_more_read : (k : ℕ) (r : R) (done news : List B) (b : B) → map of done ≡ take k all → k < length rows
       → r ≡ get_or rows k r → news ≡ done ++ b ∷ [] → ((id : ℕ) (x : A) → cells r ≡ row id x → of b ≡ x)
       → map of news ≡ take (k + 1) all
   one_more_read k r done news b so_far within is more reads =
-      let (x, at, stands) = numbered_at row cells 1 rows all same k r (at_get rows k r within is) in
-      ap (map of) more
-      ∙ (map-append of done (b ∷ [])
-      ∙ (ap (λ l. l ++ of b ∷ []) so_far
-      ∙ (ap (λ y. take k all ++ y ∷ []) (reads (1 + k) x stands) ∙ sym (take_next all k x at))))
+      one_more_of k r done news b so_far within is more (λ x at stands. reads (1 + k) x stands)
 
   -- all were read
   pub all_read : (k : ℕ) (done : List B) → map of done ≡ take k all → length rows ≤ k → k ≤ length rows

@@ -8,7 +8,7 @@ use Rattle.club_rules.specs.GameRules.{GameRules}
 use Rattle.club_rules.specs.Records.{GameRecords}
 use Rattle.club_requests.specs.declared.requests.Caller.{Caller}
 use Rattle.club_core.specs.Answer.{members_of, events_of, keyed_of, outcome_of, answered}
-use Rattle.club_core.specs.Events.{Terms, Event, has_event_name}
+use Rattle.club_core.specs.Events.{Terms, Event, has_event_name, event_declares}
 use Rattle.club_core.specs.Game.{Game, result_of}
 use Rattle.club_core.specs.Imports.{Import, Imported, imported, import_found}
 use Rattle.club_core.specs.Members.{find_id}
@@ -75,7 +75,7 @@ abbrev pub imported_by : {P M E T : Type 0} → GameRules P M E T → GameRecord
     → Option (Game M) → Outcome (Imported M)
 imported_by laws records known caller given old =
     by_officer caller
-    (import_found laws records given
+    (import_found laws records given (event_declares (events_of known.events.items) given.event)
     (find_id (has_event_name given.event) (events_of known.events.items))
     (find_id (has_member_name given.first) (members_of known.members.items))
     (find_id (has_member_name given.second) (members_of known.members.items))

@@ -32,13 +32,14 @@ pub fn event_at(events: &[Event], event: u32) -> Result<&Event, ChangeFault>
     }
 }
 
-/// The seconds that an event gives.
+/// What an event gives its players.
 pub fn terms_of(event: &Event) -> Terms
     ensures { terms_given result ≡ (event_of event.now).terms }
 {
     Terms {
         budget: event.budget,
         increment: event.increment,
+        declares: event.declares,
     }
 }
 

@@ -1,6 +1,6 @@
 //! The rows of a game that starts, by its rules.
 
-ghost use Rattle.std.specs.Prelude.{◌≡◌, ◌≢◌, ◌<◌, ℕ, [], ◌∷◌, Some, None, IfOk, IsErrOf, IsTrue};
+ghost use Rattle.std.specs.Prelude.{◌≡◌, ◌≢◌, ◌<◌, ℕ, Bool, [], ◌∷◌, Some, None, IfOk, IsErrOf, IsTrue};
 ghost use Rattle.std.specs.Option.{option_map};
 ghost use Rattle.club_core.specs.Answer.{pairing_of};
 ghost use Rattle.club_core.specs.Game.{result_of};
@@ -29,8 +29,8 @@ fn first_row<R: Rules>(
     budget: u64,
     moment: Moment,
 ) -> Result<GameRow<R::End>, Memory>
-    ensures { IfOk result (λ row. (increment : ℕ) →
-        IsRowOf R.rules (record { budget = budget; increment = increment })
+    ensures { IfOk result (λ row. (increment : ℕ) (declares : Bool) →
+        IsRowOf R.rules (record { budget = budget; increment = increment; declares = declares })
         (seated (option_map (λ k. k.now) key.entry) (pairing_of pairing) moment) row) }
 {
     match key {

@@ -13,7 +13,7 @@ use Rattle.club_rules.specs.declared.refusals.MoveRefusal.{MoveRefusal}
 use Rattle.club_rules.specs.GameRules.{GameRules, ply_limit}
 use Rattle.club_rules.specs.Line.{IsLegalLine}
 use Rattle.club_requests.specs.declared.outside_end.OutsideEnd.{OutsideEnd}
-use Rattle.club_requests.specs.declared.outside_end.OutsideEnd.TheVariants.{Agreed, Recorded}
+use Rattle.club_requests.specs.declared.outside_end.OutsideEnd.TheVariants.{Agreed, Declared, Recorded}
 use Rattle.club_core.specs.declared.rows.Offer.{Offer}
 use Rattle.club_requests.specs.declared.refusals.Refusal.{Refusal}
 use Rattle.club_core.specs.Events.{Terms}
@@ -145,6 +145,7 @@ module _ {P M E T : Type 0} (laws : GameRules P M E T) (are_rules : AreRules law
         offer = tt;
         agreed = λ is. let none : None ≡ Some Agreed = sym no_outside ∙ is in absurd cc;
         recorded = λ score is. let none : None ≡ Some (Recorded score) = sym no_outside ∙ is in absurd cc;
+        declared = λ is. let none : None ≡ Some Declared = sym no_outside ∙ is in absurd cc;
         players = legal.players;
       }
 
@@ -171,6 +172,7 @@ module _ {P M E T : Type 0} (laws : GameRules P M E T) (are_rules : AreRules law
         offer = record { allowed = draws; next_ply = next; no_rule_end = running-rule running };
         agreed = λ is. refl;
         recorded = λ score is. let none : None ≡ Some (Recorded score) = sym no_outside ∙ is in absurd cc;
+        declared = legal.declared;
         players = legal.players;
       }
 
@@ -185,8 +187,10 @@ module _ {P M E T : Type 0} (laws : GameRules P M E T) (are_rules : AreRules law
 
   -- a running legal game is legal with an end from outside
   pub legal-ended : (end : OutsideEnd) → result_of laws game ≡ None → (end ≡ Agreed → IsSome game.offer)
-      → ((score : Score) → end ≡ Recorded score → ⊥) → IsLegalGame laws terms (ended game end)
-  legal-ended end running agreed not_recorded =
+      → ((score : Score) → end ≡ Recorded score → ⊥)
+      → (end ≡ Declared → (terms.declares ≡ true) × (laws.can_declare (last_position laws game) ≡ true))
+      → IsLegalGame laws terms (ended game end)
+  legal-ended end running agreed not_recorded declared =
       record {
         line = legal.line;
         plies = legal.plies;
@@ -195,5 +199,6 @@ module _ {P M E T : Type 0} (laws : GameRules P M E T) (are_rules : AreRules law
         offer = offer-stays end game.offer legal.offer;
         agreed = λ is. agreed (some-end end Agreed is);
         recorded = λ score is. absurd (not_recorded score (some-end end (Recorded score) is));
+        declared = λ is. declared (some-end end Declared is);
         players = legal.players;
       }

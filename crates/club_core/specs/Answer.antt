@@ -1,5 +1,5 @@
 -- What the program's values stand for: its answers, its members and events, and its requests.
-use Rattle.std.specs.Prelude.{List, map, string_bytes}
+use Rattle.std.specs.Prelude.{List, map, false, string_bytes}
 use Rattle.club_requests.specs.declared.answers.Moved.{Moved}
 use Rattle.club_requests.specs.declared.answers.Answer.{Answer}
 use Rattle.club_requests.specs.declared.answers.Answer.TheVariants as answer
@@ -31,7 +31,7 @@ use Rattle.club_core.specs.Members.{Member}
 use Rattle.club_core.specs.Events.{Event}
 use Rattle.club_core.specs.Seats.{Pairing, KeyedGame}
 use Rattle.club_core.specs.Imports.{Import}
-use Rattle.club_core.specs.Step.{GameCommand, move, offer_draw, accept_draw, resign, claim_time}
+use Rattle.club_core.specs.Step.{GameCommand, move, offer_draw, accept_draw, resign, claim_time, declare}
 use Rattle.club_core.specs.State.{Command, add_member, add_event, seat, import_record, on_game, sweep, open_challenge}
 use Rattle.club_core.specs.State.{withdraw_challenge, answer_challenge, Who, officer, key_holder, Request}
 
@@ -69,12 +69,20 @@ members_of ms = map member_of ms
 
 abbrev pub event_of : given_event.Event → Event
 event_of e =
-    record { name = string_bytes e.name; game = e.game; terms = record { budget = e.budget; increment = e.increment } }
+    record {
+      name = string_bytes e.name;
+      game = e.game;
+      terms = record { budget = e.budget; increment = e.increment; declares = e.declares };
+    }
 
 -- the event that a command adds
 abbrev pub added_event : given_command.AddEvent → Event
 added_event e =
-    record { name = string_bytes e.name; game = e.game; terms = record { budget = e.budget; increment = e.increment } }
+    record {
+      name = string_bytes e.name;
+      game = e.game;
+      terms = record { budget = e.budget; increment = e.increment; declares = false };
+    }
 
 abbrev pub events_of : List given_event.Event → List Event
 events_of es = map event_of es
@@ -108,6 +116,7 @@ game_command_of (given_does.OfferDraw ply) = offer_draw ply
 game_command_of (given_does.AcceptDraw ply) = accept_draw ply
 game_command_of given_does.Resign = resign
 game_command_of given_does.ClaimTime = claim_time
+game_command_of (given_does.Declare ply) = declare ply
 
 -- an import, its texts being the bytes that were given
 abbrev pub import_of : given_import.Import → Import

@@ -12,10 +12,11 @@ use Rattle.club_requests.specs.Limits.{most_events, is_name, is_budget, is_incre
 use Rattle.club_requests.specs.Outcome.{Reply, event_added, Outcome, accepted, first_refusal, unless, unless_repeat}
 use Rattle.club_core.specs.Members.{find_id}
 
--- what an event gives each player, and each move in time
+-- what an event gives each player and each move in seconds, and whether its players may declare that they have won
 pub record Terms : Type 0 where
   pub budget : ℕ
   pub increment : ℕ
+  pub declares : Bool
 
 pub record Event : Type 0 where
   pub name : List ℕ
@@ -44,6 +45,14 @@ abbrev pub event_kind : List Event → List ℕ → GameKind
 event_kind [] name = Draughts
 event_kind (e ∷ es) name = if has_event_name name e then e.game else event_kind es name
 
+-- whether the players of the event of that name may declare that they have won
+abbrev pub event_declares : List Event → List ℕ → Bool
+event_declares es name = list_any (λ e. has_event_name name e && e.terms.declares) es
+
+-- an event as it is added, without declarations
+abbrev pub plain : Event → Event
+plain given = record given { terms = record given.terms { declares = false } }
+
 module _ (events : List Event) (given : Event) where
   -- such an event is there already
   abbrev pub same_event : Option Reply
@@ -63,4 +72,4 @@ module _ (events : List Event) (given : Event) where
   event_step =
       unless_repeat same_event
       (unless event_refusal
-      (accepted (events ++ given ∷ []) (event_added (length events + 1))))
+      (accepted (events ++ plain given ∷ []) (event_added (length events + 1))))

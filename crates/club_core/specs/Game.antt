@@ -9,7 +9,7 @@ use Rattle.clocks.specs.Clock.{after_move}
 use Rattle.club_rules.specs.GameRules.{GameRules}
 use Rattle.club_rules.specs.Line.{position_after}
 use Rattle.club_requests.specs.declared.outside_end.OutsideEnd.{OutsideEnd}
-use Rattle.club_requests.specs.declared.outside_end.OutsideEnd.TheVariants.{Resigned, Agreed, Time, Recorded}
+use Rattle.club_requests.specs.declared.outside_end.OutsideEnd.TheVariants.{Resigned, Agreed, Time, Declared, Recorded}
 use Rattle.club_core.specs.declared.rows.GameEnd.{GameEnd}
 use Rattle.club_core.specs.declared.rows.GameEnd.TheVariants.{Rule, Outside}
 use Rattle.club_core.specs.declared.rows.Offer.{Offer}
@@ -62,6 +62,7 @@ abbrev pub outside_score : OutsideEnd → Side → Score
 outside_score Resigned turn = loses turn
 outside_score Time turn = loses turn
 outside_score Agreed turn = Draw
+outside_score Declared turn = loses (other turn)
 outside_score (Recorded score) turn = score
 
 -- the side that moves after that many plies, this side being the first

@@ -5,6 +5,7 @@ use Rattle.squares.specs.declared.sides.Score.{Score}
 use Rattle.squares.specs.declared.sides.Score.TheVariants.{FirstWins, Draw, SecondWins}
 use Rattle.club_rules.specs.declared.records.RecordFormat.{RecordFormat}
 use Rattle.club_rules.specs.declared.records.RecordFormat.TheVariants.{Pdn, Csa}
+use Rattle.club_rules.specs.declared.record_refusals.RecordRefusal.TheVariants.{ResultDiffers}
 use Rattle.club_rules.specs.GameRules.{GameRules}
 use Rattle.club_rules.specs.Records as record_is
 use Rattle.club_rules.specs.Records.{Recorded, Reading, GameRecords}
@@ -85,6 +86,13 @@ module _ {P M E T : Type 0} (rules : GameRules P M E T) where
         outside = recorded_end (rules.judge rules.start r.moves) r.score;
       }
 
+-- What is read, in an event with declarations or without: in one without them a declaration is no end of a game.
+abbrev pub read_in : {M : Type 0} → RecordFormat → Bool → Reading M → Reading M
+read_in format declares (record_is.game r) =
+    if r.declared && not declares then record_is.refused (ResultDiffers format) else record_is.game r
+read_in format declares record_is.no_part = record_is.no_part
+read_in format declares (record_is.refused refusal) = record_is.refused refusal
+
 abbrev pub has_part : {M : Type 0} → Reading M → Bool
 has_part (record_is.game r) = true
 has_part record_is.no_part = false
@@ -130,14 +138,16 @@ module _ {P M E T : Type 0} (rules : GameRules P M E T) (records : GameRecords M
     abbrev pub import_refusal : Option Refusal
     import_refusal = first_refusal import_tests
 
-    abbrev pub import_step : Outcome (Imported M)
-    import_step =
+    abbrev pub import_step : Bool → Outcome (Imported M)
+    import_step declares =
         unless_repeat repeat_of_import
         (unless import_refusal
-        (import_between event first second games reading_of_import))
+        (import_between event first second games (read_in records.format declares reading_of_import)))
 
-  -- by the event and the members that the names stand for, the game under the key and the number of games
-  abbrev pub import_found : Option ℕ → Option ℕ → Option ℕ → Option KeyedGame → Option (Game M) → ℕ
+  -- by the event and the members that the names stand for, whether the event has declarations, the game under the key
+  -- and the number of games
+  abbrev pub import_found : Bool → Option ℕ → Option ℕ → Option ℕ → Option KeyedGame → Option (Game M) → ℕ
       → Outcome (Imported M)
-  import_found None first second under_key old games = refused UnknownEvent
-  import_found (Some event) first second under_key old games = import_step event first second under_key old games
+  import_found declares None first second under_key old games = refused UnknownEvent
+  import_found declares (Some event) first second under_key old games =
+      import_step event first second under_key old games declares

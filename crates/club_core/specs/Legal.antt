@@ -7,11 +7,12 @@ use Rattle.squares.specs.declared.sides.Score.{Score}
 use Rattle.squares.specs.Sides.{other}
 use Rattle.club_rules.specs.GameRules.{GameRules}
 use Rattle.club_rules.specs.Line.{IsPlayedLine}
-use Rattle.club_requests.specs.declared.outside_end.OutsideEnd.TheVariants.{Agreed, Recorded}
+use Rattle.club_requests.specs.declared.outside_end.OutsideEnd.TheVariants.{Agreed, Declared, Recorded}
 use Rattle.club_core.specs.declared.rows.Offer.{Offer}
 use Rattle.club_requests.specs.Limits.{most_plies}
 use Rattle.club_core.specs.Events.{Terms}
-use Rattle.club_core.specs.Game.{Entry, Game, Clocks, left_of, spend, moves_of, moments_of, opening_clocks, rule_end}
+use Rattle.club_core.specs.Game.{Entry, Game, Clocks, left_of, spend, moves_of, moments_of, opening_clocks}
+use Rattle.club_core.specs.Game.{rule_end, last_position}
 
 -- the moves at those moments, that side moving first, were made in time, and no moment is below the one before it
 abbrev pub IsTimely : ℕ → Side → List ℕ → Clocks → Type 0
@@ -40,4 +41,6 @@ pub record IsLegalGame {P M E T : Type 0} (rules : GameRules P M E T) (terms : T
   pub offer : IfSome game.offer (λ o. IsOffer rules game o)
   pub agreed : game.outside ≡ Some Agreed → IsSome game.offer
   pub recorded : (score : Score) → game.outside ≡ Some (Recorded score) → IsRecorded game
+  pub declared : game.outside ≡ Some Declared
+      → (terms.declares ≡ true) × (rules.can_declare (last_position rules game) ≡ true)
   pub players : game.first ≢ game.second

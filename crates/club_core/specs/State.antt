@@ -13,7 +13,7 @@ use Rattle.club_requests.specs.Outcome.{Outcome, games_swept, accepted, repeated
 use Rattle.club_requests.specs.Outcome.{by_member}
 use Rattle.club_core.specs.Members as members
 use Rattle.club_core.specs.Members.{find_id, member_step}
-use Rattle.club_core.specs.Events.{Terms, Event, has_event_name, event_kind, event_step}
+use Rattle.club_core.specs.Events.{Terms, Event, has_event_name, event_kind, event_declares, event_step}
 use Rattle.club_core.specs.Seats.{Pairing, KeyedGame, has_member_name, seat_step}
 use Rattle.club_core.specs.Challenges.{challenge_under, challenge_by, put_challenge, pairing_for, opening_step}
 use Rattle.club_core.specs.Challenges.{withdrawal_step, answer_step}
@@ -72,7 +72,7 @@ at_found xs None = None
 at_found xs (Some id) = place xs id
 
 abbrev pub terms_at : Option Event → Terms
-terms_at None = record { budget = 0; increment = 0 }
+terms_at None = record { budget = 0; increment = 0; declares = false }
 terms_at (Some e) = e.terms
 
 abbrev pub kind_at : Option Event → GameKind
@@ -197,7 +197,7 @@ with_answer s moment true c = with_challenge (with_imported s moment (challenge_
 abbrev pub import_looked_up : {DM SM P M E T : Type 0} →
     GameRules P M E T → GameRecords M → State DM SM → Import → Option (Game M) → Outcome (Imported M)
 import_looked_up rules records s given old =
-    import_found rules records given
+    import_found rules records given (event_declares s.events given.event)
     (find_id (has_event_name given.event) s.events)
     (find_id (has_member_name given.first) s.members)
     (find_id (has_member_name given.second) s.members)

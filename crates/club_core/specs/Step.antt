@@ -11,14 +11,14 @@ use Rattle.club_rules.specs.GameRules.{GameRules}
 use Rattle.club_requests.specs.declared.requests.Caller.{Caller}
 use Rattle.club_requests.specs.declared.requests.Caller.TheVariants.{Officer, Member}
 use Rattle.club_requests.specs.declared.outside_end.OutsideEnd.{OutsideEnd}
-use Rattle.club_requests.specs.declared.outside_end.OutsideEnd.TheVariants.{Resigned, Agreed, Time, Recorded}
+use Rattle.club_requests.specs.declared.outside_end.OutsideEnd.TheVariants.{Resigned, Agreed, Time, Declared, Recorded}
 use Rattle.club_core.specs.declared.rows.Offer.{Offer}
 use Rattle.club_requests.specs.declared.refusals.Refusal.{Refusal}
 use Rattle.club_requests.specs.declared.refusals.Refusal.TheVariants.{NotAllowed, UnknownGame, NotAPlayer}
 use Rattle.club_requests.specs.declared.refusals.Refusal.TheVariants.{NotInThisGame}
 use Rattle.club_requests.specs.declared.refusals.Refusal.TheVariants.{GameOver, WrongPly, Conflict, NotYourTurn}
 use Rattle.club_requests.specs.declared.refusals.Refusal.TheVariants.{OutOfTime}
-use Rattle.club_requests.specs.declared.refusals.Refusal.TheVariants.{TimeLeft, NoOffer, BadValue, Play}
+use Rattle.club_requests.specs.declared.refusals.Refusal.TheVariants.{TimeLeft, NoOffer, BadValue, NotDeclarable, Play}
 use Rattle.club_requests.specs.Limits.{most_text_bytes}
 use Rattle.club_core.specs.Events.{Terms}
 use Rattle.club_requests.specs.Outcome.{Reply, moved, draw_offered, game_ended, Outcome, accepted, refused}
@@ -34,6 +34,7 @@ pub data GameCommand : Type 0 where
   accept_draw : (ply : ℕ) → GameCommand
   resign : GameCommand
   claim_time : GameCommand
+  declare : (ply : ℕ) → GameCommand
 
 -- the officer gives moves alone
 abbrev pub may_give : Caller → GameCommand → Bool
@@ -43,6 +44,7 @@ may_give Officer (offer_draw ply) = false
 may_give Officer (accept_draw ply) = false
 may_give Officer resign = false
 may_give Officer claim_time = false
+may_give Officer (declare ply) = false
 
 -- why a command on a game that there is none of is refused
 abbrev pub no_game_refusal : Caller → GameCommand → Refusal
@@ -55,6 +57,7 @@ asked_ply (offer_draw ply) = 0
 asked_ply (accept_draw ply) = 0
 asked_ply resign = 0
 asked_ply claim_time = 0
+asked_ply (declare ply) = 0
 
 -- an offer of a draw by that side at that ply stands
 abbrev pub has_offer : Option Offer → Side → ℕ → Bool
@@ -71,6 +74,7 @@ is_resigned None = false
 is_resigned (Some Resigned) = true
 is_resigned (Some Agreed) = false
 is_resigned (Some Time) = false
+is_resigned (Some Declared) = false
 is_resigned (Some (Recorded score)) = false
 
 abbrev pub is_agreed : Option OutsideEnd → Bool
@@ -78,6 +82,7 @@ is_agreed None = false
 is_agreed (Some Resigned) = false
 is_agreed (Some Agreed) = true
 is_agreed (Some Time) = false
+is_agreed (Some Declared) = false
 is_agreed (Some (Recorded score)) = false
 
 abbrev pub is_lost_by_time : Option OutsideEnd → Bool
@@ -85,7 +90,16 @@ is_lost_by_time None = false
 is_lost_by_time (Some Resigned) = false
 is_lost_by_time (Some Agreed) = false
 is_lost_by_time (Some Time) = true
+is_lost_by_time (Some Declared) = false
 is_lost_by_time (Some (Recorded score)) = false
+
+abbrev pub is_declared : Option OutsideEnd → Bool
+is_declared None = false
+is_declared (Some Resigned) = false
+is_declared (Some Agreed) = false
+is_declared (Some Time) = false
+is_declared (Some Declared) = true
+is_declared (Some (Recorded score)) = false
 
 -- the side that a member plays
 abbrev pub side_of_member : ℕ → ℕ → ℕ → Option Side
@@ -235,6 +249,33 @@ module _ {P M E T : Type 0} (rules : GameRules P M E T) (game : Game M) where
   abbrev pub repeat_of_claim : Side → Option Reply
   repeat_of_claim side = repeat_of_end Time (is_lost_by_time game.outside && not (is_turn side))
 
+module _ {P M E T : Type 0} (rules : GameRules P M E T) (terms : Terms) (game : Game M) where
+  -- the side to move declared, at this ply, that it had won
+  abbrev pub repeat_of_declare : Side → ℕ → Option Reply
+  repeat_of_declare side ply =
+      repeat_of_end rules game Declared
+      (is_declared game.outside && is_turn rules game side && is_next_ply rules game ply)
+
+  -- the event has declarations, and the side to move may make one
+  abbrev pub may_declare : Bool
+  may_declare = terms.declares && rules.can_declare (last_position rules game)
+
+  abbrev pub declare_tests : Side → ℕ → List (Bool × Refusal)
+  declare_tests side ply =
+      (is_over rules game, GameOver)
+      ∷ (not (is_next_ply rules game ply), WrongPly)
+      ∷ (not (is_turn rules game side), NotYourTurn)
+      ∷ (not may_declare, NotDeclarable)
+      ∷ []
+
+  abbrev pub declare_refusal : Side → ℕ → Option Refusal
+  declare_refusal side ply = first_refusal (declare_tests side ply)
+
+  -- the side to move declares that it has won
+  abbrev pub step_declare : Side → ℕ → Outcome (Game M)
+  step_declare side ply =
+      unless_repeat (repeat_of_declare side ply) (unless (declare_refusal side ply) (ends rules game Declared))
+
 module _ {P M E T : Type 0} (rules : GameRules P M E T) (terms : Terms) (game : Game M) (moment : ℕ) where
   -- more seconds have gone than the side to move had left
   abbrev pub is_overdue : Bool
@@ -295,6 +336,7 @@ module _ {P M E T : Type 0} (rules : GameRules P M E T) (terms : Terms) (game : 
   side_step side (accept_draw ply) = step_accept rules game side ply
   side_step side resign = step_resign rules game side
   side_step side claim_time = step_claim side
+  side_step side (declare ply) = step_declare rules terms game side ply
 
   abbrev pub by_side : Option Side → GameCommand → Outcome (Game M)
   by_side None command = refused NotAPlayer

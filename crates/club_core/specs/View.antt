@@ -62,12 +62,12 @@ IsAsked rules terms game ply (Some m) (Some asked) =
 
 -- the event's values that a view shows
 abbrev pub terms_of : {R P M E T : Type 0} → GameView R P M E T → Terms
-terms_of view = record { budget = view.budget; increment = view.increment }
+terms_of view = record { budget = view.budget; increment = view.increment; declares = view.declares }
 
 -- the view shows the game
 pub record Shows {R P M E T : Type 0} (rules : GameRules P M E T) (game : Game M) (view : GameView R P M E T) : Type 0
   where
-    pub row : IsRowOf rules (record { budget = view.budget; increment = view.increment }) game view.row
+    pub row : IsRowOf rules (terms_of view) game view.row
     pub position : view.position ≡ last_position rules game
     pub track : view.track ≡ track_of_game rules game
 

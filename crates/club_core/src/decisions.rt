@@ -8,6 +8,7 @@ ghost use Rattle.club_core.specs.Step.{may_give, no_game_refusal, asked_ply, cal
 ghost use Rattle.club_core.specs.View.{Shows, ShowsPly, IsSound, IsDecision, terms_of};
 
 use crate::decided::Decision;
+use crate::declarations::declare;
 use crate::draws::{accept_draw, offer_draw};
 use crate::endings::{claim_time, resign};
 use crate::moves::play_move;
@@ -84,6 +85,7 @@ fn decide_for<R: Rules>(
         GameCommand::AcceptDraw { ply } => accept_draw(view, side, *ply)?,
         GameCommand::Resign => resign(view, side)?,
         GameCommand::ClaimTime => claim_time(view, side, moment)?,
+        GameCommand::Declare { ply } => declare(view, side, *ply)?,
     };
     Ok(decision)
 }

@@ -41,7 +41,7 @@ fn has_offer(offer: Option<Offer>, side: Side, ply: u64) -> bool
 }
 
 /// Whether the ply is the next one.
-fn is_next_ply<R: Rules>(view: &GameView<R>, ply: u64) -> bool
+pub fn is_next_ply<R: Rules>(view: &GameView<R>, ply: u64) -> bool
     ensures { result ≡ (ply == view.now.row.plies + 1) }
 {
     ply == u64::from(view.row.plies) + 1

@@ -5,7 +5,7 @@ ghost use Rattle.std.specs.Option.{option_map};
 ghost use Rattle.club_core.specs.declared.rows.GameEnd.TheVariants.{Rule};
 ghost use Rattle.club_core.specs.Game.{score_with, outside_score};
 ghost use Rattle.club_core.specs.View.{rule_in, outside_in};
-ghost use Rattle.club_core.specs.Step.{is_resigned, is_agreed, is_lost_by_time};
+ghost use Rattle.club_core.specs.Step.{is_resigned, is_agreed, is_lost_by_time, is_declared};
 
 use crate::rows::GameEnd;
 use club_requests::OutsideEnd;
@@ -52,6 +52,16 @@ pub fn is_lost_by_time<E>(end: &Option<GameEnd<E>>) -> bool
     }
 }
 
+/// Whether the side to move declared that it had won.
+pub fn is_declared<E>(end: &Option<GameEnd<E>>) -> bool
+    ensures { result ≡ is_declared (outside_in end.now) }
+{
+    match end {
+        Some(GameEnd::Outside(OutsideEnd::Declared)) => true,
+        _ => false,
+    }
+}
+
 /// The end of a game that the rules end so.
 pub fn game_end<E>(end: Option<E>) -> Option<GameEnd<E>>
     ensures { result ≡ option_map Rule end }
@@ -80,6 +90,7 @@ pub fn outside_score(end: OutsideEnd, turn: Side) -> Score
         OutsideEnd::Resigned => Score::lost_by(turn),
         OutsideEnd::Time => Score::lost_by(turn),
         OutsideEnd::Agreed => Score::Draw,
+        OutsideEnd::Declared => Score::lost_by(turn.other()),
         OutsideEnd::Recorded(score) => score,
     }
 }

@@ -5,7 +5,7 @@ ghost use Rattle.std.specs.List.{list_any};
 ghost use Rattle.club_requests.specs.Limits.{most_events};
 ghost use Rattle.club_core.specs.Members.{find_id};
 ghost use Rattle.club_core.specs.Events.{has_event_name, is_event, same_game, has_good_values, event_refusal};
-ghost use Rattle.club_core.specs.Events.{event_step};
+ghost use Rattle.club_core.specs.Events.{event_declares, event_step};
 ghost use Rattle.club_requests.specs.Outcome.{by_officer};
 ghost use Rattle.club_core.specs.Answer.{event_of, events_of, added_event, outcome_of, answered};
 
@@ -21,6 +21,8 @@ pub struct Event {
     pub game: GameKind,
     pub budget: u64,
     pub increment: u64,
+    /// Whether its players may declare that they have won.
+    pub declares: bool,
 }
 
 fn is_same_game(a: GameKind, b: GameKind) -> bool
@@ -60,6 +62,13 @@ fn is_taken(events: &[Event], name: &str) -> bool
     ensures { result ≡ list_any (has_event_name name.now) (events_of events.now) }
 {
     events.iter().any(|e| e.name.as_str() == name)
+}
+
+/// Whether the players of the event of that name may declare that they have won.
+pub fn event_declares(events: &[Event], name: &str) -> bool
+    ensures { result ≡ event_declares (events_of events.now) name.now }
+{
+    events.iter().any(|e| e.name.as_str() == name && e.declares)
 }
 
 /// Why no such event is added.

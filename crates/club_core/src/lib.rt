@@ -4,6 +4,7 @@
 pub mod challenges;
 pub mod decided;
 pub mod decisions;
+mod declarations;
 mod draws;
 mod endings;
 pub mod ends;
@@ -21,7 +22,7 @@ pub use challenges::{
 };
 pub use decided::Decision;
 pub use decisions::{asked_ply, decide, refusal_without_game};
-pub use events::{Event, add_event};
+pub use events::{Event, add_event, event_declares};
 pub use members::{Member, add_member, identify};
 pub use rows::{Asked, GameEnd, GameRow, GameView, Made, Offer};
 pub use seats::{KeyedGame, Pairing, Seating, keyless_row, seat, seated_row};

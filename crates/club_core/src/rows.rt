@@ -60,6 +60,8 @@ pub struct GameView<R: Rules> {
     pub row: GameRow<R::End>,
     pub budget: u64,
     pub increment: u64,
+    /// Whether the players of the event may declare that they have won.
+    pub declares: bool,
     pub position: R::Position,
     /// What the moves so far have left behind.
     pub track: R::Track,

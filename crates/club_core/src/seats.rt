@@ -1,7 +1,7 @@
 //! Seating two members for a game.
 
 ghost use Rattle.std.specs.Prelude.{◌≡◌, ◌≤◌, ◌<◌, ◌+◌, length, ℕ, Option, Some, None, IfOk, IfNone, IfSome};
-ghost use Rattle.std.specs.Prelude.{string_bytes};
+ghost use Rattle.std.specs.Prelude.{string_bytes, Bool};
 ghost use Rattle.std.specs.Option.{option_map};
 ghost use Rattle.club_requests.specs.Limits.{most_members, most_events, most_games};
 ghost use Rattle.club_core.specs.Members.{find_id};
@@ -201,7 +201,8 @@ pub fn seated_row<R: Rules>(
     budget: u64,
     start: Moment,
 ) -> Result<GameRow<R::End>, Memory>
-    ensures { IfOk result (λ row. (increment : ℕ) → IsRowOf R.rules (record { budget = budget; increment = increment })
+    ensures { IfOk result (λ row. (increment : ℕ) (declares : Bool) →
+        IsRowOf R.rules (record { budget = budget; increment = increment; declares = declares })
         (seated (Some key.now) (pairing_of pairing) start) row) }
 {
     let key = String::from_str(alloc, key)?;
@@ -215,7 +216,8 @@ pub fn keyless_row<R: Rules>(
     budget: u64,
     start: Moment,
 ) -> Result<GameRow<R::End>, Memory>
-    ensures { IfOk result (λ row. (increment : ℕ) → IsRowOf R.rules (record { budget = budget; increment = increment })
+    ensures { IfOk result (λ row. (increment : ℕ) (declares : Bool) →
+        IsRowOf R.rules (record { budget = budget; increment = increment; declares = declares })
         (seated None (pairing_of pairing) start) row) }
 {
     started_row::<R>(alloc, None, pairing, budget, start)
@@ -229,7 +231,8 @@ fn started_row<R: Rules>(
     budget: u64,
     start: Moment,
 ) -> Result<GameRow<R::End>, Memory>
-    ensures { IfOk result (λ row. (increment : ℕ) → IsRowOf R.rules (record { budget = budget; increment = increment })
+    ensures { IfOk result (λ row. (increment : ℕ) (declares : Bool) →
+        IsRowOf R.rules (record { budget = budget; increment = increment; declares = declares })
         (seated (option_map (λ k. string_bytes k) key) (pairing_of pairing) start) row) }
 {
     let position = R::start();

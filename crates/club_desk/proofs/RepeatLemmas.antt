@@ -78,6 +78,7 @@ answers_alike again before after later moment next request key number command re
     let shown : (serve served before moment request).1 ≡ this (outcome_answer number (repeated reply)) =
     ap (λ p. p.1) gave ∙ ap this (due before first (accepted after reply) number taken) in
     let shows : serve served later next request ≡ (later, this (outcome_answer number (repeated reply))) =
-    gives ∙ ap₂ (λ s d. (s, this d)) (stays later second reply repeats) (due later second (repeated reply) number repeats)
+    gives ∙ ap₂ (λ s d. (s, this d)) (stays later second reply repeats) (due later second (repeated reply) number
+    repeats)
     in
     shows ∙ ap (λ d. (later, d)) (sym shown)

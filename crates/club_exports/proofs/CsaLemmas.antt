@@ -1,20 +1,29 @@
 -- Records of shogi, as the writer of CSA games promises them.
-use Rattle.std.proofs.Common.{ℕ, List, [], ◌∷◌, ◌++◌, map, Option, subst, ◌∙◌, append_assoc}
+use Rattle.std.proofs.Common.{◌≡◌, ℕ, List, [], ◌∷◌, ◌++◌, map, Option, Some, None, refl, ap, sym, subst, ◌∙◌}
+use Rattle.std.proofs.Common.{append_assoc, append-nil}
 use Rattle.record_writer.specs.PieceLaws.{begun-whole}
 use Rattle.clocks.specs.Civil.{IsCivil}
 use Rattle.squares.specs.declared.shogi.moves.SMove.{SMove}
 use Rattle.squares.specs.ShogiOpening.{opening}
+use Rattle.shogi_moves.specs.Declaring.{can_declare}
+use Rattle.shogi_moves.proofs.Proved.{can_declare-is}
 use Rattle.shogi_repetition.specs.declared.ends.SEnd.{SEnd}
 use Rattle.shogi_repetition.specs.Line.{last_position}
+use Rattle.club_requests.specs.declared.outside_end.OutsideEnd.TheVariants.{Resigned, Agreed, Time, Declared, Recorded}
+use Rattle.club_core.specs.declared.rows.GameEnd.{GameEnd}
+use Rattle.club_core.specs.declared.rows.GameEnd.TheVariants.{Rule, Outside}
+use Rattle.club_games.specs.Shogi.{shogi}
+use Rattle.club_games.specs.ShogiLaws.{last-is}
+use Rattle.csa.specs.declared.head.CsaEnd.TheVariants as csa_end
 use Rattle.csa.specs.declared.head.CsaHead.{CsaHead}
 use Rattle.csa.specs.declared.game_writer.GameWriter.{GameWriter}
 use Rattle.csa.specs.Writing.{head_text, entries_text, end_text}
 use Rattle.csa.specs.WrittenGame.{IsGameText}
 use Rattle.csa.specs.Writer.{lines_text, text_up_to, HasBegun, AddsEntry, BeginsEntry, BeginsGame}
-use Rattle.csa.specs.Writer.{Finishes, BeginsEnd, LinesBeginGames, MovesBeginGames}
+use Rattle.csa.specs.Writer.{MayEnd, Finishes, BeginsEnd, LinesBeginGames, MovesBeginGames}
 use Rattle.club_exports.specs.Title.{Title}
-use Rattle.club_exports.specs.Written.{AddsRecord, BeginsRecord}
-use Rattle.club_exports.specs.CsaRecords.{IsCsaText, IsCsaHead, HasWrittenCsa}
+use Rattle.club_exports.specs.Written.{made_in, FitsMoves, AddsRecord, BeginsRecord}
+use Rattle.club_exports.specs.CsaRecords.{end_told, IsCsaText, IsCsaHead, HasWrittenCsa}
 
 -- the text of a game with the title's head is the record
 pub csa-text : (title : Title SEnd) (head : CsaHead) (plies : List (SMove × ℕ)) (text : List ℕ) → IsCsaHead title head
@@ -45,6 +54,13 @@ csa-begun law title plies more before now game h =
       shown = h.written.shown;
       begun = begun-whole before now (text_up_to h.head plies h.written.at) h.written.written;
     }))
+
+-- what was written of a game begins it, where nothing more is written
+pub csa-stands : MovesBeginGames → (title : Title SEnd) (plies : List (SMove × ℕ)) (before now : Option (List ℕ))
+    (game : GameWriter) → HasWrittenCsa title plies before now game → BeginsRecord IsCsaText title plies before now
+csa-stands law title plies before now game h =
+    subst (λ l. BeginsRecord IsCsaText title l before now) (append-nil plies)
+    (csa-begun law title plies [] before now game h)
 
 -- the lines before the moves
 pub csa-lines : LinesBeginGames → (title : Title SEnd) (head : CsaHead) (before now : Option (List ℕ))
@@ -79,6 +95,24 @@ pub csa-finished : (game : GameWriter) (held now : Option (List ℕ)) → Finish
 csa-finished game held now finishes title plies before h =
     let added = finishes h.head before plies h.written in
     (added.0, csa-text title h.head plies added.0 h.is_head added.1, added.2)
+
+-- an end that is told as a declaration is one
+declared-told : (end : Option (GameEnd SEnd)) → end_told end ≡ Some csa_end.Declared → end ≡ Some (Outside Declared)
+declared-told None is = cc
+declared-told (Some (Rule end)) is = cc
+declared-told (Some (Outside Resigned)) is = cc
+declared-told (Some (Outside Agreed)) is = cc
+declared-told (Some (Outside Time)) is = cc
+declared-told (Some (Outside Declared)) is = refl
+declared-told (Some (Outside (Recorded score))) is = cc
+
+-- an end that fits the moves that are written may be written after them
+pub csa-may_end : (title : Title SEnd) (plies : List (SMove × ℕ)) (before held : Option (List ℕ)) (game : GameWriter)
+    → HasWrittenCsa title plies before held game → FitsMoves shogi title (made_in plies) → MayEnd game
+csa-may_end title plies before held game h fits declared =
+    let told = declared-told title.end (sym h.is_head.end ∙ (sym h.written.end ∙ declared)) in
+    let at = last-is opening (made_in plies) ∙ sym h.written.position in
+    (can_declare-is game.position).0 (sym (ap can_declare at) ∙ fits told)
 
 pub csa-ending : (game : GameWriter) (held now : Option (List ℕ)) → BeginsEnd game held now
     → (title : Title SEnd) (plies : List (SMove × ℕ)) (before : Option (List ℕ))

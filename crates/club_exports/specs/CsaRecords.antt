@@ -19,6 +19,7 @@ abbrev pub told_end : GameEnd SEnd → CsaEnd
 told_end (by.Rule end) = csa_end.Rule end
 told_end (by.Outside outside.Resigned) = csa_end.Resigned
 told_end (by.Outside outside.Time) = csa_end.Time
+told_end (by.Outside outside.Declared) = csa_end.Declared
 told_end (by.Outside outside.Agreed) = csa_end.Recorded Draw
 told_end (by.Outside (outside.Recorded score)) = csa_end.Recorded score
 

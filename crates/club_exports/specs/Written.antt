@@ -1,14 +1,21 @@
 -- What a writer holds of a record.
-use Rattle.std.specs.Prelude.{◌≡◌, ℕ, ◌<◌, ◌^◌, List, ◌++◌, length, map, Option, Ok}
+use Rattle.std.specs.Prelude.{◌≡◌, ℕ, ◌<◌, ◌^◌, List, ◌++◌, length, map, Option, Some, Ok, true}
 use Rattle.std.specs.Io.KnownBytes.{Appends}
 use Rattle.record_writer.specs.Pieces.{AppendsSome}
 use Rattle.club_rules.specs.GameRules.{GameRules}
 use Rattle.club_rules.specs.Line.{position_after}
+use Rattle.club_requests.specs.declared.outside_end.OutsideEnd.TheVariants.{Declared}
+use Rattle.club_core.specs.declared.rows.GameEnd.TheVariants.{Outside}
 use Rattle.club_exports.specs.Title.{Title}
 
 -- the moves that are written
 abbrev pub made_in : {M : Type 0} → List (M × ℕ) → List M
 made_in plies = map (λ p. p.0) plies
+
+-- the end that the title tells fits the moves: the side to move after them may make its declaration
+abbrev pub FitsMoves : {P M E T : Type 0} → GameRules P M E T → Title E → List M → Type 0
+FitsMoves rules title ms =
+    title.end ≡ Some (Outside Declared) → rules.can_declare (position_after rules rules.start ms) ≡ true
 
 module _ {E M : Type 0} (IsText : Title E → List (M × ℕ) → List ℕ → Type 0) where
   -- the record was added to what the writer held

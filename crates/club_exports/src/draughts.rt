@@ -61,8 +61,9 @@ impl Exports for Draughts {
         draft.push(writer, made)
     }
 
-    fn finish_record<W: Write>(draft: GameWriter, writer: &mut W) -> Result<(), WriteFault> {
-        draft.finish(writer)
+    fn finish_record<W: Write>(draft: GameWriter, writer: &mut W) -> Result<bool, WriteFault> {
+        draft.finish(writer)?;
+        Ok(true)
     }
 
     fn begins_games() {

@@ -1,11 +1,11 @@
 //! A game that is written entry by entry, by the texts of its moves.
 
 ghost use Rattle.std.specs.Prelude.{◌≡◌, ◌<◌, ◌≤◌, ◌^◌, ℕ, [], ◌∷◌, ◌++◌, List, Option, Some, Ok, IfOk, IfSome, OnOk};
-ghost use Rattle.std.specs.Prelude.{length, true};
+ghost use Rattle.std.specs.Prelude.{length, map, true};
 ghost use Rattle.club_core.specs.Game.{Entry};
 ghost use Rattle.club_requests.specs.Limits.{most_plies};
 ghost use Rattle.club_exports.specs.Title.{Title, title_of, timed};
-ghost use Rattle.club_exports.specs.Written.{BeginsRecord, AddsRecord};
+ghost use Rattle.club_exports.specs.Written.{FitsMoves, BeginsRecord, AddsRecord};
 ghost use Rattle.club_exports.specs.Exported.{IsWritten, IsUnderWay, IsNextText};
 
 use crate::exports::Exports;
@@ -106,12 +106,14 @@ impl<R: Exports> Export<R> {
         Ok(true)
     }
 
-    /// Writes the end: what was written is the record of the game.
-    pub fn finish<W: Write>(self, writer: &mut W) -> Result<(), WriteFault>
-        ensures written { OnOk result ((title : Title R.End) (entries : List (Entry R.Move))
+    /// Writes the end: what was written is the record of the game. False where the end is a declaration that the side
+    /// to move may not make, and nothing was written.
+    pub fn finish<W: Write>(self, writer: &mut W) -> Result<bool, WriteFault>
+        ensures written { IfOk result (λ done. (title : Title R.End) (entries : List (Entry R.Move))
             (before : Option (List ℕ)) →
             IsWritten R.rules R.HasWritten title entries before (W.contents writer.old) self →
-            AddsRecord R.IsText title (timed title.start entries) before (W.contents writer.new)) }
+            FitsMoves R.rules title (map (λ e. e.made) entries) →
+            (done ≡ true) × AddsRecord R.IsText title (timed title.start entries) before (W.contents writer.new)) }
         ensures begun { (title : Title R.End) (entries : List (Entry R.Move)) (before : Option (List ℕ)) →
             IsWritten R.rules R.HasWritten title entries before (W.contents writer.old) self →
             BeginsRecord R.IsText title (timed title.start entries) before (W.contents writer.new) }

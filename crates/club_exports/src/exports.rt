@@ -1,8 +1,8 @@
 //! How the games of a kind are written as records.
 
-ghost use Rattle.std.specs.Prelude.{◌≡◌, ℕ, ◌∷◌, [], ◌++◌, List, Option, IfOk, OnOk};
+ghost use Rattle.std.specs.Prelude.{◌≡◌, ℕ, ◌∷◌, [], ◌++◌, List, Option, IfOk, OnOk, true};
 ghost use Rattle.club_exports.specs.Title.{Title, title_of};
-ghost use Rattle.club_exports.specs.Written.{BeginsRecord, AddsRecord, MayFollowLegal, BeginsGames};
+ghost use Rattle.club_exports.specs.Written.{made_in, FitsMoves, BeginsRecord, AddsRecord, MayFollowLegal, BeginsGames};
 
 use crate::heading::Heading;
 use club_rules::Rules;
@@ -54,12 +54,13 @@ pub trait Exports: Rules {
             HasWritten title plies before (W.contents writer.old) draft.old →
             BeginsRecord IsText title (plies ++ (made.now, seconds) ∷ more) before (W.contents writer.new) };
 
-    /// Writes the end.
-    fn finish_record<W: Write>(draft: Self::Record, writer: &mut W) -> Result<(), WriteFault>
-        ensures written { OnOk result ((title : Title Self.End) (plies : List (Self.Move × ℕ))
+    /// Writes the end; false where it is a declaration that the side to move may not make, and nothing was written.
+    fn finish_record<W: Write>(draft: Self::Record, writer: &mut W) -> Result<bool, WriteFault>
+        ensures written { IfOk result (λ done. (title : Title Self.End) (plies : List (Self.Move × ℕ))
             (before : Option (List ℕ)) →
             HasWritten title plies before (W.contents writer.old) draft →
-            AddsRecord IsText title plies before (W.contents writer.new)) }
+            FitsMoves Self.rules title (made_in plies) →
+            (done ≡ true) × AddsRecord IsText title plies before (W.contents writer.new)) }
         ensures begun { (title : Title Self.End) (plies : List (Self.Move × ℕ)) (before : Option (List ℕ)) →
             HasWritten title plies before (W.contents writer.old) draft →
             BeginsRecord IsText title plies before (W.contents writer.new) };

@@ -25,6 +25,7 @@ fn outside_told(end: OutsideEnd) -> CsaEnd
     match end {
         OutsideEnd::Resigned => CsaEnd::Resigned,
         OutsideEnd::Time => CsaEnd::Time,
+        OutsideEnd::Declared => CsaEnd::Declared,
         OutsideEnd::Agreed => CsaEnd::Recorded(Score::Draw),
         OutsideEnd::Recorded(score) => CsaEnd::Recorded(score),
     }
@@ -87,8 +88,13 @@ impl Exports for Shogi {
         draft.push(writer, made, seconds)
     }
 
-    fn finish_record<W: Write>(draft: GameWriter, writer: &mut W) -> Result<(), WriteFault> {
-        draft.finish(writer)
+    fn finish_record<W: Write>(draft: GameWriter, writer: &mut W) -> Result<bool, WriteFault> {
+        written_moves_begin_games();
+        if !draft.may_end() {
+            return Ok(false);
+        }
+        draft.finish(writer)?;
+        Ok(true)
     }
 
     fn begins_games() {

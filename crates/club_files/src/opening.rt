@@ -98,8 +98,8 @@ fn open_once<S: Start>(
 }
 
 /// Opens the files of a path, which hold at first what `S` stands for, as soon as no other program uses them: for five
-/// seconds it is waited for that. Where a club is made and there are none, they are made, for their owner alone; else it is
-/// said that there is no club, and nothing was touched.
+/// seconds it is waited for that. Where a club is made and there are none, they are made, for their owner alone; else
+/// it is said that there is no club, and nothing was touched.
 pub(crate) fn open_in_turn<S: Again>(
     rt: &HostRuntime,
     file: &str,

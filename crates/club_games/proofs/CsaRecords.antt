@@ -25,12 +25,13 @@ use Rattle.csa.specs.declared.order.Place.TheVariants as place
 use Rattle.csa.specs.declared.statements.Statement.{Statement}
 use Rattle.csa.specs.declared.statements.Statement.TheVariants as statement
 use Rattle.csa.specs.declared.statements.WrittenMove.{WrittenMove}
+use Rattle.csa.specs.Endings.{says_declared}
 use Rattle.csa.specs.Lines.{text_statements}
 use Rattle.csa.specs.Moves.{MeanAll}
 use Rattle.csa.specs.Order.{first_stray}
 use Rattle.csa.specs.Reading.{first_statement, records_of, AreRecordsOf, FailsAfter, SomeRecordFails, AreOrdered}
 use Rattle.csa.specs.Reading.{IsTextOf, Refuses, IsRefused}
-use Rattle.csa.specs.Records.{begins_even, score_in, IsRecordOf, EndFails, RecordFails}
+use Rattle.csa.specs.Records.{begins_even, end_in, score_in, IsRecordOf, EndFails, RecordFails}
 use Rattle.csa.specs.Replays.{written_moves, AreMoves, RefusesNext, RefusesMove}
 use Rattle.club_rules.specs.Records.{refused}
 use Rattle.club_games.specs.CsaReading.{meant, Replayed, go_on, replay_next, replayed, with_score, with_moves}
@@ -123,16 +124,18 @@ record-read : (placed : List Placed) (g : CsaGame) → IsRecordOf placed g → r
 record-read placed g is =
     let ms : List SMove = g.moves.items in
     even-reading placed is.plays.even ∙ ap (with_moves placed) (moves-replayed (written_moves placed) ms is.plays.moves)
-    ∙ ap (λ e. with_score ms (score_in placed ms e)) (sym (end-computed opening ms is.end is.plays.ends))
-    ∙ ap (with_score ms) is.score
+    ∙ ap (λ e. with_score (says_declared (end_in placed)) ms (score_in placed ms e))
+    (sym (end-computed opening ms is.end is.plays.ends))
+    ∙ (λ i. with_score (sym is.declared i) ms (is.score i))
 
 end-refused : (placed : List Placed) (f : CsaFault) → EndFails placed f → record_reading placed ≡ Err f
 end-refused placed f fails =
     let ms : List SMove = fails.moves in
     even-reading placed fails.plays.even ∙ ap (with_moves placed)
     (moves-replayed (written_moves placed) ms fails.plays.moves)
-    ∙ ap (λ e. with_score ms (score_in placed ms e)) (sym (end-computed opening ms fails.end fails.plays.ends))
-    ∙ ap (with_score ms) fails.score
+    ∙ ap (λ e. with_score (says_declared (end_in placed)) ms (score_in placed ms e))
+    (sym (end-computed opening ms fails.end fails.plays.ends))
+    ∙ ap (with_score (says_declared (end_in placed)) ms) fails.score
 
 made-refused : (placed : List Placed) (f : CsaFault) → begins_even placed ≡ true → RefusesMove (written_moves placed) f
     → record_reading placed ≡ Err f

@@ -2,18 +2,21 @@
 use Rattle.std.proofs.Common.{◌≡◌, ℕ, zero, suc, ◌+◌, List, [], ◌∷◌, ◌++◌, length, Bool, true, false, ◌&&◌, Option}
 use Rattle.std.proofs.Common.{Some, None, Result, Ok, Err, refl, sym, ap, ◌∙◌, subst}
 use Rattle.std.specs.Prelude.{slice_get, if◌then◌else◌}
-use Rattle.squares.specs.declared.sides.Side.{Side}
 use Rattle.squares.specs.declared.sides.Score.{Score}
 use Rattle.squares.specs.declared.sides.Score.TheVariants as score
 use Rattle.squares.specs.declared.shogi.moves.SMove.{SMove}
+use Rattle.squares.specs.Sides.{loses, other}
+use Rattle.squares.specs.ShogiSets.{ShogiPosition}
 use Rattle.squares.specs.ShogiOpening.{opening}
 use Rattle.shogi_moves.specs.declared.checking.Illegal.{Illegal}
 use Rattle.shogi_moves.specs.Computed.{check_of}
+use Rattle.shogi_moves.specs.Declaring.{can_declare}
 use Rattle.shogi_repetition.specs.declared.ends.SEnd.{SEnd}
 use Rattle.shogi_repetition.specs.Computed.{end_of}
 use Rattle.shogi_repetition.specs.Ends.{outcome_of}
 use Rattle.shogi_repetition.specs.Line.{last_position}
 use Rattle.csa.specs.declared.end_words.EndWord.{EndWord}
+use Rattle.csa.specs.declared.end_words.EndWord.TheVariants as word
 use Rattle.csa.specs.declared.faults.CsaFault.{CsaFault}
 use Rattle.csa.specs.declared.faults.CsaFault.TheVariants as fault
 use Rattle.csa.specs.declared.lines.Placed.{Placed}
@@ -22,7 +25,7 @@ use Rattle.csa.specs.declared.statements.Statement.{Statement}
 use Rattle.csa.specs.declared.statements.WrittenMove.{WrittenMove}
 use Rattle.csa.specs.Lines.{text_statements}
 use Rattle.csa.specs.Order.{first_stray}
-use Rattle.csa.specs.Endings.{claimed, fits_rules, same_score, claim_settled, ending}
+use Rattle.csa.specs.Endings.{claimed, fits_rules, same_score, agrees, claim_settled, ending, says_declared}
 use Rattle.csa.specs.Reading.{first_statement, records_of}
 use Rattle.csa.specs.Records.{begins_even, end_in, score_in}
 use Rattle.csa.specs.Replays.{written_moves}
@@ -82,32 +85,58 @@ settled-score true true claim by_rule s is told = let claimed_is : claim ≡ s =
 settled-score true false claim by_rule s is told = cc
 settled-score false same claim by_rule s is told = cc
 
-claim-score : (w : EndWord) (claim : Option Score) (turn : Side) (end : SEnd) (s : Score)
-    → claim_settled w claim turn (Some end) ≡ Ok s → s ≡ outcome_of end turn
-claim-score w None turn end s told = cc
-claim-score w (Some claim) turn end s told =
-    settled-score (fits_rules w (Some end)) (same_score claim (outcome_of end turn)) claim (outcome_of end turn) s refl
-    told
+claim-score : (w : EndWord) (claim : Option Score) (p : ShogiPosition) (end : SEnd) (s : Score)
+    → claim_settled w claim p (Some end) ≡ Ok s → s ≡ outcome_of end p.turn
+claim-score w None p end s told = cc
+claim-score w (Some claim) p end s told =
+    settled-score (fits_rules w p (Some end)) (same_score claim (outcome_of end p.turn)) claim (outcome_of end p.turn) s
+    refl told
 
-ending-score : (word : Option EndWord) (turn : Side) (end : SEnd) (s : Score) → ending word turn (Some end) ≡ Ok s
-    → s ≡ outcome_of end turn
-ending-score None turn end s told = cc
-ending-score (Some w) turn end s told = claim-score w (claimed w turn) turn end s told
+ending-score : (word : Option EndWord) (p : ShogiPosition) (end : SEnd) (s : Score) → ending word p (Some end) ≡ Ok s
+    → s ≡ outcome_of end p.turn
+ending-score None p end s told = cc
+ending-score (Some w) p end s told = claim-score w (claimed w p.turn) p end s told
+
+-- a record ends with a declaration only where the side to move may make one
+settled-fits : (fits same : Bool) (claim s : Score)
+    → ◌≡◌ {A = Result Score CsaFault} (if fits && same then Ok claim else Err fault.ResultDiffers) (Ok s) → fits ≡ true
+settled-fits true same claim s told = refl
+settled-fits false same claim s told = cc
+
+declared-fits : (word : Option EndWord) (p : ShogiPosition) (end : Option SEnd) (s : Score)
+    → ending word p end ≡ Ok s → says_declared word ≡ true → can_declare p ≡ true
+declared-fits None p end s told says = cc
+declared-fits (Some word.Declared) p end s told says =
+    settled-fits (can_declare p) (agrees (loses (other p.turn)) p.turn end) (loses (other p.turn)) s told
+declared-fits (Some word.Resigned) p end s told says = cc
+declared-fits (Some word.TimeUp) p end s told says = cc
+declared-fits (Some word.IllegalMove) p end s told says = cc
+declared-fits (Some word.Mate) p end s told says = cc
+declared-fits (Some word.Repetition) p end s told says = cc
+declared-fits (Some word.Impasse) p end s told says = cc
+declared-fits (Some word.Draw) p end s told says = cc
+declared-fits (Some word.BlackIllegal) p end s told says = cc
+declared-fits (Some word.WhiteIllegal) p end s told says = cc
+declared-fits (Some word.Interrupted) p end s told says = cc
 
 -- what is read of a record is a game by the rules
 scored-game : (placed : List Placed) (ms : List SMove) (said : Result Score CsaFault) (r : Recorded SMove)
-    → IsPlayedLine shogi opening ms → score_in placed ms (end_of opening ms) ≡ said → with_score ms said ≡ Ok r
+    → IsPlayedLine shogi opening ms → score_in placed ms (end_of opening ms) ≡ said
+    → with_score (says_declared (end_in placed)) ms said ≡ Ok r
     → IsGameByRules shogi r
 scored-game placed ms (Err f) r line told is = cc
 scored-game placed ms (Ok s) r line told is =
-    let same : record { moves = ms; score = s } ≡ r = cc in
+    let same : record { moves = ms; score = s; declared = says_declared (end_in placed) } ≡ r = cc in
     subst (IsGameByRules shogi) same
     (record {
       line = line;
       score = λ end ends.
-          ending-score (end_in placed) (last_position opening ms).turn end s
+          ending-score (end_in placed) (last_position opening ms) end s
           (ap (λ e. score_in placed ms e) (sym ends) ∙ told)
           ∙ ap (λ p. outcome_of end p.turn) (sym (last-is opening ms));
+      declared = λ says.
+          ap can_declare (last-is opening ms)
+          ∙ declared-fits (end_in placed) (last_position opening ms) (end_of opening ms) s told says;
     })
 
 moved-game : (placed : List Placed) (read : Replayed) (r : Recorded SMove)

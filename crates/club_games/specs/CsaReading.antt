@@ -31,10 +31,11 @@ use Rattle.csa.specs.declared.order.Place.TheVariants as place
 use Rattle.csa.specs.declared.statements.Statement.{Statement}
 use Rattle.csa.specs.declared.statements.Statement.TheVariants as statement
 use Rattle.csa.specs.declared.statements.WrittenMove.{WrittenMove}
+use Rattle.csa.specs.Endings.{says_declared}
 use Rattle.csa.specs.Lines.{text_statements}
 use Rattle.csa.specs.Order.{first_stray}
 use Rattle.csa.specs.Reading.{first_statement, records_of}
-use Rattle.csa.specs.Records.{begins_even, score_in}
+use Rattle.csa.specs.Records.{begins_even, end_in, score_in}
 use Rattle.csa.specs.Replays.{written_moves}
 use Rattle.club_rules.specs.declared.records.RecordFormat.TheVariants.{Csa}
 use Rattle.club_rules.specs.declared.record_refusals.RecordRefusal.{RecordRefusal}
@@ -99,12 +100,13 @@ replayed ms (w ∷ ws) =
 abbrev pub RecordRead : Type 0
 RecordRead = Result (Recorded SMove) CsaFault
 
-abbrev pub with_score : List SMove → Result Score CsaFault → RecordRead
-with_score ms (Ok score) = Ok (record { moves = ms; score = score })
-with_score ms (Err f) = Err f
+abbrev pub with_score : Bool → List SMove → Result Score CsaFault → RecordRead
+with_score declared ms (Ok score) = Ok (record { moves = ms; score = score; declared = declared })
+with_score declared ms (Err f) = Err f
 
 abbrev pub with_moves : List Placed → Replayed → RecordRead
-with_moves placed (Ok ms) = with_score ms (score_in placed ms (end_of opening ms))
+with_moves placed (Ok ms) =
+    with_score (says_declared (end_in placed)) ms (score_in placed ms (end_of opening ms))
 with_moves placed (Err f) = Err f
 
 -- the game of a record
@@ -156,7 +158,7 @@ csa_refusal fault.ResultDiffers = record_refusal.ResultDiffers Csa
 
 -- the game of a record as the club has it
 abbrev pub game_of : CsaGame → Recorded SMove
-game_of g = record { moves = g.moves.items; score = g.score }
+game_of g = record { moves = g.moves.items; score = g.score; declared = g.declared }
 
 abbrev pub found_game : Option (Recorded SMove) → Reading SMove
 found_game None = no_part

@@ -1,5 +1,5 @@
 -- International draughts as a game of the club.
-use Rattle.std.specs.Prelude.{true, Result, Ok, Err}
+use Rattle.std.specs.Prelude.{true, false, Result, Ok, Err}
 use Rattle.squares.specs.declared.draughts.moves.DMove.{DMove}
 use Rattle.squares.specs.DraughtsBoard.{Position}
 use Rattle.squares.specs.DraughtsOpening.{opening}
@@ -73,4 +73,5 @@ draughts = record {
   outcome = outcome_of;
   end_name = name_of;
   has_draw_offers = true;
+  can_declare = λ p. false;
 }

@@ -90,7 +90,7 @@ scored-game : (tokens : List Placed) (ms : List DMove) (said_is : Result Score P
     → IsGameByRules draughts r
 scored-game tokens ms (Err f) r line told_is is = cc
 scored-game tokens ms (Ok s) r line told_is is =
-    let same : record { moves = ms; score = s } ≡ r = cc in
+    let same : record { moves = ms; score = s; declared = false } ≡ r = cc in
     subst (IsGameByRules draughts) same
     (record {
       line = line;
@@ -101,6 +101,7 @@ scored-game tokens ms (Ok s) r line told_is is =
           (λ e. settled (said (result_in tokens)) (ruled e (last_position opening ms).turn)
           (told (first_tag (codes "Result") tokens))) (sym ends) ∙ told_is)
           ∙ ap (λ p. outcome_of end p.turn) (sym (last-is opening ms));
+      declared = λ is. cc;
     })
 
 moved-game : (tokens : List Placed) (read : Replayed) (r : Recorded DMove)

@@ -68,7 +68,7 @@ abbrev pub GameRead : Type 0
 GameRead = Result (Recorded DMove) PdnFault
 
 abbrev pub with_score : List DMove → Result Score PdnFault → GameRead
-with_score ms (Ok score) = Ok (record { moves = ms; score = score })
+with_score ms (Ok score) = Ok (record { moves = ms; score = score; declared = false })
 with_score ms (Err f) = Err f
 
 abbrev pub with_moves : List Placed → Replayed → GameRead
@@ -114,7 +114,7 @@ pdn_refusal fault.ResultDiffers = record_refusal.ResultDiffers Pdn
 
 -- the game of a text as the club has it
 abbrev pub game_of : PdnGame → Recorded DMove
-game_of g = record { moves = g.moves.items; score = g.score }
+game_of g = record { moves = g.moves.items; score = g.score; declared = false }
 
 abbrev pub whole : GameRead → Reading DMove
 whole (Err f) = refused (pdn_refusal f)

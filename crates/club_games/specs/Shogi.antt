@@ -30,6 +30,7 @@ use Rattle.club_rules.specs.declared.names.EndName.TheVariants as name
 use Rattle.club_rules.specs.declared.refusals.MoveRefusal.{MoveRefusal}
 use Rattle.club_rules.specs.declared.refusals.MoveRefusal.TheVariants.{NoSuchMove, NotInHand, MustPromote, DeadDrop}
 use Rattle.club_rules.specs.declared.refusals.MoveRefusal.TheVariants.{TwoPawns, KingAttacked, DropMate, BadText}
+use Rattle.shogi_moves.specs.Declaring.{can_declare}
 use Rattle.club_rules.specs.GameRules.{GameRules}
 use Rattle.club_rules.specs.MoveRefusal.{refused_by}
 
@@ -89,4 +90,5 @@ shogi = record {
   outcome = outcome_of;
   end_name = name_of;
   has_draw_offers = false;
+  can_declare = can_declare;
 }

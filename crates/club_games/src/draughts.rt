@@ -165,6 +165,10 @@ impl Rules for Draughts {
         true
     }
 
+    fn can_declare(position: &DPos) -> bool {
+        false
+    }
+
     ghost first_starts = { laws.draughts-first_starts };
 
     ghost turn_passes = { laws.draughts-turn_passes };

@@ -43,6 +43,7 @@ fn game_of(game: PdnGame) -> RecordedGame<DMove>
     RecordedGame {
         moves: game.moves,
         score: game.score,
+        declared: false,
     }
 }
 

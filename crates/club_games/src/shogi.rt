@@ -172,6 +172,10 @@ impl Rules for Shogi {
         false
     }
 
+    fn can_declare(position: &SPos) -> bool {
+        shogi_moves::can_declare(position)
+    }
+
     ghost first_starts = { laws.shogi-first_starts };
 
     ghost turn_passes = { laws.shogi-turn_passes };

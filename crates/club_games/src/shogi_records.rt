@@ -46,6 +46,7 @@ fn game_after(before: u64, games: Vec<CsaGame>) -> RecordReading<SMove>
     RecordReading::Game(RecordedGame {
         moves: game.moves,
         score: game.score,
+        declared: game.declared,
     })
 }
 

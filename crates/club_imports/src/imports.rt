@@ -4,10 +4,10 @@ ghost use Rattle.std.specs.Prelude.{◌≡◌, ◌≤◌, ◌<◌, ℕ, length, 
 ghost use Rattle.std.specs.Option.{option_map};
 ghost use Rattle.club_rules.specs.Records.{recorded_of, reading_of, IsGameByRules};
 ghost use Rattle.club_core.specs.Answer.{members_of, events_of, keyed_of, import_of};
-ghost use Rattle.club_core.specs.Events.{has_event_name};
+ghost use Rattle.club_core.specs.Events.{has_event_name, event_declares};
 ghost use Rattle.club_core.specs.Game.{Game};
 ghost use Rattle.club_core.specs.Imports.{same_format, has_part, reading_of_import, repeat_of_import, import_refusal};
-ghost use Rattle.club_core.specs.Imports.{import_game, import_between, import_step, import_found};
+ghost use Rattle.club_core.specs.Imports.{read_in, import_game, import_between, import_step, import_found};
 ghost use Rattle.club_requests.specs.Limits.{most_members, most_events, most_games};
 ghost use Rattle.club_core.specs.Members.{find_id};
 ghost use Rattle.club_requests.specs.Outcome.{by_officer, game_seated};
@@ -16,10 +16,12 @@ ghost use Rattle.club_imports.specs.Importing.{ShowsPlayed, IsByRules, importing
 
 use crate::played::{PlayedGame, reads_record_of};
 use club_core::seats::{are_two, find_event, find_member, repeated_seat};
-use club_core::{Event, KeyedGame, Member, Pairing};
+use club_core::{Event, KeyedGame, Member, Pairing, event_declares};
 use club_requests::values::{MOST_GAMES, MOST_RECORD_BYTES, is_name};
 use club_requests::{Caller, Import, Refusal};
-use club_rules::{Memory, RecordFormat, RecordReading, RecordedGame, Records, Rules};
+use club_rules::{
+    Memory, RecordFormat, RecordReading, RecordRefusal, RecordedGame, Records, Rules,
+};
 use std::alloc::Global;
 
 /// A game to be added, under the next id, with what its record says.
@@ -152,6 +154,24 @@ fn import_game<R: Rules>(
     })
 }
 
+/// What was read, in an event with declarations or without: in one without them a declaration is no end of a game.
+fn read_in<R: Rules>(
+    format: RecordFormat,
+    declares: bool,
+    reading: RecordReading<R::Move>,
+) -> RecordReading<R::Move>
+    requires { IsByRules R.rules (reading_of reading) }
+    ensures value { reading_of result ≡ read_in format declares (reading_of reading) }
+    ensures by_rules { IsByRules R.rules (reading_of result) }
+{
+    match reading {
+        RecordReading::Game(recorded) if recorded.declared && !declares => {
+            RecordReading::Refused(RecordRefusal::ResultDiffers(format))
+        }
+        reading => reading,
+    }
+}
+
 /// What is read is added, refused, or no record at all.
 fn import_between<R: Rules>(
     event: u32,
@@ -182,10 +202,11 @@ fn import_found<R: Records>(
     under_key: Option<KeyedGame>,
     played: &Option<PlayedGame<R::Move>>,
     games: u32,
+    declares: bool,
 ) -> Result<Importing<R::Move>, Memory>
     ensures value { IfOk result (λ i. (old : Option (Game R.Move)) → ShowsPlayed R.rules old played.now →
         importing_of i ≡ import_step R.rules R.records (import_of command.now) event first second
-        (option_map keyed_of under_key) old games) }
+        (option_map keyed_of under_key) old games declares) }
     ensures by_rules { IfOk result (λ i. AddsByRules R.rules i) }
 {
     let reading = read_import::<R>(alloc, command)?;
@@ -197,13 +218,14 @@ fn import_found<R: Records>(
         Some(refusal) => return Ok(Importing::Refused(refusal)),
         None => {}
     }
+    let reading = read_in::<R>(R::format(), declares, reading);
     Ok(import_between::<R>(event, first, second, games, reading))
 }
 
 /// What an import does, by the members and the events in the order of their ids, the game under its key if there is
 /// one, with what was played in it if it is of this kind, and the number of games. The officer alone imports. The new
 /// game's id is the next one, and what is added is a game by the rules. A refusal of the record comes after all
-/// others.
+/// others; a declaration in an event without declarations is one.
 pub fn import<R: Records>(
     alloc: Global,
     members: &[Member],
@@ -218,6 +240,7 @@ pub fn import<R: Records>(
     requires events { length events.now ≤ most_events }
     ensures value { IfOk result (λ i. (old : Option (Game R.Move)) → ShowsPlayed R.rules old played.now →
         importing_of i ≡ by_officer caller (import_found R.rules R.records (import_of command.now)
+        (event_declares (events_of events.now) (string_bytes command.now.event))
         (find_id (has_event_name (string_bytes command.now.event)) (events_of events.now))
         (find_id (has_member_name (string_bytes command.now.first)) (members_of members.now))
         (find_id (has_member_name (string_bytes command.now.second)) (members_of members.now))
@@ -231,9 +254,10 @@ pub fn import<R: Records>(
         Some(event) => event,
         None => return Ok(Importing::Refused(Refusal::UnknownEvent)),
     };
+    let declares = event_declares(events, command.event.as_str());
     let first = find_member(members, command.first.as_str());
     let second = find_member(members, command.second.as_str());
     import_found::<R>(
-        alloc, command, event, first, second, under_key, played, games,
+        alloc, command, event, first, second, under_key, played, games, declares,
     )
 }

@@ -1,6 +1,6 @@
 //! The row of a recorded game.
 
-ghost use Rattle.std.specs.Prelude.{◌≡◌, ◌≤◌, ◌<◌, ◌+◌, ◌^◌, ℕ, length, Some, IfOk, IsTrue};
+ghost use Rattle.std.specs.Prelude.{◌≡◌, ◌≤◌, ◌<◌, ◌+◌, ◌^◌, ℕ, Bool, length, Some, IfOk, IsTrue};
 ghost use Rattle.squares.specs.declared.sides.Side.TheVariants.{First};
 ghost use Rattle.club_rules.specs.Line.{IsPlayedLine, position_after, line_track};
 ghost use Rattle.club_rules.specs.Records.{recorded_of, IsGameByRules};
@@ -124,8 +124,9 @@ pub fn imported_row<R: Rules>(
     requires by_rules { IsGameByRules R.rules (recorded_of recorded.now) }
     requires budget { IsTrue (is_budget budget) }
     requires increment { IsTrue (is_increment increment) }
-    ensures { IfOk result (IsRowOf R.rules (record { budget = budget; increment = increment })
-        (imported R.rules (Some key.now) (pairing_of pairing) start (recorded_of recorded.now))) }
+    ensures { IfOk result (λ row. (declares : Bool) →
+        IsRowOf R.rules (record { budget = budget; increment = increment; declares = declares })
+        (imported R.rules (Some key.now) (pairing_of pairing) start (recorded_of recorded.now)) row) }
 {
     let moves = recorded.moves.as_slice();
     let standing = standing_after::<R>(moves);

@@ -13,11 +13,11 @@ use Rattle.club_rules.specs.Records.{Recorded, Reading, GameRecords, IsGameByRul
 use Rattle.club_core.specs.ClubRules.{ClubRules}
 use Rattle.club_requests.specs.Outcome.{Reply, game_seated, accepted, repeated, map_outcome}
 use Rattle.club_core.specs.Members.{find_id}
-use Rattle.club_core.specs.Events.{Event, has_event_name, event_kind}
+use Rattle.club_core.specs.Events.{Event, has_event_name, event_kind, event_declares}
 use Rattle.club_core.specs.Seats.{KeyedGame, has_member_name}
 use Rattle.club_core.specs.Game.{Game, result_of}
-use Rattle.club_core.specs.Imports.{Import, Imported, imported, is_record_of, reading_of_import, repeat_of_import}
-use Rattle.club_core.specs.Imports.{import_tests, import_refusal, import_between, import_found}
+use Rattle.club_core.specs.Imports.{Import, Imported, imported, is_record_of, reading_of_import, read_in}
+use Rattle.club_core.specs.Imports.{repeat_of_import, import_tests, import_refusal, import_between, import_found}
 use Rattle.club_core.specs.State.{AnyGame, draughts, shogi, State, has_key, is_key, pairing_of, game_under, any_under}
 use Rattle.club_core.specs.State.{at_found, draughts_in, shogi_in, with_imported, import_looked_up, import_as}
 use Rattle.club_laws.proofs.Lists.{bytes_eq-same, at-last}
@@ -25,7 +25,7 @@ use Rattle.club_core.proofs.Proved.{AreRules, none-holds}
 use Rattle.club_laws.proofs.Accepts.{unless-accepted, accepted-same}
 use Rattle.club_laws.proofs.Later.{IsLater}
 use Rattle.club_laws.proofs.Kept.{IsOver, KeepsOver}
-use Rattle.club_laws.proofs.ImportedGames.{imported-result, record-of-itself}
+use Rattle.club_laws.proofs.ImportedGames.{imported-result, record-of-itself, read-game}
 use Rattle.club_laws.proofs.Repeats.{and-true, find-later, map-accepted, officer-accepted, added-found, keyed-later}
 use Rattle.club_laws.proofs.Repeats.{RepeatsImport}
 
@@ -67,15 +67,24 @@ module _ {P M E T : Type 0} (laws : GameRules P M E T) (records : GameRecords M)
             sym same.1;
       })
 
-  was-imported : (event first second : Option ℕ) (i : Imported M) (reply : Reply)
-      → import_found laws records given event first second under_key old games ≡ accepted i reply
+  was-imported : (declares : Bool) (event first second : Option ℕ) (i : Imported M) (reply : Reply)
+      → import_found laws records given declares event first second under_key old games ≡ accepted i reply
       → WasImported event first second under_key games (reading_of_import laws records given) i reply
-  was-imported None first second i reply is = cc
-  was-imported (Some event) first second i reply is =
+  was-imported declares None first second i reply is = cc
+  was-imported declares (Some event) first second i reply is =
       let parts = unless-accepted (repeat_of_import laws records given event first second under_key old games)
       (import_refusal laws records given event first second under_key old games) _ i reply is in
-      between-imported event first second (reading_of_import laws records given) i reply
-      (none-holds (import_tests laws records given event first second under_key old games) parts.1).0 parts.2
+      let read : Reading M = reading_of_import laws records given in
+      let was = between-imported event first second (read_in records.format declares read) i reply
+      (none-holds (import_tests laws records given event first second under_key old games) parts.1).0 parts.2 in
+      record {
+        in_event = was.in_event;
+        has_first = was.has_first;
+        has_second = was.has_second;
+        reading = read-game records.format declares read i.recorded was.reading;
+        fresh = was.fresh;
+        answer = was.answer;
+      }
 
 -- the kind of an event that is found stays
 kind-later : (name : List ℕ) (es more : List Event) (id : ℕ) → find_id (has_event_name name) es ≡ Some id
@@ -129,7 +138,7 @@ module _ {DP DM DE DT SP SM SE ST P M E T : Type 0} (kinds : ClubRules DP DM DE 
       (import_looked_up laws records s given (unwrap (any_under s.games given.key))) after reply is in
       let pairing = i.pairing in
       let was = was-imported laws records given (game_under s.games given.key) (unwrap (any_under s.games given.key))
-      (length s.games) (find_id (has_event_name given.event) s.events)
+      (length s.games) (event_declares s.events given.event) (find_id (has_event_name given.event) s.events)
       (find_id (has_member_name given.first) s.members) (find_id (has_member_name given.second) s.members) i reply
       step_is in
       let game = imported laws (Some given.key) pairing moment i.recorded in

@@ -14,17 +14,17 @@ use Rattle.club_requests.specs.declared.requests.Caller.{Caller}
 use Rattle.club_requests.specs.declared.requests.Caller.TheVariants.{Officer, Member}
 use Rattle.club_requests.specs.Limits.{last_moment, most_games, is_name}
 use Rattle.club_core.specs.Members.{find_id}
-use Rattle.club_core.specs.Events.{Event, has_event_name, event_kind}
+use Rattle.club_core.specs.Events.{Event, has_event_name, event_kind, event_declares}
 use Rattle.club_core.specs.Seats.{Pairing, has_member_name, are_two}
 use Rattle.club_core.specs.Game.{Game}
-use Rattle.club_core.specs.Imports.{Import, imported, has_part, reading_of_import, repeat_of_import, import_tests}
-use Rattle.club_core.specs.Imports.{import_refusal, import_between, import_step, import_found}
+use Rattle.club_core.specs.Imports.{Import, imported, has_part, reading_of_import, read_in, repeat_of_import}
+use Rattle.club_core.specs.Imports.{import_tests, import_refusal, import_between, import_step, import_found}
 use Rattle.club_core.specs.State.{AnyGame, draughts, shogi, State, state_after, place, key_of, game_under, any_under}
 use Rattle.club_core.specs.State.{draughts_in, shogi_in, with_imported, import_as}
 use Rattle.club_requests.specs.Outcome.{map_outcome, by_officer}
 use Rattle.club_core.specs.LegalState.{IsGameOf, IsLegalIn, IsLegalState}
 use Rattle.club_core.proofs.Proved.{AreRules, none-holds}
-use Rattle.club_laws.proofs.ImportedGames.{each-at, imported-legal, not-timed}
+use Rattle.club_laws.proofs.ImportedGames.{each-at, imported-legal, not-timed, read-game}
 use Rattle.club_laws.proofs.AddedSteps.{kept-unless, three-true, not-false, not-true, false-true, nat_le-false}
 use Rattle.club_laws.proofs.AddedSteps.{fresh-key, found-some, game-added}
 use Rattle.club_laws.proofs.LegalSteps.{KeepsByImport}
@@ -93,8 +93,9 @@ module _ {DP DM DE DT SP SM SE ST P M E T : Type 0} (kinds : ClubRules DP DM DE 
       room (wrap_key game) (fresh-key s.games given.key fresh)
 
   module _ (event : ℕ) (e : Event) (at : place s.events event ≡ Some e) (of_kind : e.game ≡ kind)
-      (old : Option (Game M)) where
-    between-kept : (first second : Option ℕ) (read : Reading M) → reading_of_import laws records given ≡ read
+      (old : Option (Game M)) (declares : Bool) where
+    between-kept : (first second : Option ℕ) (read : Reading M)
+        → read_in records.format declares (reading_of_import laws records given) ≡ read
         → ((id : ℕ) → first ≡ Some id → IsSome (place s.members id))
         → ((id : ℕ) → second ≡ Some id → IsSome (place s.members id))
         → import_refusal laws records given event first second (game_under s.games given.key) old (length s.games)
@@ -120,7 +121,7 @@ module _ {DP DM DE DT SP SM SE ST P M E T : Type 0} (kinds : ClubRules DP DM DE 
         (has_part (reading_of_import laws records given)) (not-false _ tests.1.0) in
         record-added event one other e r at of_kind (is_first one refl) (is_second other refl)
         (λ same. false-true _ (not-true _ good.1) (eq-eqb one other same))
-        good.0 (nat_le-false _ _ tests.1.1.0) tests.0 (by-rules _ r is)
+        good.0 (nat_le-false _ _ tests.1.1.0) tests.0 (by-rules _ r (read-game _ _ _ r is))
 
     step-kept : (first second : Option ℕ) → ((id : ℕ) → first ≡ Some id → IsSome (place s.members id))
         → ((id : ℕ) → second ≡ Some id → IsSome (place s.members id))
@@ -128,15 +129,17 @@ module _ {DP DM DE DT SP SM SE ST P M E T : Type 0} (kinds : ClubRules DP DM DE 
         IsLegalState kinds
         (state_after s
         (map_outcome (λ i. with_record i.pairing i.recorded)
-        (import_step laws records given event first second (game_under s.games given.key) old (length s.games))))
+        (import_step laws records given event first second (game_under s.games given.key) old (length s.games)
+        declares)))
     step-kept first second is_first is_second =
         kept-unless (IsLegalState kinds) s (λ i. with_record i.pairing i.recorded)
         (repeat_of_import laws records given event first second (game_under s.games given.key) old (length s.games))
         (import_refusal laws records given event first second (game_under s.games given.key) old (length s.games))
         _ legal
-        (between-kept first second (reading_of_import laws records given) refl is_first is_second)
+        (between-kept first second (read_in records.format declares (reading_of_import laws records given)) refl
+        is_first is_second)
 
-  found-kept : (event first second : Option ℕ) (old : Option (Game M))
+  found-kept : (declares : Bool) (event first second : Option ℕ) (old : Option (Game M))
       → ((id : ℕ) → event ≡ Some id → (e : Event) × (place s.events id ≡ Some e) × (e.game ≡ kind))
       → ((id : ℕ) → first ≡ Some id → IsSome (place s.members id))
       → ((id : ℕ) → second ≡ Some id → IsSome (place s.members id))
@@ -144,11 +147,12 @@ module _ {DP DM DE DT SP SM SE ST P M E T : Type 0} (kinds : ClubRules DP DM DE 
       IsLegalState kinds
       (state_after s
       (map_outcome (λ i. with_record i.pairing i.recorded)
-      (import_found laws records given event first second (game_under s.games given.key) old (length s.games))))
-  found-kept None first second old in_event is_first is_second = legal
-  found-kept (Some event) first second old in_event is_first is_second =
+      (import_found laws records given declares event first second (game_under s.games given.key) old
+      (length s.games))))
+  found-kept declares None first second old in_event is_first is_second = legal
+  found-kept declares (Some event) first second old in_event is_first is_second =
       let (e, at, of_kind) = in_event event refl in
-      step-kept event e at of_kind old first second is_first is_second
+      step-kept event e at of_kind old declares first second is_first is_second
 
 module _ {DP DM DE DT SP SM SE ST : Type 0} (kinds : ClubRules DP DM DE DT SP SM SE ST)
     (are_draughts : AreRules kinds.draughts) (are_shogi : AreRules kinds.shogi)
@@ -159,7 +163,7 @@ module _ {DP DM DE DT SP SM SE ST : Type 0} (kinds : ClubRules DP DM DE DT SP SM
       → IsLegalState kinds (state_after s (import_as kinds s moment given kind))
   as-kept s moment given Draughts is later within legal =
       found-kept kinds kinds.draughts are_draughts kinds.draughts_records reads_draughts Draughts draughts (λ g. refl)
-      (λ t g of. of) s moment given later within legal
+      (λ t g of. of) s moment given later within legal (event_declares s.events given.event)
       (find_id (has_event_name given.event) s.events) (find_id (has_member_name given.first) s.members)
       (find_id (has_member_name given.second) s.members)
       (draughts_in (any_under s.games given.key))
@@ -168,7 +172,7 @@ module _ {DP DM DE DT SP SM SE ST : Type 0} (kinds : ClubRules DP DM DE DT SP SM
       (found-some kinds (has_member_name given.second) s.members)
   as-kept s moment given Shogi is later within legal =
       found-kept kinds kinds.shogi are_shogi kinds.shogi_records reads_shogi Shogi shogi (λ g. refl) (λ t g of. of) s
-      moment given later within legal
+      moment given later within legal (event_declares s.events given.event)
       (find_id (has_event_name given.event) s.events) (find_id (has_member_name given.first) s.members)
       (find_id (has_member_name given.second) s.members)
       (shogi_in (any_under s.games given.key))

@@ -1,7 +1,7 @@
 -- The game of a record is legal, and its result is the record's.
 use Rattle.std.proofs.Common.{◌≡◌, ◌≢◌, ℕ, zero, suc, ◌<◌, ◌≤◌, List, [], ◌∷◌, length, map, take, Option, Some, None}
-use Rattle.std.proofs.Common.{true, false, ◌&&◌, refl, ap, sym, ◌∙◌, subst, arith}
-use Rattle.std.specs.Prelude.{IsSome, nat_le, slice_get}
+use Rattle.std.proofs.Common.{Bool, true, false, not, ◌&&◌, refl, ap, sym, ◌∙◌, subst, arith}
+use Rattle.std.specs.Prelude.{IsSome, nat_le, slice_get, if◌then◌else◌}
 use Rattle.std.proofs.lemmas.Bool.Decides.{nat_tests}
 use Rattle.std.proofs.lemmas.List.{length-map, length-take-le}
 use Rattle.squares.specs.declared.sides.Side.{Side}
@@ -9,14 +9,17 @@ use Rattle.squares.specs.declared.sides.Side.TheVariants.{First, Second}
 use Rattle.squares.specs.declared.sides.Score.{Score}
 use Rattle.squares.specs.declared.sides.Score.TheVariants as score
 use Rattle.squares.specs.Sides.{other}
+use Rattle.club_rules.specs.declared.record_refusals.RecordRefusal.TheVariants.{ResultDiffers}
+use Rattle.club_rules.specs.declared.records.RecordFormat.{RecordFormat}
 use Rattle.club_rules.specs.GameRules.{GameRules, ply_limit}
 use Rattle.club_rules.specs.Line.{position_after, IsLegalLine, IsPlayedLine}
-use Rattle.club_rules.specs.Records.{Recorded, IsGameByRules}
-use Rattle.club_requests.specs.declared.outside_end.OutsideEnd.TheVariants.{Agreed, Time}
+use Rattle.club_rules.specs.Records as record_is
+use Rattle.club_rules.specs.Records.{Recorded, Reading, IsGameByRules}
+use Rattle.club_requests.specs.declared.outside_end.OutsideEnd.TheVariants.{Agreed, Time, Declared}
 use Rattle.club_core.specs.Events.{Terms}
 use Rattle.club_core.specs.Seats.{Pairing}
 use Rattle.club_core.specs.Game.{Entry, Clocks, spend, end_with, score_with, result_of}
-use Rattle.club_core.specs.Imports.{same_score, recorded_end, has_score, same_moves, is_record_of, imported}
+use Rattle.club_core.specs.Imports.{same_score, recorded_end, has_score, same_moves, is_record_of, imported, read_in}
 use Rattle.club_core.specs.Legal.{IsTimely, IsLegalGame}
 use Rattle.club_core.proofs.Proved.{AreRules}
 
@@ -57,6 +60,23 @@ outside-only (Some end) result is = cc
 not-agreed : {E : Type 0} (end : Option E) (result : Score) → recorded_end end result ≡ Some Agreed → ⊥
 not-agreed None result is = cc
 not-agreed (Some end) result is = cc
+
+-- a game that is read in an event was read
+pub read-game : {M : Type 0} (format : RecordFormat) (declares : Bool) (read : Reading M) (r : Recorded M)
+    → read_in format declares read ≡ record_is.game r → read ≡ record_is.game r
+read-game format declares (record_is.game g) r is = here (g.declared && not declares) is
+  where
+    here : (b : Bool)
+        → (if b then record_is.refused (ResultDiffers format) else record_is.game g) ≡ record_is.game r
+        → record_is.game g ≡ record_is.game r
+    here true differs = cc
+    here false same = same
+read-game format declares record_is.no_part r is = cc
+read-game format declares (record_is.refused refusal) r is = cc
+
+not-declared : {E : Type 0} (end : Option E) (result : Score) → recorded_end end result ≡ Some Declared → ⊥
+not-declared None result is = cc
+not-declared (Some end) result is = cc
 
 pub not-timed : {E : Type 0} (end : Option E) (result : Score) → recorded_end end result ≡ Some Time → ⊥
 not-timed None result is = cc
@@ -138,5 +158,6 @@ module _ {P M E T : Type 0} (laws : GameRules P M E T) where
           offer = tt;
           agreed = λ is. absurd (not-agreed end r.score is);
           recorded = λ result is. record { keyed = refl; no_offer = refl; at_once = each-at moment r.moves };
+          declared = λ is. absurd (not-declared end r.score is);
           players = apart;
         }

@@ -17,7 +17,8 @@ use Rattle.club_core.specs.Seats.{has_member_name, seat_step}
 use Rattle.club_core.specs.Challenges.{challenge_under, challenge_by, opening_step, withdrawal_step, answer_step}
 use Rattle.club_core.specs.Game.{Game, result_of}
 use Rattle.club_core.specs.Imports.{Import}
-use Rattle.club_core.specs.Step.{GameCommand, move, offer_draw, accept_draw, resign, claim_time, may_give, asked_ply}
+use Rattle.club_core.specs.Step.{GameCommand, move, offer_draw, accept_draw, resign, claim_time, declare}
+use Rattle.club_core.specs.Step.{may_give, asked_ply}
 use Rattle.club_core.specs.Step.{caller_side, is_over, move_tests, move_refusal, repeat_of, move_at, by_side, game_step}
 use Rattle.club_core.specs.Step.{is_overdue, ended, swept}
 use Rattle.club_core.specs.State.{AnyGame, draughts, shogi, State, Command, add_member, add_event, seat, import_record}
@@ -29,7 +30,7 @@ use Rattle.club_core.specs.State.{step_game, step_command, step_by, next, fold}
 use Rattle.club_laws.proofs.Lists.{get-append, set-got, map-at}
 use Rattle.club_core.proofs.Proved.{none-holds}
 use Rattle.club_laws.proofs.Accepts.{unless-accepted, if-accepted, outcome-later, officer-later}
-use Rattle.club_laws.proofs.Later.{offer-accepts, accept-accepts, resign-accepts, claim-accepts}
+use Rattle.club_laws.proofs.Later.{offer-accepts, accept-accepts, resign-accepts, claim-accepts, declare-accepts}
 use Rattle.club_rules.specs.declared.names.GameKind.{GameKind}
 use Rattle.club_rules.specs.declared.names.GameKind.TheVariants.{Draughts, Shogi}
 
@@ -50,6 +51,8 @@ module _ {P M E T : Type 0} (laws : GameRules P M E T) (terms : Terms) (game : G
       resign-accepts laws game side new reply is in tests.0
   side-running (Some side) claim_time new reply is = let (tests, stands, answer) =
       claim-accepts laws terms game moment side new reply is in tests.0
+  side-running (Some side) (declare ply) new reply is = let (tests, stands, answer) =
+      declare-accepts laws terms game side ply new reply is in tests.0
 
   caller-running : (who : Caller) (command : GameCommand) (new : Game M) (reply : Reply)
       → game_step laws terms game moment who command ≡ accepted new reply → is_over laws game ≡ false

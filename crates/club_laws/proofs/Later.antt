@@ -13,7 +13,7 @@ use Rattle.club_rules.specs.declared.refusals.MoveRefusal.{MoveRefusal}
 use Rattle.club_rules.specs.GameRules.{GameRules}
 use Rattle.club_core.specs.ClubRules.{ClubRules}
 use Rattle.club_requests.specs.declared.outside_end.OutsideEnd.{OutsideEnd}
-use Rattle.club_requests.specs.declared.outside_end.OutsideEnd.TheVariants.{Resigned, Agreed, Time}
+use Rattle.club_requests.specs.declared.outside_end.OutsideEnd.TheVariants.{Resigned, Agreed, Time, Declared}
 use Rattle.club_core.specs.declared.rows.Offer.{Offer}
 use Rattle.club_requests.specs.declared.requests.Caller.{Caller}
 use Rattle.club_requests.specs.declared.requests.Caller.TheVariants.{Officer, Member}
@@ -31,11 +31,14 @@ use Rattle.club_rules.specs.declared.names.GameKind.{GameKind}
 use Rattle.club_rules.specs.declared.names.GameKind.TheVariants.{Draughts, Shogi}
 use Rattle.club_core.specs.Imports.{Import}
 use Rattle.club_core.specs.Events.{Terms, Event, has_event_name, event_kind, event_refusal, same_event, event_step}
+use Rattle.club_core.specs.Events.{plain}
 use Rattle.club_core.specs.Seats.{has_member_name, seat_step}
 use Rattle.club_core.specs.Challenges.{is_under, challenge_under, challenge_by, put_challenge, is_open, standing_as}
 use Rattle.club_core.specs.Challenges.{opening_step, withdrawal_step, answer_step}
 use Rattle.club_core.specs.Game.{Game, last_position, rule_end, end_of, turn_of, result_of}
-use Rattle.club_core.specs.Step.{GameCommand, move, offer_draw, accept_draw, resign, claim_time, may_give, asked_ply}
+use Rattle.club_core.specs.Step.{GameCommand, move, offer_draw, accept_draw, resign, claim_time, declare}
+use Rattle.club_core.specs.Step.{may_give, asked_ply}
+use Rattle.club_core.specs.Step.{repeat_of_declare, declare_tests, step_declare}
 use Rattle.club_core.specs.Step.{has_offer, repeat_of_offer, caller_side, played, offered, ended, checked, is_over}
 use Rattle.club_core.specs.Step.{offer_tests, offer_refusal, step_offer, reply_of_end, ends, accept_tests}
 use Rattle.club_core.specs.Step.{repeat_of_accept, step_accept, resign_tests, repeat_of_resign, step_resign}
@@ -432,6 +435,14 @@ module _ {P M E T : Type 0} (laws : GameRules P M E T) (game : Game M) where
   resign-accepts side new reply is = end-accepts Resigned (repeat_of_resign laws game side)
       (resign_tests laws game side) new reply is
 
+module _ {P M E T : Type 0} (laws : GameRules P M E T) (terms : Terms) (game : Game M) where
+  pub declare-accepts : (side : Side) (ply : ℕ) (new : Game M) (reply : Reply)
+      → step_declare laws terms game side ply ≡ accepted new reply
+      → NoneHolds (declare_tests laws terms game side ply) × (ended game Declared ≡ new)
+      × (reply_of_end laws game Declared ≡ reply)
+  declare-accepts side ply new reply is = end-accepts laws game Declared (repeat_of_declare laws terms game side ply)
+      (declare_tests laws terms game side ply) new reply is
+
 module _ {P M E T : Type 0} (laws : GameRules P M E T) (terms : Terms) (game : Game M) (moment : ℕ) where
   pub claim-accepts : (side : Side) (new : Game M) (reply : Reply)
       → step_claim laws terms game moment side ≡ accepted new reply
@@ -465,6 +476,9 @@ module _ {P M E T : Type 0} (laws : GameRules P M E T) (terms : Terms) (game : G
   side-later (Some side) claim_time new reply is =
       let (tests, stands, answer) = claim-accepts side new reply is in
       rw (← stands) (ended-later game (running-outside laws game tests.0) Time)
+  side-later (Some side) (declare ply) new reply is =
+      let (tests, stands, answer) = declare-accepts laws terms game side ply new reply is in
+      rw (← stands) (ended-later game (running-outside laws game tests.0) Declared)
 
   -- an accepted command on a game leads to a later one
   pub caller-later : (who : Caller) (command : GameCommand) (new : Game M) (reply : Reply)
@@ -544,8 +558,8 @@ module _ {DP DM DE DT SP SM SE ST : Type 0} (kinds : ClubRules DP DM DE DT SP SM
       officer-later (λ t. IsLater s t) s (with_events s moment) who (event_step s.events event) (later-refl s)
       (λ all reply is.
       let added = unless-accepted (same_event s.events event) (event_refusal s.events event) _ all reply is in
-      let e : s.events ++ event ∷ [] ≡ all = (accepted-same _ all _ reply added.2).0 in
-      rw (← e) (events-later s moment (event ∷ [])))
+      let e : s.events ++ plain event ∷ [] ≡ all = (accepted-same _ all _ reply added.2).0 in
+      rw (← e) (events-later s moment (plain event ∷ [])))
   command-later s moment who (seat key event first second) =
       officer-later (λ t. IsLater s t) s (with_new_game s moment key) who
       (seat_step s.members s.events (game_under s.games key) _ key event first second) (later-refl s)

@@ -15,7 +15,7 @@ use Rattle.club_rules.specs.declared.names.GameKind.TheVariants.{Draughts, Shogi
 use Rattle.club_rules.specs.GameRules.{GameRules}
 use Rattle.club_core.specs.ClubRules.{ClubRules}
 use Rattle.club_requests.specs.declared.outside_end.OutsideEnd.{OutsideEnd}
-use Rattle.club_requests.specs.declared.outside_end.OutsideEnd.TheVariants.{Resigned, Agreed, Time, Recorded}
+use Rattle.club_requests.specs.declared.outside_end.OutsideEnd.TheVariants.{Resigned, Agreed, Time, Declared, Recorded}
 use Rattle.club_core.specs.declared.rows.Offer.{Offer}
 use Rattle.club_core.specs.declared.challenges.Challenge.{Challenge}
 use Rattle.club_core.specs.declared.challenges.Standing.TheVariants.{Open, Withdrawn, Refused, Accepted}
@@ -37,7 +37,9 @@ use Rattle.club_core.specs.Challenges.{withdrawal_step, answer_step}
 use Rattle.club_core.specs.Imports.{Import}
 use Rattle.club_core.specs.Game.{Game, clocks_of, left_of, turn_of, last_position}
 use Rattle.club_core.specs.Game.{rule_end, end_of, result_of}
-use Rattle.club_core.specs.Step.{GameCommand, move, offer_draw, accept_draw, resign, claim_time, may_give, asked_ply}
+use Rattle.club_core.specs.Step.{GameCommand, move, offer_draw, accept_draw, resign, claim_time, declare}
+use Rattle.club_core.specs.Step.{may_give, asked_ply}
+use Rattle.club_core.specs.Step.{repeat_of_declare, declare_tests, step_declare}
 use Rattle.club_core.specs.Step.{has_offer, repeat_of_offer, caller_side, played, offered, ended, checked, offer_tests}
 use Rattle.club_core.specs.Step.{offer_refusal, step_offer, ends, accept_tests, repeat_of_accept, step_accept}
 use Rattle.club_core.specs.Step.{resign_tests, repeat_of_resign, step_resign, repeat_of_claim, plays, step_move}
@@ -157,13 +159,16 @@ module _ {DP DM DE DT SP SM SE ST P M E T : Type 0} (kinds : ClubRules DP DM DE 
       → ((score : Score) → end ≡ Recorded score → ⊥)
       →
       (end ≡ Time → (clocks_of game of.event.terms).since + left_of (turn_of laws game) (clocks_of game of.event.terms)
-      < moment) → IsGameOf laws kind (with_game s moment id (wrap (ended game end))) (ended game end)
-  ended-of end running agreed not_recorded lost =
+      < moment)
+      → (end ≡ Declared → (of.event.terms.declares ≡ true) × (laws.can_declare (last_position laws game) ≡ true))
+      → IsGameOf laws kind (with_game s moment id (wrap (ended game end))) (ended game end)
+  ended-of end running agreed not_recorded lost declared =
       record {
         event = of.event;
         in_event = of.in_event;
         of_kind = of.of_kind;
-        legal = legal-ended laws are_rules of.event.terms game of.legal end running agreed not_recorded;
+        legal = legal-ended laws are_rules of.event.terms game of.legal end running agreed not_recorded
+            declared;
         first = of.first;
         second = of.second;
         key = of.key;
@@ -211,13 +216,13 @@ module _ {DP DM DE DT SP SM SE ST P M E T : Type 0} (kinds : ClubRules DP DM DE 
       (λ draws.
       ends-kept Agreed (repeat_of_accept laws game side ply) (accept_tests laws game side ply)
       (λ tests. ended-of Agreed (not-some _ tests.0)
-      (λ is. some-offer game.offer (other side) ply (not-false _ tests.1.1.0)) (λ score is. cc) (λ is. cc)))
+      (λ is. some-offer game.offer (other side) ply (not-false _ tests.1.1.0)) (λ score is. cc) (λ is. cc) (λ is. cc)))
 
   resign-kept : (side : Side) → IsLegalState kinds
       (state_after s (map_outcome (λ new. with_game s moment id (wrap new)) (step_resign laws game side)))
   resign-kept side =
       ends-kept Resigned (repeat_of_resign laws game side) (resign_tests laws game side)
-      (λ tests. ended-of Resigned (not-some _ tests.0) (λ is. cc) (λ score is. cc) (λ is. cc))
+      (λ tests. ended-of Resigned (not-some _ tests.0) (λ is. cc) (λ score is. cc) (λ is. cc) (λ is. cc))
 
   claim-kept : (side : Side) → IsLegalState kinds
       (state_after s
@@ -225,7 +230,21 @@ module _ {DP DM DE DT SP SM SE ST P M E T : Type 0} (kinds : ClubRules DP DM DE 
   claim-kept side =
       ends-kept Time (repeat_of_claim laws game side) (claim_tests laws of.event.terms game moment side)
       (λ tests. ended-of Time (not-some _ tests.0) (λ is. cc) (λ score is. cc)
-      (λ is. is-late _ _ moment (not-false _ tests.1.1.0)))
+      (λ is. is-late _ _ moment (not-false _ tests.1.1.0)) (λ is. cc))
+
+  both-true : (a b : Bool) → not (a && b) ≡ false → (a ≡ true) × (b ≡ true)
+  both-true true true is = (refl, refl)
+  both-true true false is = cc
+  both-true false b is = cc
+
+  declare-kept : (side : Side) (ply : ℕ) → IsLegalState kinds
+      (state_after s
+      (map_outcome (λ new. with_game s moment id (wrap new)) (step_declare laws of.event.terms game side ply)))
+  declare-kept side ply =
+      ends-kept Declared (repeat_of_declare laws of.event.terms game side ply)
+      (declare_tests laws of.event.terms game side ply)
+      (λ tests. ended-of Declared (not-some _ tests.0) (λ is. cc) (λ score is. cc) (λ is. cc)
+      (λ is. both-true _ _ tests.1.1.1.0))
 
   side-kept : (o : Option Side) (command : GameCommand)
       →
@@ -238,6 +257,7 @@ module _ {DP DM DE DT SP SM SE ST P M E T : Type 0} (kinds : ClubRules DP DM DE 
   side-kept (Some side) (accept_draw ply) = accept-kept side ply
   side-kept (Some side) resign = resign-kept side
   side-kept (Some side) claim_time = claim-kept side
+  side-kept (Some side) (declare ply) = declare-kept side ply
 
   caller-kept : (who : Caller) (command : GameCommand)
       →
@@ -259,7 +279,8 @@ module _ {DP DM DE DT SP SM SE ST P M E T : Type 0} (kinds : ClubRules DP DM DE 
         event = of.event;
         in_event = of.in_event;
         of_kind = of.of_kind;
-        legal = legal-ended laws are_rules of.event.terms game of.legal Time running (λ is. cc) (λ score is. cc);
+        legal = legal-ended laws are_rules of.event.terms game of.legal Time running (λ is. cc) (λ score is. cc)
+            (λ is. cc);
         first = of.first;
         second = of.second;
         key = of.key;

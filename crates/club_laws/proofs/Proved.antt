@@ -2,7 +2,7 @@
 pub use Rattle.club_laws.proofs.AddedSteps.{false-true, not-false, not-true, three-true}
 pub use Rattle.club_laws.proofs.Folds.{folds-accepted, unmoved}
 pub use Rattle.club_laws.proofs.ImportSteps.{import-kept}
-pub use Rattle.club_laws.proofs.ImportedGames.{entries_at, imported-result, made-again, within-limit}
+pub use Rattle.club_laws.proofs.ImportedGames.{entries_at, imported-result, made-again, read-game, within-limit}
 pub use Rattle.club_laws.proofs.LegalSteps.{in-place, next-legal}
 pub use Rattle.club_laws.proofs.Lists.{at-last, bytes_eq-same, each-append, find_id-found, find_id-none, get-append}
 pub use Rattle.club_laws.proofs.Lists.{got-append, got-set, map-at, map-got, place-append, put-at, same-bytes_eq}

@@ -19,7 +19,7 @@ use Rattle.club_rules.specs.declared.names.GameKind.TheVariants.{Draughts, Shogi
 use Rattle.club_rules.specs.GameRules.{GameRules}
 use Rattle.club_core.specs.ClubRules.{ClubRules}
 use Rattle.club_rules.specs.Line.{IsLegalLine}
-use Rattle.club_requests.specs.declared.outside_end.OutsideEnd.TheVariants.{Resigned, Agreed, Time}
+use Rattle.club_requests.specs.declared.outside_end.OutsideEnd.TheVariants.{Resigned, Agreed, Time, Declared}
 use Rattle.club_core.specs.declared.challenges.Challenge.{Challenge}
 use Rattle.club_core.specs.declared.challenges.Standing.{Standing}
 use Rattle.club_core.specs.declared.challenges.Standing.TheVariants.{Withdrawn, Refused, Accepted}
@@ -31,7 +31,7 @@ use Rattle.club_requests.specs.Outcome.{challenge_refused, challenge_accepted, O
 use Rattle.club_requests.specs.Outcome.{map_outcome, by_officer}
 use Rattle.club_core.specs.Members as members
 use Rattle.club_core.specs.Members.{find_id, is_member, member_refusal, same_member, member_step}
-use Rattle.club_core.specs.Events.{Terms, Event, event_kind, same_game, is_event, has_event_name, event_refusal}
+use Rattle.club_core.specs.Events.{Terms, Event, event_kind, same_game, is_event, has_event_name, event_refusal, plain}
 use Rattle.club_core.specs.Events.{same_event, event_step}
 use Rattle.club_core.specs.Seats.{Pairing, KeyedGame, has_member_name, same_seats, seat_tests, seat_refusal, pair}
 use Rattle.club_core.specs.Seats.{seat_found, seat_step}
@@ -39,7 +39,9 @@ use Rattle.club_core.specs.Challenges.{challenge_under, challenge_by, is_open, s
 use Rattle.club_core.specs.Challenges.{withdrawal_step, repeat_of_answer, answer_step}
 use Rattle.club_core.specs.Imports.{Import}
 use Rattle.club_core.specs.Game.{Game, Entry, moves_of, last_position, turn_of, side_after, game_at}
-use Rattle.club_core.specs.Step.{GameCommand, move, offer_draw, accept_draw, resign, claim_time, may_give, asked_ply}
+use Rattle.club_core.specs.Step.{GameCommand, move, offer_draw, accept_draw, resign, claim_time, declare}
+use Rattle.club_core.specs.Step.{may_give, asked_ply}
+use Rattle.club_core.specs.Step.{step_declare, is_next_ply}
 use Rattle.club_core.specs.Step.{has_offer, caller_side, played, offered, ended, checked, checked_as, reads_as, repeats}
 use Rattle.club_core.specs.Step.{plays, step_move, step_offer, step_accept, step_resign, step_claim, by_side, game_step}
 use Rattle.club_core.specs.Step.{move_tests, move_refusal, repeat_of, reply_of_move, move_at}
@@ -61,7 +63,8 @@ use Rattle.club_laws.proofs.Accepts.{unless-accepted, accepted-same, if-accepted
 use Rattle.club_laws.proofs.PutChallenges.{under-key, key-under, under-same, under-found, under-put, found-by}
 use Rattle.club_laws.proofs.Challenged.{IsLaterChallenge, WasOpened, was-opened, was-withdrawn, was-answered}
 use Rattle.club_laws.proofs.Later.{Begins, IsLater, IsLaterAny, IsLaterGame, later-trans, next-later, fold-later}
-use Rattle.club_laws.proofs.Later.{is-next, offer-accepts, accept-accepts, resign-accepts, claim-accepts, caller-later}
+use Rattle.club_laws.proofs.Later.{is-next, offer-accepts, accept-accepts, resign-accepts, claim-accepts}
+use Rattle.club_laws.proofs.Later.{declare-accepts, caller-later}
 
 none-found : (f : ℕ → Reply) (o : Option ℕ) → option_map f o ≡ None → o ≡ None
 none-found f None is = refl
@@ -129,17 +132,17 @@ module _ {DM SM : Type 0} (s t : State DM SM) (moment again : ℕ) where
       let by = officer-accepted who _ after reply is in
       let (all, step_is, after_is) = map-accepted (with_events s moment) (event_step s.events event) after reply by.1 in
       let added = unless-accepted (same_event s.events event) (event_refusal s.events event) _ all reply step_is in
-      let stands = accepted-same (s.events ++ event ∷ []) all (event_added (length s.events + 1)) reply added.2 in
-      let begins : Begins (s.events ++ event ∷ []) t.events =
+      let stands = accepted-same (s.events ++ plain event ∷ []) all (event_added (length s.events + 1)) reply added.2 in
+      let begins : Begins (s.events ++ plain event ∷ []) t.events =
       rw (← ap (λ u. u.events) after_is, ← stands.0) at later.events in
       let itself : is_event event event ≡ true =
       and-true _ _
       (and-true _ _ (and-true _ _ (bytes_eq-same event.name event.name refl) (same_game-refl event.game))
       (eq-eqb event.terms.budget event.terms.budget refl)) (eq-eqb event.terms.increment event.terms.increment refl)
       in
-      let found : find_id (is_event event) (s.events ++ event ∷ []) ≡ Some (length s.events + 1) =
-      find_id-new (is_event event) s.events event (none-found event_added (find_id (is_event event) s.events) added.0)
-      itself in
+      let found : find_id (is_event event) (s.events ++ plain event ∷ []) ≡ Some (length s.events + 1) =
+      find_id-new (is_event event) s.events (plain event)
+      (none-found event_added (find_id (is_event event) s.events) added.0) itself in
       let again_found : find_id (is_event event) t.events ≡ Some (length s.events + 1) =
       find-later (is_event event) _ t.events _ begins found in
       rw (by.0, again_found, stands.1) refl
@@ -445,6 +448,7 @@ StillRepeatsIn (move ply text) later = Unit {0}
 StillRepeatsIn (accept_draw ply) later = Unit {0}
 StillRepeatsIn resign later = Unit {0}
 StillRepeatsIn claim_time later = Unit {0}
+StillRepeatsIn (declare ply) later = Unit {0}
 
 module _ {P M E T : Type 0} (laws : GameRules P M E T) (are_rules : AreRules laws) (terms : Terms) (game : Game M)
     (line : IsLegalLine laws laws.start (map (λ e. e.made) game.entries)) (moment again : ℕ) where
@@ -543,6 +547,16 @@ module _ {P M E T : Type 0} (laws : GameRules P M E T) (are_rules : AreRules law
       let turn : same_side side (turn_of laws game) ≡ false = tests.1.0 in
       rw (from.ended Time refl, turn, answer) refl
 
+  declare-again : (side : Side) (ply : ℕ) (new : Game M) (reply : Reply)
+      → step_declare laws terms game side ply ≡ accepted new reply → (later : Game M) → IsLaterGame new later
+      → step_declare laws terms later side ply ≡ repeated reply
+  declare-again side ply new reply is later since =
+      let (tests, stands, answer) = declare-accepts laws terms game side ply new reply is in
+      let from : IsLaterGame (ended game Declared) later = rw stands since in
+      let turn : same_side side (turn_of laws game) ≡ true = not-false _ tests.1.1.0 in
+      let next : is_next_ply laws game ply ≡ true = not-false _ tests.1.0 in
+      rw (from.ended Declared refl, turn, next, answer) refl
+
   side-again : (side : Option Side) (command : GameCommand) (new : Game M) (reply : Reply)
       → by_side laws terms game moment side command ≡ accepted new reply → (later : Game M) → IsLaterGame new later
       → StillRepeatsIn command later → by_side laws terms later again side command ≡ repeated reply
@@ -555,6 +569,8 @@ module _ {P M E T : Type 0} (laws : GameRules P M E T) (are_rules : AreRules law
       accept-again side ply new reply is later since
   side-again (Some side) resign new reply is later since still = resign-again side new reply is later since
   side-again (Some side) claim_time new reply is later since still = claim-again side new reply is later since
+  side-again (Some side) (declare ply) new reply is later since still =
+      declare-again side ply new reply is later since
 
   caller-again : (who : Caller) (command : GameCommand) (new : Game M) (reply : Reply)
       → game_step laws terms game moment who command ≡ accepted new reply → (later : Game M) → IsLaterGame new later
@@ -630,6 +646,7 @@ still-draughts DM SM (offer_draw ply) g still = still
 still-draughts DM SM (accept_draw ply) g still = tt
 still-draughts DM SM resign g still = tt
 still-draughts DM SM claim_time g still = tt
+still-draughts DM SM (declare ply) g still = tt
 
 still-shogi : (DM SM : Type 0) (command : GameCommand) (g : Game SM)
     → StillRepeatsOn {DM = DM} {SM = SM} (Some (shogi g)) command → StillRepeatsIn command g
@@ -638,6 +655,7 @@ still-shogi DM SM (offer_draw ply) g still = still
 still-shogi DM SM (accept_draw ply) g still = tt
 still-shogi DM SM resign g still = tt
 still-shogi DM SM claim_time g still = tt
+still-shogi DM SM (declare ply) g still = tt
 
 unwrap-draughts : {DM SM : Type 0} (g : Game DM) (new : AnyGame DM SM) → IsLaterAny (draughts g) new → (later : Game DM)
     × (new ≡ draughts later) × IsLaterGame g later

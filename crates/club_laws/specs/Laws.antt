@@ -3,7 +3,7 @@ use Rattle.std.specs.Prelude.{◌≡◌, ◌≤◌, ◌+◌, ℕ, List, length, 
 use Rattle.club_core.specs.ClubRules.{ClubRules}
 use Rattle.club_requests.specs.Limits.{last_moment}
 use Rattle.club_requests.specs.Outcome.{Reply, accepted, repeated}
-use Rattle.club_core.specs.Step.{GameCommand, move, offer_draw, accept_draw, resign, claim_time}
+use Rattle.club_core.specs.Step.{GameCommand, move, offer_draw, accept_draw, resign, claim_time, declare}
 use Rattle.club_core.specs.State.{AnyGame, draughts, shogi, State, Command, add_member, add_event, seat, import_record}
 use Rattle.club_core.specs.State.{on_game, sweep, open_challenge, withdraw_challenge, answer_challenge, Request, place}
 use Rattle.club_core.specs.State.{is_accepted, step, next, fold, accepted_of}
@@ -22,6 +22,7 @@ module _ {DM SM : Type 0} where
   StillRepeatsOn game (accept_draw ply) = Unit {0}
   StillRepeatsOn game resign = Unit {0}
   StillRepeatsOn game claim_time = Unit {0}
+  StillRepeatsOn game (declare ply) = Unit {0}
 
   abbrev pub StillRepeats : State DM SM → Command → Type 0
   StillRepeats s (on_game id command) = StillRepeatsOn (place s.games id) command

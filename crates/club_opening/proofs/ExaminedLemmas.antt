@@ -150,7 +150,8 @@ module _ (rows : Rows) (place : ℕ) (game : GameRecord) (ms : List MoveRow) (ss
           let of = club_of s rows last told club register in
           let (low, known) = game_all at s club register holds in
           let (g, all) = known in
-          let right = club-right s rows people place game ms ss last club.last low g all (λ n some. same_moment s n some of.moment)
+          let right = club-right s rows people place game ms ss last club.last low g all (λ n some. same_moment s n
+          some of.moment)
           in
           let none = none-named (IsRightAt s rows place game ms ss last) wrong (first s people) right in
           clash wrong is none,

@@ -158,8 +158,10 @@ module _ (rows : Rows) (last : Option ℕ) (old mid after new : State) (opened :
 
   -- ---- the club
 
-  module _ (ms : List Member) (es : List Event) (cs : List Challenge) (n : ℕ) (are_ms : AreMembers ms rows.members.items)
-      (are_es : AreEvents es rows.events.items) (are_cs : AreChallenges cs rows) (apart : AreApartGames rows.games.items)
+  module _ (ms : List Member) (es : List Event) (cs : List Challenge) (n : ℕ) (are_ms : AreMembers ms
+      rows.members.items)
+      (are_es : AreEvents es rows.events.items) (are_cs : AreChallenges cs rows) (apart : AreApartGames
+      rows.games.items)
       (moment : rows.meta.last ≡ pos n) (within : n ≤ 253402300799) (is_last : last ≡ Some n) where
     abbrev known : ClubState
     known = record { last = n; members = ms; events = es; games = []; challenges = cs }

@@ -48,7 +48,8 @@ IsMetaRead row old new =
     ⊎
     (((n : ℕ) → row.last ≢ pos n) × ((content : Content) → Holds old.now content → ¬ HasTypes Meta content))
 
--- Each table but those of moves, positions and scores has its rows, and the schema is number 1, where `meta` has its row.
+-- Each table but those of moves, positions and scores has its rows, and the schema is number 1, where `meta` has its
+-- row.
 pub record AreRead (rows : Rows) (old new : State) : Type 0 where
   pub meta : IsMetaRead rows.meta old new
   pub members : IsReadAs (members 1) 1 (map member_cells rows.members.items) old new

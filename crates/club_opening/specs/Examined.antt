@@ -1,5 +1,23 @@
 -- The rows of a club's games in a database, and how many of its games were found there.
-use Rattle.std.specs.Prelude.{◌≡◌, ◌≤◌, ◌+◌, ℕ, zero, suc, pos, not, List, [], ◌∷◌, map, take, length, filter, Option, Some}
+use Rattle.std.specs.Prelude.{
+  ◌≡◌,
+  ◌≤◌,
+  ◌+◌,
+  ℕ,
+  zero,
+  suc,
+  pos,
+  not,
+  List,
+  [],
+  ◌∷◌,
+  map,
+  take,
+  length,
+  filter,
+  Option,
+  Some,
+}
 use Rattle.std.specs.Prelude.{None, slice_get}
 use Rattle.sqlite.specs.Order.{Row}
 use Rattle.sqlite.specs.Tree.{Trees}

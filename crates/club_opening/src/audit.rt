@@ -13,8 +13,8 @@ use std::alloc::Global;
 use store_tables::{Rows, Table};
 
 /// Tests that the challenges are those of a club with these members, events and games, and whether these games stand
-/// beside one another and there is a last moment. A fault names the challenges; of the others the first that is wrong is
-/// given back, since what is wrong in the rows of moves and of positions is named before it.
+/// beside one another and there is a last moment. A fault names the challenges; of the others the first that is wrong
+/// is given back, since what is wrong in the rows of moves and of positions is named before it.
 pub(crate) fn audit(alloc: Global, rows: &Rows) -> Result<Option<Table>, OpenFault>
     ensures challenges { OnOk result ((cs : List Challenge) × AreChallenges cs rows.now) }
     ensures games { IfOk result (λ wrong. wrong ≡ None → AreApartGames rows.now.games.items) }

@@ -22,8 +22,8 @@ use sqlite::{Alter, Connection};
 use std::alloc::Global;
 use store_tables::{MoveRow, Rows, ScoreRow, SeenRow, Table};
 
-/// Tests that the moves and the positions are those of the games, which were read: the first wrong table by them, or the
-/// one that is known, whichever is named first.
+/// Tests that the moves and the positions are those of the games, which were read: the first wrong table by them, or
+/// the one that is known, whichever is named first.
 fn examine_play<S: Alter>(
     alloc: Global,
     conn: &mut Connection<S>,

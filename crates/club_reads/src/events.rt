@@ -1,6 +1,6 @@
 //! The events of the club.
 
-ghost use Rattle.std.specs.Prelude.{◌≡◌, ◌≤◌, ◌<◌, ℕ, List, map, Some, None, IfOk, OnOk};
+ghost use Rattle.std.specs.Prelude.{◌≡◌, ◌≤◌, ◌<◌, ℕ, List, map, Some, None, false, IfOk, OnOk};
 ghost use Rattle.std.specs.Prelude.{length};
 ghost use Rattle.sqlite.specs.State.{HasCleanDisk};
 ghost use Rattle.sqlite.specs.Held.{state};
@@ -13,7 +13,8 @@ ghost use Rattle.store_tables.specs.Cells.{event_cells};
 ghost use Rattle.store_tables.specs.Club.{IsExactly};
 ghost use Rattle.store_tables.specs.Reading.{OnlyReads};
 ghost use Rattle.store_sql.specs.Read.{KeepsContent};
-ghost use Rattle.club_rows.specs.Club.{ClubState, tables};
+ghost use Rattle.club_rows.specs.Club.{ClubState, IsClub, tables};
+ghost use Rattle.club_core.specs.LegalState.{Each, IsLegalEvent};
 
 use crate::fault::CallFault;
 use crate::found::first;
@@ -26,10 +27,10 @@ use std::alloc::Global;
 use store_sql::{find_by_first, list};
 use store_tables::EventRow;
 
-// The event of which this is the row.
+// The event of which this is the row. No event of these tables has declarations.
 pub(crate) fn event_of(row: &EventRow) -> Result<Event, CallFault>
-    ensures { IfOk result (λ e. (id : ℕ) (event : core.Event) → event_cells row.now ≡ event_row id event →
-        event_of e ≡ event) }
+    ensures { IfOk result (λ e. (id : ℕ) (event : core.Event) → event.terms.declares ≡ false →
+        event_cells row.now ≡ event_row id event → event_of e ≡ event) }
 {
     let game = match kind_of(row.game) {
         Some(game) => game,
@@ -43,13 +44,14 @@ pub(crate) fn event_of(row: &EventRow) -> Result<Event, CallFault>
         game,
         budget,
         increment,
+        declares: false,
     })
 }
 
 // The events of which these are the rows, by id.
 fn events_of(alloc: Global, rows: &[EventRow]) -> Result<Vec<Event>, CallFault>
     ensures room { IfOk result (λ events. length events.items ≤ 50) }
-    ensures values { IfOk result (λ events. (all : List core.Event) →
+    ensures values { IfOk result (λ events. (all : List core.Event) → Each IsLegalEvent all →
         map event_cells rows.now ≡ numbered_from event_row 1 all → events_of events.items ≡ all) }
 {
     if rows.len() > MOST_EVENTS {
@@ -71,7 +73,7 @@ pub fn all_events<S: Alter>(
     ensures kept { HasCleanDisk (state S.Store conn.new) → OnOk result (KeepsContent (state S.Store conn.old)
         (state S.Store conn.new)) }
     ensures room { IfOk result (λ events. length events.items ≤ 50) }
-    ensures values { HasCleanDisk (state S.Store conn.new) → IfOk result (λ events. (s : ClubState) →
+    ensures values { HasCleanDisk (state S.Store conn.new) → IfOk result (λ events. (s : ClubState) → IsClub s →
         IsExactly (tables s) (state S.Store conn.old) → events_of events.items ≡ s.events) }
 {
     let events = events_of(alloc, &list::<EventRow, S>(alloc, conn)?)?;
@@ -87,7 +89,7 @@ pub fn event_with<S: Alter>(
     ensures reads { OnlyReads (state S.Store conn.old) (state S.Store conn.new) }
     ensures kept { HasCleanDisk (state S.Store conn.new) → OnOk result (KeepsContent (state S.Store conn.old)
         (state S.Store conn.new)) }
-    ensures found { HasCleanDisk (state S.Store conn.new) → IfOk result (λ e. (s : ClubState) →
+    ensures found { HasCleanDisk (state S.Store conn.new) → IfOk result (λ e. (s : ClubState) → IsClub s →
         IsExactly (tables s) (state S.Store conn.old) → (known : core.Event) → place s.events event ≡ Some known →
         event_of e ≡ known) }
 {

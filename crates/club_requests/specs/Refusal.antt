@@ -10,7 +10,8 @@ use Rattle.club_requests.specs.declared.refusals.Refusal.TheVariants.{UnknownCha
 use Rattle.club_requests.specs.declared.refusals.Refusal.TheVariants.{GameOver}
 use Rattle.club_requests.specs.declared.refusals.Refusal.TheVariants.{WrongPly, Conflict, NotYourTurn, OutOfTime}
 use Rattle.club_requests.specs.declared.refusals.Refusal.TheVariants.{TimeLeft}
-use Rattle.club_requests.specs.declared.refusals.Refusal.TheVariants.{NoOffer, NameTaken, BadValue, Full, Play, Record}
+use Rattle.club_requests.specs.declared.refusals.Refusal.TheVariants.{NoOffer, NameTaken, BadValue, Full, NotDeclarable}
+use Rattle.club_requests.specs.declared.refusals.Refusal.TheVariants.{Play, Record}
 
 abbrev pub refusal_number : Refusal → ℕ
 refusal_number UnknownKey = 50
@@ -30,6 +31,7 @@ refusal_number NoOffer = 62
 refusal_number NameTaken = 64
 refusal_number BadValue = 65
 refusal_number Full = 66
+refusal_number NotDeclarable = 67
 refusal_number (Play ply refusal) = move_refusal_number refusal
 refusal_number (Record refusal) = record_refusal_number refusal
 
@@ -51,6 +53,7 @@ refusal_name NoOffer = codes "NoOffer"
 refusal_name NameTaken = codes "NameTaken"
 refusal_name BadValue = codes "BadValue"
 refusal_name Full = codes "Full"
+refusal_name NotDeclarable = codes "NotDeclarable"
 refusal_name (Play ply refusal) = move_refusal_name refusal
 refusal_name (Record refusal) = record_refusal_name refusal
 
@@ -80,6 +83,7 @@ refusal_tail NoOffer = []
 refusal_tail NameTaken = []
 refusal_tail BadValue = []
 refusal_tail Full = []
+refusal_tail NotDeclarable = []
 
 -- the number, the name and then the refusal's numbers, parted by blanks
 abbrev pub refusal_text : Refusal → List ℕ

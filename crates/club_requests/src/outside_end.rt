@@ -15,6 +15,8 @@ pub enum OutsideEnd {
     Agreed,
     /// The side to move had no time left.
     Time,
+    /// The side to move declared that it had won, its king having entered the enemy's camp.
+    Declared,
     /// A record says so.
     Recorded(Score),
 }
@@ -28,6 +30,7 @@ impl OutsideEnd {
             OutsideEnd::Resigned => "Resigned",
             OutsideEnd::Agreed => "Agreed",
             OutsideEnd::Time => "Time",
+            OutsideEnd::Declared => "Declared",
             OutsideEnd::Recorded(_) => "Recorded",
         }
     }

@@ -45,6 +45,9 @@ pub enum Refusal {
     BadValue,
     /// The club holds no more of these.
     Full,
+    /// The event has no declarations, or the king and the pieces of the side to move do not stand so that it may
+    /// declare.
+    NotDeclarable,
     /// The text or the move of that ply is refused by the rules of the game.
     Play { ply: u32, refusal: MoveRefusal },
     /// The record of an import is refused.
@@ -52,7 +55,7 @@ pub enum Refusal {
 }
 
 impl Refusal {
-    /// The number of the refusal: 50 to 66, or that of the move's or the record's refusal.
+    /// The number of the refusal: 50 to 67, or that of the move's or the record's refusal.
     pub fn number(self) -> u8
         ensures { result ≡ refusal_number self }
     {
@@ -74,6 +77,7 @@ impl Refusal {
             Refusal::NameTaken => 64,
             Refusal::BadValue => 65,
             Refusal::Full => 66,
+            Refusal::NotDeclarable => 67,
             Refusal::Play { ply: _, refusal } => refusal.number(),
             Refusal::Record(refusal) => refusal.number(),
         }
@@ -101,6 +105,7 @@ impl Refusal {
             Refusal::NameTaken => "NameTaken",
             Refusal::BadValue => "BadValue",
             Refusal::Full => "Full",
+            Refusal::NotDeclarable => "NotDeclarable",
             Refusal::Play { ply: _, refusal } => refusal.name(),
             Refusal::Record(refusal) => refusal.name(),
         }

@@ -68,6 +68,9 @@ pub enum GameCommand {
     Resign,
     /// Claims that the side to move has used more seconds than it had, by the other side.
     ClaimTime,
+    /// Declares at this ply, which is the plies so far plus 1, that the side to move has won: its king has entered the
+    /// enemy's camp with pieces enough.
+    Declare { ply: u64 },
 }
 
 /// A command on the game of that id.

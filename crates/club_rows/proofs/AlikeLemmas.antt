@@ -14,7 +14,7 @@ use Rattle.club_rules.specs.GameRules.{GameRules}
 use Rattle.club_rules.specs.Line.{IsLegalLine, position_after}
 use Rattle.club_core.specs.declared.rows.Offer.{Offer}
 use Rattle.club_requests.specs.declared.outside_end.OutsideEnd.{OutsideEnd}
-use Rattle.club_requests.specs.declared.outside_end.OutsideEnd.TheVariants.{Resigned, Agreed, Time, Recorded}
+use Rattle.club_requests.specs.declared.outside_end.OutsideEnd.TheVariants.{Resigned, Agreed, Time, Declared, Recorded}
 use Rattle.club_core.specs.Events.{Terms}
 use Rattle.club_core.specs.Game.{Entry, Game, end_with, score_with, rule_end, end_of, result_of, turn_of, last_position}
 use Rattle.club_core.specs.Legal.{IsLegalGame}
@@ -82,6 +82,7 @@ ends-alike : (a b : OutsideEnd) → outside_text a ≡ outside_text b
 ends-alike Resigned Resigned is scores = refl
 ends-alike Agreed Agreed is scores = refl
 ends-alike Time Time is scores = refl
+ends-alike Declared Declared is scores = refl
 ends-alike (Recorded s) (Recorded t) is scores = ap Recorded (scores s t refl refl)
 ends-alike Resigned Agreed is scores = let e : 82 ≡ 65 = ap first_letter is in absurd (omega (arith, e))
 ends-alike Resigned Time is scores = let e : 82 ≡ 84 = ap first_letter is in absurd (omega (arith, e))
@@ -92,6 +93,14 @@ ends-alike Agreed (Recorded t) is scores = let e : 65 ≡ 82 = ap first_letter i
 ends-alike Time Resigned is scores = let e : 84 ≡ 82 = ap first_letter is in absurd (omega (arith, e))
 ends-alike Time Agreed is scores = let e : 84 ≡ 65 = ap first_letter is in absurd (omega (arith, e))
 ends-alike Time (Recorded t) is scores = let e : 84 ≡ 82 = ap first_letter is in absurd (omega (arith, e))
+ends-alike Resigned Declared is scores = let e : 82 ≡ 68 = ap first_letter is in absurd (omega (arith, e))
+ends-alike Agreed Declared is scores = let e : 65 ≡ 68 = ap first_letter is in absurd (omega (arith, e))
+ends-alike Time Declared is scores = let e : 84 ≡ 68 = ap first_letter is in absurd (omega (arith, e))
+ends-alike (Recorded s) Declared is scores = let e : 82 ≡ 68 = ap first_letter is in absurd (omega (arith, e))
+ends-alike Declared Resigned is scores = let e : 68 ≡ 82 = ap first_letter is in absurd (omega (arith, e))
+ends-alike Declared Agreed is scores = let e : 68 ≡ 65 = ap first_letter is in absurd (omega (arith, e))
+ends-alike Declared Time is scores = let e : 68 ≡ 84 = ap first_letter is in absurd (omega (arith, e))
+ends-alike Declared (Recorded t) is scores = let e : 68 ≡ 82 = ap first_letter is in absurd (omega (arith, e))
 ends-alike (Recorded s) Resigned is scores = let e : 99 ≡ 115 = ap third_letter is in absurd (omega (arith, e))
 ends-alike (Recorded s) Agreed is scores = let e : 82 ≡ 65 = ap first_letter is in absurd (omega (arith, e))
 ends-alike (Recorded s) Time is scores = let e : 82 ≡ 84 = ap first_letter is in absurd (omega (arith, e))

@@ -239,7 +239,8 @@ module _ {P M E T : Type 0} (rules : GameRules P M E T) (are : AreRules rules) (
       }
 
   -- a ply has a row where a move was played
-  pub rows-where : (k : ℕ) (m : M) → slice_get (moves_of game) k ≡ Some m → IsSome (slice_get (move_rows rules terms id game) k)
+  pub rows-where : (k : ℕ) (m : M) → slice_get (moves_of game) k ≡ Some m → IsSome (slice_get (move_rows rules terms
+      id game) k)
   rows-where k m at =
       let inside : k < length (moves_of game) = slice_get_within (moves_of game) k m at in
       let count : length (moves_of game) ≡ length game.entries = simp length-map in

@@ -1,6 +1,6 @@
 -- What is shown of a game that was replayed, where its row stands.
-use Rattle.std.proofs.Common.{◌≡◌, ℕ, ◌<◌, ◌≤◌, ◌^◌, List, [], length, map, take, Option, Some, None, false, refl, ap}
-use Rattle.std.proofs.Common.{sym, ◌∙◌, subst, subst₂, arith, pos, inl, inr}
+use Rattle.std.proofs.Common.{◌≡◌, ℕ, ◌<◌, ◌≤◌, ◌^◌, List, [], length, map, take, Option, Some, None, false, ◌&&◌}
+use Rattle.std.proofs.Common.{refl, ap, sym, ◌∙◌, subst, subst₂, arith, pos, inl, inr}
 use Rattle.std.specs.Prelude.{is_some, IsSome, IfSome, IsTrue}
 use Rattle.std.proofs.Math.Seq.{take-length}
 use Rattle.club_rules.specs.GameRules.{GameRules}
@@ -19,7 +19,7 @@ use Rattle.club_rows.specs.Replay.{WasReplayed, IsPlayedAs, Replays, game_from}
 use Rattle.club_rows.specs.Tally.{IsTallyOf}
 use Rattle.club_rows.specs.Shown.{AreMovesOf, IsHistoryOf, AreRowsOf, IsUnstarted, IsWrongAsTold, ShowsGame}
 use Rattle.club_rows.specs.Shown.{IsSoundIfShown, StandsAs}
-use Rattle.club_rows.specs.Told.{HasNumbers, AreIds, IsTold, game_told}
+use Rattle.club_rows.specs.Told.{HasNumbers, AreIds, IsTold, game_told, may_declare}
 use Rattle.club_rows.specs.declared.replay.Replayed.{Replayed}
 use Rattle.club_rows.specs.declared.view.Numbers.{Numbers}
 use Rattle.club_rows.specs.declared.view.Told.{Told}
@@ -27,7 +27,7 @@ use Rattle.club_rows.specs.declared.view.Played.{Played}
 use Rattle.club_rows.specs.declared.view.Shown.{Shown}
 use Rattle.club_rows.specs.declared.view.Shown.TheVariants as shown
 use Rattle.club_rows.proofs.ToldLemmas.{IsToldBy, columns-told, same-pos, told-outside, told-recorded, rows-played}
-use Rattle.club_rows.proofs.ToldLemmas.{row-stands, stands-legal, legal-stands, is_some-none}
+use Rattle.club_rows.proofs.ToldLemmas.{declares, row-stands, stands-legal, legal-stands, is_some-none}
 use Rattle.club_rows.proofs.WholeLemmas.{none-played, played-count, rows-alike}
 
 -- games with the same parts are one
@@ -86,6 +86,10 @@ module _ {R P M E T : Type 0} (rules : GameRules P M E T) (terms : Terms) (store
   start-is : known.told.numbers.start ≡ given.start
   start-is = ap (λ n. n.start) known.is_told.numbers
 
+  -- the view tells whether the side to move may declare
+  declares-is : (game : Game M) → Shows rules game view → may_declare rules view ≡ declares rules terms game
+  declares-is game shows = λ i. (known.terms_are i).declares && rules.can_declare (shows.position i)
+
   ruled-is : known.told.ruled ≡ rule_end rules shown_game
   ruled-is = known.is_told.ruled ∙ ap (rules.judge rules.start) known.was.replays.line
 
@@ -97,7 +101,7 @@ module _ {R P M E T : Type 0} (rules : GameRules P M E T) (terms : Terms) (store
       let made = stands-legal rules terms shown_game
       (subst (λ n. IsLegalGame rules terms (game_from n known.was.entries)) (sym start-is) known.was.played.legal)
       (λ some. sym ruled-is ∙ known.is_told.alone some)
-      (sym (row-stands rules terms shown_game view.row row-of) ∙ stands.1) in
+      (sym (row-stands rules terms shown_game view.row _ row-of (declares-is shown_game showing)) ∙ stands.1) in
       let numbers = known.is_told.numbers in
       let rows : AreRowsOf rules terms given.game stored moves shown_game = record {
         budget = known.budget;
@@ -192,7 +196,7 @@ module _ {R P M E T : Type 0} (rules : GameRules P M E T) (terms : Terms) (store
     pub shown-complete : (s : Shown R P M E T) → StandsAs rules stored given.game full s → ShowsGame rules terms game s
     shown-complete shown.WrongMoves stands = stands
     shown-complete shown.WrongGame stands =
-        stands terms game row-it (row-stands rules terms game view.row row-it
+        stands terms game row-it (row-stands rules terms game view.row _ row-it (declares-is game shows-it)
         ∙ legal-stands rules terms game is.legal is.fits.key)
         (is.row ∙ ap (λ n. game_row rules terms n game) (sym id-same))
     shown-complete (shown.Game v) stands = (

@@ -19,7 +19,7 @@ use Rattle.club_rules.proofs.Proved.{position_after-append}
 use Rattle.club_core.specs.declared.rows.GameEnd.{GameEnd}
 use Rattle.club_core.specs.declared.rows.GameEnd.TheVariants.{Rule, Outside}
 use Rattle.club_requests.specs.declared.outside_end.OutsideEnd.{OutsideEnd}
-use Rattle.club_requests.specs.declared.outside_end.OutsideEnd.TheVariants.{Resigned, Agreed, Time, Recorded}
+use Rattle.club_requests.specs.declared.outside_end.OutsideEnd.TheVariants.{Resigned, Agreed, Time, Declared, Recorded}
 use Rattle.club_requests.specs.Limits.{is_name}
 use Rattle.club_core.specs.Members.{Member}
 use Rattle.club_core.specs.Events.{Event, Terms}
@@ -51,6 +51,7 @@ outside-is_text : (end : OutsideEnd) → IsText (Text (outside_text end))
 outside-is_text Resigned = written (codes "Resigned") refl
 outside-is_text Agreed = written (codes "Agreed") refl
 outside-is_text Time = written (codes "Time") refl
+outside-is_text Declared = written (codes "Declared") refl
 outside-is_text (Recorded score) = written (codes "Recorded") refl
 
 score-is_text : (score : Score) → IsText (Text (score_text score))

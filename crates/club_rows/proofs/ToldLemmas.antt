@@ -13,11 +13,11 @@ use Rattle.club_rules.specs.GameRules.{GameRules}
 use Rattle.club_core.specs.declared.rows.GameRow.{GameRow}
 use Rattle.club_core.specs.declared.rows.Offer.{Offer}
 use Rattle.club_requests.specs.declared.outside_end.OutsideEnd.{OutsideEnd}
-use Rattle.club_requests.specs.declared.outside_end.OutsideEnd.TheVariants.{Resigned, Agreed, Time, Recorded}
+use Rattle.club_requests.specs.declared.outside_end.OutsideEnd.TheVariants.{Resigned, Agreed, Time, Declared, Recorded}
 use Rattle.club_requests.specs.Limits.{is_name}
 use Rattle.club_core.specs.Events.{Terms}
 use Rattle.club_core.specs.Game.{Entry, Game, Clocks, spend, spend_all, clocks_of, moments_of, opening_clocks, end_with}
-use Rattle.club_core.specs.Game.{score_with, rule_end, end_of, result_of, turn_of}
+use Rattle.club_core.specs.Game.{score_with, rule_end, end_of, result_of, turn_of, last_position}
 use Rattle.club_core.specs.Legal.{IsTimely, IsOffer, IsLegalGame}
 use Rattle.club_core.specs.View.{IsRowOf, rule_in}
 use Rattle.store_tables.specs.Cells.{game_cells}
@@ -191,31 +191,36 @@ module _ {P M E T : Type 0} (rules : GameRules P M E T) (terms : Terms) (game : 
   rule_in-with None (Some o) = refl
   rule_in-with None None = refl
 
+  -- the event has declarations, and the side to move may make one
+  abbrev pub declares : Bool
+  declares = terms.declares && rules.can_declare (last_position rules game)
+
   -- the parts of the test, by the game
   abbrev stands : Bool
   stands =
       may_have_key game.key
       && not (nat_eq game.first game.second)
       && may_have_offer rules.has_draw_offers (length game.entries) (is_some (rule_end rules game)) game.offer
-      && may_have_end (is_some game.key) (is_some game.offer) game.start (clocks_of game terms).since
+      && may_have_end (is_some game.key) (is_some game.offer) declares game.start (clocks_of game terms).since
       (end_of rules game)
 
   is_some-map : {A B : Type 0} (f : A → B) (o : Option A) → is_some (option_map f o) ≡ is_some o
   is_some-map f None = refl
   is_some-map f (Some x) = refl
 
-  pub row-stands : (row : GameRow E) → IsRowOf rules terms game row → may_stand rules.has_draw_offers row ≡ stands
-  row-stands row is =
+  pub row-stands : (row : GameRow E) (may : Bool) → IsRowOf rules terms game row → may ≡ declares
+      → may_stand rules.has_draw_offers may row ≡ stands
+  row-stands row may is same =
       let key = ap may_have_key is.key in
       let has_key = sym (is_some-map (λ k. string_bytes k) row.key) ∙ ap is_some is.key in
       let ended = ap (λ e. is_some (rule_in e)) is.end ∙ ap is_some (rule_in-with (rule_end rules game) game.outside) in
       let offer : may_have_offer rules.has_draw_offers row.plies (is_some (rule_in row.end)) row.offer
       ≡ may_have_offer rules.has_draw_offers (length game.entries) (is_some (rule_end rules game)) game.offer =
       λ i. may_have_offer rules.has_draw_offers (is.plies i) (ended i) (is.offer i) in
-      let end : may_have_end (is_some row.key) (is_some row.offer) row.start row.since row.end
-      ≡ may_have_end (is_some game.key) (is_some game.offer) game.start (clocks_of game terms).since
-      (end_of rules game) = λ i. may_have_end (has_key i) (is_some (is.offer i)) (is.start i) (is.clocks i).since
-      (is.end i) in
+      let end : may_have_end (is_some row.key) (is_some row.offer) may row.start row.since row.end
+      ≡ may_have_end (is_some game.key) (is_some game.offer) declares game.start (clocks_of game terms).since
+      (end_of rules game) = λ i. may_have_end (has_key i) (is_some (is.offer i)) (same i) (is.start i)
+      (is.clocks i).since (is.end i) in
       λ i. key i && not (nat_eq (is.first i) (is.second i)) && offer i && end i
 
   offer-legal : (o : Option Offer) → may_have_offer rules.has_draw_offers (length game.entries)
@@ -237,14 +242,18 @@ module _ {P M E T : Type 0} (rules : GameRules P M E T) (terms : Terms) (game : 
       both-and _ _ (both-and _ _ is.allowed (not-false _ (none-is_some (rule_end rules game) is.no_rule_end)))
       (eq-eqb offer.ply (length game.entries + 1) is.next_ply)
 
-  end-agreed : (key offer : Bool) (start since : ℕ) (e : Option E) (o : Option OutsideEnd) → e ≡ None → o ≡ Some Agreed
-      → may_have_end key offer start since (end_with e o) ≡ true → offer ≡ true
-  end-agreed key offer start since e o none is stand = rw (none, is) at stand
+  end-agreed : (key offer may : Bool) (start since : ℕ) (e : Option E) (o : Option OutsideEnd) → e ≡ None
+      → o ≡ Some Agreed → may_have_end key offer may start since (end_with e o) ≡ true → offer ≡ true
+  end-agreed key offer may start since e o none is stand = rw (none, is) at stand
 
-  end-recorded : (key offer : Bool) (start since : ℕ) (e : Option E) (o : Option OutsideEnd) (s : Score) → e ≡ None
-      → o ≡ Some (Recorded s) → may_have_end key offer start since (end_with e o) ≡ true
+  end-declared : (key offer may : Bool) (start since : ℕ) (e : Option E) (o : Option OutsideEnd) → e ≡ None
+      → o ≡ Some Declared → may_have_end key offer may start since (end_with e o) ≡ true → may ≡ true
+  end-declared key offer may start since e o none is stand = rw (none, is) at stand
+
+  end-recorded : (key offer may : Bool) (start since : ℕ) (e : Option E) (o : Option OutsideEnd) (s : Score)
+      → e ≡ None → o ≡ Some (Recorded s) → may_have_end key offer may start since (end_with e o) ≡ true
       → (key && not offer && nat_eq since start) ≡ true
-  end-recorded key offer start since e o s none is stand = rw (none, is) at stand
+  end-recorded key offer may start since e o s none is stand = rw (none, is) at stand
 
   -- a game that was replayed and whose row may stand is legal
   pub stands-legal : IsLegalGame rules terms (game_from game.start game.entries)
@@ -260,10 +269,14 @@ module _ {P M E T : Type 0} (rules : GameRules P M E T) (terms : Terms) (game : 
           timely = moves.timely;
           outside_alone = alone;
           offer = offer-legal game.offer front.1;
-          agreed = λ is. end-agreed _ _ _ _ (rule_end rules game) game.outside (alone (some-is game.outside Agreed is))
-              is parts.1;
+          agreed = λ is. end-agreed _ _ _ _ _ (rule_end rules game) game.outside
+              (alone (some-is game.outside Agreed is)) is parts.1;
+          declared = λ is.
+              and-both _ _
+              (end-declared _ _ _ _ _ (rule_end rules game) game.outside
+              (alone (some-is game.outside Declared is)) is parts.1);
           recorded = λ s is.
-              let test = end-recorded _ _ _ _ (rule_end rules game) game.outside s
+              let test = end-recorded _ _ _ _ _ (rule_end rules game) game.outside s
               (alone (some-is game.outside (Recorded s) is)) is parts.1 in
               let both = and-both _ _ test in
               let keyed = and-both _ _ both.0 in
@@ -285,16 +298,17 @@ module _ {P M E T : Type 0} (rules : GameRules P M E T) (terms : Terms) (game : 
       key-named None is = tt
       key-named (Some key) is = is
 
-  end-legal : (key offer : Bool) (start since : ℕ) (e : Option E) (o : Option OutsideEnd)
-      → (o ≡ Some Agreed → offer ≡ true)
+  end-legal : (key offer may : Bool) (start since : ℕ) (e : Option E) (o : Option OutsideEnd)
+      → (o ≡ Some Agreed → offer ≡ true) → (o ≡ Some Declared → may ≡ true)
       → ((s : Score) → o ≡ Some (Recorded s) → (key && not offer && nat_eq since start) ≡ true)
-      → may_have_end key offer start since (end_with e o) ≡ true
-  end-legal key offer start since (Some e) o agreed recorded = refl
-  end-legal key offer start since None None agreed recorded = refl
-  end-legal key offer start since None (Some Resigned) agreed recorded = refl
-  end-legal key offer start since None (Some Time) agreed recorded = refl
-  end-legal key offer start since None (Some Agreed) agreed recorded = agreed refl
-  end-legal key offer start since None (Some (Recorded s)) agreed recorded = recorded s refl
+      → may_have_end key offer may start since (end_with e o) ≡ true
+  end-legal key offer may start since (Some e) o agreed declared recorded = refl
+  end-legal key offer may start since None None agreed declared recorded = refl
+  end-legal key offer may start since None (Some Resigned) agreed declared recorded = refl
+  end-legal key offer may start since None (Some Time) agreed declared recorded = refl
+  end-legal key offer may start since None (Some Agreed) agreed declared recorded = agreed refl
+  end-legal key offer may start since None (Some Declared) agreed declared recorded = declared refl
+  end-legal key offer may start since None (Some (Recorded s)) agreed declared recorded = recorded s refl
 
   -- the row of a legal game may stand
   pub legal-stands : IsLegalGame rules terms game → IfSome game.key (λ k. IsTrue (is_name k)) → stands ≡ true
@@ -303,7 +317,8 @@ module _ {P M E T : Type 0} (rules : GameRules P M E T) (terms : Terms) (game : 
       (both-and _ _
       (both-and _ _ (named-key game.key named) (not-false _ (eqb-false game.first game.second legal.players)))
       (legal-offer game.offer legal.offer))
-      (end-legal _ _ _ _ (rule_end rules game) game.outside legal.agreed (λ s is.
+      (end-legal _ _ _ _ _ (rule_end rules game) game.outside legal.agreed
+      (λ is. let may = legal.declared is in both-and _ _ may.0 may.1) (λ s is.
       let recorded = legal.recorded s is in
       both-and _ _ (both-and _ _ recorded.keyed (not-false _ (none-is_some game.offer recorded.no_offer)))
       (eq-eqb _ _ (recorded-since recorded.at_once))))

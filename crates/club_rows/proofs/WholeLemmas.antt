@@ -64,6 +64,7 @@ none-played rules terms id from =
         offer = tt;
         agreed = λ is. absurd cc;
         recorded = λ score is. absurd cc;
+        declared = λ is. absurd cc;
         players = λ same. absurd (omega (arith, same));
       };
       start = refl;

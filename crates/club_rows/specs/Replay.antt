@@ -1,5 +1,5 @@
 -- What holds of a game that was replayed from its rows.
-use Rattle.std.specs.Prelude.{◌≡◌, ◌≤◌, ◌+◌, ◌-◌, ◌*◌, ℕ, pos, List, map, take, length, string_bytes, None, Ok}
+use Rattle.std.specs.Prelude.{◌≡◌, ◌≤◌, ◌+◌, ◌-◌, ◌*◌, ℕ, pos, Bool, List, map, take, length, string_bytes, None, Ok}
 use Rattle.squares.specs.declared.sides.Side.{Side}
 use Rattle.squares.specs.declared.sides.Side.TheVariants.{First, Second}
 use Rattle.club_rules.specs.GameRules.{GameRules}
@@ -39,10 +39,10 @@ pub record IsReplayed {R P M E T : Type 0} (rules : GameRules P M E T) (incremen
   pub room_second : game.left_second ≤ 31536000 + increment * plies
 
 abbrev pub terms_given : given.Terms → Terms
-terms_given t = record { budget = t.budget; increment = t.increment }
+terms_given t = record { budget = t.budget; increment = t.increment; declares = t.declares }
 
-abbrev pub terms_with : ℕ → ℕ → Terms
-terms_with budget increment = record { budget = budget; increment = increment }
+abbrev pub terms_with : ℕ → ℕ → Bool → Terms
+terms_with budget increment declares = record { budget = budget; increment = increment; declares = declares }
 
 abbrev pub clocks_replayed : {R P M E T : Type 0} → Replayed R P M E T → Clocks
 clocks_replayed r = record { left_first = r.left_first; left_second = r.left_second; since = r.since }

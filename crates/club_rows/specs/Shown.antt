@@ -7,7 +7,7 @@ use Rattle.club_core.specs.Game.{Game, moves_of}
 use Rattle.club_core.specs.Legal.{IsLegalGame}
 use Rattle.club_core.specs.LegalState.{Each}
 use Rattle.club_rows.specs.Replay.{IsPlayedAs}
-use Rattle.club_rows.specs.Told.{may_stand}
+use Rattle.club_rows.specs.Told.{may_declare, may_stand}
 use Rattle.club_core.specs.View.{IsRowOf, Shows, IsSound, terms_of}
 use Rattle.store_tables.specs.Cells.{game_cells, move_cells}
 use Rattle.store_tables.specs.declared.rows.GameRecord.{GameRecord}
@@ -103,10 +103,11 @@ IsUnstarted moves shown.WrongGame = moves ≡ []
 abbrev pub StandsAs : {R P M E T : Type 0} → GameRules P M E T → GameRecord → ℕ → Played R P M E T → Shown R P M E T
     → Type 0
 StandsAs {R} {P} {M} {E} {T} rules stored id played (shown.Game p) =
-    (p ≡ played) × (may_stand rules.has_draw_offers played.view.row ≡ true)
+    (p ≡ played) × (may_stand rules.has_draw_offers (may_declare rules played.view) played.view.row ≡ true)
     × ((terms : Terms) (game : Game M) → IsRowOf rules terms game played.view.row
     → game_cells stored ≡ game_row rules terms id game)
 StandsAs rules stored id played shown.WrongMoves = ⊥
 StandsAs {R} {P} {M} {E} {T} rules stored id played shown.WrongGame =
     (terms : Terms) (game : Game M) → IsRowOf rules terms game played.view.row
-    → may_stand rules.has_draw_offers played.view.row ≡ true → game_cells stored ≡ game_row rules terms id game → ⊥
+    → may_stand rules.has_draw_offers (may_declare rules played.view) played.view.row ≡ true
+    → game_cells stored ≡ game_row rules terms id game → ⊥

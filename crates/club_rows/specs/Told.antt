@@ -3,10 +3,11 @@ use Rattle.std.specs.Prelude.{◌≡◌, ◌≤◌, ◌<◌, ◌^◌, ◌+◌, �
 use Rattle.std.specs.Prelude.{is_some, IfSome, string_bytes}
 use Rattle.std.specs.Option.{option_map}
 use Rattle.club_core.specs.declared.rows.GameRow.{GameRow}
+use Rattle.club_core.specs.declared.rows.GameView.{GameView}
 use Rattle.club_core.specs.declared.rows.GameEnd.{GameEnd}
 use Rattle.club_core.specs.declared.rows.GameEnd.TheVariants.{Rule, Outside}
 use Rattle.club_core.specs.declared.rows.Offer.{Offer}
-use Rattle.club_requests.specs.declared.outside_end.OutsideEnd.TheVariants.{Resigned, Agreed, Time, Recorded}
+use Rattle.club_requests.specs.declared.outside_end.OutsideEnd.TheVariants.{Resigned, Agreed, Time, Declared, Recorded}
 use Rattle.club_requests.specs.Limits.{is_name, last_moment}
 use Rattle.club_core.specs.Game.{Entry, Game}
 use Rattle.club_core.specs.View.{rule_in}
@@ -59,21 +60,27 @@ abbrev pub may_have_offer : Bool → ℕ → Bool → Option Offer → Bool
 may_have_offer allowed plies ended None = true
 may_have_offer allowed plies ended (Some offer) = allowed && not ended && offer.ply == plies + 1
 
--- an agreed end needs an offer, and a recorded one a key, no offer and every move at the start
-abbrev pub may_have_end : {E : Type 0} → Bool → Bool → ℕ → ℕ → Option (GameEnd E) → Bool
-may_have_end key offer start since None = true
-may_have_end key offer start since (Some (Rule e)) = true
-may_have_end key offer start since (Some (Outside Resigned)) = true
-may_have_end key offer start since (Some (Outside Time)) = true
-may_have_end key offer start since (Some (Outside Agreed)) = offer
-may_have_end key offer start since (Some (Outside (Recorded score))) = key && not offer && since == start
+-- An agreed end needs an offer, a declared one a position in which the side to move may declare, and a recorded one a
+-- key, no offer and every move at the start.
+abbrev pub may_have_end : {E : Type 0} → Bool → Bool → Bool → ℕ → ℕ → Option (GameEnd E) → Bool
+may_have_end key offer declares start since None = true
+may_have_end key offer declares start since (Some (Rule e)) = true
+may_have_end key offer declares start since (Some (Outside Resigned)) = true
+may_have_end key offer declares start since (Some (Outside Time)) = true
+may_have_end key offer declares start since (Some (Outside Agreed)) = offer
+may_have_end key offer declares start since (Some (Outside Declared)) = declares
+may_have_end key offer declares start since (Some (Outside (Recorded score))) = key && not offer && since == start
 
-abbrev pub may_stand : {E : Type 0} → Bool → GameRow E → Bool
-may_stand allowed row =
+-- the event of the game has declarations, and the side to move may make one
+abbrev pub may_declare : {R P M E T : Type 0} → GameRules P M E T → GameView R P M E T → Bool
+may_declare rules view = view.declares && rules.can_declare view.position
+
+abbrev pub may_stand : {E : Type 0} → Bool → Bool → GameRow E → Bool
+may_stand allowed declares row =
     may_have_key (option_map (λ s. string_bytes s) row.key)
     && not (row.first == row.second)
     && may_have_offer allowed row.plies (is_some (rule_in row.end)) row.offer
-    && may_have_end (is_some row.key) (is_some row.offer) row.start row.since row.end
+    && may_have_end (is_some row.key) (is_some row.offer) declares row.start row.since row.end
 
 -- what is told is what the stored row says, beside the end that the rules give to the line
 pub record IsTold {P M E T : Type 0} (rules : GameRules P M E T) (stored : GameRecord) (given : Numbers) (line : List M)

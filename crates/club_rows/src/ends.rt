@@ -70,6 +70,7 @@ pub fn outside_of(name: &str, score: Option<Score>) -> Option<OutsideEnd>
         "Resigned" => Some(OutsideEnd::Resigned),
         "Agreed" => Some(OutsideEnd::Agreed),
         "Time" => Some(OutsideEnd::Time),
+        "Declared" => Some(OutsideEnd::Declared),
         "Recorded" => match score {
             Some(score) => Some(OutsideEnd::Recorded(score)),
             None => None,

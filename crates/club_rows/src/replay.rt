@@ -1,7 +1,7 @@
 //! A game as its rows show it: replayed from its start, each row compared with what the rules and the clocks give.
 
 ghost use Rattle.std.specs.Prelude.{◌≡◌, ◌≢◌, ◌≤◌, ◌<◌, ◌+◌, ◌++◌, ◌∷◌, [], ◌*◌, ◌^◌, ℕ, IfOk, IfSome, IsTrue, None};
-ghost use Rattle.std.specs.Prelude.{Some, Ok, cond, length, is_some, string_bytes};
+ghost use Rattle.std.specs.Prelude.{Some, Ok, Bool, cond, length, is_some, string_bytes};
 ghost use Rattle.squares.specs.Sides.{other};
 ghost use Rattle.club_rules.specs.Line.{IsPlayedLine, line_track, position_after};
 ghost use Rattle.club_requests.specs.Limits.{is_budget, is_increment};
@@ -20,11 +20,12 @@ use squares::Side;
 use std::alloc::Global;
 use store_tables::MoveRow;
 
-/// The seconds that an event gives each player, and each move.
+/// The seconds that an event gives each player and each move, and whether its players may declare that they have won.
 #[derive(Clone, Copy, Debug, PartialEq, Eq)]
 pub struct Terms {
     pub budget: u64,
     pub increment: u64,
+    pub declares: bool,
 }
 
 /// A game as far as its rows were replayed.
@@ -276,13 +277,13 @@ fn with_row<R: Rules>(
     requires game { IsReplayed R.rules increment (length game.line.items) game }
     ensures safe { IfOk result (λ found. IfSome found (λ new. IsReplayed R.rules increment
         (length game.line.items + 1) new)) }
-    ensures some { IfOk result (λ found. IfSome found (λ new. (budget : ℕ) (old : Game R.Move) →
-        Replays R.rules (terms_with budget increment) old game →
-        (e : Entry R.Move) × Follows R.rules (terms_with budget increment) id old row.now e
-        × Replays R.rules (terms_with budget increment) (with_entry old e) new)) }
-    ensures none { IfOk result (λ found. found ≡ None → (budget : ℕ) (old : Game R.Move) →
-        Replays R.rules (terms_with budget increment) old game → (e : Entry R.Move) →
-        ¬ Follows R.rules (terms_with budget increment) id old row.now e) }
+    ensures some { IfOk result (λ found. IfSome found (λ new. (budget : ℕ) (declares : Bool) (old : Game R.Move) →
+        Replays R.rules (terms_with budget increment declares) old game →
+        (e : Entry R.Move) × Follows R.rules (terms_with budget increment declares) id old row.now e
+        × Replays R.rules (terms_with budget increment declares) (with_entry old e) new)) }
+    ensures none { IfOk result (λ found. found ≡ None → (budget : ℕ) (declares : Bool) (old : Game R.Move) →
+        Replays R.rules (terms_with budget increment declares) old game → (e : Entry R.Move) →
+        ¬ Follows R.rules (terms_with budget increment declares) id old row.now e) }
 {
     match next_of::<R>(alloc, &game, increment, id, row)? {
         Some(next) => {

@@ -18,7 +18,7 @@ ghost use Rattle.club_requests.specs.Limits.{is_budget, is_increment};
 ghost use Rattle.club_rows.specs.Shown.{AreRowsOf, IsUnstarted, IsWrongAsTold, ShowsGame, IsSoundIfShown, StandsAs};
 ghost use Rattle.club_rows.specs.declared.view.Told.{Told};
 ghost use Rattle.club_rows.specs.Told.{HasNumbers, IsTold, AreIds, game_told, may_have_key, may_have_offer};
-ghost use Rattle.club_rows.specs.Told.{may_have_end, may_stand};
+ghost use Rattle.club_rows.specs.Told.{may_have_end, may_declare, may_stand};
 
 use crate::ends::{outside_of, score_of, side_of};
 use crate::numbers::{id, moment};
@@ -106,6 +106,7 @@ pub(crate) fn score_of_end<R: Rules>(end: &Option<GameEnd<R::End>>, turn: Side) 
         Some(GameEnd::Outside(OutsideEnd::Recorded(score))) => Some(*score),
         Some(GameEnd::Outside(OutsideEnd::Resigned)) => Some(Score::lost_by(turn)),
         Some(GameEnd::Outside(OutsideEnd::Time)) => Some(Score::lost_by(turn)),
+        Some(GameEnd::Outside(OutsideEnd::Declared)) => Some(Score::lost_by(turn.other())),
         None => None,
     }
 }
@@ -281,6 +282,7 @@ fn with_told<R: Rules>(
         row,
         budget: terms.budget,
         increment: terms.increment,
+        declares: terms.declares,
         position: game.position,
         track: game.track,
         asked: None,
@@ -352,10 +354,10 @@ fn may_have_offer<R: Rules>(row: &GameRow<R::End>) -> bool
     }
 }
 
-// Whether the row's end other than by the rules may stand.
-fn may_have_end<E: Copy + Drop>(row: &GameRow<E>) -> bool
-    ensures { result ≡ may_have_end (is_some row.now.key) (is_some row.now.offer) row.now.start row.now.since
-        row.now.end }
+// Whether the row's end other than by the rules may stand, in a position where the side to move may declare or not.
+fn may_have_end<E: Copy + Drop>(row: &GameRow<E>, declares: bool) -> bool
+    ensures { result ≡ may_have_end (is_some row.now.key) (is_some row.now.offer) declares row.now.start
+        row.now.since row.now.end }
 {
     match &row.end {
         Some(GameEnd::Outside(OutsideEnd::Agreed)) => row.offer.is_some(),
@@ -364,20 +366,28 @@ fn may_have_end<E: Copy + Drop>(row: &GameRow<E>) -> bool
         }
         Some(GameEnd::Outside(OutsideEnd::Resigned)) => true,
         Some(GameEnd::Outside(OutsideEnd::Time)) => true,
+        Some(GameEnd::Outside(OutsideEnd::Declared)) => declares,
         Some(GameEnd::Rule(_)) => true,
         None => true,
     }
 }
 
+// Whether the side to move of the game may declare that it has won.
+fn may_declare<R: Rules>(view: &GameView<R>) -> bool
+    ensures { result ≡ may_declare R.rules view.now }
+{
+    view.declares && R::can_declare(&view.position)
+}
+
 // Whether the game's key, players, offer and end may stand.
-fn may_stand<R: Rules>(row: &GameRow<R::End>) -> bool
+fn may_stand<R: Rules>(row: &GameRow<R::End>, declares: bool) -> bool
     requires { row.now.plies ≤ 600 }
-    ensures { result ≡ may_stand R.rules.has_draw_offers row.now }
+    ensures { result ≡ may_stand R.rules.has_draw_offers declares row.now }
 {
     may_have_key(&row.key)
         && row.first != row.second
         && may_have_offer::<R>(row)
-        && may_have_end(row)
+        && may_have_end(row, declares)
 }
 
 // The game, where its row may stand and is the one that is stored.
@@ -392,7 +402,8 @@ fn stands<R: Rules>(
     requires second { played.view.row.left_second < 2 ^ 63 }
     ensures { IfOk result (StandsAs R.rules row.now game played) }
 {
-    if !may_stand::<R>(&played.view.row) {
+    let declares = may_declare(&played.view);
+    if !may_stand::<R>(&played.view.row, declares) {
         return Ok(Shown::WrongGame);
     }
     let made = record_of::<R>(alloc, game, &played.view.row)?;

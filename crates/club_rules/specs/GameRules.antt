@@ -39,3 +39,5 @@ pub record GameRules (P M E T : Type 0) : Type 0 where
   pub outcome : E → Side → Score
   pub end_name : E → EndName
   pub has_draw_offers : Bool
+  -- whether the side to move may declare that it has won
+  pub can_declare : P → Bool

@@ -136,6 +136,11 @@ pub trait Rules {
     fn has_draw_offers() -> bool
         ensures { result ≡ rules.has_draw_offers };
 
+    /// Whether the side to move may declare that it has won, by where its king and its pieces stand. It takes no
+    /// memory.
+    fn can_declare(position: &Self::Position) -> bool
+        ensures { result ≡ rules.can_declare position.now };
+
     /// First moves first.
     ghost first_starts: { FirstStarts rules };
 

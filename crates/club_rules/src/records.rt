@@ -17,11 +17,13 @@ pub enum RecordFormat {
     Csa,
 }
 
-/// A game from the opening as a record keeps it: its moves and its score.
+/// A game from the opening as a record keeps it: its moves, its score, and whether it ended with a declaration.
 #[derive(Drop)]
 pub struct RecordedGame<M> {
     pub moves: Vec<M>,
     pub score: Score,
+    /// Whether the side to move after these moves declared that it had won.
+    pub declared: bool,
 }
 
 /// What a part of a text of records is read as.
@@ -50,6 +52,7 @@ pub trait Records: Rules {
     ) -> Result<RecordReading<Self::Move>, Memory>
         ensures { IfOk result (λ read. reading_of read ≡ records.read text.now part) };
 
-    /// What is read is a game that the rules allow, with their score where they ended it.
+    /// What is read is a game that the rules allow, with their score where they ended it, and no declaration but where
+    /// the side to move may make one.
     ghost reads_games: { ReadsGames Self.rules records };
 }

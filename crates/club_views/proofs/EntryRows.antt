@@ -1,6 +1,6 @@
 -- The rows of a game's moves as the entries of its record.
 use Rattle.std.proofs.Common.{◌≡◌, ℕ, zero, suc, ◌≤◌, List, [], ◌∷◌, ◌++◌, length, take, drop, pos}
-use Rattle.std.proofs.Common.{Option, Some, Bool, Result, Ok, Err, refl, ap, sym, subst, ◌∙◌, arith}
+use Rattle.std.proofs.Common.{Option, Some, None, Bool, Result, Ok, Err, refl, ap, sym, subst, ◌∙◌, arith}
 use Rattle.std.proofs.Common.{take-append-drop}
 use Rattle.std.specs.Prelude.{slice_get, string_bytes}
 use Rattle.std.specs.Option.{option_map}
@@ -19,10 +19,13 @@ use Rattle.club_rules.specs.GameRules.{GameRules}
 use Rattle.club_rules.specs.Line.{position_after}
 use Rattle.club_rules.proofs.Proved.{check-at}
 use Rattle.club_core.specs.Events.{Terms}
-use Rattle.club_core.specs.Game.{Entry, Game, moves_of}
+use Rattle.club_requests.specs.declared.outside_end.OutsideEnd.{OutsideEnd}
+use Rattle.club_requests.specs.declared.outside_end.OutsideEnd.TheVariants.{Declared}
+use Rattle.club_core.specs.declared.rows.GameEnd.TheVariants.{Outside}
+use Rattle.club_core.specs.Game.{Entry, Game, moves_of, end_with, rule_end}
 use Rattle.club_core.specs.Legal.{IsLegalGame}
 use Rattle.club_exports.specs.Title.{Title, timed}
-use Rattle.club_exports.specs.Written.{AddsRecord, BeginsRecord}
+use Rattle.club_exports.specs.Written.{FitsMoves, AddsRecord, BeginsRecord}
 use Rattle.club_exports.specs.Exported.{IsWritten, IsNextText}
 use Rattle.club_exports.specs.declared.export.Export.{Export}
 use Rattle.club_rows.specs.Tables.{move_rows, at_start}
@@ -132,6 +135,18 @@ titled rules terms game names row title by is = record {
   end = by.end ∙ is.end;
   result = by.result ∙ is.result;
 }
+
+-- the end that a record tells of a legal game fits its moves
+pub title-fits : {P M E T : Type 0} (rules : GameRules P M E T) (terms : Terms) (names : Names) (game : Game M)
+    (title : Title E) → IsLegalGame rules terms game → IsTitleOf rules names game title
+    → FitsMoves rules title (moves_of game)
+title-fits {E = E} rules terms names game title legal is declared =
+    (legal.declared (outside (rule_end rules game) game.outside (sym is.end ∙ declared))).1
+  where
+    outside : (e : Option E) (o : Option OutsideEnd) → end_with e o ≡ Some (Outside Declared) → o ≡ Some Declared
+    outside (Some e) o told = cc
+    outside None None told = cc
+    outside None (Some end) told = let same : end ≡ Declared = cc in ap Some same
 
 -- the seconds of a game's record are counted from its start
 module _ {M E : Type 0} (IsText : Title E → List (M × ℕ) → List ℕ → Type 0) (title : Title E) (start : ℕ)

@@ -205,8 +205,11 @@ pub(crate) fn write_record<R: Exports, S: Alter, W: Write>(
         Ok(()) => {}
         Err(stopped) => return Err(stopped),
     }
-    export.finish(writer)?;
-    Ok(())
+    if export.finish(writer)? {
+        Ok(())
+    } else {
+        Err(Stopped::Call(CallFault::Store))
+    }
 }
 
 // The names of a stored game's event and of its players.

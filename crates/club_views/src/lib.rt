@@ -1,6 +1,6 @@
-//! What a reader is shown of a club, over a connection: a game and its legal moves, the record of a game, the cross table
-//! of an event. Reading changes nothing. A call fails with `Memory` where memory was refused, and with `Store` where a
-//! call of the database failed or where no club has the rows that it holds.
+//! What a reader is shown of a club, over a connection: a game and its legal moves, the record of a game, the cross
+//! table of an event. Reading changes nothing. A call fails with `Memory` where memory was refused, and with `Store`
+//! where a call of the database failed or where no club has the rows that it holds.
 #![tactic(auto)]
 
 mod cross_table;

@@ -286,7 +286,8 @@ fn program<'a>(alloc: Global) -> Result<clap::Command<'a>, AllocError> {
         .value_parser(value_parser!(u64).range(0..=253_402_300_799));
     clap::Command::new(alloc, "club")
         .about(
-            "Keeps a club's games of draughts and shogi in one file.\nStatus: 0 done, 1 refused, 2 bad words (and help), 3 a fault",
+            "Keeps a club's games of draughts and shogi in one file.\n\
+             Status: 0 done, 1 refused, 2 bad words (and help), 3 a fault",
         )
         .subcommand_required(true)
         .arg(now)?

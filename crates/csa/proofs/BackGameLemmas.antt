@@ -91,6 +91,7 @@ end-read word.Resigned = λ n. refl
 end-read word.TimeUp = λ n. refl
 end-read word.IllegalMove = λ n. refl
 end-read word.Mate = λ n. refl
+end-read word.Declared = λ n. refl
 end-read word.Repetition = λ n. refl
 end-read word.Impasse = λ n. refl
 end-read word.Draw = λ n. refl

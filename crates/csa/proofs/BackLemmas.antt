@@ -6,7 +6,10 @@ use Rattle.squares.specs.declared.sides.Side.TheVariants.{First, Second}
 use Rattle.squares.specs.declared.sides.Score.{Score}
 use Rattle.squares.specs.declared.sides.Score.TheVariants as score
 use Rattle.squares.specs.declared.shogi.moves.SMove.{SMove}
+use Rattle.squares.specs.Sides.{loses, other}
+use Rattle.squares.specs.ShogiSets.{ShogiPosition}
 use Rattle.squares.specs.ShogiOpening.{opening}
+use Rattle.shogi_moves.specs.Declaring.{CanDeclareIs}
 use Rattle.shogi_moves.specs.Laws.{CheckIs}
 use Rattle.shogi_repetition.specs.declared.ends.SEnd.{SEnd}
 use Rattle.shogi_repetition.specs.declared.ends.SEnd.TheVariants as by_rule
@@ -22,14 +25,14 @@ use Rattle.csa.specs.declared.head.CsaEnd.{CsaEnd}
 use Rattle.csa.specs.declared.head.CsaEnd.TheVariants as csa_end
 use Rattle.csa.specs.declared.lines.Placed.{Placed}
 use Rattle.csa.specs.declared.statements.Statement.TheVariants as statement
-use Rattle.csa.specs.Endings.{claimed, fits_rules, same_score, agrees, claim_settled, ending}
+use Rattle.csa.specs.Endings.{claimed, fits_rules, same_score, agrees, claim_settled, ending, says_declared}
 use Rattle.csa.specs.Lines.{text_statements}
 use Rattle.csa.specs.Records.{Plays, score_in, IsRecordOf, RecordFails}
 use Rattle.csa.specs.Replays.{written_moves}
 use Rattle.csa.specs.Reading.{records_of, AreRecordsOf, FailsAfter, SomeRecordFails, IsRefused}
 use Rattle.csa.specs.Writing.{recorded_word, rule_word, word_of}
 use Rattle.csa.specs.WrittenGame.{TellsEnd}
-use Rattle.csa.specs.BackLaws.{IsKept, moves_of, score_of, WrittenIsRead, RunningIsRefused}
+use Rattle.csa.specs.BackLaws.{IsKept, moves_of, score_of, is_declared, WrittenIsRead, RunningIsRefused}
 use Rattle.csa.proofs.OneReadingLemmas.{moves-unrefused}
 use Rattle.csa.proofs.OneTextLemmas.{same-score}
 use Rattle.csa.proofs.BackGameLemmas.{IsWhole, text-whole, played-all}
@@ -42,11 +45,11 @@ same-self score.Draw = refl
 same-self score.SecondWins = refl
 
 -- a claim that is settled
-settles : (w : EndWord) (turn : Side) (claim : Score) (end : Option SEnd) → claimed w turn ≡ Some claim
-    → fits_rules w end ≡ true → agrees claim turn end ≡ true → ending (Some w) turn end ≡ Ok claim
-settles w turn claim end says fits agreed =
-    ap (λ c. claim_settled w c turn end) says
-    ∙ ap (λ b. cond (b && agrees claim turn end) (Ok claim) (Err fault.ResultDiffers)) fits
+settles : (w : EndWord) (p : ShogiPosition) (claim : Score) (end : Option SEnd) → claimed w p.turn ≡ Some claim
+    → fits_rules w p end ≡ true → agrees claim p.turn end ≡ true → ending (Some w) p end ≡ Ok claim
+settles w p claim end says fits agreed =
+    ap (λ c. claim_settled w c p end) says
+    ∙ ap (λ b. cond (b && agrees claim p.turn end) (Ok claim) (Err fault.ResultDiffers)) fits
     ∙ ap (λ b. cond b (Ok claim) (Err fault.ResultDiffers)) agreed
 
 recorded-says : (claim : Score) (turn : Side) → claimed (recorded_word claim turn) turn ≡ Some claim
@@ -57,13 +60,14 @@ recorded-says score.SecondWins Second = refl
 recorded-says score.FirstWins First = refl
 recorded-says score.FirstWins Second = refl
 
-recorded-fits : (claim : Score) (turn : Side) (end : Option SEnd) → fits_rules (recorded_word claim turn) end ≡ true
-recorded-fits score.Draw First end = refl
-recorded-fits score.Draw Second end = refl
-recorded-fits score.SecondWins First end = refl
-recorded-fits score.SecondWins Second end = refl
-recorded-fits score.FirstWins First end = refl
-recorded-fits score.FirstWins Second end = refl
+recorded-fits : (claim : Score) (turn : Side) (p : ShogiPosition) (end : Option SEnd)
+    → fits_rules (recorded_word claim turn) p end ≡ true
+recorded-fits score.Draw First p end = refl
+recorded-fits score.Draw Second p end = refl
+recorded-fits score.SecondWins First p end = refl
+recorded-fits score.SecondWins Second p end = refl
+recorded-fits score.FirstWins First p end = refl
+recorded-fits score.FirstWins Second p end = refl
 
 rule-says : (end : SEnd) (turn : Side) → claimed (rule_word end) turn ≡ Some (outcome_of end turn)
 rule-says by_rule.NoMove turn = refl
@@ -72,31 +76,58 @@ rule-says (by_rule.PerpetualCheck Second) turn = refl
 rule-says by_rule.Fourfold turn = refl
 rule-says by_rule.PlyLimit turn = refl
 
-rule-fits : (end : SEnd) → fits_rules (rule_word end) (Some end) ≡ true
-rule-fits by_rule.NoMove = refl
-rule-fits (by_rule.PerpetualCheck First) = refl
-rule-fits (by_rule.PerpetualCheck Second) = refl
-rule-fits by_rule.Fourfold = refl
-rule-fits by_rule.PlyLimit = refl
+rule-fits : (end : SEnd) (p : ShogiPosition) → fits_rules (rule_word end) p (Some end) ≡ true
+rule-fits by_rule.NoMove p = refl
+rule-fits (by_rule.PerpetualCheck First) p = refl
+rule-fits (by_rule.PerpetualCheck Second) p = refl
+rule-fits by_rule.Fourfold p = refl
+rule-fits by_rule.PlyLimit p = refl
 
 -- an end that fits the rules is read as its score
-end-back : (end : CsaEnd) (turn : Side) (given : Option SEnd) → TellsEnd given (Some end) turn
-    → ending (Some (word_of (Some end) turn)) turn given ≡ Ok (score_of end turn)
-end-back (csa_end.Rule told) turn None tells = absurd tells
-end-back csa_end.Resigned turn None tells = refl
-end-back csa_end.Time turn None tells = refl
-end-back (csa_end.Recorded claim) turn None tells =
-    settles (recorded_word claim turn) turn claim None (recorded-says claim turn) (recorded-fits claim turn None) refl
-end-back (csa_end.Rule told) turn (Some given) tells =
-    settles (rule_word told) turn (outcome_of told turn) (Some given) (rule-says told turn)
-    (subst (λ e. fits_rules (rule_word told) (Some e) ≡ true) tells (rule-fits told))
-    (ap (λ e. same_score (outcome_of told turn) (outcome_of e turn)) (sym tells) ∙ same-self (outcome_of told turn))
-end-back csa_end.Resigned turn (Some given) tells = absurd tells
-end-back csa_end.Time turn (Some given) tells = absurd tells
-end-back (csa_end.Recorded claim) turn (Some given) tells =
-    settles (recorded_word claim turn) turn claim (Some given) (recorded-says claim turn)
-    (recorded-fits claim turn (Some given))
+end-back : CanDeclareIs → (end : CsaEnd) (p : ShogiPosition) (given : Option SEnd) → TellsEnd given (Some end) p
+    → ending (Some (word_of (Some end) p.turn)) p given ≡ Ok (score_of end p.turn)
+end-back declares (csa_end.Rule told) p None tells = absurd tells
+end-back declares csa_end.Resigned p None tells = refl
+end-back declares csa_end.Time p None tells = refl
+end-back declares csa_end.Declared p None tells =
+    settles word.Declared p (loses (other p.turn)) None refl ((declares p).1 tells) refl
+end-back declares (csa_end.Recorded claim) p None tells =
+    settles (recorded_word claim p.turn) p claim None (recorded-says claim p.turn) (recorded-fits claim p.turn p None)
+    refl
+end-back declares (csa_end.Rule told) p (Some given) tells =
+    settles (rule_word told) p (outcome_of told p.turn) (Some given) (rule-says told p.turn)
+    (subst (λ e. fits_rules (rule_word told) p (Some e) ≡ true) tells (rule-fits told p))
+    (ap (λ e. same_score (outcome_of told p.turn) (outcome_of e p.turn)) (sym tells)
+    ∙ same-self (outcome_of told p.turn))
+end-back declares csa_end.Resigned p (Some given) tells = absurd tells
+end-back declares csa_end.Time p (Some given) tells = absurd tells
+end-back declares csa_end.Declared p (Some given) tells = absurd tells
+end-back declares (csa_end.Recorded claim) p (Some given) tells =
+    settles (recorded_word claim p.turn) p claim (Some given) (recorded-says claim p.turn)
+    (recorded-fits claim p.turn p (Some given))
     (ap (same_score claim) (sym tells) ∙ same-self claim)
+
+-- the word of an end says a declaration exactly where the end is one
+rule-undeclared : (end : SEnd) → says_declared (Some (rule_word end)) ≡ false
+rule-undeclared by_rule.NoMove = refl
+rule-undeclared (by_rule.PerpetualCheck First) = refl
+rule-undeclared (by_rule.PerpetualCheck Second) = refl
+rule-undeclared by_rule.Fourfold = refl
+rule-undeclared by_rule.PlyLimit = refl
+
+recorded-undeclared : (claim : Score) (turn : Side) → says_declared (Some (recorded_word claim turn)) ≡ false
+recorded-undeclared score.Draw turn = refl
+recorded-undeclared score.SecondWins First = refl
+recorded-undeclared score.SecondWins Second = refl
+recorded-undeclared score.FirstWins First = refl
+recorded-undeclared score.FirstWins Second = refl
+
+declared-back : (end : CsaEnd) (turn : Side) → says_declared (Some (word_of (Some end) turn)) ≡ is_declared end
+declared-back (csa_end.Rule end) turn = rule-undeclared end
+declared-back csa_end.Resigned turn = refl
+declared-back csa_end.Time turn = refl
+declared-back csa_end.Declared turn = refl
+declared-back (csa_end.Recorded claim) turn = recorded-undeclared claim turn
 
 -- ---- the game
 
@@ -109,21 +140,23 @@ plays event black white end es w ss kept whole = record {
   ends = kept.fits.1;
 }
 
-pub written-back : WrittenIsRead
-written-back = λ event black white start end es text game kept is of.
+pub written-back : CanDeclareIs → WrittenIsRead
+written-back declares = λ event black white start end es text game kept is of.
     let ss : List Placed = text_statements text in
     let ms : List SMove = moves_of es in
-    let turn : Side = (last_position opening ms).turn in
+    let last : ShogiPosition = last_position opening ms in
+    let turn : Side = last.turn in
     let whole : IsWhole ms (word_of (Some end) turn) ss =
     text-whole event black white start (Some end) es text kept is in
     let given : Option SEnd = kept.fits.0 in
-    let said : score_in ss ms given ≡ Ok (score_of end turn) = ap (λ w. ending w turn given) whole.end
-    ∙ end-back end turn given kept.fits.2 in
+    let said : score_in ss ms given ≡ Ok (score_of end turn) = ap (λ w. ending w last given) whole.end
+    ∙ end-back declares end last given kept.fits.2 in
     let one : IsRecordOf ss game = record {
       end = given;
       plays = subst (λ l. Plays ss l given) (sym of.moves)
           (plays event black white (Some end) es (word_of (Some end) turn) ss kept whole);
       score = ap (λ l. score_in ss l given) of.moves ∙ said ∙ ap (λ s. Ok s) (sym of.score);
+      declared = of.declared ∙ sym (ap says_declared whole.end ∙ declared-back end turn);
     } in
     record { ordered = whole.ordered; records = subst (λ rs. AreRecordsOf rs (game ∷ [])) (sym whole.alone) (one, tt) }
 
@@ -192,11 +225,11 @@ pub running-back : CheckIs → NoLineHasTwoEnds → RunningIsRefused
 running-back laws one = λ event black white start es text kept is.
     let ss : List Placed = text_statements text in
     let ms : List SMove = moves_of es in
-    let turn : Side = (last_position opening ms).turn in
+    let last : ShogiPosition = last_position opening ms in
     let whole : IsWhole ms word.Interrupted ss = text-whole event black white start None es text kept is in
     let given : Option SEnd = kept.fits.0 in
     let p : Plays ss ms given = plays event black white None es word.Interrupted ss kept whole in
-    let said : score_in ss ms given ≡ Err fault.Unfinished = ap (λ w. ending w turn given) whole.end in
+    let said : score_in ss ms given ≡ Err fault.Unfinished = ap (λ w. ending w last given) whole.end in
     let fails : FailsAfter (records_of ss) fault.Unfinished = record {
       before = [];
       failing = ss;

@@ -1,9 +1,9 @@
 -- The faults of an end.
 use Rattle.std.proofs.Common.{◌≡◌, ◌⊎◌, inl, inr, Bool, true, false, cond, Option, Some, None, List, Result, Ok, Err}
 use Rattle.std.proofs.Common.{sym, subst}
-use Rattle.squares.specs.declared.sides.Side.{Side}
 use Rattle.squares.specs.declared.sides.Score.{Score}
 use Rattle.squares.specs.declared.shogi.moves.SMove.{SMove}
+use Rattle.squares.specs.ShogiSets.{ShogiPosition}
 use Rattle.squares.specs.ShogiOpening.{opening}
 use Rattle.shogi_repetition.specs.declared.ends.SEnd.{SEnd}
 use Rattle.shogi_repetition.specs.Line.{last_position}
@@ -22,21 +22,21 @@ differs : (b : Bool) (claim : Score) (f : CsaFault)
 differs true claim f e = absurd (cc)
 differs false claim f e = let is : f ≡ fault.ResultDiffers = cc in inr is
 
-of-claim : (w : EndWord) (claim : Option Score) (turn : Side) (end : Option SEnd) (f : CsaFault)
-    → claim_settled w claim turn end ≡ Err f → IsOfEnds f
-of-claim w None turn end f e = let is : f ≡ fault.Unfinished = cc in inl is
-of-claim w (Some claim) turn end f e = differs _ claim f e
+of-claim : (w : EndWord) (claim : Option Score) (p : ShogiPosition) (end : Option SEnd) (f : CsaFault)
+    → claim_settled w claim p end ≡ Err f → IsOfEnds f
+of-claim w None p end f e = let is : f ≡ fault.Unfinished = cc in inl is
+of-claim w (Some claim) p end f e = differs _ claim f e
 
-of-ends : (word : Option EndWord) (turn : Side) (end : Option SEnd) (f : CsaFault) → ending word turn end ≡ Err f
+of-ends : (word : Option EndWord) (p : ShogiPosition) (end : Option SEnd) (f : CsaFault) → ending word p end ≡ Err f
     → IsOfEnds f
-of-ends None turn end f e = let is : f ≡ fault.Unfinished = cc in inl is
-of-ends (Some w) turn end f e = of-claim w (claimed w turn) turn end f e
+of-ends None p end f e = let is : f ≡ fault.Unfinished = cc in inl is
+of-ends (Some w) p end f e = of-claim w (claimed w p.turn) p end f e
 
 -- a record whose end has a fault
 pub end-fails : (placed : List Placed) (ms : List SMove) (end : Option SEnd) (f : CsaFault) → Plays placed ms end
     → score_in placed ms end ≡ Err f → RecordFails placed f
 end-fails placed ms end f plays e =
-    elim (of-ends (end_in placed) (last_position opening ms).turn end f e) [
+    elim (of-ends (end_in placed) (last_position opening ms) end f e) [
       | inl unfinished ↦ subst (RecordFails placed) (sym unfinished)
           (record {
             moves = ms;

@@ -34,7 +34,7 @@ record-one one placed g h a b =
     let same = same-score one placed g.moves.items h.moves.items a.end b.end a.plays b.plays in
     let scores : ◌≡◌ {A = Result Score CsaFault} (Ok g.score) (Ok h.score) = sym a.score ∙ same.1 ∙ b.score in
     let score : g.score ≡ h.score = cc in
-    (same.0, score)
+    (same.0, score, a.declared ∙ sym b.declared)
 
 pub records-one : NoLineHasTwoEnds → (rs : List (List Placed)) (gs hs : List CsaGame) → AreRecordsOf rs gs
     → AreRecordsOf rs hs → SameGames gs hs

@@ -1,9 +1,9 @@
 -- What is written of a game is read as that game.
-use Rattle.std.specs.Prelude.{◌≡◌, ◌≢◌, ◌⊎◌, ℕ, Option, Some, None, List, [], ◌∷◌, map, length}
+use Rattle.std.specs.Prelude.{◌≡◌, ◌≢◌, ◌⊎◌, ℕ, Bool, true, false, Option, Some, None, List, [], ◌∷◌, map, length}
 use Rattle.squares.specs.declared.sides.Side.{Side}
 use Rattle.squares.specs.declared.sides.Score.{Score}
 use Rattle.squares.specs.declared.shogi.moves.SMove.{SMove}
-use Rattle.squares.specs.Sides.{loses}
+use Rattle.squares.specs.Sides.{loses, other}
 use Rattle.squares.specs.ShogiOpening.{opening}
 use Rattle.shogi_repetition.specs.Line.{last_position}
 use Rattle.shogi_repetition.specs.Ends.{outcome_of}
@@ -37,12 +37,18 @@ abbrev pub score_of : CsaEnd → Side → Score
 score_of (csa_end.Rule end) turn = outcome_of end turn
 score_of csa_end.Resigned turn = loses turn
 score_of csa_end.Time turn = loses turn
+score_of csa_end.Declared turn = loses (other turn)
 score_of (csa_end.Recorded score) turn = score
 
--- the game has these moves and the score of that end
+abbrev pub is_declared : CsaEnd → Bool
+is_declared csa_end.Declared = true
+is_declared _ = false
+
+-- the game has these moves and the score of that end, and ended with a declaration where that is one
 pub record IsOf (game : CsaGame) (end : CsaEnd) (entries : List (SMove × ℕ)) : Type 0 where
   pub moves : game.moves.items ≡ moves_of entries
   pub score : game.score ≡ score_of end (last_position opening (moves_of entries)).turn
+  pub declared : game.declared ≡ is_declared end
 
 -- the text of such a game that ended is that of one game: its moves, and the score of its end
 abbrev pub WrittenIsRead : Type 0

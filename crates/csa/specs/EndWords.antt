@@ -9,6 +9,7 @@ word_text word.Resigned = codes "%TORYO"
 word_text word.TimeUp = codes "%TIME_UP"
 word_text word.IllegalMove = codes "%ILLEGAL_MOVE"
 word_text word.Mate = codes "%TSUMI"
+word_text word.Declared = codes "%KACHI"
 word_text word.Repetition = codes "%SENNICHITE"
 word_text word.Impasse = codes "%JISHOGI"
 word_text word.Draw = codes "%HIKIWAKE"
@@ -17,8 +18,8 @@ word_text word.WhiteIllegal = codes "%-ILLEGAL_ACTION"
 word_text word.Interrupted = codes "%CHUDAN"
 
 abbrev pub end_words : List EndWord
-end_words = word.Resigned ∷ word.TimeUp ∷ word.IllegalMove ∷ word.Mate ∷ word.Repetition ∷ word.Impasse ∷ word.Draw
-    ∷ word.BlackIllegal ∷ word.WhiteIllegal ∷ word.Interrupted ∷ []
+end_words = word.Resigned ∷ word.TimeUp ∷ word.IllegalMove ∷ word.Mate ∷ word.Declared ∷ word.Repetition
+    ∷ word.Impasse ∷ word.Draw ∷ word.BlackIllegal ∷ word.WhiteIllegal ∷ word.Interrupted ∷ []
 
 -- the word that a statement writes
 abbrev pub end_word : List ℕ → Option EndWord

@@ -4,7 +4,9 @@ use Rattle.squares.specs.declared.sides.Side.{Side}
 use Rattle.squares.specs.declared.sides.Side.TheVariants.{First, Second}
 use Rattle.squares.specs.declared.sides.Score.{Score}
 use Rattle.squares.specs.declared.sides.Score.TheVariants as score
-use Rattle.squares.specs.Sides.{loses}
+use Rattle.squares.specs.Sides.{loses, other}
+use Rattle.squares.specs.ShogiSets.{ShogiPosition}
+use Rattle.shogi_moves.specs.Declaring.{can_declare}
 use Rattle.shogi_repetition.specs.declared.ends.SEnd.{SEnd}
 use Rattle.shogi_repetition.specs.declared.ends.SEnd.TheVariants as by_rule
 use Rattle.shogi_repetition.specs.Ends.{outcome_of}
@@ -19,6 +21,7 @@ claimed word.Resigned turn = Some (loses turn)
 claimed word.TimeUp turn = Some (loses turn)
 claimed word.IllegalMove turn = Some (loses turn)
 claimed word.Mate turn = Some (loses turn)
+claimed word.Declared turn = Some (loses (other turn))
 claimed word.Repetition turn = Some score.Draw
 claimed word.Impasse turn = Some score.Draw
 claimed word.Draw turn = Some score.Draw
@@ -26,13 +29,15 @@ claimed word.BlackIllegal turn = Some (loses First)
 claimed word.WhiteIllegal turn = Some (loses Second)
 claimed word.Interrupted turn = None
 
--- A mate stands only where the rules ended the game by no move, and a repetition where they ended it as a fourfold one.
-abbrev pub fits_rules : EndWord → Option SEnd → Bool
-fits_rules word.Mate (Some by_rule.NoMove) = true
-fits_rules word.Mate _ = false
-fits_rules word.Repetition (Some by_rule.Fourfold) = true
-fits_rules word.Repetition _ = false
-fits_rules _ end = true
+-- By the last position and the end that the rules give the moves: a mate stands only where the rules ended the game by
+-- no move, a repetition where they ended it as a fourfold one, and a declaration where the side to move may make one.
+abbrev pub fits_rules : EndWord → ShogiPosition → Option SEnd → Bool
+fits_rules word.Mate p (Some by_rule.NoMove) = true
+fits_rules word.Mate p _ = false
+fits_rules word.Repetition p (Some by_rule.Fourfold) = true
+fits_rules word.Repetition p _ = false
+fits_rules word.Declared p end = can_declare p
+fits_rules _ p end = true
 
 abbrev pub same_score : Score → Score → Bool
 same_score score.FirstWins score.FirstWins = true
@@ -45,14 +50,19 @@ abbrev pub agrees : Score → Side → Option SEnd → Bool
 agrees claim turn None = true
 agrees claim turn (Some end) = same_score claim (outcome_of end turn)
 
-abbrev pub settled : EndWord → Score → Side → Option SEnd → Result Score CsaFault
-settled w claim turn end = if fits_rules w end && agrees claim turn end then Ok claim else Err fault.ResultDiffers
+abbrev pub settled : EndWord → Score → ShogiPosition → Option SEnd → Result Score CsaFault
+settled w claim p end = if fits_rules w p end && agrees claim p.turn end then Ok claim else Err fault.ResultDiffers
 
-abbrev pub claim_settled : EndWord → Option Score → Side → Option SEnd → Result Score CsaFault
-claim_settled w None turn end = Err fault.Unfinished
-claim_settled w (Some claim) turn end = settled w claim turn end
+abbrev pub claim_settled : EndWord → Option Score → ShogiPosition → Option SEnd → Result Score CsaFault
+claim_settled w None p end = Err fault.Unfinished
+claim_settled w (Some claim) p end = settled w claim p end
 
--- the score of a record that ends so, by the side to move and by the end that the rules give its moves
-abbrev pub ending : Option EndWord → Side → Option SEnd → Result Score CsaFault
-ending None turn end = Err fault.Unfinished
-ending (Some w) turn end = claim_settled w (claimed w turn) turn end
+-- the score of a record that ends so, by its last position and by the end that the rules give its moves
+abbrev pub ending : Option EndWord → ShogiPosition → Option SEnd → Result Score CsaFault
+ending None p end = Err fault.Unfinished
+ending (Some w) p end = claim_settled w (claimed w p.turn) p end
+
+-- the record ends with a declaration
+abbrev pub says_declared : Option EndWord → Bool
+says_declared (Some word.Declared) = true
+says_declared _ = false

@@ -5,9 +5,9 @@ use Rattle.csa.specs.declared.faults.CsaFault.TheVariants as fault
 use Rattle.csa.specs.declared.game.CsaGame.{CsaGame}
 use Rattle.csa.specs.Reading.{IsTextOf, IsRefused}
 
--- two games with the same moves and the same score
+-- two games with the same moves and the same score, both with a declaration or neither
 abbrev pub SameGame : CsaGame → CsaGame → Type 0
-SameGame g h = (g.moves.items ≡ h.moves.items) × (g.score ≡ h.score)
+SameGame g h = (g.moves.items ≡ h.moves.items) × (g.score ≡ h.score) × (g.declared ≡ h.declared)
 
 abbrev pub SameGames : List CsaGame → List CsaGame → Type 0
 SameGames [] [] = Unit {0}

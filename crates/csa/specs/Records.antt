@@ -15,7 +15,7 @@ use Rattle.csa.specs.declared.lines.Placed.{Placed}
 use Rattle.csa.specs.declared.game.CsaGame.{CsaGame}
 use Rattle.csa.specs.declared.statements.Statement.{Statement}
 use Rattle.csa.specs.declared.statements.Statement.TheVariants as statement
-use Rattle.csa.specs.Endings.{ending}
+use Rattle.csa.specs.Endings.{ending, says_declared}
 use Rattle.csa.specs.Replays.{written_moves, AreMoves, RefusesMove}
 
 -- whether a statement leaves the game its even opening, in which Black begins
@@ -48,13 +48,14 @@ pub record Plays (placed : List Placed) (ms : List SMove) (end : Option SEnd) : 
 
 -- the score with which a record of these moves ends
 abbrev pub score_in : List Placed → List SMove → Option SEnd → Result Score CsaFault
-score_in placed ms end = ending (end_in placed) (last_position opening ms).turn end
+score_in placed ms end = ending (end_in placed) (last_position opening ms) end
 
 -- the record is that of the game
 pub record IsRecordOf (placed : List Placed) (game : CsaGame) : Type 0 where
   pub end : Option SEnd
   pub plays : Plays placed game.moves.items end
   pub score : score_in placed game.moves.items end ≡ Ok game.score
+  pub declared : game.declared ≡ says_declared (end_in placed)
 
 -- all moves of the record are played by the rules, and its end has the fault
 pub record EndFails (placed : List Placed) (f : CsaFault) : Type 0 where

@@ -1,13 +1,15 @@
 -- A game that is written move by move.
-use Rattle.std.specs.Prelude.{◌≡◌, ℕ, Option, List, [], ◌∷◌, ◌++◌, map}
+use Rattle.std.specs.Prelude.{◌≡◌, ℕ, Option, Some, List, [], ◌∷◌, ◌++◌, map}
 use Rattle.std.specs.Io.KnownBytes.{Appends}
 use Rattle.record_writer.specs.Pieces.{AppendsSome}
 use Rattle.clocks.specs.declared.dates.CivilTime.{CivilTime}
 use Rattle.clocks.specs.Civil.{IsCivil}
 use Rattle.squares.specs.declared.shogi.moves.SMove.{SMove}
 use Rattle.squares.specs.ShogiOpening.{opening}
+use Rattle.shogi_moves.specs.Declaring.{CanDeclare}
 use Rattle.shogi_moves.specs.Rules.{Legal}
 use Rattle.shogi_repetition.specs.Line.{last_position}
+use Rattle.csa.specs.declared.head.CsaEnd.TheVariants as csa_end
 use Rattle.csa.specs.declared.head.CsaHead.{CsaHead}
 use Rattle.csa.specs.declared.game_writer.GameWriter.{GameWriter}
 use Rattle.csa.specs.Writing.{head_text, entries_text}
@@ -39,6 +41,11 @@ pub record HasWritten (head : CsaHead) (entries : List (SMove × ℕ)) (before n
 -- the move is legal after those that are written
 abbrev pub MayFollow : GameWriter → SMove → Type 0
 MayFollow game m = Legal game.position m
+
+-- the end of the game fits the position after the moves that are written: a declaration needs one in which the side to
+-- move may make it
+abbrev pub MayEnd : GameWriter → Type 0
+MayEnd game = game.end ≡ Some csa_end.Declared → CanDeclare game.position
 
 -- whatever was written, one move more is
 abbrev pub AddsEntry : SMove × ℕ → GameWriter → GameWriter → Option (List ℕ) → Option (List ℕ) → Type 0

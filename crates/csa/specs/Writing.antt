@@ -98,6 +98,7 @@ word_of None turn = word.Interrupted
 word_of (Some (csa_end.Rule end)) turn = rule_word end
 word_of (Some csa_end.Resigned) turn = word.Resigned
 word_of (Some csa_end.Time) turn = word.TimeUp
+word_of (Some csa_end.Declared) turn = word.Declared
 word_of (Some (csa_end.Recorded claim)) turn = recorded_word claim turn
 
 abbrev pub end_text : Option CsaEnd → Side → List ℕ

@@ -2,9 +2,10 @@
 use Rattle.std.specs.Prelude.{◌≡◌, ℕ, Option, Some, None, List, ◌++◌, map}
 use Rattle.clocks.specs.declared.dates.CivilTime.{CivilTime}
 use Rattle.clocks.specs.Civil.{IsCivil}
-use Rattle.squares.specs.declared.sides.Side.{Side}
 use Rattle.squares.specs.declared.shogi.moves.SMove.{SMove}
+use Rattle.squares.specs.ShogiSets.{ShogiPosition}
 use Rattle.squares.specs.ShogiOpening.{opening}
+use Rattle.shogi_moves.specs.Declaring.{CanDeclare}
 use Rattle.shogi_repetition.specs.declared.ends.SEnd.{SEnd}
 use Rattle.shogi_repetition.specs.Line.{last_position}
 use Rattle.shogi_repetition.specs.Ends.{EndsSo, outcome_of}
@@ -12,17 +13,19 @@ use Rattle.csa.specs.declared.head.CsaEnd.{CsaEnd}
 use Rattle.csa.specs.declared.head.CsaEnd.TheVariants as csa_end
 use Rattle.csa.specs.Writing.{head_text, entries_text, end_text}
 
--- Where the rules gave the game an end, it is told as that end or as its score. Where they gave none, no rule is told.
-abbrev pub TellsEnd : Option SEnd → Option CsaEnd → Side → Type 0
-TellsEnd (Some end) (Some (csa_end.Rule told)) turn = told ≡ end
-TellsEnd (Some end) (Some (csa_end.Recorded claim)) turn = claim ≡ outcome_of end turn
-TellsEnd (Some end) _ turn = ⊥
-TellsEnd None (Some (csa_end.Rule told)) turn = ⊥
-TellsEnd None _ turn = Unit {0}
+-- Where the rules gave the game an end, it is told as that end or as its score. Where they gave none, no rule is told,
+-- and a declaration only where the side to move may make one in the last position.
+abbrev pub TellsEnd : Option SEnd → Option CsaEnd → ShogiPosition → Type 0
+TellsEnd (Some end) (Some (csa_end.Rule told)) p = told ≡ end
+TellsEnd (Some end) (Some (csa_end.Recorded claim)) p = claim ≡ outcome_of end p.turn
+TellsEnd (Some end) _ p = ⊥
+TellsEnd None (Some (csa_end.Rule told)) p = ⊥
+TellsEnd None (Some csa_end.Declared) p = CanDeclare p
+TellsEnd None _ p = Unit {0}
 
 -- the end fits the line of moves
 abbrev pub FitsEnd : Option CsaEnd → List SMove → Type 0
-FitsEnd told ms = (end : Option SEnd) × EndsSo opening ms end × TellsEnd end told (last_position opening ms).turn
+FitsEnd told ms = (end : Option SEnd) × EndsSo opening ms end × TellsEnd end told (last_position opening ms)
 
 -- the one text of a game: the head with what a clock in UTC shows at the start, the moves with their seconds, and the
 -- end

@@ -14,6 +14,8 @@ pub enum EndWord {
     IllegalMove,
     /// The side to move is mated.
     Mate,
+    /// The side to move declared that its king has entered the enemy's camp, and won.
+    Declared,
     /// The position stands for the fourth time.
     Repetition,
     /// A draw by impasse.
@@ -30,11 +32,12 @@ pub enum EndWord {
 
 impl EndWord {
     /// All of them.
-    pub const ALL: [EndWord; 10] = [
+    pub const ALL: [EndWord; 11] = [
         EndWord::Resigned,
         EndWord::TimeUp,
         EndWord::IllegalMove,
         EndWord::Mate,
+        EndWord::Declared,
         EndWord::Repetition,
         EndWord::Impasse,
         EndWord::Draw,
@@ -52,6 +55,7 @@ impl EndWord {
             EndWord::TimeUp => "%TIME_UP",
             EndWord::IllegalMove => "%ILLEGAL_MOVE",
             EndWord::Mate => "%TSUMI",
+            EndWord::Declared => "%KACHI",
             EndWord::Repetition => "%SENNICHITE",
             EndWord::Impasse => "%JISHOGI",
             EndWord::Draw => "%HIKIWAKE",

@@ -1,11 +1,12 @@
 //! What the end of a record says of the score.
 ghost use Rattle.std.specs.Prelude.{◌≡◌};
-ghost use Rattle.csa.specs.Endings.{claimed, fits_rules, same_score, agrees, settled, ending};
+ghost use Rattle.csa.specs.Endings.{claimed, fits_rules, same_score, agrees, settled, ending, says_declared};
 
 use crate::end_words::EndWord;
 use crate::faults::CsaFault;
+use shogi_moves::can_declare;
 use shogi_repetition::SEnd;
-use squares::{Score, Side};
+use squares::{SPos, Score, Side};
 
 // The score that an end claims, by the side to move, or none where it leaves the game unfinished.
 fn claimed(word: EndWord, turn: Side) -> Option<Score>
@@ -15,6 +16,7 @@ fn claimed(word: EndWord, turn: Side) -> Option<Score>
         EndWord::Resigned | EndWord::TimeUp | EndWord::IllegalMove | EndWord::Mate => {
             Some(Score::lost_by(turn))
         }
+        EndWord::Declared => Some(Score::lost_by(turn.other())),
         EndWord::Repetition | EndWord::Impasse | EndWord::Draw => Some(Score::Draw),
         EndWord::BlackIllegal => Some(Score::lost_by(Side::First)),
         EndWord::WhiteIllegal => Some(Score::lost_by(Side::Second)),
@@ -22,9 +24,10 @@ fn claimed(word: EndWord, turn: Side) -> Option<Score>
     }
 }
 
-// Whether the rules ended the game so, where the end says that they did.
-fn fits_rules(word: EndWord, end: Option<SEnd>) -> bool
-    ensures { result ≡ fits_rules word end }
+// Whether the rules ended the game so, where the end says that they did, and whether the side to move may declare,
+// where the end says that it did.
+fn fits_rules(word: EndWord, position: &SPos, end: Option<SEnd>) -> bool
+    ensures { result ≡ fits_rules word position.now end }
 {
     match word {
         EndWord::Mate => match end {
@@ -35,6 +38,7 @@ fn fits_rules(word: EndWord, end: Option<SEnd>) -> bool
             Some(SEnd::Fourfold) => true,
             _ => false,
         },
+        EndWord::Declared => can_declare(position),
         _ => true,
     }
 }
@@ -61,24 +65,39 @@ fn agrees(score: Score, turn: Side, end: Option<SEnd>) -> bool
 }
 
 // The score of a claim, if it differs from nothing that the rules say.
-fn settle(word: EndWord, score: Score, turn: Side, end: Option<SEnd>) -> Result<Score, CsaFault>
-    ensures { result ≡ settled word score turn end }
+fn settle(
+    word: EndWord,
+    score: Score,
+    position: &SPos,
+    end: Option<SEnd>,
+) -> Result<Score, CsaFault>
+    ensures { result ≡ settled word score position.now end }
 {
-    if fits_rules(word, end) && agrees(score, turn, end) {
+    if fits_rules(word, position, end) && agrees(score, position.turn(), end) {
         return Ok(score);
     }
     Err(CsaFault::ResultDiffers)
 }
 
-/// The score that a record ends with, by the side to move and the end that the rules give its moves.
-pub fn ending(word: Option<EndWord>, turn: Side, end: Option<SEnd>) -> Result<Score, CsaFault>
-    ensures { result ≡ ending word turn end }
+/// Whether a record ends with a declaration.
+pub fn says_declared(word: Option<EndWord>) -> bool
+    ensures { result ≡ says_declared word }
+{
+    match word {
+        Some(EndWord::Declared) => true,
+        _ => false,
+    }
+}
+
+/// The score that a record ends with, by its last position and the end that the rules give its moves.
+pub fn ending(word: Option<EndWord>, position: &SPos, end: Option<SEnd>) -> Result<Score, CsaFault>
+    ensures { result ≡ ending word position.now end }
 {
     match word {
         None => Err(CsaFault::Unfinished),
-        Some(word) => match claimed(word, turn) {
+        Some(word) => match claimed(word, position.turn()) {
             None => Err(CsaFault::Unfinished),
-            Some(score) => settle(word, score, turn, end),
+            Some(score) => settle(word, score, position, end),
         },
     }
 }

@@ -1,12 +1,12 @@
 //! Games written move by move.
 
-ghost use Rattle.std.specs.Prelude.{◌≡◌, [], IfOk, OnOk, OnErr};
+ghost use Rattle.std.specs.Prelude.{◌≡◌, ◌↔◌, [], IsTrue, IfOk, OnOk, OnErr};
 
 use crate::head::{CsaEnd, CsaHead};
 use crate::writing::{push_end, push_entry, push_head};
 use clocks::civil;
 use record_writer::{WriteFault, write_piece};
-use shogi_moves::play;
+use shogi_moves::{can_declare, play};
 use squares::{SMove, SPos};
 use std::alloc::Global;
 use std::io::Write;
@@ -22,7 +22,7 @@ pub struct GameWriter {
 }
 
 impl GameWriter {
-    ghost use Rattle.csa.specs.Writer.{lines_text, HasBegun, HasWritten, MayFollow, AddsEntry, BeginsEntry};
+    ghost use Rattle.csa.specs.Writer.{lines_text, HasBegun, HasWritten, MayFollow, MayEnd, AddsEntry, BeginsEntry};
     ghost use Rattle.csa.specs.Writer.{StandsStill};
     ghost use Rattle.csa.specs.Writer.{Finishes, BeginsEnd};
 
@@ -69,8 +69,21 @@ impl GameWriter {
         Ok(())
     }
 
-    /// Writes the end: what was written is the one text of the game.
+    /// Whether the end of the game fits the moves that are written: a declaration needs a position after them in which
+    /// the side to move may make it.
+    pub fn may_end(&self) -> bool
+        ensures { IsTrue result ↔ MayEnd self.now }
+    {
+        match self.end {
+            Some(CsaEnd::Declared) => can_declare(&self.position),
+            _ => true,
+        }
+    }
+
+    /// Writes the end: what was written is the one text of the game. A declaration is written only where the side to
+    /// move may make one.
     pub fn finish<W: Write>(self, writer: &mut W) -> Result<(), WriteFault>
+        requires { MayEnd self }
         ensures written { OnOk result (Finishes self (W.contents writer.old) (W.contents writer.new)) }
         ensures begun { BeginsEnd self (W.contents writer.old) (W.contents writer.new) }
         ensures refused { result ≡ Err WriteFault.Memory → writer.new ≡ writer.old }

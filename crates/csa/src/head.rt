@@ -13,6 +13,8 @@ pub enum CsaEnd {
     Resigned,
     /// The side to move ran out of time.
     Time,
+    /// The side to move declared that it had won.
+    Declared,
     /// As a record said.
     Recorded(Score),
 }

@@ -7,7 +7,7 @@ ghost use Rattle.csa.specs.Replaying.{Stands};
 ghost use Rattle.csa.specs.Records.{is_even, begins_even, end_in, IsRecordOf, RecordFails};
 
 use crate::end_words::EndWord;
-use crate::endings::ending;
+use crate::endings::{ending, says_declared};
 use crate::faults::CsaFault;
 use crate::game::CsaGame;
 use crate::lines::Placed;
@@ -61,11 +61,13 @@ fn game_of(placed: &[Placed], replay: Replay) -> Result<CsaGame, CsaFault>
     ensures fault { IfErr result (RecordFails placed.now) }
 {
     let end = replay.marks.end();
-    match ending(end_in(placed), replay.position.turn(), end) {
+    let word = end_in(placed);
+    match ending(word, &replay.position, end) {
         Err(fault) => Err(fault),
         Ok(score) => Ok(CsaGame {
             moves: replay.moves,
             score,
+            declared: says_declared(word),
         }),
     }
 }

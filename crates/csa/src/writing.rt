@@ -161,6 +161,7 @@ fn word_of(end: Option<CsaEnd>, turn: Side) -> EndWord
             CsaEnd::Rule(end) => rule_word(end),
             CsaEnd::Resigned => EndWord::Resigned,
             CsaEnd::Time => EndWord::TimeUp,
+            CsaEnd::Declared => EndWord::Declared,
             CsaEnd::Recorded(score) => recorded_word(score, turn),
         },
     }

@@ -133,6 +133,7 @@ impl Toy {
             GameCommand::AcceptDraw { ply: _ } => ends(OutsideEnd::Agreed, Score::Draw),
             GameCommand::Resign => ends(OutsideEnd::Resigned, Score::SecondWins),
             GameCommand::ClaimTime => ends(OutsideEnd::Time, Score::FirstWins),
+            GameCommand::Declare { ply: _ } => ends(OutsideEnd::Declared, Score::FirstWins),
         };
         Ok(Outcome::Accepted(answer))
     }

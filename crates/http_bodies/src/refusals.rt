@@ -43,6 +43,7 @@ fn club_status(refusal: ClubRefusal) -> u16
         ClubRefusal::NoOffer => 409,
         ClubRefusal::NameTaken => 409,
         ClubRefusal::Full => 409,
+        ClubRefusal::NotDeclarable => 409,
         ClubRefusal::NotInThisGame => 422,
         ClubRefusal::BadValue => 422,
         ClubRefusal::Play { ply: _, refusal: _ } => 422,

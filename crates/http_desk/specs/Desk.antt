@@ -14,7 +14,8 @@ use Rattle.http_bodies.specs.declared.refusals.Refusal.{Refusal}
 use Rattle.http_bodies.specs.declared.refusals.Refusal.TheVariants.{Head, NoRoute, WrongMethod, BadBody, Club as OfClub}
 use Rattle.http_desk.specs.declared.faults.ClubFault.{ClubFault}
 use Rattle.http_desk.specs.Faults.{club_fault_number, club_fault_name}
-use Rattle.http_desk.specs.Routes.{Turn, make_move, offer_draw, accept_draw, resign, claim_time, Asked, game_view}
+use Rattle.http_desk.specs.Routes.{Turn, make_move, offer_draw, accept_draw, resign, claim_time, declare}
+use Rattle.http_desk.specs.Routes.{Asked, game_view}
 use Rattle.http_desk.specs.Routes.{legal_moves, cross_table, on_game, challenge, withdraw, answer, asked_of, method_of}
 use Rattle.http_bodies.specs.Reply.{refusal_reply, json_text_reply, plain_reply, fault_reply}
 use Rattle.http_bodies.specs.Shown.{GameShown}
@@ -77,6 +78,7 @@ command_given (offer_draw ply) body = Some (play.offer_draw ply)
 command_given (accept_draw ply) body = Some (play.accept_draw ply)
 command_given resign body = Some play.resign
 command_given claim_time body = Some play.claim_time
+command_given (declare ply) body = Some (play.declare ply)
 
 -- accepted and repeated commands have the same answer
 abbrev pub outcome_answer : ℕ → Outcome (Unit {0}) → Answer

@@ -3,8 +3,8 @@ use Rattle.http_desk.specs.declared.routes.Turn as given_turn
 use Rattle.http_desk.specs.declared.routes.Turn.TheVariants as turn
 use Rattle.http_desk.specs.declared.routes.Asked as given
 use Rattle.http_desk.specs.declared.routes.Asked.TheVariants as asked
-use Rattle.http_desk.specs.Routes.{Turn, make_move, offer_draw, accept_draw, resign, claim_time, Asked, game_view}
-use Rattle.http_desk.specs.Routes.{legal_moves, cross_table, on_game, challenge, withdraw, answer}
+use Rattle.http_desk.specs.Routes.{Turn, make_move, offer_draw, accept_draw, resign, claim_time, declare}
+use Rattle.http_desk.specs.Routes.{Asked, game_view, legal_moves, cross_table, on_game, challenge, withdraw, answer}
 
 abbrev pub turn_view : given_turn.Turn → Turn
 turn_view (turn.MakeMove ply) = make_move ply
@@ -12,6 +12,7 @@ turn_view (turn.OfferDraw ply) = offer_draw ply
 turn_view (turn.AcceptDraw ply) = accept_draw ply
 turn_view turn.Resign = resign
 turn_view turn.ClaimTime = claim_time
+turn_view (turn.Declare ply) = declare ply
 
 abbrev pub asked_view : given.Asked → Asked
 asked_view (asked.GameView game) = game_view game

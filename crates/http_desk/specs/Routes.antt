@@ -10,7 +10,8 @@ use Rattle.matchit.specs.Seek.{first}
 use Rattle.matchit.specs.declared.error.InsertError.{InsertError}
 use Rattle.http_desk.specs.declared.routes.Page.{Page}
 use Rattle.http_desk.specs.declared.routes.Page.TheVariants.{GameView, LegalMoves, CrossTable, MakeMove, OfferDraw}
-use Rattle.http_desk.specs.declared.routes.Page.TheVariants.{AcceptDraw, Resign, ClaimTime, Challenge, Withdraw, Answer}
+use Rattle.http_desk.specs.declared.routes.Page.TheVariants.{AcceptDraw, Resign, ClaimTime, Declare}
+use Rattle.http_desk.specs.declared.routes.Page.TheVariants.{Challenge, Withdraw, Answer}
 use Rattle.http_bodies.specs.declared.refusals.Method.{Method}
 use Rattle.http_bodies.specs.declared.refusals.Method.TheVariants.{Get, Post}
 use Rattle.http_head.specs.Head.{number_of}
@@ -56,6 +57,7 @@ routes =
     with_route (parse_route (codes "/answers/{member}/{number}")) Answer
     (with_route (parse_route (codes "/challenges/{number}/withdraw")) Withdraw
     (with_route (parse_route (codes "/challenges/{number}")) Challenge
+    (with_route (parse_route (codes "/games/{id}/declare/{ply}")) Declare
     (with_route (parse_route (codes "/games/{id}/claim-time")) ClaimTime
     (with_route (parse_route (codes "/games/{id}/resign")) Resign
     (with_route (parse_route (codes "/games/{id}/draw/{ply}/accept")) AcceptDraw
@@ -63,7 +65,7 @@ routes =
     (with_route (parse_route (codes "/games/{id}/moves/{ply}")) MakeMove
     (with_route (parse_route (codes "/events/{name}/table")) CrossTable
     (with_route (parse_route (codes "/games/{id}/legal")) LegalMoves
-    (with_route (parse_route (codes "/games/{id}")) GameView []))))))))))
+    (with_route (parse_route (codes "/games/{id}")) GameView [])))))))))))
 
 -- the page that `matchit` gives of a path
 abbrev pub page_of : List ℕ → Option Page
@@ -86,6 +88,7 @@ pub data Turn : Type 0 where
   accept_draw : (ply : ℕ) → Turn
   resign : Turn
   claim_time : Turn
+  declare : (ply : ℕ) → Turn
 
 -- what a path asks for
 pub data Asked : Type 0 where
@@ -125,6 +128,7 @@ asked_of_page (Some AcceptDraw) path = ply_asked accept_draw (number_of (second_
     (number_of (fourth_part path))
 asked_of_page (Some Resign) path = turn_asked resign (number_of (second_part path))
 asked_of_page (Some ClaimTime) path = turn_asked claim_time (number_of (second_part path))
+asked_of_page (Some Declare) path = ply_asked declare (number_of (second_part path)) (number_of (fourth_part path))
 asked_of_page (Some Challenge) path = option_map challenge (number_of (second_part path))
 asked_of_page (Some Withdraw) path = option_map withdraw (number_of (second_part path))
 asked_of_page (Some Answer) path = answer_asked (text_of (second_part path)) (number_of (third_part path))

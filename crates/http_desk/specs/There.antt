@@ -4,7 +4,8 @@ use Rattle.matchit.specs.Order.{lookup}
 use Rattle.matchit.specs.Route.{Scan, parse_route}
 use Rattle.http_desk.specs.declared.routes.Page.{Page}
 use Rattle.http_desk.specs.declared.routes.Page.TheVariants.{GameView, LegalMoves, CrossTable, MakeMove, OfferDraw}
-use Rattle.http_desk.specs.declared.routes.Page.TheVariants.{AcceptDraw, Resign, ClaimTime, Challenge, Withdraw, Answer}
+use Rattle.http_desk.specs.declared.routes.Page.TheVariants.{AcceptDraw, Resign, ClaimTime, Declare}
+use Rattle.http_desk.specs.declared.routes.Page.TheVariants.{Challenge, Withdraw, Answer}
 use Rattle.http_desk.specs.Routes.{page_of, routes}
 
 -- the text of a route reads, and its pattern leads to the page
@@ -22,6 +23,7 @@ pub record AreThere : Type 0 where
   pub accept : LeadsTo (codes "/games/{id}/draw/{ply}/accept") AcceptDraw
   pub resigns : LeadsTo (codes "/games/{id}/resign") Resign
   pub claims : LeadsTo (codes "/games/{id}/claim-time") ClaimTime
+  pub declares : LeadsTo (codes "/games/{id}/declare/{ply}") Declare
   pub opens : LeadsTo (codes "/challenges/{number}") Challenge
   pub withdraws : LeadsTo (codes "/challenges/{number}/withdraw") Withdraw
   pub answers : LeadsTo (codes "/answers/{member}/{number}") Answer
@@ -36,6 +38,7 @@ pub record AreFound : Type 0 where
   pub accept : page_of (codes "/games/7/draw/5/accept") ≡ Some AcceptDraw
   pub resigns : page_of (codes "/games/7/resign") ≡ Some Resign
   pub claims : page_of (codes "/games/7/claim-time") ≡ Some ClaimTime
+  pub declares : page_of (codes "/games/7/declare/5") ≡ Some Declare
   pub opens : page_of (codes "/challenges/3") ≡ Some Challenge
   pub withdraws : page_of (codes "/challenges/3/withdraw") ≡ Some Withdraw
   pub answers : page_of (codes "/answers/anna/3") ≡ Some Answer

@@ -36,6 +36,9 @@ fn command_given(alloc: Global, turn: Turn, body: &[u8]) -> Result<Option<GameCo
         })),
         Turn::Resign => Ok(Some(GameCommand::Resign)),
         Turn::ClaimTime => Ok(Some(GameCommand::ClaimTime)),
+        Turn::Declare(ply) => Ok(Some(GameCommand::Declare {
+            ply: u64::from(ply),
+        })),
     }
 }
 

@@ -5,7 +5,8 @@ ghost use Rattle.matchit.specs.Route.{parse_route};
 ghost use Rattle.http_head.specs.Head.{number_of};
 ghost use Rattle.http_desk.specs.Routes.{before, behind, begins, path_behind, path_of, with_route, routes, page_of};
 ghost use Rattle.http_desk.specs.Routes.{second_part, third_part, fourth_part, make_move, offer_draw, accept_draw};
-ghost use Rattle.http_desk.specs.Routes.{cross_table, turn_asked, ply_asked, answer_asked, text_of, asked_of_page};
+ghost use Rattle.http_desk.specs.Routes.{declare, cross_table, turn_asked, ply_asked, answer_asked, text_of};
+ghost use Rattle.http_desk.specs.Routes.{asked_of_page};
 ghost use Rattle.http_desk.specs.Routes.{asked_of_path, asked_of, method_of};
 ghost use Rattle.http_desk.specs.RouteViews.{turn_view, asked_view};
 
@@ -25,6 +26,7 @@ pub enum Page {
     AcceptDraw,
     Resign,
     ClaimTime,
+    Declare,
     Challenge,
     Withdraw,
     Answer,
@@ -38,6 +40,7 @@ pub enum Turn {
     AcceptDraw(u32),
     Resign,
     ClaimTime,
+    Declare(u32),
 }
 
 /// What a path asks for.
@@ -134,6 +137,7 @@ fn routes(alloc: Global) -> Result<Router<Page>, InsertError>
     router.insert("/games/{id}/draw/{ply}/accept", Page::AcceptDraw)?;
     router.insert("/games/{id}/resign", Page::Resign)?;
     router.insert("/games/{id}/claim-time", Page::ClaimTime)?;
+    router.insert("/games/{id}/declare/{ply}", Page::Declare)?;
     router.insert("/challenges/{number}", Page::Challenge)?;
     router.insert("/challenges/{number}/withdraw", Page::Withdraw)?;
     router.insert("/answers/{member}/{number}", Page::Answer)?;
@@ -248,6 +252,19 @@ fn accept_asked<'p>(path: &'p [u8]) -> Option<Asked<'p>>
     }
 }
 
+fn declare_asked<'p>(path: &'p [u8]) -> Option<Asked<'p>>
+    ensures { option_map asked_view result ≡
+        ply_asked declare (number_of (second_part path.now)) (number_of (fourth_part path.now)) }
+{
+    match second_number(path) {
+        None => None,
+        Some(game) => match number_of(fourth_part(path)) {
+            None => None,
+            Some(ply) => Some(Asked::OnGame(game, Turn::Declare(ply))),
+        },
+    }
+}
+
 // Which challenge a path answers.
 fn answer_asked<'p>(path: &'p [u8]) -> Option<Asked<'p>>
     ensures { option_map asked_view result ≡
@@ -292,6 +309,7 @@ fn asked_of_page<'p>(page: Option<Page>, path: &'p [u8]) -> Option<Asked<'p>>
         Some(Page::AcceptDraw) => accept_asked(path),
         Some(Page::Resign) => turn_asked(Turn::Resign, path),
         Some(Page::ClaimTime) => turn_asked(Turn::ClaimTime, path),
+        Some(Page::Declare) => declare_asked(path),
         Some(Page::Challenge) => match second_number(path) {
             None => None,
             Some(number) => Some(Asked::Challenge(number)),

@@ -85,7 +85,8 @@ serving_ends club stands leaves s moment input before taken reply left written (
     )
 
 -- memory that was refused behind the reading
-pub serving_stops : {S : Type 0} (U : Type 0) (club : Club S) (stands : S → Type 0) (leaves : S → S → Type 0) (s : S) (moment : ℕ)
+pub serving_stops : {S : Type 0} (U : Type 0) (club : Club S) (stands : S → Type 0) (leaves : S → S → Type 0) (s : S)
+    (moment : ℕ)
     (input before taken : List ℕ) (left : Option (List ℕ)) (e : DeskFault)
     → Consumes (Some input) left taken → (IsAtEnd left ⊎ IsDecided taken) → e ≡ Memory
     → ((seen : Seen) × Sees taken seen × leaves s (state_behind club s moment seen))
@@ -114,7 +115,8 @@ served {S} {U} club stands leaves s moment input before taken shown reply sent r
     (subst (λ (b : List ℕ). OnErr result ((n : ℕ) × Appends writer written (take n b))) ep err))
     fault
 
-pub stopped : {S : Type 0} (U : Type 0) (club : Club S) (stands : S → Type 0) (leaves : S → S → Type 0) (s : S) (moment : ℕ)
+pub stopped : {S : Type 0} (U : Type 0) (club : Club S) (stands : S → Type 0) (leaves : S → S → Type 0) (s : S)
+    (moment : ℕ)
     (input before taken shown : List ℕ) (reader left writer : Option (List ℕ)) (e : DeskFault)
     → reader ≡ Some input → writer ≡ Some before → shown ≡ taken
     → Consumes reader left taken → (IsAtEnd left ⊎ IsDecided taken) → e ≡ Memory

@@ -49,9 +49,9 @@ pub fn write_reply<W: Write>(writer: &mut W, bytes: &[u8]) -> Result<(), DeskFau
 
 /// Serves one connection at a moment: to what was heard of it before, reads on in large pieces until a reply can be
 /// given or the input ends, and writes the reply to all that was heard. A reader that fails before leaves the club as
-/// it was; a writer that fails got a beginning of the reply. Whatever the reader gives, the club does what the bytes ask
-/// for that were heard before and further, once, or nothing; and where the writer does not fail it gets the reply to
-/// them.
+/// it was; a writer that fails got a beginning of the reply. Whatever the reader gives, the club does what the bytes
+/// ask for that were heard before and further, once, or nothing; and where the writer does not fail it gets the reply
+/// to them.
 pub fn serve_one<R: Read, W: Write, C: ServedClub>(
     alloc: Global,
     heard: Vec<u8>,

@@ -27,5 +27,5 @@ entries-fit p es ms told end at same resigned none ends =
     let unended : EndsSo opening ms None = subst (λ e. EndsSo opening ms e) none here in (
       None,
       subst (λ l. EndsSo opening l None) same unended,
-      subst (λ t. TellsEnd None t (last_position opening (map (λ e. e.0) es)).turn) (sym resigned) tt,
+      subst (λ t. TellsEnd None t (last_position opening (map (λ e. e.0) es))) (sym resigned) tt,
     )

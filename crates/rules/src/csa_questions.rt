@@ -7,7 +7,8 @@ use crate::words::{push_word, told_score};
 use csa::read_games;
 use std::alloc::Global;
 
-// The scores and the moves of a text's games, with a `/` between them, or why it is refused.
+// The scores and the moves of a text's games, with a `/` between them, or why it is refused. After the score stands
+// whether the game ended with a declaration.
 fn told(alloc: Global, text: &str) -> Result<String, Unanswered> {
     let games = match read_games(alloc, text.as_bytes()) {
         Ok(games) => games,
@@ -19,6 +20,9 @@ fn told(alloc: Global, text: &str) -> Result<String, Unanswered> {
             push_word(&mut told, "/")?;
         }
         push_word(&mut told, told_score(game.score))?;
+        if game.declared {
+            push_word(&mut told, "declared")?;
+        }
         for made in &game.moves {
             push_word(&mut told, told_move(alloc, made)?.as_str())?;
         }

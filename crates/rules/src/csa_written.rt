@@ -63,7 +63,8 @@ fn write_entries<W: Write>(
     entries: &[(SMove, u64)],
     writer: &mut W,
 ) -> Result<(), WriteFault>
-    requires { IsPlayed opening (map (λ e. e.0) entries.now) (length entries.now) }
+    requires played { IsPlayed opening (map (λ e. e.0) entries.now) (length entries.now) }
+    requires end { head.now.end ≡ Some CsaEnd.Resigned }
 {
     let mut game = GameWriter::start(alloc, head, writer)?;
     for i in 0..entries.len() {

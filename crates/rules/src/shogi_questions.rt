@@ -5,7 +5,7 @@ use crate::shogi_told::{told_cause, told_move, told_moves, told_position};
 use crate::unanswered::Unanswered;
 use crate::words::{push_word, said, side, yes};
 use sfen::{read, read_usi, write, write_usi};
-use shogi_moves::{attacked, check, has_move, in_check, legal, mated, play};
+use shogi_moves::{attacked, can_declare, check, has_move, in_check, legal, mated, play};
 use squares::{SMove, SPos};
 use std::alloc::Global;
 use std::cmp::Ordering;
@@ -118,6 +118,7 @@ fn of_position(alloc: Global, asked: &str, position: &SPos) -> Result<String, Un
         "in-check" => said(alloc, yes(in_check(position))),
         "mated" => said(alloc, yes(mated(position))),
         "can-move" => said(alloc, yes(has_move(position))),
+        "declares" => said(alloc, yes(can_declare(position))),
         _ => Err(Unanswered::Question),
     }
 }

@@ -1,6 +1,7 @@
 pub mod AttackLemmas
 pub mod CheckLemmas
 pub mod CountLemmas
+pub mod DeclareLemmas
 pub mod DropLemmas
 pub mod FacingLemmas
 pub mod HeadingLemmas

@@ -1,4 +1,5 @@
 pub mod Computed
+pub mod Declaring
 pub mod Facing
 pub mod Kings
 pub mod Laws

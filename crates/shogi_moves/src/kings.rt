@@ -8,7 +8,7 @@ use masks::Word81;
 use squares::{Role, SBoard, SPiece, Side, Ssq};
 
 // The squares on which a king of the side stands.
-fn kings_of(board: &SBoard, side: Side) -> Word81
+pub(crate) fn kings_of(board: &SBoard, side: Side) -> Word81
     ensures { AreKings board.now side result }
 {
     board.squares_of(SPiece {

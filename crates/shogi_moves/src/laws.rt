@@ -1,4 +1,5 @@
 //! What is proved of the rules as a whole.
+ghost use Rattle.shogi_moves.specs.Declaring.{CanDeclareIs};
 ghost use Rattle.shogi_moves.specs.Laws.{CheckIs, HasMoveIs, TurnPasses, LinesFollowCoordinates};
 
 /// The check of a move, as a function of position and move, passes the legal moves alone, and
@@ -10,6 +11,11 @@ pub fn check_is()
 /// Whether there is a legal move, as a function of the position, is as the rules say.
 pub fn has_move_is()
     ensures { HasMoveIs }
+{}
+
+/// Whether the side to move may declare that it has won, as a function of the position, is as the rule says.
+pub fn can_declare_is()
+    ensures { CanDeclareIs }
 {}
 
 /// A legal move passes the turn.

@@ -4,6 +4,7 @@
 mod attacks;
 mod board_squares;
 mod checking;
+mod declaring;
 mod heading;
 mod kings;
 pub mod laws;
@@ -18,6 +19,7 @@ mod zones;
 
 pub use attacks::{attacked, in_check};
 pub use checking::{Illegal, check, has_move};
+pub use declaring::can_declare;
 pub use listing::legal;
 pub use mating::mated;
 pub use playing::play;

@@ -6,7 +6,7 @@ ghost use Rattle.shogi_moves.specs.Rules.{far_rank, can_promote, may_promote, la
 use squares::{Role, SPiece, Side, Ssq};
 
 // How far a square is from the enemy's edge, as the side sees it: 1 is the last rank.
-fn far_rank(side: Side, square: Ssq) -> u8
+pub(crate) fn far_rank(side: Side, square: Ssq) -> u8
     ensures { result ≡ far_rank side square }
 {
     match side {
@@ -60,7 +60,7 @@ pub fn may_land(side: Side, there: Option<SPiece>) -> bool
     }
 }
 
-fn is_king(role: Role) -> bool
+pub(crate) fn is_king(role: Role) -> bool
     ensures { result ≡ is_king role }
 {
     match role {

@@ -47,6 +47,7 @@ fn game_command(alloc: Global, words: &[&str]) -> Result<Command> {
         ["accept", game, ply] => on_game(game, GameCommand::AcceptDraw { ply: ply.parse()? }),
         ["resign", game] => on_game(game, GameCommand::Resign),
         ["claim", game] => on_game(game, GameCommand::ClaimTime),
+        ["declare", game, ply] => on_game(game, GameCommand::Declare { ply: ply.parse()? }),
         _ => bail!("no such command"),
     }
 }

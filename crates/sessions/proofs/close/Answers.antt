@@ -7,7 +7,12 @@ use Rattle.sessions.proofs.close.Goals as goal
 
 pub returns-clause-clean : goal.returns-clause-clean
 returns-clause-clean g c =
-    omega (arith, c.into_store-store.ensures.quiet.clean, c.savepoint-marked.ensures.quiet.clean, c.commit-copied.ensures.clean)
+    omega (
+      arith,
+      c.into_store-store.ensures.quiet.clean,
+      c.savepoint-marked.ensures.quiet.clean,
+      c.commit-copied.ensures.clean,
+    )
 
 pub returns-clause-member : goal.returns-clause-member
 returns-clause-member g c clean left may found finds =
@@ -25,7 +30,8 @@ returns-clause-member g c clean left may found finds =
           c.savepoint-marked.result mark.ok mark.err late new.0)
       | inr was ↦ mark.quiet.outcomes db was
     ] in
-    let same = committed_numbered (view begun) (view last) c.commit-copied.result copy.frame copy.err clean ∙ mark.schema.numbered in
+    let same = committed_numbered (view begun) (view last) c.commit-copied.result copy.frame copy.err clean ∙
+    mark.schema.numbered in
     next_finds c.args.conn last (subst (λ b. IsTrue b) (sym same) (first.numbered early))
     (λ db may. first.sound early db (earlier db may))
     (λ db may. first.quiet.outcomes db (earlier db may)) left may found finds

@@ -1,4 +1,4 @@
-use Rattle.std.proofs.Common.{◌≡◌, ◌+◌, pos, true, ap, sym, ◌∙◌, subst, arith, rules}
+use Rattle.std.proofs.Common.{◌≡◌, ◌+◌, pos, true, refl, ap, sym, ◌∙◌, subst, arith, rules}
 use Rattle.std.specs.Prelude.{string_bytes, IfSome}
 use Rattle.std.proofs.lemmas.Bool.{not-true}
 use Rattle.std.proofs.lemmas.Int.{ints}
@@ -25,6 +25,6 @@ returns-in-Some-terms_of-clause-sound c = λ free.
       event = event_told row kind given.budget given.increment;
       cells = event-cells (c.args.place + 1) given.budget given.increment kind row id game terms.budget_is
           terms.increment_is;
-      legal = record { name = name; budget = terms.has_budget; increment = terms.has_increment };
+      legal = record { name = name; budget = terms.has_budget; increment = terms.has_increment; declares = refl };
       others = c.is_used.ensures.free (not-true c.is_used.result free);
     }

@@ -35,7 +35,7 @@ overflow_cast-result g c =
     omega (arith, few)
 
 pub returns : goal.returns
-returns g c =
+returns g c = λ declares.
     let laws = g.R.Rules.rules in
     let r = recorded_of c.args.recorded.now in
     let key = Some c.args.key.now in
@@ -57,8 +57,8 @@ returns g c =
       start = refl;
       plies = ap length value ∙ row-plies laws key pairing c.args.start r;
       clocks = row-clocks laws key pairing c.args.start r
-          (record { budget = c.args.budget; increment = c.args.increment }) c.left_after-left.result.first
-          c.left_after-left.result.second left;
+          (record { budget = c.args.budget; increment = c.args.increment; declares = declares })
+          c.left_after-left.result.first c.left_after-left.result.second left;
       track = c.track_numbers.ensures ∙ ap laws.track_numbers
           (row-track laws key pairing c.args.start r c.standing_after-standing.result.track track);
       offer = refl;

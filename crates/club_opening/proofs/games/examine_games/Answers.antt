@@ -79,7 +79,8 @@ returns-clause-found g c clean has is_open one two =
     let then : IsOneOf c.first_of-with_moves.result c.left_over-2.result c.first_of.result =
     record { none = c.first_of.ensures.none; some = c.first_of.ensures.some } in
     left_all rows c.args.last c.requires.last l.place l.moves l.seen l.wrong c.left_over.result
-    c.first_of-with_moves.result c.left_over-2.result c.first_of.result s0 s (l.invariant.left clean has is_open one two)
+    c.first_of-with_moves.result c.left_over-2.result c.first_of.result s0 s (l.invariant.left clean has is_open one
+    two)
     all of_moves of_seen first then
 
 pub returns-clause-known : goal.returns-clause-known

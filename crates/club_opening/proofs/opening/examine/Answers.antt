@@ -53,7 +53,8 @@ returns-clause-found g c clean opened =
     (IfSome_then c.moment-last.result c.moment-last.ensures.some (λ m is. omega (arith, ints, is)))
     c.moment-last.ensures.range
     (λ none n low is. c.moment-last.ensures.none none n low (omega (arith, ints, is))) in
-    examined_club rows c.moment-last.result s0 s1 s2 s3 opened read (meta_found rows s0 s1 n moment read.meta) play scores
+    examined_club rows c.moment-last.result s0 s1 s2 s3 opened read (meta_found rows s0 s1 n moment read.meta) play
+    scores
     (reads.may clean) ms es cs n are_ms are_es are_cs (c.in-Ok-audit.ensures.games free) moment within
     (moment_of rows.meta.last c.moment-last.result told n moment within)
 

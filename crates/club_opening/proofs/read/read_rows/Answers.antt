@@ -73,7 +73,11 @@ returns-in-Err-read_members-clause-blames g c clean has =
     let s1 = state g.S.Store c.read_moment.new.conn in
     let s2 = state g.S.Store c.check_tables.new.conn in
     let clean2 : HasCleanDisk s2 = omega (arith, c.read_members.ensures.reads.clean) in
-    let clean1 : HasCleanDisk s1 = omega (arith, c.check_tables.ensures.reads.clean, c.read_members.ensures.reads.clean) in
+    let clean1 : HasCleanDisk s1 = omega (
+      arith,
+      c.check_tables.ensures.reads.clean,
+      c.read_members.ensures.reads.clean,
+    ) in
     let same1 = c.in-Ok.ensures.same clean1 has in
     let stands = c.in-Ok-check_tables.ensures.same clean2 (still s0 s1 same1 has) in
     let same2 = unchanged_then s0 s1 s2 same1 stands in
@@ -87,8 +91,17 @@ returns-in-Err-read_events-clause-blames g c clean has =
     let s2 = state g.S.Store c.check_tables.new.conn in
     let s3 = state g.S.Store c.read_members.new.conn in
     let clean3 : HasCleanDisk s3 = omega (arith, c.read_events.ensures.reads.clean) in
-    let clean2 : HasCleanDisk s2 = omega (arith, c.read_members.ensures.reads.clean, c.read_events.ensures.reads.clean) in
-    let clean1 : HasCleanDisk s1 = omega (arith, c.check_tables.ensures.reads.clean, c.read_members.ensures.reads.clean, c.read_events.ensures.reads.clean) in
+    let clean2 : HasCleanDisk s2 = omega (
+      arith,
+      c.read_members.ensures.reads.clean,
+      c.read_events.ensures.reads.clean,
+    ) in
+    let clean1 : HasCleanDisk s1 = omega (
+      arith,
+      c.check_tables.ensures.reads.clean,
+      c.read_members.ensures.reads.clean,
+      c.read_events.ensures.reads.clean,
+    ) in
     let same1 = c.in-Ok.ensures.same clean1 has in
     let stands = c.in-Ok-check_tables.ensures.same clean2 (still s0 s1 same1 has) in
     let same2 = unchanged_then s0 s1 s2 same1 stands in
@@ -107,9 +120,27 @@ returns-in-Err-read-2-clause-blames g c clean has =
     let s5 = state g.S.Store c.read.new.conn in
     let clean5 : HasCleanDisk s5 = omega (arith, c.read-2.ensures.reads.clean) in
     let clean4 : HasCleanDisk s4 = omega (arith, c.read.ensures.reads.clean, c.read-2.ensures.reads.clean) in
-    let clean3 : HasCleanDisk s3 = omega (arith, c.read_events.ensures.reads.clean, c.read.ensures.reads.clean, c.read-2.ensures.reads.clean) in
-    let clean2 : HasCleanDisk s2 = omega (arith, c.read_members.ensures.reads.clean, c.read_events.ensures.reads.clean, c.read.ensures.reads.clean, c.read-2.ensures.reads.clean) in
-    let clean1 : HasCleanDisk s1 = omega (arith, c.check_tables.ensures.reads.clean, c.read_members.ensures.reads.clean, c.read_events.ensures.reads.clean, c.read.ensures.reads.clean, c.read-2.ensures.reads.clean) in
+    let clean3 : HasCleanDisk s3 = omega (
+      arith,
+      c.read_events.ensures.reads.clean,
+      c.read.ensures.reads.clean,
+      c.read-2.ensures.reads.clean,
+    ) in
+    let clean2 : HasCleanDisk s2 = omega (
+      arith,
+      c.read_members.ensures.reads.clean,
+      c.read_events.ensures.reads.clean,
+      c.read.ensures.reads.clean,
+      c.read-2.ensures.reads.clean,
+    ) in
+    let clean1 : HasCleanDisk s1 = omega (
+      arith,
+      c.check_tables.ensures.reads.clean,
+      c.read_members.ensures.reads.clean,
+      c.read_events.ensures.reads.clean,
+      c.read.ensures.reads.clean,
+      c.read-2.ensures.reads.clean,
+    ) in
     let same1 = c.in-Ok.ensures.same clean1 has in
     let stands = c.in-Ok-check_tables.ensures.same clean2 (still s0 s1 same1 has) in
     let same2 = unchanged_then s0 s1 s2 same1 stands in

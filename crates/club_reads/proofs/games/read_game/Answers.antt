@@ -11,7 +11,8 @@ returns-clause-found g c clean s id game is_club at cells k =
     let (id_is, event_is) = ids_read (keyed_of ids) id game (c.in_ok-ids.ensures s id game cells) in
     let (known, there) = event_stands s is_club id game at in
     let stands : place s.events (pairing_of game).event ≡ Some (event_of event) =
-    there ∙ ap Some (sym (c.in_ok-event.ensures.found clean s k known (ap (place s.events) event_is ∙ there))) in
+    there
+    ∙ ap Some (sym (c.in_ok-event.ensures.found clean s is_club k known (ap (place s.events) event_is ∙ there))) in
     record {
       id_is = id_is;
       kind = ap kind_at (sym stands);

@@ -19,7 +19,7 @@ returns-clause-known g c clean s is_club k =
     let under = c.in_ok-under.ensures.found at_under s is_club k in
     record {
       members_are = c.in_ok-members.ensures.values at_members s two;
-      events_are = c.in_ok-events.ensures.values clean s three;
+      events_are = c.in_ok-events.ensures.values clean s is_club three;
       keyed_is = c.in_ok-keyed.ensures s c.args.key.now under;
       under_is = under;
       games_are = c.in_ok-games.ensures.count at_games s one;

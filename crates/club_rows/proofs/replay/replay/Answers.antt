@@ -1,5 +1,5 @@
 use Rattle.std.proofs.Common.{◌≡◌, ◌<◌, ◌∙◌, refl, ap, subst, sym, arith}
-use Rattle.std.specs.Prelude.{IfSome, ℕ, ◌+◌, length, Some, slice_get}
+use Rattle.std.specs.Prelude.{IfSome, ℕ, Bool, ◌+◌, length, Some, slice_get}
 use Rattle.std.proofs.lemmas.Option.{slice_get_read}
 use Rattle.club_rules.specs.Line.{position_after}
 use Rattle.club_core.specs.Game.{Game, Entry}
@@ -48,7 +48,8 @@ returns-in-None-clause-none g c = λ none budget increment game is.
     c.loop-row-test.true c.row-item.is in
     was-none laws (terms_given c.args.terms) c.args.id are c.args.from c.args.rows.now c.loop-row.row-index
     c.loop-row.game c.row-item.result was at
-    (λ e follows. c.in_ok-game-2.ensures.none c.in-None.is c.args.terms.budget (game_from c.args.from was.entries)
+    (λ e follows. c.in_ok-game-2.ensures.none c.in-None.is c.args.terms.budget c.args.terms.declares
+    (game_from c.args.from was.entries)
     was.replays e follows) game is
 
 pub loop-row-preserved : goal.loop-row-preserved
@@ -70,12 +71,13 @@ loop-row-preserved g c =
     c.in-Some.is c.in_ok-game-2.ensures.safe in
     let some =
     subst
-    (λ o. IfSome o (λ new. (budget : ℕ) (game : Game g.row.R-Move.Denot)
-    → Replays laws (terms_with budget c.args.terms.increment) game c.loop-row.game → (e : Entry g.row.R-Move.Denot)
-    × Follows laws (terms_with budget c.args.terms.increment) c.args.id game c.row-item.result e
-    × Replays laws (terms_with budget c.args.terms.increment) (with_entry game e) new)) c.in-Some.is
+    (λ o. IfSome o (λ new. (budget : ℕ) (declares : Bool) (game : Game g.row.R-Move.Denot)
+    → Replays laws (terms_with budget c.args.terms.increment declares) game c.loop-row.game
+    → (e : Entry g.row.R-Move.Denot)
+    × Follows laws (terms_with budget c.args.terms.increment declares) c.args.id game c.row-item.result e
+    × Replays laws (terms_with budget c.args.terms.increment declares) (with_entry game e) new)) c.in-Some.is
     c.in_ok-game-2.ensures.some in
-    let next = some c.args.terms.budget (game_from c.args.from was.entries) was.replays in
+    let next = some c.args.terms.budget c.args.terms.declares (game_from c.args.from was.entries) was.replays in
     let room : k < 600 = omega (arith, c.loop-row-test.true, c.if-rows.false) in (
       subst (λ (n : ℕ). IsReplayed laws c.args.terms.increment (n + 1) new) old.plies_are kept,
       was-more laws terms c.args.id are c.args.from c.args.rows.now g.met.R.Rules.reads_back k c.loop-row.game new

@@ -37,7 +37,7 @@ returns-in_ok-new-in-Some-clause-safe g c =
     (record { text_is = text; track = made.track; stood = made.stood; adds = made.tally })
 
 pub returns-in_ok-new-in-Some-clause-some : goal.returns-in_ok-new-in-Some-clause-some
-returns-in_ok-new-in-Some-clause-some g c = λ budget game replays.
+returns-in_ok-new-in-Some-clause-some g c = λ budget declares game replays.
     let laws = g.R.Rules.rules in
     let met = g.met.R.Rules in
     let are = are_rules laws met.first_starts met.turn_passes met.same_is met.ends_at_limit in
@@ -53,7 +53,7 @@ returns-in_ok-new-in-Some-clause-some g c = λ budget game replays.
     let turn : c.in-Some.next.turn ≡ laws.turn old.position =
     subst (λ o. IfSome o (λ n. n.turn ≡ laws.turn old.position)) c.in-Some.is c.in_ok-next.ensures.turn in
     let line = subst (IsLegalLine laws laws.start) replays.line c.requires.game.line.legal in
-    let terms = terms_with budget c.args.increment in (
+    let terms = terms_with budget c.args.increment declares in (
       record { made = c.in-Some.next.made; moment = c.in-Some.next.moment },
       follows-next laws are terms c.args.id game line old replays c.args.row.now c.in-Some.next.made
           c.in-Some.next.moment c.in-Some.next.left next,
@@ -64,11 +64,11 @@ returns-in_ok-new-in-Some-clause-some g c = λ budget game replays.
     )
 
 pub returns-in-None-clause-none : goal.returns-in-None-clause-none
-returns-in-None-clause-none g c = λ none budget game replays e follows.
+returns-in-None-clause-none g c = λ none budget declares game replays e follows.
     let laws = g.R.Rules.rules in
     let met = g.met.R.Rules in
     let are = are_rules laws met.first_starts met.turn_passes met.same_is met.ends_at_limit in
     let line = subst (IsLegalLine laws laws.start) replays.line c.requires.game.line.legal in
     c.in_ok-next.ensures.none c.in-None.is e.made e.moment _
-    (next-follows laws are (terms_with budget c.args.increment) c.args.id game line c.args.game replays
+    (next-follows laws are (terms_with budget c.args.increment declares) c.args.id game line c.args.game replays
     c.args.row.now e follows)

@@ -57,7 +57,8 @@ returns-clause-sound g c =
     (λ o. IfSome o (λ game. WasReplayed laws terms c.in-Some.number c.in-Some-moment.start c.args.moves.now
     (length c.args.moves.now) game))
     c.in-Some-2.is c.in_ok-game.ensures.some in
-    let same = same-numbers c.args.row.now n c.in-Some.number c.in-Some-moment.start id_is start_is c.in-Some-numbers_in.ensures.some in
+    let same = same-numbers c.args.row.now n c.in-Some.number c.in-Some-moment.start id_is start_is
+    c.in-Some-numbers_in.ensures.some in
     let shows = c.in_ok-played.ensures.shows in
     let safe =
     subst
@@ -70,7 +71,8 @@ returns-clause-sound g c =
       increment = limits.1;
       has = c.in-Some-numbers_in.ensures.some;
       ids = c.in-Some-numbers_in.ensures.ids;
-      was = subst₂ (λ a b. WasReplayed laws terms a b c.args.moves.now (length c.args.moves.now) c.in-Some-2.game) same.0
+      was = subst₂ (λ a b. WasReplayed laws terms a b c.args.moves.now (length c.args.moves.now) c.in-Some-2.game)
+          same.0
           same.1 was;
       told = shows.0;
       is_told = shows.1;
@@ -100,7 +102,8 @@ returns-clause-complete g c =
     (λ o. IfSome o (λ game. WasReplayed laws terms c.in-Some.number c.in-Some-moment.start c.args.moves.now
     (length c.args.moves.now) game))
     c.in-Some-2.is c.in_ok-game.ensures.some in
-    let same = same-numbers c.args.row.now n c.in-Some.number c.in-Some-moment.start id_is start_is c.in-Some-numbers_in.ensures.some in
+    let same = same-numbers c.args.row.now n c.in-Some.number c.in-Some-moment.start id_is start_is
+    c.in-Some-numbers_in.ensures.some in
     let shows = c.in_ok-played.ensures.shows in
     let safe =
     subst
@@ -113,7 +116,8 @@ returns-clause-complete g c =
       increment = limits.1;
       has = c.in-Some-numbers_in.ensures.some;
       ids = c.in-Some-numbers_in.ensures.ids;
-      was = subst₂ (λ a b. WasReplayed laws terms a b c.args.moves.now (length c.args.moves.now) c.in-Some-2.game) same.0
+      was = subst₂ (λ a b. WasReplayed laws terms a b c.args.moves.now (length c.args.moves.now) c.in-Some-2.game)
+          same.0
           same.1 was;
       told = shows.0;
       is_told = shows.1;
@@ -144,7 +148,8 @@ returns-clause-wrong g c = λ budget increment.
     (λ o. IfSome o (λ game. WasReplayed laws terms c.in-Some.number c.in-Some-moment.start c.args.moves.now
     (length c.args.moves.now) game))
     c.in-Some-2.is c.in_ok-game.ensures.some in
-    let same = same-numbers c.args.row.now n c.in-Some.number c.in-Some-moment.start id_is start_is c.in-Some-numbers_in.ensures.some in
+    let same = same-numbers c.args.row.now n c.in-Some.number c.in-Some-moment.start id_is start_is
+    c.in-Some-numbers_in.ensures.some in
     let shows = c.in_ok-played.ensures.shows in
     let safe =
     subst
@@ -157,7 +162,8 @@ returns-clause-wrong g c = λ budget increment.
       increment = limits.1;
       has = c.in-Some-numbers_in.ensures.some;
       ids = c.in-Some-numbers_in.ensures.ids;
-      was = subst₂ (λ a b. WasReplayed laws terms a b c.args.moves.now (length c.args.moves.now) c.in-Some-2.game) same.0
+      was = subst₂ (λ a b. WasReplayed laws terms a b c.args.moves.now (length c.args.moves.now) c.in-Some-2.game)
+          same.0
           same.1 was;
       told = shows.0;
       is_told = shows.1;

@@ -42,7 +42,7 @@ returns-clause-viewed g c clean s id game is_club at is k =
       event =
           ap Some
           (ap (λ e. e.name)
-          (c.in_ok-event.ensures.found one s k event (ap (λ p. place s.events p.event) same ∙ event_at)))
+          (c.in_ok-event.ensures.found one s is_club k event (ap (λ p. place s.events p.event) same ∙ event_at)))
           ∙ sym (ap (option_map (λ (e : Event). e.name)) event_at);
       first = ap Some (c.in_ok-first.ensures.found two s k1 first (ap (λ p. place s.members p.first) same ∙ first_at))
           ∙ sym (ap (option_map (λ (m : Member). m.name)) first_at);

@@ -1,7 +1,6 @@
 use Rattle.std.proofs.Common.{◌≡◌, List, Err, sym, ap, ◌∙◌}
 use Rattle.squares.specs.declared.shogi.moves.SMove.{SMove}
 use Rattle.squares.specs.ShogiOpening.{opening}
-use Rattle.squares.specs.ShogiSets.{ShogiPosition}
 use Rattle.csa.specs.declared.lines.Placed.{Placed}
 use Rattle.csa.specs.Endings.{ending}
 use Rattle.csa.specs.Records.{end_in, score_in}
@@ -13,10 +12,9 @@ returns-in-Err-clause-fault c =
     let placed : List Placed = c.args.placed.now in
     let ms : List SMove = c.args.replay.moves.items in
     let end = c.end-end.result in
-    let turn = ap (λ (p : ShogiPosition). p.turn) (sym c.requires.stands.position) in
     let score : score_in placed ms end ≡ Err c.in-Err.fault =
-    ap (λ t. ending (end_in placed) t end) (turn ∙ sym c.turn.ensures)
-    ∙ ap (λ w. ending w c.turn.result end) (sym c.end_in.ensures) ∙ sym c.ending.ensures ∙ c.in-Err.is in
+    ap (λ p. ending (end_in placed) p end) (sym c.requires.stands.position)
+    ∙ ap (λ w. ending w c.args.replay.position end) (sym c.end_in-word.ensures) ∙ sym c.ending.ensures ∙ c.in-Err.is in
     end-fails placed ms end c.in-Err.fault
     (record {
       even = c.requires.even;

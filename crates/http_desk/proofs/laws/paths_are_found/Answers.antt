@@ -15,6 +15,7 @@ returns c = record {
   accept = refl;
   resigns = refl;
   claims = refl;
+  declares = refl;
   opens = refl;
   withdraws = refl;
   answers = refl;

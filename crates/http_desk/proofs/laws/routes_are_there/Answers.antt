@@ -14,6 +14,7 @@ returns c = record {
   accept = record { scan = _; reads = refl; leads = refl };
   resigns = record { scan = _; reads = refl; leads = refl };
   claims = record { scan = _; reads = refl; leads = refl };
+  declares = record { scan = _; reads = refl; leads = refl };
   opens = record { scan = _; reads = refl; leads = refl };
   withdraws = record { scan = _; reads = refl; leads = refl };
   answers = record { scan = _; reads = refl; leads = refl };

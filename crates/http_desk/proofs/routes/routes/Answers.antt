@@ -2,7 +2,8 @@ use Rattle.std.proofs.Common.{◌∙◌, ap, codes}
 use Rattle.matchit.specs.Route.{parse_route}
 use Rattle.http_desk.specs.Routes.{routes, with_route}
 use Rattle.http_desk.specs.declared.routes.Page.TheVariants.{GameView, LegalMoves, CrossTable, MakeMove, OfferDraw}
-use Rattle.http_desk.specs.declared.routes.Page.TheVariants.{AcceptDraw, Resign, ClaimTime, Challenge, Withdraw, Answer}
+use Rattle.http_desk.specs.declared.routes.Page.TheVariants.{AcceptDraw, Resign, ClaimTime, Declare}
+use Rattle.http_desk.specs.declared.routes.Page.TheVariants.{Challenge, Withdraw, Answer}
 use Rattle.http_desk.proofs.RouteLemmas.{inserted}
 use Rattle.http_desk.proofs.routes.routes.Goals as goal
 
@@ -19,13 +20,15 @@ returns c =
     c.in_ok-insert-6.ensures in
     let put_7 = inserted (parse_route (codes "/games/{id}/resign")) Resign _ _ tt c.in_ok-insert-7.ensures in
     let put_8 = inserted (parse_route (codes "/games/{id}/claim-time")) ClaimTime _ _ tt c.in_ok-insert-8.ensures in
-    let put_9 = inserted (parse_route (codes "/challenges/{number}")) Challenge _ _ tt c.in_ok-insert-9.ensures in
-    let put_10 = inserted (parse_route (codes "/challenges/{number}/withdraw")) Withdraw _ _ tt
-    c.in_ok-insert-10.ensures in
-    let put_11 = inserted (parse_route (codes "/answers/{member}/{number}")) Answer _ _ tt c.in_ok-insert-11.ensures in
-    put_11 ∙ ap (with_route (parse_route (codes "/answers/{member}/{number}")) Answer)
-    (put_10 ∙ ap (with_route (parse_route (codes "/challenges/{number}/withdraw")) Withdraw)
-    (put_9 ∙ ap (with_route (parse_route (codes "/challenges/{number}")) Challenge)
+    let put_9 = inserted (parse_route (codes "/games/{id}/declare/{ply}")) Declare _ _ tt c.in_ok-insert-9.ensures in
+    let put_10 = inserted (parse_route (codes "/challenges/{number}")) Challenge _ _ tt c.in_ok-insert-10.ensures in
+    let put_11 = inserted (parse_route (codes "/challenges/{number}/withdraw")) Withdraw _ _ tt
+    c.in_ok-insert-11.ensures in
+    let put_12 = inserted (parse_route (codes "/answers/{member}/{number}")) Answer _ _ tt c.in_ok-insert-12.ensures in
+    put_12 ∙ ap (with_route (parse_route (codes "/answers/{member}/{number}")) Answer)
+    (put_11 ∙ ap (with_route (parse_route (codes "/challenges/{number}/withdraw")) Withdraw)
+    (put_10 ∙ ap (with_route (parse_route (codes "/challenges/{number}")) Challenge)
+    (put_9 ∙ ap (with_route (parse_route (codes "/games/{id}/declare/{ply}")) Declare)
     (put_8 ∙ ap (with_route (parse_route (codes "/games/{id}/claim-time")) ClaimTime)
     (put_7 ∙ ap (with_route (parse_route (codes "/games/{id}/resign")) Resign)
     (put_6 ∙ ap (with_route (parse_route (codes "/games/{id}/draw/{ply}/accept")) AcceptDraw)
@@ -33,4 +36,4 @@ returns c =
     (put_4 ∙ ap (with_route (parse_route (codes "/games/{id}/moves/{ply}")) MakeMove)
     (put_3 ∙ ap (with_route (parse_route (codes "/events/{name}/table")) CrossTable)
     (put_2 ∙ ap (with_route (parse_route (codes "/games/{id}/legal")) LegalMoves)
-    (put_1 ∙ ap (with_route (parse_route (codes "/games/{id}")) GameView) (c.new-router.ensures)))))))))))
+    (put_1 ∙ ap (with_route (parse_route (codes "/games/{id}")) GameView) (c.new-router.ensures))))))))))))

@@ -38,7 +38,8 @@ returns-in-Err-write_reply-clause-serves g c clean s input before stands reader 
 
 pub returns-in-Err-clause-serves : goal.returns-in-Err-clause-serves
 returns-in-Err-clause-serves g c clean s input before stands reader writer =
-    stopped Exchange g.C.ServedClub.club (g.C.ServedClub.Stands c.answer.new.club) (g.C.ServedClub.Leaves c.answer.new.club) s
+    stopped Exchange g.C.ServedClub.club (g.C.ServedClub.Stands c.answer.new.club) (g.C.ServedClub.Leaves
+    c.answer.new.club) s
     c.args.moment (c.args.heard.items ++ input) before
     c.in-Ok.bytes.items c.deref.result.now
     (Some (c.args.heard.items ++ input)) (g.R.Read.remaining c.take_in.new.reader)

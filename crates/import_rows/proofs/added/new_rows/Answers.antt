@@ -36,7 +36,7 @@ returns g c =
     let game = imported laws key pairing moment r in
     let value = c.as_slice-moves.ensures.value in
     let row = c.in_ok-row.row in
-    let is : IsRowOf laws terms game row = c.in_ok-row.ensures in
+    let is : IsRowOf laws terms game row = c.in_ok-row.ensures c.args.terms.declares in
     let limit = within-limit laws are r.moves c.requires.by_rules.line in
     let count : length game.entries ≡ length r.moves = length-map r.moves (λ m. record { made = m; moment = moment }) in
     let room = room_for game terms c.requires.budget c.requires.increment (omega (arith, limit, count)) in

@@ -19,7 +19,8 @@ returns-in_ok-decided-in-AddMember-clause-step g c clean s is_club later k =
 
 pub returns-in_ok-decided-in-AddEvent-clause-step : goal.returns-in_ok-decided-in-AddEvent-clause-step
 returns-in_ok-decided-in-AddEvent-clause-step g c clean s is_club later k =
-    let es = ap events_of c.deref-in-AddEvent.ensures.value ∙ c.in_ok-events-in-AddEvent.ensures.values clean s k in
+    let es = ap events_of c.deref-in-AddEvent.ensures.value
+    ∙ c.in_ok-events-in-AddEvent.ensures.values clean s is_club k in
     subst
     (λ x. IsDecided s (caller_step s c.args.moment c.args.caller (command_of x))
     c.in_ok-decided-in-AddEvent.decided)
@@ -35,7 +36,7 @@ returns-in_ok-events-in-Seat-clause-step g c clean =
     let one = c.in_ok-members-in-Seat.ensures.kept listed club_schema (tables s) k in
     let two = c.in_ok-events-in-Seat.ensures.kept read club_schema (tables s) one in
     let ms = ap members_of c.deref-in-Seat.ensures.value ∙ c.in_ok-members-in-Seat.ensures.values listed s k in
-    let es = ap events_of c.deref-in-Seat-2.ensures.value ∙ c.in_ok-events-in-Seat.ensures.values read s one in
+    let es = ap events_of c.deref-in-Seat-2.ensures.value ∙ c.in_ok-events-in-Seat.ensures.values read s is_club one in
     subst (λ x. IsDecided s (caller_step s c.args.moment c.args.caller (command_of x)) d) (sym c.in-Seat.is)
     (step s is_club ms es two)) (c.on_seat.ensures.step clean)
 

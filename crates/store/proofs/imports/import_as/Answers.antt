@@ -5,7 +5,7 @@ use Rattle.sqlite.specs.State.{HasCleanDisk}
 use Rattle.club_rules.specs.Records.{recorded_of}
 use Rattle.club_core.specs.Answer.{members_of, events_of, keyed_of, import_of, pairing_of}
 use Rattle.club_core.specs.Imports.{imported}
-use Rattle.club_core.specs.Events.{has_event_name}
+use Rattle.club_core.specs.Events.{has_event_name, event_declares}
 use Rattle.club_core.specs.Members.{find_id}
 use Rattle.club_core.specs.Seats.{has_member_name}
 use Rattle.club_core.specs.State.{place, terms_at}
@@ -31,6 +31,7 @@ returns-in-Adds-clause-step g c clean content old k of =
     let adds = officer_adds laws records given (find_id (has_member_name given.first) (members_of known.members.items))
     (find_id (has_member_name given.second) (members_of known.members.items)) (option_map keyed_of known.keyed) old
     known.games (record { pairing = pairing_of new.pairing; recorded = recorded_of new.recorded }) new.game who
+    (event_declares (events_of known.events.items) given.event)
     (find_id (has_event_name given.event) (events_of known.events.items)) same in
     let kept = c.in_ok-played.ensures.kept looked club_schema content k in
     let puts = c.in_ok-changes-in-Adds.ensures.puts clean content kept adds.apart in

@@ -1,10 +1,13 @@
-use Rattle.std.proofs.lemmas.Result.{on_ok_weaker}
+use Rattle.std.proofs.Common.{refl}
 use Rattle.club_exports.proofs.PdnLemmas.{pdn-finished, pdn-ending}
 use Rattle.club_exports.proofs.draughts.DraughtsExports.finish_record.Goals as goal
 
 pub returns-clause-written : goal.returns-clause-written
-returns-clause-written g c =
-    on_ok_weaker c.finish.result (λ finishes. pdn-finished _ _ _ finishes) c.finish.ensures.written
+returns-clause-written g c = λ title plies before written fits.
+    (refl, pdn-finished _ _ _ c.in_ok-finish.ensures.written title plies before written)
 
 pub returns-clause-begun : goal.returns-clause-begun
 returns-clause-begun g c = pdn-ending _ _ _ c.finish.ensures.begun
+
+pub returns-in_err-finish-clause-begun : goal.returns-in_err-finish-clause-begun
+returns-in_err-finish-clause-begun g c = pdn-ending _ _ _ c.finish.ensures.begun

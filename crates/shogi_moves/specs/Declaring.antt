@@ -1,0 +1,101 @@
+-- When the side to move may declare that its king has entered the enemy's camp: the rule of 27 points.
+use Rattle.std.specs.Prelude.{◌≡◌, ◌≤◌, ◌<◌, ◌↔◌, ℕ, ◌+◌, ◌*◌, ◌&&◌, not, nat_le, Bool, true, false, Option, Some, None}
+use Rattle.std.specs.Prelude.{IsTrue, count_by, sum_by, if◌then◌else◌}
+use Rattle.std.specs.List.{list_any}
+use Rattle.std.specs.FinMap as map
+use Rattle.squares.specs.declared.sides.Side.{Side}
+use Rattle.squares.specs.declared.sides.Side.TheVariants.{First, Second}
+use Rattle.squares.specs.declared.shogi.piece.Kind.{Kind}
+use Rattle.squares.specs.declared.shogi.piece.Kind.TheVariants as kind
+use Rattle.squares.specs.declared.shogi.piece.SPiece.{SPiece}
+use Rattle.squares.specs.declared.shogi.hand.Hand.{Hand}
+use Rattle.squares.specs.Sides.{same_side}
+use Rattle.squares.specs.ShogiBoard.{ShogiBoard}
+use Rattle.squares.specs.ShogiSets.{ShogiPosition, is_king, holds_king}
+use Rattle.squares.specs.ShogiPieces.{kind_of, on_board}
+use Rattle.squares.specs.ShogiHands.{count_of, hand_of}
+use Rattle.shogi_moves.specs.Reach.{KingAttacked, king}
+use Rattle.shogi_moves.specs.Search.{all_squares, king_attacked}
+use Rattle.shogi_moves.specs.Computed.{all_kinds}
+use Rattle.shogi_moves.specs.Rules.{far_rank}
+
+-- the enemy's camp is the far three ranks
+abbrev pub in_camp : Side → ℕ → Bool
+in_camp side square = nat_le (far_rank side square) 3
+
+-- what a piece counts, promoted or not: a rook and a bishop five, every other piece one
+abbrev pub worth : Kind → ℕ
+worth kind.Rook = 5
+worth kind.Bishop = 5
+worth _ = 1
+
+-- a piece of the side, other than its king, stands there in the enemy's camp
+abbrev pub has_entered : Side → ℕ → Option SPiece → Bool
+has_entered side square None = false
+has_entered side square (Some piece) =
+    (same_side piece.side side && not (is_king piece.role)) && in_camp side square
+
+-- what stands on a square counts so much
+abbrev pub cell_points : Side → ℕ → Option SPiece → ℕ
+cell_points side square None = 0
+cell_points side square (Some piece) =
+    if has_entered side square (Some piece) then worth (kind_of piece.role) else 0
+
+-- how many pieces have entered the camp besides the king
+unfoldable pub entered : ShogiBoard → Side → ℕ
+entered board side = count_by (λ n. has_entered side n (map.get board n)) all_squares
+
+-- what these pieces count
+unfoldable pub camp_points : ShogiBoard → Side → ℕ
+camp_points board side = sum_by (λ n. cell_points side n (map.get board n)) all_squares
+
+-- what a hand counts, each kind as often as it is held
+abbrev pub hand_points : Hand → ℕ
+hand_points hand = sum_by (λ k. worth (on_board k) * count_of k hand) all_kinds
+
+-- what the pieces in the camp and those in hand count for the side to move
+abbrev pub points : ShogiPosition → ℕ
+points p = camp_points p.board p.turn + hand_points (hand_of p.turn p.hands)
+
+abbrev pub points_needed : Side → ℕ
+points_needed First = 28
+points_needed Second = 27
+
+abbrev pub pieces_needed : ℕ
+pieces_needed = 10
+
+-- the side's king stands in the enemy's camp
+pub record KingEntered (board : ShogiBoard) (side : Side) : Type 0 where
+  pub square : ℕ
+  pub on_board : square < 81
+  pub stands : map.get board square ≡ Some (king side)
+  pub entered : in_camp side square ≡ true
+
+-- The side to move may declare that it has won: its king stands in the enemy's camp and is not attacked, ten of its
+-- pieces or more besides the king stand there, and these and its hand count what its side needs.
+pub record CanDeclare (p : ShogiPosition) : Type 0 where
+  pub king : KingEntered p.board p.turn
+  pub safe : KingAttacked p.board p.turn → ⊥
+  pub pieces : pieces_needed ≤ entered p.board p.turn
+  pub enough : points_needed p.turn ≤ points p
+
+-- the same, computed
+abbrev pub king_entered_at : ShogiBoard → Side → ℕ → Bool
+king_entered_at board side square = holds_king side (map.get board square) && in_camp side square
+
+unfoldable pub king_entered : ShogiBoard → Side → Bool
+king_entered board side = list_any (king_entered_at board side) all_squares
+
+abbrev pub has_enough : ShogiBoard → Hand → Side → Bool
+has_enough board hand side =
+    nat_le pieces_needed (entered board side)
+    && nat_le (points_needed side) (camp_points board side + hand_points hand)
+
+unfoldable pub can_declare : ShogiPosition → Bool
+can_declare p =
+    (king_entered p.board p.turn && not (king_attacked p.board p.turn))
+    && has_enough p.board (hand_of p.turn p.hands) p.turn
+
+-- The computed answer is the one by the rule.
+abbrev pub CanDeclareIs : Type 0
+CanDeclareIs = (p : ShogiPosition) → IsTrue (can_declare p) ↔ CanDeclare p

@@ -1,0 +1,147 @@
+//! Whether the side to move may declare that its king has entered the enemy's camp.
+ghost use Rattle.std.specs.Prelude.{◌≡◌, ◌↔◌, ◌+◌, ◌<◌, ◌≤◌, ◌*◌, ℕ, IsTrue, Some, if◌then◌else◌};
+ghost use Rattle.shogi_moves.specs.Declaring.{in_camp, worth, has_entered, cell_points, entered, camp_points};
+ghost use Rattle.shogi_moves.specs.Declaring.{hand_points, points_needed, has_enough, king_entered};
+ghost use Rattle.shogi_moves.specs.Declaring.{can_declare, CanDeclare};
+
+use crate::kings::{is_king_attacked, kings_of};
+use crate::zones::{far_rank, is_king};
+use squares::{Hand, Kind, SBoard, SPiece, SPos, Side, Ssq};
+
+/// So many pieces besides the king must have entered.
+const PIECES_NEEDED: u32 = 10;
+
+fn in_camp(side: Side, square: Ssq) -> bool
+    ensures { result ≡ in_camp side square }
+{
+    far_rank(side, square) <= 3
+}
+
+// What a piece counts.
+fn worth(kind: Kind) -> u32
+    ensures value { result ≡ worth kind }
+    ensures range { result ≤ 5 }
+{
+    match kind {
+        Kind::Rook | Kind::Bishop => 5,
+        _ => 1,
+    }
+}
+
+// Whether a piece of the side, other than its king, stands there in the enemy's camp.
+fn has_entered(side: Side, square: Ssq, piece: SPiece) -> bool
+    ensures { result ≡ has_entered side square (Some piece) }
+{
+    piece.side == side && !is_king(piece.role) && in_camp(side, square)
+}
+
+// The pieces that have entered, and what they count.
+#[derive(Clone, Copy)]
+struct Camp {
+    pieces: u32,
+    points: u32,
+}
+
+impl Camp {
+    // With what stands on one square more.
+    fn with(self, side: Side, square: Ssq, cell: Option<SPiece>) -> Camp
+        requires pieces { self.pieces < 1000 }
+        requires points { self.points < 10000 }
+        ensures pieces { result.pieces ≡ self.pieces + (if has_entered side square cell then 1 else 0) }
+        ensures points { result.points ≡ self.points + cell_points side square cell }
+        ensures within { self.points ≤ 5 * self.pieces → result.points ≤ 5 * result.pieces }
+    {
+        match cell {
+            Some(piece) if has_entered(side, square, piece) => Camp {
+                pieces: self.pieces + 1,
+                points: self.points + worth(piece.role.kind()),
+            },
+            _ => self,
+        }
+    }
+}
+
+// The pieces of the side that have entered the enemy's camp.
+fn entered(board: &SBoard, side: Side) -> Camp
+    ensures pieces { result.pieces ≡ entered board.now side }
+    ensures points { result.points ≡ camp_points board.now side }
+    ensures within { result.points ≤ 405 }
+{
+    let mut rest = board.squares_of_side(side);
+    let mut found = Camp {
+        pieces: 0,
+        points: 0,
+    };
+    while let Some(number) = rest.pop() {
+        let square = Ssq::of_number(number);
+        found = found.with(side, square, board.at(square));
+    }
+    found
+}
+
+// What a hand counts.
+fn hand_points(hand: Hand) -> u32
+    ensures { result ≡ hand_points hand }
+{
+    let great = u32::from(hand.rook) + u32::from(hand.bishop);
+    let small = u32::from(hand.gold)
+        + u32::from(hand.silver)
+        + u32::from(hand.knight)
+        + u32::from(hand.lance)
+        + u32::from(hand.pawn);
+    5 * great + small
+}
+
+fn points_needed(side: Side) -> u32
+    ensures { result ≡ points_needed side }
+{
+    match side {
+        Side::First => 28,
+        Side::Second => 27,
+    }
+}
+
+// Whether a king of the side stands in the enemy's camp.
+fn king_entered(board: &SBoard, side: Side) -> bool
+    ensures { result ≡ king_entered board.now side }
+{
+    let mut rest = kings_of(board, side);
+    while let Some(number) = rest.pop() {
+        if in_camp(side, Ssq::of_number(number)) {
+            return true;
+        }
+    }
+    false
+}
+
+// Whether so many pieces have entered, and they and the hand count so much.
+fn has_enough(board: &SBoard, hand: Hand, side: Side) -> bool
+    ensures { result ≡ has_enough board.now hand side }
+{
+    let found = entered(board, side);
+    found.pieces >= PIECES_NEEDED && found.points + hand_points(hand) >= points_needed(side)
+}
+
+// The answer as a function of the position.
+#[tactic(auto, unfolding(crate::specs::Declaring::can_declare))]
+fn declares(position: &SPos) -> bool
+    ensures { result ≡ can_declare position.now }
+{
+    let board = position.board();
+    let side = position.turn();
+    king_entered(board, side)
+        && !is_king_attacked(board, side)
+        && has_enough(board, position.hands().of(side), side)
+}
+
+/// Whether the side to move may declare that its king has entered, and so win: its king is not attacked and stands in
+/// the far three ranks with ten own pieces or more besides it, and these and the hand count at least 28 for First, 27
+/// for Second. A rook and a bishop count five, promoted too, and every other piece one. It takes no memory.
+pub fn can_declare(position: &SPos) -> bool
+    ensures rule { IsTrue result ↔ CanDeclare position.now }
+
+    // The answer as a function of the position.
+    ensures value { result ≡ can_declare position.now }
+{
+    declares(position)
+}
