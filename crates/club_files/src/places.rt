@@ -37,9 +37,6 @@ enum Place {
 // The bytes that the file of every database of SQLite begins with.
 const BEGINNING: [u8; 16] = *b"SQLite format 3\0";
 
-// The bytes that every log of SQLite begins with (SQLite's file format, 4.1); the fourth tells the order of bytes.
-const BEGINNING_OF_A_LOG: [u8; 3] = [0x37, 0x7f, 0x06];
-
 // The least size of a page, and the largest (SQLite's file format, 1.3.2).
 const LEAST_PAGE: usize = 512;
 
@@ -124,20 +121,12 @@ fn lists_no_club(page: &[u8]) -> bool {
             .any(|name| name.eq_ignore_ascii_case(&OF_A_CLUB))
 }
 
-// Whether a log of a database stands beside the file.
-fn has_log(rt: &HostRuntime, file: &str) -> bool {
-    match format!(in rt.alloc(); "{file}-wal") {
-        Ok(log) => beginning_of(rt, log.as_str()).starts_with(&BEGINNING_OF_A_LOG),
-        Err(_) => true,
-    }
-}
-
 // What a file that is not empty is. Where a log stands beside it the log tells what the database holds, and a write
-// that was cut off may have left anything in the file.
+// that was cut off may have left anything in the file, and in the beginning of the log.
 fn kind_of(rt: &HostRuntime, file: &str) -> Place {
     let bytes = beginning_of(rt, file);
     if !bytes.starts_with(&BEGINNING) {
-        return if has_log(rt, file) {
+        return if has_beside(rt, file, "-wal") {
             Place::Database
         } else {
             Place::Other
