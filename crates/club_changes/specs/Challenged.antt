@@ -8,10 +8,11 @@ use Rattle.club_core.specs.declared.challenges.Standing.{Standing}
 use Rattle.club_core.specs.declared.challenges.Standing.TheVariants.{Open, Withdrawn, Refused, Accepted}
 use Rattle.club_core.specs.Challenges.{pairing_for}
 use Rattle.club_core.specs.Events.{Event}
+use Rattle.club_core.specs.State.{place}
 use Rattle.club_requests.specs.Outcome.{Outcome, accepted, repeated, refused}
 use Rattle.club_rows.specs.Scores.{Meeting}
 use Rattle.store_tables.specs.declared.rows.Changes.{Changes}
-use Rattle.club_changes.specs.Steps.{Puts, NoneStarts, started, started_seen, started_scores, no_rows}
+use Rattle.club_changes.specs.Steps.{Puts, started, started_seen, started_scores, no_rows}
 
 -- the row of the game that it starts, those of its positions, and the meetings that it is: it has no key
 abbrev pub begun_games : List Event → ℕ → Challenge → Standing → List Row
@@ -54,8 +55,8 @@ AnswersTo games accept (accepted c reply) = c.standing ≡ standing_after games 
 AnswersTo games accept (repeated reply) = ⊤
 AnswersTo games accept (refused refusal) = ⊤
 
--- the game of an accepted challenge does not start
-abbrev pub NoneBegins : List Event → ℕ → ChallengeDecision → Type 0
-NoneBegins events moment (decision.Accepted c answer) = NoneStarts events None (pairing_for c) moment
-NoneBegins events moment (decision.Repeated answer) = ⊥
-NoneBegins events moment (decision.Refused refusal) = ⊥
+-- none of these events is that of the challenge that was accepted
+abbrev pub HasNoEvent : List Event → ChallengeDecision → Type 0
+HasNoEvent events (decision.Accepted c answer) = place events (pairing_for c).event ≡ None
+HasNoEvent events (decision.Repeated answer) = ⊥
+HasNoEvent events (decision.Refused refusal) = ⊥

@@ -151,11 +151,6 @@ first_meetings kind key pairing moment = meetings_in both_games (seated_as kind 
 abbrev pub started_scores : List Event → Option (List ℕ) → Pairing → ℕ → List Meeting
 started_scores events key pairing moment = first_meetings (kind_at (place events pairing.event)) key pairing moment
 
--- No game starts so: there is no such event, or the game has ended before its first move.
-abbrev pub NoneStarts : List Event → Option (List ℕ) → Pairing → ℕ → Type 0
-NoneStarts events key pairing moment =
-    (event : Event) → place events pairing.event ≡ Some event → started_scores events key pairing moment ≢ []
-
 -- the row of a game of one of these events that was just seated
 abbrev pub started : List Event → ℕ → Option (List ℕ) → Pairing → ℕ → Row
 started events id key pairing moment = row_of_game both_games events id

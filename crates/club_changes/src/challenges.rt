@@ -6,11 +6,11 @@ ghost use Rattle.club_core.specs.Answer.{events_of, challenge_outcome_of};
 ghost use Rattle.club_core.specs.Challenges.{pairing_for};
 ghost use Rattle.club_core.specs.LegalState.{Each, IsLegalEvent};
 ghost use Rattle.club_requests.specs.Outcome.{map_outcome};
-ghost use Rattle.club_core.specs.State.{with_challenge, with_answer};
+ghost use Rattle.club_core.specs.State.{place, with_challenge, with_answer};
 ghost use Rattle.club_rows.specs.Club.{ClubState, IsClub};
 ghost use Rattle.club_rows.specs.Tables.{challenge_row};
-ghost use Rattle.club_changes.specs.Challenged.{PutsBegun, AnswersTo, NoneBegins};
-ghost use Rattle.club_changes.specs.Steps.{Puts, IsDecided, NoneStarts, no_rows};
+ghost use Rattle.club_changes.specs.Challenged.{PutsBegun, AnswersTo, HasNoEvent};
+ghost use Rattle.club_changes.specs.Steps.{Puts, IsDecided, no_rows};
 ghost use Rattle.club_changes.specs.Whole.{IsWhole};
 
 use crate::decided::{Decided, at, unchanged};
@@ -68,7 +68,7 @@ fn begun_rows(
     ensures puts { IfOk result (λ changes. Each IsLegalEvent (events_of events.now) →
         PutsBegun (events_of events.now) moment challenge [] changes) }
     ensures unfit { IsErrOf result ChangeFault.Unfit →
-        NoneStarts (events_of events.now) None (pairing_for challenge) moment }
+        place (events_of events.now) (pairing_for challenge).event ≡ None }
 {
     match challenge.standing {
         Standing::Accepted { game } => {
@@ -89,7 +89,7 @@ fn answered_rows(
     ensures puts { IfOk result (λ changes. Each IsLegalEvent (events_of events.now) →
         PutsBegun (events_of events.now) moment challenge (challenge_row challenge ∷ []) changes) }
     ensures unfit { IsErrOf result ChangeFault.Unfit →
-        NoneStarts (events_of events.now) None (pairing_for challenge) moment }
+        place (events_of events.now) (pairing_for challenge).event ≡ None }
 {
     let changes = begun_rows(alloc, events, challenge, moment)?;
     Ok(with_challenge(changes, challenge)?)
@@ -106,8 +106,8 @@ pub fn put_answered(
     ensures step { IfOk result (λ d. (s : ClubState) (accept : Bool) → IsClub s → events_of events.now ≡ s.events →
         AnswersTo (length s.games) accept (challenge_outcome_of decision) →
         IsDecided s (map_outcome (with_answer s moment accept) (challenge_outcome_of decision)) d) }
-    // A challenge of a club has an event, and no game of it ends before its first move.
-    ensures unfit { IsErrOf result ChangeFault.Unfit → NoneBegins (events_of events.now) moment decision }
+    // A challenge of a club has an event.
+    ensures unfit { IsErrOf result ChangeFault.Unfit → HasNoEvent (events_of events.now) decision }
 {
     match decision {
         ChallengeDecision::Accepted { challenge, answer } => {

@@ -1,19 +1,18 @@
 //! The kinds of games: a game starts by the rules of its event's kind.
 
-ghost use Rattle.std.specs.Prelude.{◌≡◌, ◌≢◌, [], ◌∷◌, IfOk, IsErrOf, IsTrue};
+ghost use Rattle.std.specs.Prelude.{◌≡◌, [], ◌∷◌, IfOk, IsTrue};
 ghost use Rattle.std.specs.Option.{option_map};
 ghost use Rattle.club_core.specs.Answer.{pairing_of};
 ghost use Rattle.club_requests.specs.Limits.{is_budget};
 ghost use Rattle.club_rows.specs.Replay.{terms_given};
 ghost use Rattle.club_changes.specs.Steps.{first_row, first_seen_rows, first_meetings, Puts, no_rows};
 
-use crate::fault::ChangeFault;
 use crate::starts::start;
 use clocks::Moment;
 use club_core::KeyedGame;
 use club_games::{Draughts, Shogi};
 use club_rows::Terms;
-use club_rules::GameKind;
+use club_rules::{GameKind, Memory};
 use std::alloc::Global;
 use store_tables::Changes;
 
@@ -25,7 +24,7 @@ pub(crate) fn seat_in(
     new: KeyedGame,
     key: Option<&str>,
     moment: Moment,
-) -> Result<Changes, ChangeFault>
+) -> Result<Changes, Memory>
     ensures puts { IfOk result (λ changes. IsTrue (is_budget terms.budget) →
         Puts changes moment
         (record
@@ -37,8 +36,6 @@ pub(crate) fn seat_in(
         })) }
     ensures running { IfOk result (λ changes.
         first_meetings kind (option_map (λ k. k.now) key.entry) (pairing_of new.pairing) moment ≡ []) }
-    ensures unfit { IsErrOf result ChangeFault.Unfit →
-        first_meetings kind (option_map (λ k. k.now) key.entry) (pairing_of new.pairing) moment ≢ [] }
 {
     match kind {
         GameKind::Draughts => start::<Draughts>(alloc, terms, new, key, moment),

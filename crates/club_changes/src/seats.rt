@@ -8,7 +8,7 @@ ghost use Rattle.club_core.specs.State.{place};
 ghost use Rattle.club_core.specs.LegalState.{Each, IsLegalEvent};
 ghost use Rattle.club_rows.specs.Replay.{terms_given};
 ghost use Rattle.club_changes.specs.Steps.{started, started_seen, started_scores};
-ghost use Rattle.club_changes.specs.Steps.{Puts, NoneStarts, no_rows};
+ghost use Rattle.club_changes.specs.Steps.{Puts, no_rows};
 
 use crate::fault::ChangeFault;
 use crate::kinds::seat_in;
@@ -64,9 +64,9 @@ pub fn seated_rows(
     ensures running { IfOk result (λ changes.
         started_scores (events_of events.now) (option_map (λ k. k.now) key.entry) (pairing_of new.pairing) moment
         ≡ []) }
-    ensures unfit { IsErrOf result ChangeFault.Unfit →
-        NoneStarts (events_of events.now) (option_map (λ k. k.now) key.entry) (pairing_of new.pairing) moment }
+    ensures unfit { IsErrOf result ChangeFault.Unfit → place (events_of events.now) new.pairing.event ≡ None }
 {
     let event = event_at(events, new.pairing.event)?;
-    seat_in(alloc, event.game, terms_of(event), new, key, moment)
+    let changes = seat_in(alloc, event.game, terms_of(event), new, key, moment)?;
+    Ok(changes)
 }

@@ -1,6 +1,6 @@
 //! The rows of a game that starts, by its rules.
 
-ghost use Rattle.std.specs.Prelude.{◌≡◌, ◌≢◌, ◌<◌, ℕ, Bool, [], ◌∷◌, Some, None, IfOk, IsErrOf, IsTrue};
+ghost use Rattle.std.specs.Prelude.{◌≡◌, ◌<◌, ℕ, Bool, [], ◌∷◌, Some, None, IfOk, IsTrue};
 ghost use Rattle.std.specs.Option.{option_map};
 ghost use Rattle.club_core.specs.Answer.{pairing_of};
 ghost use Rattle.club_core.specs.Game.{result_of};
@@ -13,7 +13,6 @@ ghost use Rattle.club_rows.specs.Seen.{seen_rows};
 ghost use Rattle.club_changes.specs.Steps.{Puts, no_rows};
 
 use crate::decided::at;
-use crate::fault::ChangeFault;
 use clocks::Moment;
 use club_core::{GameRow, KeyedGame, Pairing, keyless_row, seated_row};
 use club_rows::{Terms, first_seen, record_of};
@@ -46,7 +45,7 @@ pub(crate) fn start<R: Rules>(
     new: KeyedGame,
     key: Option<&str>,
     moment: Moment,
-) -> Result<Changes, ChangeFault>
+) -> Result<Changes, Memory>
     ensures puts { IfOk result (λ changes. IsTrue (is_budget terms.budget) →
         Puts changes moment
         (record
@@ -58,14 +57,8 @@ pub(crate) fn start<R: Rules>(
         })) }
     ensures running { IfOk result (λ changes.
         result_of R.rules (seated (option_map (λ k. k.now) key.entry) (pairing_of new.pairing) moment) ≡ None) }
-    ensures unfit { IsErrOf result ChangeFault.Unfit →
-        result_of R.rules (seated (option_map (λ k. k.now) key.entry) (pairing_of new.pairing) moment) ≢ None }
 {
     let row = first_row::<R>(alloc, key, new.pairing, terms.budget, moment)?;
-    // No game ends before its first move.
-    if row.result.is_some() {
-        return Err(ChangeFault::Unfit);
-    }
     let mut changes = at(alloc, moment);
     changes.games.push(record_of::<R>(alloc, new.game, &row)?)?;
     changes.seen.push(first_seen::<R>(alloc, new.game)?)?;

@@ -13,7 +13,6 @@ ghost use Rattle.club_core.specs.State.{seated};
 ghost use Rattle.club_core.specs.Answer.{members_of, events_of, keyed_of, pairing_of, seating_of};
 ghost use Rattle.club_core.specs.View.{IsRowOf};
 
-use crate::ends::{game_end, score_of_end};
 use crate::events::Event;
 use crate::ids::id_at;
 use crate::members::Member;
@@ -223,7 +222,7 @@ pub fn keyless_row<R: Rules>(
     started_row::<R>(alloc, None, pairing, budget, start)
 }
 
-/// The row of a game that starts at that moment.
+/// The row of a game that starts at that moment, which has no end before its first move.
 fn started_row<R: Rules>(
     alloc: Global,
     key: Option<String>,
@@ -236,8 +235,6 @@ fn started_row<R: Rules>(
         (seated (option_map (λ k. string_bytes k) key) (pairing_of pairing) start) row) }
 {
     let position = R::start();
-    let end = R::judge(alloc, &position, &[])?;
-    let score = score_of_end::<R>(end, R::turn(&position));
     let track = R::track_start(&position);
     let text = R::write_position(alloc, &position)?;
     Ok(GameRow {
@@ -252,8 +249,8 @@ fn started_row<R: Rules>(
         left_second: budget,
         track: R::track_numbers(&track),
         offer: None,
-        end: game_end(end),
-        result: score,
+        end: None,
+        result: None,
         position: text,
     })
 }

@@ -28,7 +28,7 @@ use Rattle.draughts_moves.proofs.Proved.{check_of-is, play-turn}
 use Rattle.draughts_draws.specs.declared.ends.DEnd.{DEnd}
 use Rattle.draughts_draws.specs.declared.ends.DEnd.TheVariants as draughts_end
 use Rattle.draughts_draws.specs.declared.tails.Class.{Class}
-use Rattle.draughts_draws.specs.Ends.{end_of, first_end, is_king_move}
+use Rattle.draughts_draws.specs.Ends.{end_of, first_end, is_king_move, are_king_moves, ends_with, stands_thrice}
 use Rattle.draughts_draws.specs.Line as line
 use Rattle.draughts_draws.specs.Tails.{tail_of, next_tail, end_by, class_of, in_class, first_count, count_on}
 use Rattle.draughts_draws.specs.Tails.{times_stood}
@@ -42,12 +42,14 @@ use Rattle.draughts_moves.specs.Listing.{move_cmp}
 use Rattle.club_rules.specs.Listed.{IsLegalList}
 use Rattle.club_rules.specs.Line.{position_after, positions, line_track}
 use Rattle.club_rules.specs.Line as game_line
-use Rattle.club_rules.specs.Laws.{FirstStarts, TurnPasses, ReadsBack, SameIs, SamePositionIs, EndsAtLimit, StandsForOne}
+use Rattle.club_rules.specs.Laws.{FirstStarts, StartsRunning, TurnPasses, ReadsBack, SameIs, SamePositionIs}
+use Rattle.club_rules.specs.Laws.{EndsAtLimit, StandsForOne}
 use Rattle.club_rules.specs.Laws.{WritesPositions, TextsTellPositions, TracksTellEnds, NumbersGiveTracks}
 use Rattle.club_rules.specs.Laws.{TracksGiveNumbers, NumbersAreFew}
 use Rattle.club_rules.proofs.Proved.{holds-after, passed-by, passes-by, tells-equal, texts-tell, track-is, numbers-few}
 use Rattle.club_rules.proofs.Proved.{count-next}
 use Rattle.club_games.specs.Draughts.{draughts, refusal_of, move_read}
+use Rattle.club_games.specs.FirstMoves.{man-has_move}
 
 -- ---- legal moves
 
@@ -113,6 +115,14 @@ unfolding end_of first_end
 draughts-ends_at_limit ms line is =
     let last : nat_eq (length ms) 600 ≡ true = eq-eqb (length ms) 600 is in
     rw last (at_limit _ _ _ _ _)
+
+-- ---- the first ply
+
+pub draughts-starts_running : StartsRunning draughts
+unfolding end_of first_end stands_thrice are_king_moves ends_with
+draughts-starts_running =
+    λ i. some_end (not (man-has_move i)) (nat_le 3 (0 + cond (same_position-itself opening i) 1 0)) false false false
+    false
 
 -- ---- positions on lines keep to the board
 

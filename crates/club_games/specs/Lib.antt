@@ -3,6 +3,7 @@ pub mod CsaReading
 pub mod Draughts
 pub mod DraughtsLaws
 pub mod FenReading
+pub mod FirstMoves
 pub mod PdnLaws
 pub mod PdnReading
 pub mod Shogi

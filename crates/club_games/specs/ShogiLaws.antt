@@ -3,7 +3,7 @@ use Rattle.std.proofs.Common.{Contains, ◌↔◌, ◌≡◌, ℕ, ◌+◌, ◌�
 use Rattle.std.proofs.Common.{[], ◌∷◌, length, take, Option, Some, None, Ok, IsSome, refl, sym, ap, ◌∙◌, arith}
 use Rattle.std.proofs.Common.{eqb-true, eq-eqb}
 use Rattle.std.specs.List.Sorted.{IsStrictlySortedBy}
-use Rattle.std.specs.Prelude.{if◌then◌else◌, count_by, map as list_map}
+use Rattle.std.specs.Prelude.{if◌then◌else◌, count_by, nat_le, map as list_map}
 use Rattle.std.specs.List.{range_with_len}
 use Rattle.std.specs.Option.{option_map_or}
 use Rattle.std.specs.Ordering.{nat_cmp, eq_by_cmp}
@@ -29,7 +29,7 @@ use Rattle.squares.specs.ShogiSets.{ShogiPosition, IsShogiPosition}
 use Rattle.squares.proofs.Proved.{get-shogi_board_of, opening-IsShogiPosition}
 use Rattle.shogi_moves.specs.Computed.{check_of, has_move}
 use Rattle.shogi_moves.specs.Rules.{Legal, Movement, arrived, board_after, play}
-use Rattle.shogi_moves.proofs.Proved.{check_of-legal, play-sound, Reach-on}
+use Rattle.shogi_moves.proofs.Proved.{check_of-legal, has_move-is, play-sound, Reach-on}
 use Rattle.shogi_repetition.specs.declared.ends.SEnd.{SEnd}
 use Rattle.shogi_repetition.specs.declared.ends.SEnd.TheVariants as shogi_end
 use Rattle.shogi_repetition.specs.declared.tails.Tail.{Tail}
@@ -46,11 +46,14 @@ use Rattle.shogi_moves.specs.Listing.{move_cmp}
 use Rattle.club_rules.specs.Listed.{IsLegalList}
 use Rattle.club_rules.specs.Line.{position_after, positions, line_track, FirstStands}
 use Rattle.club_rules.specs.Line as game_line
-use Rattle.club_rules.specs.Laws.{FirstStarts, TurnPasses, ReadsBack, SameIs, SamePositionIs, EndsAtLimit, StandsForOne}
+use Rattle.club_rules.specs.Laws.{FirstStarts, StartsRunning, TurnPasses, ReadsBack, SameIs, SamePositionIs}
+use Rattle.club_rules.specs.Laws.{EndsAtLimit, StandsForOne}
 use Rattle.club_rules.specs.Laws.{WritesPositions, TextsTellPositions, TracksTellEnds, NumbersGiveTracks}
 use Rattle.club_rules.specs.Laws.{TracksGiveNumbers, NumbersAreFew}
 use Rattle.club_rules.proofs.Proved.{holds-after, passed-by, passes-by, tells-equal, texts-tell, track-is, numbers-few}
 use Rattle.club_rules.proofs.Proved.{count-next}
+use Rattle.club_rules.specs.MoveRefusal.{refused_by}
+use Rattle.club_games.specs.FirstMoves.{pawn_step, pawn-passes}
 use Rattle.club_games.specs.Shogi.{shogi, refusal_of, move_read, IsPositionText, same_kind, same_move}
 
 -- ---- legal moves
@@ -140,6 +143,18 @@ shogi-ends_at_limit ms legal is =
     let final = line.last_position opening ms in
     let all = line.positions opening ms in
     rw last (at_limit (not (has_move final)) (stands_four_times final all) (repetition final all))
+
+-- ---- the first ply
+
+has_first_move : has_move opening ≡ true
+has_first_move =
+    (has_move-is opening).1 (pawn_step, check-legal opening pawn_step (ap (refused_by refusal_of) pawn-passes))
+
+pub shogi-starts_running : StartsRunning shogi
+unfolding end_of first_end stands_four_times
+shogi-starts_running =
+    λ i. some_end (not (has_first_move i)) (nat_le 4 (0 + cond (same_shogi_position-itself opening i) 1 0))
+    (repetition opening (opening ∷ [])) false
 
 -- ---- positions on lines are positions of the board and the sets
 

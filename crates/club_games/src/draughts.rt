@@ -171,6 +171,8 @@ impl Rules for Draughts {
 
     ghost first_starts = { laws.draughts-first_starts };
 
+    ghost starts_running = { laws.draughts-starts_running };
+
     ghost turn_passes = { laws.draughts-turn_passes };
 
     ghost reads_back = { laws.draughts-reads_back };

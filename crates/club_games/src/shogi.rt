@@ -178,6 +178,8 @@ impl Rules for Shogi {
 
     ghost first_starts = { laws.shogi-first_starts };
 
+    ghost starts_running = { laws.shogi-starts_running };
+
     ghost turn_passes = { laws.shogi-turn_passes };
 
     ghost reads_back = { laws.shogi-reads_back };

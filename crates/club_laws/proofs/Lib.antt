@@ -9,6 +9,7 @@ pub mod Kept
 pub mod Later
 pub mod LegalSteps
 pub mod Lists
+pub mod Offers
 pub mod Proved
 pub mod PutChallenges
 pub mod Repeats

@@ -657,12 +657,12 @@ still-shogi DM SM resign g still = tt
 still-shogi DM SM claim_time g still = tt
 still-shogi DM SM (declare ply) g still = tt
 
-unwrap-draughts : {DM SM : Type 0} (g : Game DM) (new : AnyGame DM SM) → IsLaterAny (draughts g) new → (later : Game DM)
+pub unwrap-draughts : {DM SM : Type 0} (g : Game DM) (new : AnyGame DM SM) → IsLaterAny (draughts g) new → (later : Game DM)
     × (new ≡ draughts later) × IsLaterGame g later
 unwrap-draughts g (draughts later) is = (later, refl, is)
 unwrap-draughts g (shogi later) is = absurd is
 
-unwrap-shogi : {DM SM : Type 0} (g : Game SM) (new : AnyGame DM SM) → IsLaterAny (shogi g) new → (later : Game SM)
+pub unwrap-shogi : {DM SM : Type 0} (g : Game SM) (new : AnyGame DM SM) → IsLaterAny (shogi g) new → (later : Game SM)
     × (new ≡ shogi later) × IsLaterGame g later
 unwrap-shogi g (shogi later) is = (later, refl, is)
 unwrap-shogi g (draughts later) is = absurd is
@@ -674,6 +674,19 @@ module _ {DP DM DE DT SP SM SE ST : Type 0} (kinds : ClubRules DP DM DE DT SP SM
       (reply : Reply) → by_officer who (import_as kinds s moment given (event_kind s.events given.event))
       ≡ accepted after reply → IsLater after t → KeepsOver kinds after t
       → by_officer who (import_as kinds t again given (event_kind t.events given.event)) ≡ repeated reply
+
+found-later : (o : Option ℕ) (who : Caller) → caller_found o ≡ Some who → (id : ℕ) × (o ≡ Some id)
+    × (Member id ≡ who)
+found-later None who is = cc
+found-later (Some id) who is = (id, refl, cc)
+
+pub same-caller : (all more : List members.Member) (w : Who) (who : Caller) → Begins all more
+    → caller_of all w ≡ Some who
+    → caller_of more w ≡ Some who
+same-caller all more officer who begins is = is
+same-caller all more (key_holder key) who begins is =
+    let (id, found, member) = found-later (find_id (has_member_key key) all) who is in
+    rw (find-later (has_member_key key) all more id begins found, member) refl
 
 module _ {DP DM DE DT SP SM SE ST : Type 0} (kinds : ClubRules DP DM DE DT SP SM SE ST)
     (are_draughts : AreRules kinds.draughts) (are_shogi : AreRules kinds.shogi) (import_again : RepeatsImport kinds)
@@ -725,19 +738,6 @@ module _ {DP DM DE DT SP SM SE ST : Type 0} (kinds : ClubRules DP DM DE DT SP SM
     command-again s t moment again (Member id) (answer_challenge challenger number accept) after reply legal is since
         kept
         still = answer-again s t moment again challenger number id accept after reply is since
-
-    found-later : (o : Option ℕ) (who : Caller) → caller_found o ≡ Some who → (id : ℕ) × (o ≡ Some id)
-        × (Member id ≡ who)
-    found-later None who is = cc
-    found-later (Some id) who is = (id, refl, cc)
-
-    same-caller : (all more : List members.Member) (w : Who) (who : Caller) → Begins all more
-        → caller_of all w ≡ Some who
-        → caller_of more w ≡ Some who
-    same-caller all more officer who begins is = is
-    same-caller all more (key_holder key) who begins is =
-        let (id, found, member) = found-later (find_id (has_member_key key) all) who is in
-        rw (find-later (has_member_key key) all more id begins found, member) refl
 
     by-again : (s t : State DM SM) (moment again : ℕ) (who later_who : Option Caller) (command : Command)
         (after : State DM SM) (reply : Reply) → IsLegalState kinds s

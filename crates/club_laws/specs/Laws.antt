@@ -1,9 +1,11 @@
 -- The laws of the club's machine.
-use Rattle.std.specs.Prelude.{◌≡◌, ◌≤◌, ◌+◌, ℕ, List, length, Option, Some, None, false}
+use Rattle.std.specs.Prelude.{◌≡◌, ◌≤◌, ◌+◌, ℕ, List, length, Option, Some, None, Bool, true, false}
 use Rattle.club_core.specs.ClubRules.{ClubRules}
 use Rattle.club_requests.specs.Limits.{last_moment}
-use Rattle.club_requests.specs.Outcome.{Reply, accepted, repeated}
-use Rattle.club_core.specs.Step.{GameCommand, move, offer_draw, accept_draw, resign, claim_time, declare}
+use Rattle.club_requests.specs.Outcome.{Reply, accepted, repeated, refused}
+use Rattle.club_requests.specs.declared.refusals.Refusal.{Refusal}
+use Rattle.club_requests.specs.declared.refusals.Refusal.TheVariants.{GameOver, WrongPly}
+use Rattle.club_core.specs.Step.{GameCommand, move, offer_draw, accept_draw, resign, claim_time, declare, is_over}
 use Rattle.club_core.specs.State.{AnyGame, draughts, shogi, State, Command, add_member, add_event, seat, import_record}
 use Rattle.club_core.specs.State.{on_game, sweep, open_challenge, withdraw_challenge, answer_challenge, Request, place}
 use Rattle.club_core.specs.State.{is_accepted, step, next, fold, accepted_of}
@@ -35,6 +37,11 @@ module _ {DM SM : Type 0} where
   StillRepeats s (withdraw_challenge number) = Unit {0}
   StillRepeats s (answer_challenge challenger number accept) = Unit {0}
 
+-- what an offer of a draw is answered once a move came since, by whether the game is over
+abbrev pub passed_offer : Bool → Refusal
+passed_offer true = GameOver
+passed_offer false = WrongPly
+
 module _ {DP DM DE DT SP SM SE ST : Type 0} (rules : ClubRules DP DM DE DT SP SM SE ST) where
   -- folding the accepted requests alone gives the same state
   abbrev pub FoldsAccepted : Type 0
@@ -62,3 +69,20 @@ module _ {DP DM DE DT SP SM SE ST : Type 0} (rules : ClubRules DP DM DE DT SP SM
       (s after : State DM SM) (r : Request) (reply : Reply) (between : List Request) (moment : ℕ) →
       IsLegalState rules s → step rules s r ≡ accepted after reply → StillRepeats (fold rules after between) r.command →
       step rules (fold rules after between) (record r { moment = moment }) ≡ repeated reply
+
+  -- there is such a game, and it is over
+  abbrev pub is_over_in : Option (AnyGame DM SM) → Bool
+  is_over_in None = false
+  is_over_in (Some (draughts game)) = is_over rules.draughts game
+  is_over_in (Some (shogi game)) = is_over rules.shogi game
+
+  -- An accepted offer of a draw that comes again from the one who made it, once a move came since, is refused: as the
+  -- game is over, or else for its ply.
+  abbrev pub RefusesPassedOffers : Type 0
+  RefusesPassedOffers =
+      (s after : State DM SM) (r : Request) (id ply : ℕ) (reply : Reply) (between : List Request) (moment : ℕ) →
+      IsLegalState rules s → IsLegalState rules (fold rules after between) →
+      r.command ≡ on_game id (offer_draw ply) → step rules s r ≡ accepted after reply →
+      ¬ HasNextPly ply (place (fold rules after between).games id) →
+      step rules (fold rules after between) (record r { moment = moment })
+      ≡ refused (passed_offer (is_over_in (place (fold rules after between).games id)))

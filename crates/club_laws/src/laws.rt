@@ -7,6 +7,7 @@ ghost use Rattle.club_core.specs.Game.{Game};
 ghost use Rattle.club_core.specs.Legal.{IsLegalGame};
 ghost use Rattle.club_core.specs.View.{Shows, ShowsPly, IsSound, terms_of};
 ghost use Rattle.club_laws.specs.Laws.{FoldsAccepted, LeavesState, NeverFalls, KeepsLegal, AnswersAgain};
+ghost use Rattle.club_laws.specs.Laws.{RefusesPassedOffers};
 
 use club_core::GameView;
 use club_rules::{Records, Rules};
@@ -35,6 +36,12 @@ pub fn requests_keep_legal<D: Records, S: Records>()
 /// whatever requests stand between.
 pub fn repeats_answer_again<D: Records, S: Records>()
     ensures { AnswersAgain (both D.rules S.rules D.records S.records) }
+{}
+
+/// An accepted offer of a draw that comes again once a move came since is refused: with 56 GameOver where the game has
+/// ended, and else with 57 WrongPly.
+pub fn passed_offers_are_refused<D: Records, S: Records>()
+    ensures { RefusesPassedOffers (both D.rules S.rules D.records S.records) }
 {}
 
 /// A view that shows a legal game of an event is sound, so that a command can be decided over it.

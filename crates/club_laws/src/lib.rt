@@ -4,6 +4,6 @@
 pub mod laws;
 
 pub use laws::{
-    accepted_suffice, moments_rise, others_leave, repeats_answer_again, requests_keep_legal,
-    shown_is_sound,
+    accepted_suffice, moments_rise, others_leave, passed_offers_are_refused, repeats_answer_again,
+    requests_keep_legal, shown_is_sound,
 };

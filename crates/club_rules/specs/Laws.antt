@@ -1,5 +1,5 @@
 -- What holds of the rules of each game.
-use Rattle.std.specs.Prelude.{◌≡◌, ◌≤◌, ◌+◌, ◌↔◌, ℕ, List, length, Option, Some, None, IsSome, Ok, true}
+use Rattle.std.specs.Prelude.{◌≡◌, ◌≤◌, ◌+◌, ◌↔◌, ℕ, List, [], length, Option, Some, None, IsSome, Ok, true}
 use Rattle.squares.specs.declared.sides.Side.TheVariants.{First}
 use Rattle.squares.specs.Sides.{other}
 use Rattle.club_rules.specs.GameRules.{GameRules, ply_limit}
@@ -21,6 +21,10 @@ module _ {P M E T : Type 0} (rules : GameRules P M E T) where
   -- First moves first
   abbrev pub FirstStarts : Type 0
   FirstStarts = rules.turn rules.start ≡ First
+
+  -- no game has ended before its first move
+  abbrev pub StartsRunning : Type 0
+  StartsRunning = rules.judge rules.start [] ≡ None
 
   -- a legal move gives the turn to the other side
   abbrev pub TurnPasses : Type 0

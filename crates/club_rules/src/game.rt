@@ -2,7 +2,8 @@
 
 ghost use Rattle.std.specs.Prelude.{◌≡◌, ◌<◌, ℕ, List, IfOk, Ok, string_bytes};
 ghost use Rattle.club_rules.specs.GameRules.{GameRules};
-ghost use Rattle.club_rules.specs.Laws.{FirstStarts, TurnPasses, ReadsBack, SameIs, SamePositionIs, EndsAtLimit};
+ghost use Rattle.club_rules.specs.Laws.{FirstStarts, StartsRunning, TurnPasses, ReadsBack, SameIs, SamePositionIs};
+ghost use Rattle.club_rules.specs.Laws.{EndsAtLimit};
 ghost use Rattle.club_rules.specs.Laws.{IsPositionRead, WritesPositions, StandsForOne, TextsTellPositions};
 ghost use Rattle.club_rules.specs.Laws.{TracksTellEnds, NumbersGiveTracks, TracksGiveNumbers, NumbersAreFew};
 ghost use Rattle.club_rules.specs.Line.{IsPlayedLine};
@@ -143,6 +144,9 @@ pub trait Rules {
 
     /// First moves first.
     ghost first_starts: { FirstStarts rules };
+
+    /// No game has ended before its first move.
+    ghost starts_running: { StartsRunning rules };
 
     /// A legal move gives the turn to the other side.
     ghost turn_passes: { TurnPasses rules };

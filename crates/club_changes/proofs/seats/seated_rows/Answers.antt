@@ -1,7 +1,6 @@
-use Rattle.std.proofs.Common.{◌≡◌, ◌≢◌, [], ◌∷◌, Some, ap, sym, subst, subst₂, ◌∙◌}
+use Rattle.std.proofs.Common.{◌≡◌, [], ◌∷◌, Some, ap, sym, subst, subst₂, ◌∙◌}
 use Rattle.std.specs.Option.{option_map}
 use Rattle.std.specs.Prelude.{IsTrue}
-use Rattle.std.proofs.lemmas.Result.{IfOk-weaker}
 use Rattle.club_core.specs.Answer.{event_of, events_of, pairing_of}
 use Rattle.club_core.specs.LegalState.{IsLegalEvent}
 use Rattle.club_requests.specs.Limits.{is_budget}
@@ -13,8 +12,7 @@ use Rattle.club_changes.proofs.ClubPlayed.{started_first, started_seen_first}
 use Rattle.club_changes.proofs.seats.seated_rows.Goals as goal
 
 pub returns-clause-puts : goal.returns-clause-puts
-returns-clause-puts c =
-    IfOk-weaker c.seat_in.result _ _ (λ changes puts legal.
+returns-clause-puts c legal =
     let key = option_map (λ k. k.now) c.args.key in
     let events = events_of c.args.events.now in
     let event = event_of c.in_ok-event.event.now in
@@ -28,19 +26,12 @@ returns-clause-puts c =
     let seen : first_seen_rows event.game id key pairing c.args.moment
     ≡ started_seen events id key pairing c.args.moment =
     started_seen_first events pairing id key c.args.moment event.game (ap kind_at at) in
-    subst₂ (λ r l. Puts changes c.args.moment (record no_rows { games = r ∷ []; seen = l }))
+    subst₂ (λ r l. Puts c.in_ok-changes.changes c.args.moment (record no_rows { games = r ∷ []; seen = l }))
     (ap (λ t. first_row event.game t id key pairing c.args.moment) terms ∙ sym is) seen
-    (puts (subst (λ t. IsTrue (is_budget t.budget)) (sym c.terms_of.ensures) budget))) c.seat_in.ensures.puts
+    (c.in_ok-changes.ensures.puts (subst (λ t. IsTrue (is_budget t.budget)) (sym c.terms_of.ensures) budget))
 
 pub returns-clause-running : goal.returns-clause-running
 returns-clause-running c =
     let key = option_map (λ k. k.now) c.args.key in
-    IfOk-weaker c.seat_in.result _ _ (λ changes running.
     ap (λ kind. first_meetings kind key (pairing_of c.args.new.pairing) c.args.moment)
-    (ap kind_at c.in_ok-event.ensures.at) ∙ running) c.seat_in.ensures.running
-
-pub returns-clause-unfit : goal.returns-clause-unfit
-returns-clause-unfit c = λ unfit event at.
-    let key = option_map (λ k. k.now) c.args.key in
-    subst (λ kind. first_meetings kind key (pairing_of c.args.new.pairing) c.args.moment ≢ [])
-    (sym (ap kind_at c.in_ok-event.ensures.at)) (c.seat_in.ensures.unfit unfit)
+    (ap kind_at c.in_ok-event.ensures.at) ∙ c.in_ok-changes.ensures.running

@@ -1,5 +1,6 @@
 use Rattle.std.specs.Option.{option_map}
-use Rattle.std.proofs.Common.{◌≡◌, false, None, refl, sym, ◌∙◌, rules}
+use Rattle.std.proofs.Common.{None, ap, refl, sym, ◌∙◌}
+use Rattle.club_core.specs.Game.{end_with, score_with}
 use Rattle.club_core.specs.Answer.{pairing_of}
 use Rattle.club_core.specs.State.{seated}
 use Rattle.club_rows.specs.Replay.{terms_given}
@@ -31,10 +32,5 @@ returns-clause-puts g c legal =
 
 pub returns-clause-running : goal.returns-clause-running
 returns-clause-running g c =
-    let none : c.in_ok-row.row.result ≡ None = search rules in
-    sym (c.in_ok-row.ensures 0 false).result ∙ none
-
-pub returns-then-is_some-clause-unfit : goal.returns-then-is_some-clause-unfit
-returns-then-is_some-clause-unfit g c = λ unfit ended.
-    let none : c.in_ok-row.row.result ≡ None = (c.in_ok-row.ensures 0 false).result ∙ ended in
-    search rules
+    let laws = g.R.Rules.rules in
+    ap (λ e. score_with laws (end_with e None) (laws.turn laws.start)) g.met.R.Rules.starts_running
