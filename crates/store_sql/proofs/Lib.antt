@@ -1,5 +1,7 @@
 pub mod BoundLemmas
+pub mod CreateLemmas
 pub mod GroupLemmas
 pub mod OpenLemmas
 pub mod Proved
+pub mod RefusedLemmas
 pub mod SelectLemmas

@@ -1,15 +1,15 @@
 //! Making the tables in an empty database.
 
-ghost use Rattle.std.specs.Prelude.{◌≡◌, ◌≤◌, ◌⊎◌, ℕ, false, IsTrue, IfOk, IfErr, OnOk, OnErr};
-ghost use Rattle.sqlite.specs.State.{HasCleanDisk, Survives};
+ghost use Rattle.std.specs.Prelude.{◌≡◌, ◌≤◌, ◌⊎◌, ℕ, false, [], Err, IsTrue, IfOk, IfErr, OnOk, OnErr};
+ghost use Rattle.sqlite.specs.State.{ExecutesInside, HasCleanDisk, Survives};
 ghost use Rattle.sqlite.specs.Held.{state};
 ghost use Rattle.sqlite_trees.specs.View.{doubt};
 ghost use Rattle.store_tables.specs.Reading.{IsNoInput, KeepsMay};
-ghost use Rattle.store_tables.specs.Tables.{club_schema};
-ghost use Rattle.store_tables.specs.Contents.{Ran, Makes, Fills, IsExactlyEmpty, IsEmpty, opening};
+ghost use Rattle.store_tables.specs.Tables.{club_schema, schema_after};
+ghost use Rattle.store_tables.specs.Contents.{AreMade, Ran, Makes, Fills, IsExactlyEmpty, IsEmpty, opening};
 ghost use Rattle.store_tables.specs.Club.{IsExactly, Leaves};
 
-use crate::upsert::Put;
+use crate::upsert::put_meta;
 use sqlite::{Alter, Connection, Error, Transaction};
 use store_tables::MetaRow;
 
@@ -43,10 +43,15 @@ fn make<S: Alter>(tx: &mut Transaction<'_, S>, sql: &str) -> Result<(), Error>
     ensures ran { HasCleanDisk (state S.Store tx.new.conn.now) → IsTrue
         (state S.Store tx.old.conn.now).in_transaction → OnOk result (Ran sql.now (state S.Store tx.old.conn.now)
         (state S.Store tx.new.conn.now)) }
+    ensures fails { HasCleanDisk (state S.Store tx.new.conn.now) → IsTrue
+        (state S.Store tx.old.conn.now).in_transaction → IfErr result (λ e. ExecutesInside 0 sql.now []
+        (state S.Store tx.old.conn.now) (state S.Store tx.new.conn.now) (Err e)) }
     ensures survives { Survives (state S.Store tx.old.conn.now) (state S.Store tx.new.conn.now) (λ _. ⊥) }
 {
-    tx.execute(sql, &[])?;
-    Ok(())
+    match tx.execute(sql, &[]) {
+        Ok(_) => Ok(()),
+        Err(error) => Err(error),
+    }
 }
 
 /// Makes the tables of what is in a club but its games.
@@ -58,6 +63,10 @@ fn make_first<S: Alter>(tx: &mut Transaction<'_, S>) -> Result<(), Error>
     ensures refuses { HasCleanDisk (state S.Store tx.new.conn.now) → IsTrue
         (state S.Store tx.old.conn.now).in_transaction → (state S.Store tx.old.conn.now).now.schema ≡ club_schema →
         IfOk result (λ _. ⊥) }
+    // In an empty database.
+    ensures known { HasCleanDisk (state S.Store tx.new.conn.now) → IsTrue
+        (state S.Store tx.old.conn.now).in_transaction → AreMade (schema_after 0) (state S.Store tx.old.conn.now).now →
+        IfErr result IsNoInput }
     ensures survives { Survives (state S.Store tx.old.conn.now) (state S.Store tx.new.conn.now) (λ _. ⊥) }
 {
     make(tx, CREATE_META)?;
@@ -73,6 +82,10 @@ fn make_last<S: Alter>(tx: &mut Transaction<'_, S>) -> Result<(), Error>
     ensures made { HasCleanDisk (state S.Store tx.new.conn.now) → IsTrue
         (state S.Store tx.old.conn.now).in_transaction → OnOk result (Makes 4 8 (state S.Store tx.old.conn.now)
         (state S.Store tx.new.conn.now)) }
+    // Where the tables before them were made, and are empty.
+    ensures known { HasCleanDisk (state S.Store tx.new.conn.now) → IsTrue
+        (state S.Store tx.old.conn.now).in_transaction → AreMade (schema_after 4) (state S.Store tx.old.conn.now).now →
+        IfErr result IsNoInput }
     ensures survives { Survives (state S.Store tx.old.conn.now) (state S.Store tx.new.conn.now) (λ _. ⊥) }
 {
     make(tx, CREATE_MOVES)?;
@@ -91,6 +104,10 @@ fn create_inside<S: Alter>(tx: &mut Transaction<'_, S>) -> Result<(), Error>
     ensures refuses { HasCleanDisk (state S.Store tx.new.conn.now) → IsTrue
         (state S.Store tx.old.conn.now).in_transaction → (state S.Store tx.old.conn.now).now.schema ≡ club_schema →
         IfOk result (λ _. ⊥) }
+    // In an empty database.
+    ensures known { HasCleanDisk (state S.Store tx.new.conn.now) → IsTrue
+        (state S.Store tx.old.conn.now).in_transaction → AreMade (schema_after 0) (state S.Store tx.old.conn.now).now →
+        IfErr result IsNoInput }
     ensures survives { Survives (state S.Store tx.old.conn.now) (state S.Store tx.new.conn.now) (λ _. ⊥) }
 {
     make_first(tx)?;
@@ -100,7 +117,7 @@ fn create_inside<S: Alter>(tx: &mut Transaction<'_, S>) -> Result<(), Error>
         schema: 1,
         last: 0,
     };
-    meta.put(tx)?;
+    put_meta(&meta, tx)?;
     Ok(())
 }
 
@@ -117,6 +134,9 @@ pub fn create_tables<S: Alter>(conn: &mut Connection<S>) -> Result<(), Error>
         IfOk result (λ _. ⊥) × KeepsMay (state S.Store conn.old) (state S.Store conn.new) }
     ensures refused { HasCleanDisk (state S.Store conn.new) → IfErr result (λ e. IsNoInput e ⊎ KeepsMay
         (state S.Store conn.old) (state S.Store conn.new)) }
+    // In an empty database a fault is one of the store's.
+    ensures known { HasCleanDisk (state S.Store conn.new) → IsExactlyEmpty (state S.Store conn.old) →
+        IfErr result IsNoInput }
     ensures survives { Survives (state S.Store conn.old) (state S.Store conn.new) (λ db. (IsExactlyEmpty
         (state S.Store conn.old) → Leaves opening db) × ((state S.Store conn.old).now.schema ≡ club_schema → ⊥)) }
 {

@@ -1,10 +1,13 @@
 //! One row put into its table, by its key.
 
-ghost use Rattle.std.specs.Prelude.{◌≡◌, ℕ, List, [], ◌∷◌, IsTrue, OnOk, map};
+ghost use Rattle.std.specs.Prelude.{◌≡◌, ℕ, List, [], ◌∷◌, IsTrue, IfErr, OnOk, map};
 ghost use Rattle.sqlite.specs.State.{HasCleanDisk, Survives};
 ghost use Rattle.sqlite.specs.Held.{state};
 ghost use Rattle.store_tables.specs.Contents.{put_in, put_each};
+ghost use Rattle.store_tables.specs.Cells.{meta_cells};
 ghost use Rattle.store_tables.specs.Club.{Steps};
+ghost use Rattle.store_tables.specs.Reading.{IsNoInput};
+ghost use Rattle.store_tables.specs.Tables.{club_schema};
 
 use sqlite::{Alter, Error, Transaction, params};
 use store_tables::{
@@ -51,14 +54,32 @@ pub trait Put: TableRow {
         ensures survives { Survives (state S.Store tx.old.conn.now) (state S.Store tx.new.conn.now) (λ _. ⊥) };
 }
 
+/// Puts the row of `meta` in place of the one with its id. Where the tables of a club stand, a fault is one of the
+/// store's.
+pub(crate) fn put_meta<S: Alter>(row: &MetaRow, tx: &mut Transaction<'_, S>) -> Result<(), Error>
+    ensures same_reference { tx.new.conn.ghost_name ≡ tx.old.conn.ghost_name }
+    ensures put { HasCleanDisk (state S.Store tx.new.conn.now) → IsTrue
+        (state S.Store tx.old.conn.now).in_transaction →
+        OnOk result (Steps (put_in 0 (0 ∷ []) (meta_cells row.now)) (state S.Store tx.old.conn.now)
+        (state S.Store tx.new.conn.now)) }
+    ensures known { HasCleanDisk (state S.Store tx.new.conn.now) → IsTrue
+        (state S.Store tx.old.conn.now).in_transaction → (state S.Store tx.old.conn.now).now.schema ≡ club_schema →
+        IfErr result IsNoInput }
+    ensures survives { Survives (state S.Store tx.old.conn.now) (state S.Store tx.new.conn.now) (λ _. ⊥) }
+{
+    match tx.execute(PUT_META, params![row.id, row.schema, row.last]) {
+        Ok(_) => Ok(()),
+        Err(error) => Err(error),
+    }
+}
+
 impl Put for MetaRow {
     ghost tree = { 0 };
 
     ghost key = { 0 ∷ [] };
 
     fn put<S: Alter>(&self, tx: &mut Transaction<'_, S>) -> Result<(), Error> {
-        tx.execute(PUT_META, params![self.id, self.schema, self.last])?;
-        Ok(())
+        put_meta(self, tx)
     }
 }
 
