@@ -17,10 +17,11 @@ use Rattle.club_orders.specs.declared.report.Report.TheVariants.{Ready, Sound, A
 use Rattle.club_orders.specs.declared.report.Report.TheVariants.{Unopened, Stopped, InUse, NotOpened, NoMoment, Unread}
 use Rattle.club_orders.specs.declared.report.Report.TheVariants.{Listening, Unbound, NoMemory}
 use Rattle.club_orders.specs.Report.{IfUnopened, IfVerify}
-use Rattle.club_orders.specs.Refused.{HoldClub, IfTakesOver, IsBlamed, IsKept, IsRefusal}
+use Rattle.club_opening.specs.Refused.{HoldClub, IsBlamed, IsKept, IsRefusal}
+use Rattle.club_orders.specs.Refused.{IfTakesOver}
 use Rattle.http_desk.specs.declared.faults.ClubFault.{ClubFault}
 use Rattle.http_desk.specs.declared.faults.ClubFault.TheVariants.{Foreign, Schema, Damaged, Store, Reopen, Memory}
-use Rattle.club_desk.specs.Told.{HasClub, IfTaken, IsTold}
+use Rattle.club_desk.specs.Told.{IfTaken, IsTold}
 use Rattle.club_files.specs.Found.{AreKept, AreRefused, AreSound, IsToldOf, club_database}
 
 -- ---- what is said of one task or of one report goes on
@@ -85,9 +86,6 @@ taken_under P Q (Some Store) is = tt
 taken_under P Q (Some Reopen) is = is
 taken_under P Q (Some Memory) is = tt
 
-held : (trees : Trees) → HasClub trees → HoldClub trees
-held trees has = record { state = has.state; legal = has.legal; leaves = has.leaves }
-
 -- ---- the tables that an opening found
 
 blamed_found : (content : Content) (s : State) (fault : OpenFault) → IsExactly content s → IsBlamed s.now fault
@@ -111,10 +109,10 @@ module _ (files : Image) (old : State) (here : FindsIn files old) where
       }
 
   pub taken_files : ((content : Content) → Leaves content old.committed.trees → IsExactly content old)
-      → (told : Option ClubFault) → (old.now.schema ≡ club_schema → IfTaken told (HasClub old.committed.trees))
+      → (told : Option ClubFault) → (old.now.schema ≡ club_schema → IfTaken told (HoldClub old.committed.trees))
       → IfTaken told (AreSound files)
   taken_files exact told taken =
-      if_taken told (λ legal. sound_files exact (λ schema. held old.committed.trees (legal schema)))
+      if_taken told (λ legal. sound_files exact legal)
       (taken_under _ _ told taken)
 
   module _ (new : State) (MayLeave : Image → Type 0)
@@ -147,5 +145,5 @@ module _ (files : Image) (old : State) (here : FindsIn files old) where
     told_files opens exact (Some fault) (inr untaken) = inr (
       untaken.0,
       untaken.1,
-      refused_files opens exact untaken.0 (record { blames = untaken.2.blames; kept = untaken.2.kept }),
+      refused_files opens exact untaken.0 untaken.2,
     )

@@ -9,7 +9,7 @@ use Rattle.store_tables.specs.Tables.{club_schema}
 use Rattle.club_rows.specs.Club.{ClubState, IsClub, tables}
 use Rattle.club_opening.specs.declared.fault.OpenFault.{OpenFault}
 use Rattle.sessions.specs.Finds.{IsFoundIn}
-use Rattle.club_orders.specs.Refused.{HoldClub, IsBlamed}
+use Rattle.club_opening.specs.Refused.{HoldClub, IsBlamed}
 use Rattle.http_desk.specs.declared.faults.ClubFault.{ClubFault}
 use Rattle.http_desk.specs.declared.faults.ClubFault.TheVariants.{Reopen}
 use Rattle.club_desk.specs.Faults.{told_of_opening}

@@ -3,3 +3,4 @@ pub mod Examined
 pub mod FaultText
 pub mod Faults
 pub mod Places
+pub mod Refused

@@ -19,7 +19,8 @@ ghost use Rattle.club_orders.specs.Report.{given, Answers, export_report, IfRequ
 ghost use Rattle.club_orders.specs.Report.{IfVerify, IfUnopened};
 ghost use Rattle.club_orders.specs.Report.{ListsMoves, ListsTable, WritesRecord, IsPassed, IsBegun, request_sessions};
 ghost use Rattle.club_orders.specs.Report.{task_sessions, writes};
-ghost use Rattle.club_orders.specs.Refused.{HoldClub, IfTakesOver, IsKept, IsRefusal};
+ghost use Rattle.club_opening.specs.Refused.{HoldClub, IsKept, IsRefusal};
+ghost use Rattle.club_orders.specs.Refused.{IfTakesOver};
 
 use crate::report::Report;
 use clocks::Moment;
@@ -41,6 +42,8 @@ fn init<S: Alter>(alloc: Global, conn: Connection<S>) -> (Report, Connection<S>)
     ensures begun { HasCleanDisk (state S.Store result.1) → Opens (state S.Store conn) → IsLive (state S.Store conn) →
         IsEmpty (state S.Store conn).committed.trees →
         (db : _) → (state S.Store result.1).may_leave db → IsBegun result.0 db }
+    ensures empty { HasCleanDisk (state S.Store result.1) → Opens (state S.Store conn) → IsLive (state S.Store conn) →
+        IsEmpty (state S.Store conn).committed.trees → IfUnopened result.0 (λ fault. fault ≡ OpenFault.Store) }
     ensures spares { HasCleanDisk (state S.Store result.1) → Opens (state S.Store conn) →
         result.0 ≡ Report.Unopened OpenFault.Foreign → IsKept (state S.Store conn) (state S.Store result.1) }
     ensures led { HasCleanDisk (state S.Store result.1) → Opens (state S.Store conn) → IsLive (state S.Store conn) →
@@ -282,6 +285,10 @@ pub fn act<S: Alter, W: Write>(
     ensures begun { HasCleanDisk (state S.Store result.1) → Opens (state S.Store conn) → IsLive (state S.Store conn) →
         task.now ≡ Init → IsEmpty (state S.Store conn).committed.trees →
         (db : _) → (state S.Store result.1).may_leave db → IsBegun result.0 db }
+    // A club is not made where there is no table only where a call failed.
+    ensures empty { HasCleanDisk (state S.Store result.1) → Opens (state S.Store conn) → IsLive (state S.Store conn) →
+        task.now ≡ Init → IsEmpty (state S.Store conn).committed.trees →
+        IfUnopened result.0 (λ fault. fault ≡ OpenFault.Store) }
     ensures answer { HasCleanDisk (state S.Store result.1) → Opens (state S.Store conn) → IsLive (state S.Store conn) →
         (s : ClubState) → IsClub s → Leaves (tables s) (state S.Store conn).committed.trees →
         IfRequest task.now (λ command. Answers result.0 (λ outcome.

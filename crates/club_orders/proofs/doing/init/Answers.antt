@@ -31,3 +31,7 @@ pub returns-in-Err-clause-spares : goal.returns-in-Err-clause-spares
 returns-in-Err-clause-spares g c clean opens is db left =
     let foreign : c.in-Err.unopened.fault ≡ Foreign = cc in
     g.met.S.Store.settled c.args.conn.store db opens.is_open (c.in-Err.ensures.refused clean foreign db left)
+
+pub returns-in-Err-clause-empty : goal.returns-in-Err-clause-empty
+returns-in-Err-clause-empty g c clean opens live empty =
+    c.in-Err.ensures.empty clean (c.holds_nothing.ensures opens live empty)
