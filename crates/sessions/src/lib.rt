@@ -1,7 +1,7 @@
 //! From one session of a club to the next, over files.
 #![tactic(auto)]
 
-ghost use Rattle.std.specs.Prelude.{◌≡◌, ◌≤◌, ◌⊎◌, ◌++◌, ◌∷◌, [], false, None, IfOk, IfErr, map, length, take};
+ghost use Rattle.std.specs.Prelude.{◌≡◌, ◌≤◌, ◌⊎◌, ◌++◌, ◌∷◌, [], false, None, IfOk, IfErr, IfSome, map, length, take};
 ghost use Rattle.sqlite.specs.State.{HasCleanDisk, Opens, IsLive};
 ghost use Rattle.sqlite.specs.Files.{file_state, IsNothing};
 ghost use Rattle.sqlite_wal.specs.Recovery.{Image};
@@ -19,7 +19,7 @@ use sqlite::{Connection, FileStore};
 use sqlite_disk::Disk;
 use sqlite_trees::store::Store;
 use std::alloc::Global;
-use store::{Club, OpenFault, Run, Unopened, resume};
+use store::{Club, OpenFault, Run, StoreFault, Unopened, resume};
 
 /// Closes a connection, and gives the store back. Where the files hold what a stop leaves then, an opening finds one
 /// of the databases that a stop could leave of the connection.
@@ -65,6 +65,9 @@ pub fn serve<D: Disk + Drop>(
 ) -> Result<(Run, FileStore<D>), Unopened<FileStore<D>>>
     requires { conn.in_transaction ≡ false }
     ensures clean { IfOk result (λ lived. doubt (file_state conn).is_clean ≤ doubt (store_view lived.1).is_clean) }
+    // Never `Reopen`: the club has just been opened.
+    ensures named { IfOk result (λ lived. IfSome lived.0.fault (λ fault. (fault ≡ StoreFault.Store) ⊎ (fault ≡
+        StoreFault.Memory))) }
     ensures within { IfOk result (λ lived. length lived.0.outcomes.items ≤ length requests.now) }
     ensures whole { IfOk result (λ lived. lived.0.fault ≡ None → length lived.0.outcomes.items ≡ length requests.now) }
     ensures outcomes { IfOk result (λ lived. IsClean (store_view lived.1) → Opens (file_state conn) →

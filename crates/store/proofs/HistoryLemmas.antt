@@ -5,7 +5,7 @@ use Rattle.std.proofs.Common.{take, Option, Some, None, IsSome, IsTrue, is_none,
 use Rattle.std.proofs.Common.{arith}
 use Rattle.std.specs.Prelude.{if◌then◌else◌}
 use Rattle.std.specs.List.{count_by}
-use Rattle.std.proofs.lemmas.List.{take-map, take_all}
+use Rattle.std.proofs.lemmas.List.{take-map, take-take, take_all}
 use Rattle.std.proofs.lemmas.List.Recursion.{is_count_by}
 use Rattle.std.proofs.lemmas.Bool.{cases_Bool}
 use Rattle.sqlite.specs.Tree.{Trees}
@@ -133,23 +133,53 @@ abbrev pub Told : ClubState → List given_request.Request → Run → Type 0
 Told s rs run = map outcome_of run.outcomes.items ≡ map answered
     (club_outcomes s (map request_of (take (length run.outcomes.items) rs)))
 
+-- a session of these requests, with the outcomes of the run
+abbrev with_requests : List given_request.Request → Run → Session
+with_requests rs run = record {
+  requests = map request_of rs;
+  returned = count_by is_taken run.outcomes.items;
+  is_whole = is_none run.fault;
+}
+
 -- the state after the answered requests is one that the session leads to
-run_leads : (s : ClubState) (rs : List given_request.Request) (run : Run) → Told s rs run
-    → SessionReaches s (session_of rs run) (club_fold s (map request_of (take (length run.outcomes.items) rs)))
-run_leads s rs run told =
-    subst (λ xs. SessionReaches s (session_of rs run) (club_fold s xs))
+answered_leads : (s : ClubState) (rs : List given_request.Request) (run : Run) → Told s rs run
+    → SessionReaches s (with_requests rs run) (club_fold s (map request_of (take (length run.outcomes.items) rs)))
+answered_leads s rs run told =
+    subst (λ xs. SessionReaches s (with_requests rs run) (club_fold s xs))
     (take-map request_of (length run.outcomes.items) rs)
     (leads_on s (map request_of rs) (length run.outcomes.items) _ (is_none run.fault)
     (returned_is s rs run.outcomes.items (length run.outcomes.items) told))
 
 -- with a fault, so is the state after one more
-run_leads_further : (s : ClubState) (rs : List given_request.Request) (run : Run) → IsSome run.fault → Told s rs run
-    → SessionReaches s (session_of rs run) (club_fold s (map request_of (take (length run.outcomes.items + 1) rs)))
-run_leads_further s rs run failed told =
-    subst (λ xs. SessionReaches s (session_of rs run) (club_fold s xs))
+further_leads : (s : ClubState) (rs : List given_request.Request) (run : Run) → IsSome run.fault → Told s rs run
+    → SessionReaches s (with_requests rs run) (club_fold s (map request_of (take (length run.outcomes.items + 1) rs)))
+further_leads s rs run failed told =
+    subst (λ xs. SessionReaches s (with_requests rs run) (club_fold s xs))
     (take-map request_of (length run.outcomes.items + 1) rs)
     (leads_further s (map request_of rs) (length run.outcomes.items) _ (is_none run.fault) (is_stopped run.fault failed)
     (returned_is s rs run.outcomes.items (length run.outcomes.items) told))
+
+-- the requests up to the stop are answered alike
+told_up_to : (s : ClubState) (rs : List given_request.Request) (run : Run) → Told s rs run
+    → Told s (take (length run.outcomes.items + 1) rs) run
+told_up_to s rs run told =
+    subst
+    (λ xs. map outcome_of run.outcomes.items ≡ map answered (club_outcomes s (map request_of xs)))
+    (sym (take-take (length run.outcomes.items) (length run.outcomes.items + 1) rs (omega arith))) told
+
+run_leads : (s : ClubState) (rs : List given_request.Request) (run : Run) → Told s rs run
+    → SessionReaches s (session_of rs run) (club_fold s (map request_of (take (length run.outcomes.items) rs)))
+run_leads s rs run told =
+    subst (λ xs. SessionReaches s (session_of rs run) (club_fold s (map request_of xs)))
+    (take-take (length run.outcomes.items) (length run.outcomes.items + 1) rs (omega arith))
+    (answered_leads s (take (length run.outcomes.items + 1) rs) run (told_up_to s rs run told))
+
+run_leads_further : (s : ClubState) (rs : List given_request.Request) (run : Run) → IsSome run.fault → Told s rs run
+    → SessionReaches s (session_of rs run) (club_fold s (map request_of (take (length run.outcomes.items + 1) rs)))
+run_leads_further s rs run failed told =
+    subst (λ xs. SessionReaches s (session_of rs run) (club_fold s (map request_of xs)))
+    (take-take (length run.outcomes.items + 1) (length run.outcomes.items + 1) rs (omega arith))
+    (further_leads s (take (length run.outcomes.items + 1) rs) run failed (told_up_to s rs run told))
 
 -- what a stop leaves is led to with this session added
 pub session_leads : (s : ClubState) (sessions : List Session) (rs : List given_request.Request) (run : Run) (db : Trees)

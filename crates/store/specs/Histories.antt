@@ -1,5 +1,6 @@
 -- The history of a club: its sessions, one after another, each of them stopped at some moment or run to its end.
-use Rattle.std.specs.Prelude.{◌≡◌, ◌≤◌, ◌+◌, ℕ, Bool, true, false, if◌then◌else◌, List, [], ◌∷◌, map, take, is_none}
+use Rattle.std.specs.Prelude.{◌≡◌, ◌≤◌, ◌+◌, ℕ, Bool, true, false, if◌then◌else◌, List, [], ◌∷◌, length, map, take}
+use Rattle.std.specs.Prelude.{is_none}
 use Rattle.std.specs.List.{count_by}
 use Rattle.sqlite.specs.Tree.{Trees}
 use Rattle.sqlite.specs.State.{State}
@@ -52,11 +53,11 @@ pub record IsHistory (sessions : List Session) (now : State) : Type 0 where
 abbrev pub is_taken : given_outcome.Outcome → Bool
 is_taken outcome = is_accepted (outcome_of outcome)
 
--- a run as a session
+-- a run as a session of the requests up to its stop: one more than there are outcomes, or all where nothing stopped it
 abbrev pub session_of : List given_request.Request → Run → Session
 session_of requests run =
     record {
-      requests = map request_of requests;
+      requests = map request_of (take (length run.outcomes.items + 1) requests);
       returned = count_by is_taken run.outcomes.items;
       is_whole = is_none run.fault;
     }

@@ -81,6 +81,8 @@ pub fn create<S: Alter>(_alloc: Global, conn: Connection<S>) -> Result<Club<S>, 
         (state S.Store club.connection).is_clean) }
     ensures idle { IfErr result (λ u. u.conn.in_transaction ≡ false) }
     ensures named { IfErr result (λ u. (u.fault ≡ OpenFault.Foreign) ⊎ (u.fault ≡ OpenFault.Store)) }
+    ensures empty { IfErr result (λ u. HasCleanDisk (state S.Store u.conn) → IsExactlyEmpty (state S.Store conn) →
+        u.fault ≡ OpenFault.Store) }
     ensures fault { IfErr result (λ u. HasCleanDisk (state S.Store u.conn) → IsExactlyEmpty (state S.Store conn) →
         (db : _) → (state S.Store u.conn).may_leave db → IsEmpty db ⊎ Leaves (tables opening_state) db) }
     ensures begins { IfOk result (λ club. HasCleanDisk (state S.Store club.connection) → IsExactlyEmpty
@@ -119,6 +121,8 @@ pub fn adopt<S: Alter>(alloc: Global, conn: Connection<S>) -> Result<Club<S>, Un
         (state S.Store club.connection) × KeepsMay (state S.Store conn) (state S.Store club.connection)) }
     ensures clean { IfOk result (λ club. doubt (state S.Store conn).is_clean ≤ doubt
         (state S.Store club.connection).is_clean) }
+    // Whatever the tables are.
+    ensures kept { IfOk result (λ club. OnlyReads (state S.Store conn) (state S.Store club.connection)) }
     ensures idle { IfErr result (λ u. u.conn.in_transaction ≡ false) }
     ensures blames { IfErr result (λ u. HasCleanDisk (state S.Store u.conn) →
         (state S.Store conn).now.schema ≡ club_schema → NamesTable (state S.Store conn).now u.fault ⊎ (NamesSchema

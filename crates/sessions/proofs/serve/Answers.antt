@@ -13,3 +13,6 @@ returns-in-Ok-clause-history g c clean opens live sessions led left may found fi
 pub returns-in-Err-clause-kept : goal.returns-in-Err-clause-kept
 returns-in-Err-clause-kept g c clean opens live sessions led db left =
     ∥∥₁_map led (λ before. c.in-Err.ensures.kept clean opens live sessions before db left)
+
+pub returns-in-Ok-clause-named : goal.returns-in-Ok-clause-named
+returns-in-Ok-clause-named g c = c.in-Ok.ensures.named

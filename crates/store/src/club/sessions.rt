@@ -64,6 +64,9 @@ pub fn resume<S: Alter>(
         (state S.Store resumed.1.connection).is_clean) }
     ensures goes_on { IfOk result (λ resumed. resumed.0.fault ≡ None → resumed.1.needs_reopening ≡ false) }
     ensures ends { IfOk result (λ resumed. IsSome resumed.0.fault → resumed.1.needs_reopening ≡ true) }
+    // Never `Reopen`: the club has just been opened.
+    ensures named { IfOk result (λ resumed. IfSome resumed.0.fault (λ fault. (fault ≡ StoreFault.Store) ⊎ (fault ≡
+        StoreFault.Memory))) }
     ensures within { IfOk result (λ resumed. length resumed.0.outcomes.items ≤ length requests.now) }
     ensures whole { IfOk result (λ resumed. resumed.0.fault ≡ None →
         length resumed.0.outcomes.items ≡ length requests.now) }

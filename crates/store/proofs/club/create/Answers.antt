@@ -26,3 +26,7 @@ returns-in-Err-clause-refused g c clean is = elim (rw c.in-Err.is at c.create_ta
   | inl plain ↦ absurd (c.fault_of.ensures.foreign is plain)
   | inr kept ↦ kept
 ]
+
+pub returns-in-Err-clause-empty : goal.returns-in-Err-clause-empty
+returns-in-Err-clause-empty g c clean k =
+    c.fault_of.ensures.store (rw c.in-Err.is at c.create_tables.ensures.known clean k)

@@ -50,3 +50,6 @@ returns-in-Err-clause-kept g c clean opens live sessions led db left =
     let found : IsHistory sessions was = opens_led sessions was opens live
     (λ d shown stays. g.met.S.Store.settled c.args.conn.store d shown stays) led in
     stops_led sessions was found db (c.in-Err.ensures.reads.may clean db left)
+
+pub returns-clause-named : goal.returns-clause-named
+returns-clause-named g c = c.session-run.ensures.named c.in-Ok.ensures.ready
