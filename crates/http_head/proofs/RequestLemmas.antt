@@ -8,7 +8,7 @@ use Rattle.httparse.specs.Grammar.{RequestHead}
 use Rattle.httparse.proofs.GrammarLemmas.{request_unique}
 use Rattle.http_head.specs.declared.refusals.HeadRefusal.{HeadRefusal}
 use Rattle.http_head.specs.declared.framing.Scan.{Scan}
-use Rattle.http_head.specs.Framing.{end_from, scan_start, head_end, head_limit}
+use Rattle.http_head.specs.Framing.{end_from, scan_start, head_end, head_limit, past_limit}
 use Rattle.http_head.specs.Head.{Outline, outline_of, IsReadAs, IsReadIf, IsHead, line_limit}
 use Rattle.http_head.specs.Request.{Seen, unfinished, refused, whole, body_seen, seen_after, IsHeadRead, Sees}
 use Rattle.http_head.specs.Request.{begin_with_head, asks_head, asks_head_by}
@@ -197,11 +197,13 @@ sees_by bytes limit n lines given behind seen e h reads shown is_seen =
 same_front : (n : ℕ) (bytes : List ℕ) (limit : ℕ) → limit ≡ min (length bytes) n → take limit bytes ≡ take n bytes
 same_front n bytes limit e = let other : limit ≡ min n (length bytes) = omega arith in rw other (take_min n bytes)
 
-pub asks_none : (bytes : List ℕ) (limit : ℕ) (s : Scan) (asks : Bool) → limit ≡ min (length bytes) 16384
+pub asks_none : (bytes : List ℕ) (limit front : ℕ) (s : Scan) (asks : Bool) → limit ≡ min (length bytes) 16384
+    → front ≡ min (length bytes) 16385
     → ((more : List ℕ) → end_from scan_start (take limit bytes ++ more) ≡ end_from s more)
-    → asks ≡ begin_with_head (take limit bytes) → asks ≡ asks_head bytes
+    → asks ≡ begin_with_head (take front bytes) → asks ≡ asks_head bytes
 unfolding asks_head
-asks_none bytes limit s asks e h is = is ∙ ap begin_with_head (same_front head_limit bytes limit e)
+asks_none bytes limit front s asks e is_front h is =
+    is ∙ ap begin_with_head (same_front past_limit bytes front is_front)
     ∙ sym (ap (asks_head_by bytes) (none_found bytes limit s e h))
 
 pub asks_some : (bytes : List ℕ) (limit n lines : ℕ) (asks : Bool) → limit ≡ min (length bytes) 16384
@@ -211,7 +213,7 @@ unfolding asks_head
 asks_some bytes limit n lines asks e h is = let pair : ℕ × ℕ = (n, lines) in
     is ∙ sym (ap (asks_head_by bytes) (end_is bytes limit (Some pair) e (h [])))
 
-asks_long : (n : ℕ) (bytes more : List ℕ) → n < length bytes
+asks_long : (n : ℕ) (bytes more : List ℕ) → n ≤ length bytes
     → begin_with_head (take n (bytes ++ more)) ≡ begin_with_head (take n bytes)
 asks_long n bytes more long = ap begin_with_head (take-append-le n bytes more (omega arith))
 
@@ -227,7 +229,7 @@ asks_more bytes more seen sees decided = by (head_end bytes) refl
         let is_seen : seen ≡ seen_after bytes None None = rw e at sees.is_seen in
         let long = over_limit bytes seen is_seen decided in
         let later : head_end (bytes ++ more) ≡ None = end_same bytes more long ∙ e in
-        rw (later, e) (asks_long head_limit bytes more long)
+        rw (later, e) (asks_long past_limit bytes more long)
     by (Some end) e =
         let later = end_more bytes more end e in
         let alone = head_alone bytes end e in

@@ -53,6 +53,10 @@ end_from s (b ∷ bytes) = if ends_head s b then Some (s.at + 1, s.lines) else e
 abbrev pub head_limit : ℕ
 head_limit = 16384
 
+-- the fewest bytes that are refused as no head ends in them
+abbrev pub past_limit : ℕ
+past_limit = 16385
+
 -- the length of the head and the number of its lines that are not empty, where it ends within the limit
 unfoldable pub head_end : List ℕ → Option (ℕ × ℕ)
 head_end bytes = end_from scan_start (take head_limit bytes)

@@ -5,7 +5,7 @@ use Rattle.std.specs.Str.{bytes_eq}
 use Rattle.httparse.specs.Grammar.{RequestHead}
 use Rattle.http_head.specs.declared.refusals.HeadRefusal.{HeadRefusal}
 use Rattle.http_head.specs.declared.refusals.HeadRefusal.TheVariants.{HeadTooLong}
-use Rattle.http_head.specs.Framing.{head_end, head_limit}
+use Rattle.http_head.specs.Framing.{head_end, head_limit, past_limit}
 use Rattle.http_head.specs.Head.{Outline, outline_of, IsReadAs}
 
 -- a whole request
@@ -52,10 +52,10 @@ abbrev pub begin_with_head : List ℕ → Bool
 begin_with_head bytes = bytes_eq (take 5 (behind_breaks bytes)) (codes "HEAD ")
 
 abbrev pub asks_head_by : List ℕ → Option (ℕ × ℕ) → Bool
-asks_head_by bytes None = begin_with_head (take head_limit bytes)
+asks_head_by bytes None = begin_with_head (take past_limit bytes)
 asks_head_by bytes (Some end) = begin_with_head (take end.0 bytes)
 
--- the reply has no body: the head decides it, or where none ends the first bytes
+-- the reply has no body: the head decides it, or where none ends the least beginning that is refused for that
 unfoldable pub asks_head : List ℕ → Bool
 asks_head bytes = asks_head_by bytes (head_end bytes)
 

@@ -77,7 +77,8 @@ pub fn read_request(bytes: &[u8]) -> Reading<'_>
     let limit = bytes.len().min(16384);
     match Scan::start().go_on(&bytes[..limit]) {
         None => {
-            let asks_head = begin_with_head(&bytes[..limit]);
+            let front = bytes.len().min(16385);
+            let asks_head = begin_with_head(&bytes[..front]);
             if bytes.len() > 16384 {
                 Reading {
                     seen: Seen::Refused(HeadRefusal::HeadTooLong),

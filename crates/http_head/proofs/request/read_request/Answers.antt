@@ -17,8 +17,8 @@ returns-then-bytes-gt16384-clause-seen c =
 
 pub returns-then-bytes-gt16384-clause-asks_head : goal.returns-then-bytes-gt16384-clause-asks_head
 returns-then-bytes-gt16384-clause-asks_head c =
-    asks_none c.args.bytes.now c.min-limit.result _ _ c.min-limit.ensures (rw c.start.ensures at c.in-None.ensures.more)
-    c.begin_with_head-asks_head.ensures
+    asks_none c.args.bytes.now c.min-limit.result c.min-front.result _ _ c.min-limit.ensures c.min-front.ensures
+    (rw c.start.ensures at c.in-None.ensures.more) c.begin_with_head-asks_head.ensures
 
 pub returns-else-bytes-gt16384-clause-seen : goal.returns-else-bytes-gt16384-clause-seen
 returns-else-bytes-gt16384-clause-seen c =
@@ -29,8 +29,8 @@ returns-else-bytes-gt16384-clause-seen c =
 
 pub returns-else-bytes-gt16384-clause-asks_head : goal.returns-else-bytes-gt16384-clause-asks_head
 returns-else-bytes-gt16384-clause-asks_head c =
-    asks_none c.args.bytes.now c.min-limit.result _ _ c.min-limit.ensures (rw c.start.ensures at c.in-None.ensures.more)
-    c.begin_with_head-asks_head.ensures
+    asks_none c.args.bytes.now c.min-limit.result c.min-front.result _ _ c.min-limit.ensures c.min-front.ensures
+    (rw c.start.ensures at c.in-None.ensures.more) c.begin_with_head-asks_head.ensures
 
 pub returns-in-Err-clause-seen : goal.returns-in-Err-clause-seen
 returns-in-Err-clause-seen c =
