@@ -96,7 +96,12 @@ def main():
         with dripping(30, port):
             within("beside 30 peers that drip", 2, port)
         with silent(200, port):
-            within("behind 200 peers that say nothing", 15, port)
+            within("beside 200 peers that say nothing", 2, port)
+        with silent(900, port):
+            within("behind 900 peers that say nothing", 2, port)
+            within("and once more", 2, port)
+        with silent(480, port), dripping(60, port):
+            within("behind 480 peers that say nothing and 60 that drip", 2, port)
     return int(bool(bad))
 
 

@@ -1,13 +1,23 @@
 -- The line that is written of a connection: moment, method, path and status. The key that was shown is no part of it.
-use Rattle.std.specs.Prelude.{◌≡◌, ◌⊎◌, ◌++◌, ℕ, List, Option, Some, None, Result, Ok, Err, codes, decimal, take}
-use Rattle.std.specs.Prelude.{option_and_then}
+use Rattle.std.specs.Prelude.{◌≡◌, ◌⊎◌, ◌++◌, ◌+◌, ◌-◌, ◌^◌, ℕ, List, [], Option, Some, None, Result, Ok, Err, codes, decimal}
+use Rattle.std.specs.Prelude.{take, min, nat_lt, option_and_then, if◌then◌else◌}
+use Rattle.std.specs.Char.{is_ascii_graphic}
 use Rattle.std.specs.Io.KnownBytes.{Appends}
+use Rattle.std.specs.List.{list_all}
 use Rattle.http_head.specs.Request.{Seen, unfinished, refused, whole, Sees}
 use Rattle.http_bodies.specs.Reply.{status_in}
 use Rattle.http_desk.specs.Routes.{path_of, text_of}
 use Rattle.http_desk.specs.declared.faults.DeskFault.{DeskFault}
 use Rattle.http_desk.specs.declared.faults.DeskFault.TheVariants.{Memory, Read, Write}
 use Rattle.http_port.specs.declared.serve.Exchange.{Exchange}
+
+-- the most bytes that are shown of a method
+abbrev pub method_limit : ℕ
+method_limit = 16
+
+-- a text that is printable ASCII alone, with no blank
+abbrev pub shown : List ℕ → Option (List ℕ)
+shown bytes = if list_all is_ascii_graphic bytes then text_of bytes else None
 
 -- a text, or a mark in its place
 abbrev pub or_mark : Option (List ℕ) → List ℕ
@@ -17,13 +27,13 @@ or_mark (Some text) = text
 abbrev pub method_written : Seen → List ℕ
 method_written unfinished = codes "-"
 method_written (refused refusal) = codes "-"
-method_written (whole request) = or_mark (text_of request.method)
+method_written (whole request) = or_mark (shown (take method_limit request.method))
 
 -- without what stands behind the path
 abbrev pub path_written : Seen → List ℕ
 path_written unfinished = codes "-"
 path_written (refused refusal) = codes "-"
-path_written (whole request) = or_mark (option_and_then text_of (path_of request.target))
+path_written (whole request) = or_mark (option_and_then shown (path_of request.target))
 
 abbrev pub status_written : Option ℕ → List ℕ
 status_written None = codes "-"
@@ -48,9 +58,27 @@ IsLineOf moment (Ok done) line = (seen : Seen) × Sees done.bytes.items seen
     × (line ≡ line_written moment (method_written seen) (path_written seen) (status_in done.reply.items))
 IsLineOf moment (Err fault) line = line ≡ fault_line_written moment fault
 
--- what is written of a connection: its line, or at a fault nothing or a beginning of it
-abbrev pub IsLogged : {U : Type 0} → ℕ → Result Exchange DeskFault → Option (List ℕ) → Option (List ℕ)
+-- how many lines were left out since the last one that was written, where there are such
+abbrev pub left_out_written : ℕ → ℕ → List ℕ
+left_out_written moment count =
+    if nat_lt 0 count then decimal moment ++ (codes " - - " ++ (decimal count ++ codes " left out\n")) else []
+
+-- what is written of a connection: its line behind the number of those that were left out, or at a fault nothing or a
+-- beginning of that
+abbrev pub IsLogged : {U : Type 0} → ℕ → ℕ → Result Exchange DeskFault → Option (List ℕ) → Option (List ℕ)
     → Result U DeskFault → Type 0
-IsLogged moment done before now (Ok u) = (line : List ℕ) × IsLineOf moment done line × Appends before now line
-IsLogged moment done before now (Err fault) = (now ≡ before)
-    ⊎ ((line : List ℕ) × (n : ℕ) × IsLineOf moment done line × Appends before now (take n line))
+IsLogged left_out moment done before now (Ok u) = (line : List ℕ) × IsLineOf moment done line
+    × Appends before now (left_out_written moment left_out ++ line)
+IsLogged left_out moment done before now (Err fault) = (now ≡ before)
+    ⊎ ((line : List ℕ) × (n : ℕ) × IsLineOf moment done line
+    × Appends before now (take n (left_out_written moment left_out ++ line)))
+
+-- a line was written, and none is left out any more
+abbrev pub IsNoted : ℕ → ℕ → ℕ → Result Exchange DeskFault → Option (List ℕ) → Option (List ℕ) → Type 0
+IsNoted left_out left_now moment done before now =
+    (left_now ≡ 0) × IsLogged {U = Unit {0}} left_out moment done before now (Ok tt)
+
+-- a line was left out, and is counted
+abbrev pub IsLeftOut : ℕ → ℕ → ℕ → Result Exchange DeskFault → Option (List ℕ) → Option (List ℕ) → Type 0
+IsLeftOut left_out left_now moment done before now = (left_now ≡ min (left_out + 1) (2 ^ 64 - 1))
+    × ((fault : DeskFault) × IsLogged {U = Unit {0}} left_out moment done before now (Err fault))

@@ -2,9 +2,11 @@
 
 ghost use Rattle.http_port.specs.Visits.{HasActedOn};
 
-use crate::deadline::{Countdown, Deadline};
+use crate::caller::{Caller, Replying, hear_at, silent_at, take_out, timed};
 use crate::heard::{Come, Heard};
-use crate::log_lines::log_line;
+use crate::leaving::{LEAVING_SECONDS, Leaving};
+use crate::log_lines::Log;
+use crate::outlet::Outlet;
 use crate::serve::{Exchange, serve_one};
 use crate::times::clock;
 use crate::visit::Visits;
@@ -20,8 +22,9 @@ use std::os::fd::AsRawFd;
 use std::thread::sleep;
 use std::time::{Duration, Instant};
 
-// How many are heard side by side, those included who are to be served: others wait before the door.
-const MOST_CALLERS: usize = 64;
+// How many are heard side by side, those included who are to be served: others wait before the door. With the bytes that
+// a request may have, they take 42 MB at most.
+const MOST_CALLERS: usize = 512;
 
 // The name of the listener among those whom the desk listens to. Callers have greater ones.
 const LISTENER: usize = 0;
@@ -38,106 +41,14 @@ const HELD_SECONDS: u64 = 2;
 // The seconds within which a whole request is to come, of the time in which the desk hears.
 const REQUEST_SECONDS: u64 = 10;
 
-// How many of them are left to those who come, where others stand before the door and there is no room.
-const CROWDED_SECONDS: u64 = 1;
+// How long one is heard at least, where others stand before the door and there is no room.
+const CROWDED_MILLISECONDS: u64 = 10;
+
+// The errors of the system that say that no more files may be open, of this program or of all (Linux: ENFILE, EMFILE).
+const TOO_MANY_FILES: [i32; 2] = [23, 24];
 
 // How long one may take to be given a reply, while the club is held.
 const WRITE_SECONDS: u64 = 1;
-
-// What is left of a time, over a socket, from the first call on.
-#[derive(Drop)]
-struct Timer<'a> {
-    rt: &'a HostRuntime,
-    stream: &'a TcpStream,
-    begin: Option<Instant>,
-    limit: Duration,
-}
-
-impl Timer<'_> {
-    // When the first call was made: now, if none was.
-    fn begin(&mut self) -> io::Result<Instant> {
-        if let Some(begin) = self.begin {
-            return Ok(begin);
-        }
-        let now = Instant::now(self.rt)?;
-        self.begin = Some(now);
-        Ok(now)
-    }
-}
-
-impl Countdown for Timer<'_> {
-    fn allow(&mut self) -> io::Result<()> {
-        let spent = self.begin()?.elapsed(self.rt)?;
-        let left = match self.limit.checked_sub(spent) {
-            Some(left) => left,
-            None => return Err(io::Error::from(ErrorKind::TimedOut)),
-        };
-        if left.is_zero() {
-            return Err(io::Error::from(ErrorKind::TimedOut));
-        }
-        self.stream.set_read_timeout(Some(left))?;
-        self.stream.set_write_timeout(Some(left))
-    }
-}
-
-// A socket of which no call is made once so much time is over.
-fn timed<'c>(
-    rt: &'c HostRuntime,
-    stream: &'c TcpStream,
-    limit: Duration,
-) -> Deadline<&'c TcpStream, Timer<'c>> {
-    let timer = Timer {
-        rt,
-        stream,
-        begin: None,
-        limit,
-    };
-    Deadline::new(stream, timer)
-}
-
-// One who has come, and what was heard of it so far.
-#[derive(Drop)]
-struct Caller {
-    stream: TcpStream,
-    heard: Heard,
-    // Its name among those whom the desk listens to.
-    token: usize,
-    // How long the desk will have heard when this one's time is over.
-    until: Duration,
-    // Whether something was heard to have come of it.
-    is_stirred: bool,
-}
-
-impl Caller {
-    // Takes what has come of it.
-    fn hear(&mut self) -> Come {
-        self.is_stirred = false;
-        self.heard.take(&mut &self.stream)
-    }
-}
-
-// Takes one out of those at a place.
-fn take_out(callers: &mut Vec<Caller>, at: usize) -> Option<Caller> {
-    if at < callers.len() {
-        Some(callers.remove(at))
-    } else {
-        None
-    }
-}
-
-// Hears the one at a place, if something has come of it.
-fn hear_at(callers: &mut Vec<Caller>, at: usize) -> Come {
-    match callers.get_mut(at) {
-        Some(caller) => {
-            if caller.is_stirred {
-                caller.hear()
-            } else {
-                Come::Part
-            }
-        }
-        None => Come::Part,
-    }
-}
 
 // Marks those of whom something has come; and whether someone new has.
 fn stir(callers: &mut Vec<Caller>, events: &Events<Global>) -> bool {
@@ -154,6 +65,26 @@ fn stir(callers: &mut Vec<Caller>, events: &Events<Global>) -> bool {
         }
     }
     has_come
+}
+
+// Gives the reply to what was heard of one, and to what is heard further of it for a time.
+fn reply<C: ServedClub>(
+    rt: &HostRuntime,
+    alloc: Global,
+    stream: &TcpStream,
+    heard: Vec<u8>,
+    limit: Duration,
+    club: &mut C,
+    moment: Moment,
+) -> Result<Exchange, DeskFault>
+    ensures clean { C.IsClean club.new → C.IsClean club.old }
+    ensures acts { C.IsClean club.new → (s : C.State) → C.Stands club.old s →
+        HasActedOn C.club (C.Stands club.new) (C.Leaves club.new) s moment heard.items }
+{
+    let mut reader = timed(rt, stream, limit);
+    let mut writer = Replying::new(rt, stream, Duration::from_secs(WRITE_SECONDS));
+    let done = serve_one(alloc, heard, &mut reader, &mut writer, club, moment);
+    done
 }
 
 /// How those who come are served.
@@ -173,7 +104,7 @@ pub struct Callers<'a> {
     rt: &'a HostRuntime,
     listener: TcpListener,
     now: Option<Moment>,
-    is_logged: bool,
+    log: Option<Log<Outlet<'a>>>,
     // Tells when someone comes, and when something comes of those who have.
     poll: Poll,
     events: Events<Global>,
@@ -187,11 +118,15 @@ pub struct Callers<'a> {
     hearing: Vec<Caller>,
     // Those who are to be served, the first of whom enough was heard first.
     ready: Vec<Caller>,
+    // Those who were given a reply and may still send.
+    leaving: Leaving,
     // How long the desk has heard, and when it last looked.
     heard_for: Duration,
     last_look: Option<Instant>,
     // Since when one after another is served over the club.
     held_since: Option<Instant>,
+    // How long the club is held while nobody is to be served.
+    idle: Duration,
 }
 
 impl<'a> Callers<'a> {
@@ -207,11 +142,16 @@ impl<'a> Callers<'a> {
             Token(LISTENER),
             Interest::READABLE,
         )?;
+        let log = if terms.is_logged {
+            Some(Log::new(Outlet::new(rt)?))
+        } else {
+            None
+        };
         Ok(Callers {
             rt,
             listener,
             now: terms.now,
-            is_logged: terms.is_logged,
+            log,
             poll,
             events: Events::with_capacity(rt.alloc(), MOST_CALLERS + 1)?,
             may_come: true,
@@ -219,9 +159,11 @@ impl<'a> Callers<'a> {
             token: LISTENER,
             hearing: Vec::with_capacity(rt.alloc(), MOST_CALLERS)?,
             ready: Vec::with_capacity(rt.alloc(), MOST_CALLERS)?,
+            leaving: Leaving::new(rt.alloc())?,
             heard_for: Duration::ZERO,
             last_look: None,
             held_since: None,
+            idle: Duration::ZERO,
         })
     }
 
@@ -241,15 +183,62 @@ impl<'a> Callers<'a> {
         false
     }
 
-    /// The club is held anew, from when the next one is looked for. What has passed until then is nobody's time.
-    pub fn begin(&mut self) {
-        self.held_since = None;
-        self.last_look = None;
+    /// Hears those who come for so long, while the club is not held: false where no one more is to be heard or served.
+    pub fn hear(&mut self, time: Duration) -> bool {
+        self.hear_until(time, false)
     }
 
-    // Whether no one more is to be heard or served.
+    /// The same, until one of them is to be served, for so long at most.
+    pub fn await_for(&mut self, time: Duration) -> bool {
+        self.hear_until(time, true)
+    }
+
+    // Hears those who come for so long, or where that is wanted until one of them is to be served.
+    fn hear_until(&mut self, time: Duration, ends_early: bool) -> bool {
+        self.last_look = None;
+        self.tick();
+        let mut left = time;
+        for _ in 0..u64::MAX {
+            if self.is_done() {
+                return false;
+            }
+            if left.is_zero() || self.last_look.is_none() || (ends_early && self.is_awaited()) {
+                return true;
+            }
+            let passed = self.look(left);
+            left = left.saturating_sub(passed);
+        }
+        false
+    }
+
+    /// Whether someone is to be served.
+    pub fn is_awaited(&self) -> bool {
+        !self.ready.is_empty()
+    }
+
+    /// The club is held anew, from when the next one is looked for. What has passed until then is nobody's time.
+    pub fn begin(&mut self) {
+        self.begin_for(Duration::from_millis(IDLE_MILLISECONDS));
+    }
+
+    /// Those are served who are to be served now: nobody is waited for.
+    pub fn begin_with_these(&mut self) {
+        self.begin_for(Duration::ZERO);
+    }
+
+    // The club is held anew, and nobody is waited for for longer than this.
+    fn begin_for(&mut self, idle: Duration) {
+        self.held_since = None;
+        self.last_look = None;
+        self.idle = idle;
+    }
+
+    // Whether no one more is to be heard or served, and nothing more to be read off.
     fn is_done(&self) -> bool {
-        self.left == 0 && self.hearing.is_empty() && self.ready.is_empty()
+        self.left == 0
+            && self.hearing.is_empty()
+            && self.ready.is_empty()
+            && self.leaving.is_empty()
     }
 
     // Counts the time in which the desk hears, and gives what has passed since it last looked.
@@ -298,13 +287,28 @@ impl<'a> Callers<'a> {
         self.is_asked() && !self.is_full()
     }
 
+    // Whether someone stands before the door for whom there is no room.
+    fn is_crowded(&self) -> bool {
+        self.is_asked() && self.is_full()
+    }
+
     // How long the desk has heard, as those count it who make room.
     fn time_over(&self) -> Duration {
-        if self.is_asked() && self.is_full() {
-            let kept = REQUEST_SECONDS.saturating_sub(CROWDED_SECONDS);
-            self.heard_for.saturating_add(Duration::from_secs(kept))
+        if self.is_crowded() {
+            let kept = Duration::from_secs(REQUEST_SECONDS).saturating_sub(Duration::from_millis(
+                CROWDED_MILLISECONDS,
+            ));
+            self.heard_for.saturating_add(kept)
         } else {
             self.heard_for
+        }
+    }
+
+    // How long it is until the first of those who were given a reply goes.
+    fn patience_with_leaving(&self) -> Duration {
+        match self.leaving.first_until() {
+            Some(until) => until.saturating_sub(self.heard_for),
+            None => Duration::from_secs(REQUEST_SECONDS),
         }
     }
 
@@ -313,9 +317,10 @@ impl<'a> Callers<'a> {
         if self.has_room() {
             return Duration::ZERO;
         }
+        let leaving = self.patience_with_leaving();
         match self.hearing.first() {
-            Some(caller) => caller.until.saturating_sub(self.time_over()),
-            None => Duration::from_secs(REQUEST_SECONDS),
+            Some(caller) => caller.until.saturating_sub(self.time_over()).min(leaving),
+            None => leaving,
         }
     }
 
@@ -333,6 +338,7 @@ impl<'a> Callers<'a> {
         self.hear_all();
         self.let_in();
         self.give_up();
+        self.leaving.read_off(self.heard_for);
         passed
     }
 
@@ -357,7 +363,7 @@ impl<'a> Callers<'a> {
             Come::Part => {
                 let _ = self.hearing.push(caller);
             }
-            Come::Whole => {
+            Come::Whole | Come::Refused => {
                 let _ = self.ready.push(caller);
             }
             Come::End => self.dismiss(caller, Duration::from_secs(WRITE_SECONDS)),
@@ -380,13 +386,25 @@ impl<'a> Callers<'a> {
                     ErrorKind::WouldBlock => self.may_come = false,
                     ErrorKind::Interrupted => {}
                     _ => {
-                        self.left = self.left.saturating_sub(1);
-                        sleep(self.rt, Duration::from_millis(PAUSE_MILLISECONDS));
+                        self.miss(&error);
                         return;
                     }
                 },
             }
         }
+    }
+
+    // One could not be let in: who was heard longest makes room for it, or it came and went.
+    fn miss(&mut self, error: &io::Error) {
+        let has_no_room = error
+            .raw_os_error()
+            .is_some_and(|number| TOO_MANY_FILES.contains(&number));
+        if has_no_room {
+            self.let_go(0);
+        } else {
+            self.left = self.left.saturating_sub(1);
+        }
+        sleep(self.rt, Duration::from_millis(PAUSE_MILLISECONDS));
     }
 
     // Hears one who has just come, and listens to it if more is to come.
@@ -403,6 +421,7 @@ impl<'a> Callers<'a> {
                 .heard_for
                 .saturating_add(Duration::from_secs(REQUEST_SECONDS)),
             is_stirred: false,
+            is_early: false,
         };
         let come = caller.hear();
         if matches!(come, Come::Part) && self.listen_to(&caller).is_err() {
@@ -421,25 +440,40 @@ impl<'a> Callers<'a> {
         )
     }
 
-    // Gives up those whose time is over.
+    // The place of one who is to be let go: whose time is over, or, where others stand before the door and there is no
+    // room, who has said nothing for longest, or was heard for longest.
+    fn next_to_go(&self) -> Option<usize> {
+        let moment = self.time_over();
+        let first = self.hearing.first()?;
+        if first.until > moment {
+            return None;
+        }
+        if first.until > self.heard_for {
+            return silent_at(&self.hearing, moment).or(Some(0));
+        }
+        Some(0)
+    }
+
+    // Lets one go of whom no request has come.
+    fn let_go(&mut self, at: usize) {
+        if let Some(caller) = take_out(&mut self.hearing, at) {
+            self.dismiss(caller, Duration::ZERO);
+        }
+    }
+
+    // Lets those go whose time is over.
     fn give_up(&mut self) {
         for _ in 0..MOST_CALLERS {
-            let is_over = match self.hearing.first() {
-                Some(caller) => caller.until <= self.time_over(),
-                None => false,
-            };
-            if !is_over {
-                return;
-            }
-            if let Some(caller) = take_out(&mut self.hearing, 0) {
-                self.dismiss(caller, Duration::ZERO);
+            match self.next_to_go() {
+                Some(at) => self.let_go(at),
+                None => return,
             }
         }
     }
 
     // The next one who is to be served, if there is one before the desk is to give way.
     fn next_ready(&mut self) -> Option<Caller> {
-        let mut idle = Duration::from_millis(IDLE_MILLISECONDS);
+        let mut idle = self.idle;
         self.tick();
         for _ in 0..u64::MAX {
             let left = self.hold_left();
@@ -473,29 +507,9 @@ impl<'a> Callers<'a> {
         }
     }
 
-    // Gives the reply to what was heard of one, and to what is heard further of it for a time.
-    fn reply<C: ServedClub>(
-        &self,
-        alloc: Global,
-        stream: &TcpStream,
-        heard: Vec<u8>,
-        limit: Duration,
-        club: &mut C,
-        moment: Moment,
-    ) -> Result<Exchange, DeskFault>
-        ensures clean { C.IsClean club.new → C.IsClean club.old }
-        ensures acts { C.IsClean club.new → (s : C.State) → C.Stands club.old s →
-            HasActedOn C.club (C.Stands club.new) (C.Leaves club.new) s moment heard.items }
-    {
-        let mut reader = timed(self.rt, stream, limit);
-        let mut writer = timed(self.rt, stream, Duration::from_secs(WRITE_SECONDS));
-        let done = serve_one(alloc, heard, &mut reader, &mut writer, club, moment);
-        done
-    }
-
-    // Serves one, and writes a line of it where that is wanted.
+    // Serves one, writes a line of it where that is wanted, and takes leave of it.
     fn serve_caller<C: ServedClub>(
-        &self,
+        &mut self,
         alloc: Global,
         caller: Caller,
         limit: Duration,
@@ -506,15 +520,36 @@ impl<'a> Callers<'a> {
         ensures acts { C.IsClean club.new → (s : C.State) → C.Stands club.old s →
             HasActedOn C.club (C.Stands club.new) (C.Leaves club.new) s moment caller.heard.bytes.items }
     {
-        let Caller { stream, heard, .. } = caller;
-        let _ = stream.set_nonblocking(false);
-        let done = self.reply(alloc, &stream, heard.into_bytes(), limit, club, moment);
+        let Caller {
+            stream,
+            heard,
+            is_early,
+            ..
+        } = caller;
+        let done = reply(
+            self.rt,
+            alloc,
+            &stream,
+            heard.into_bytes(),
+            limit,
+            club,
+            moment,
+        );
         if done.is_ok() {
-            let _ = stream.shutdown(Shutdown::Write);
+            self.take_leave(stream, is_early);
         }
-        if self.is_logged {
-            let _ = log_line(alloc, &mut self.rt.stderr(), moment, &done);
+        if let Some(log) = &mut self.log {
+            log.note(alloc, moment, &done);
         }
+    }
+
+    // Closes the socket of one who was given a reply, once what it still sends is read off.
+    fn take_leave(&mut self, stream: TcpStream, is_early: bool) {
+        let _ended = stream.shutdown(Shutdown::Write);
+        let until = self
+            .heard_for
+            .saturating_add(Duration::from_secs(LEAVING_SECONDS));
+        self.leaving.add(&self.poll, stream, until, is_early);
     }
 }
 

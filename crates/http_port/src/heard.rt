@@ -14,8 +14,10 @@ const PIECE_BYTES: usize = 4096;
 pub(crate) enum Come {
     /// More of it is to come.
     Part,
-    /// It is whole, or refused.
+    /// It is whole.
     Whole,
+    /// It is refused, whatever further bytes come.
+    Refused,
     /// It has ended before.
     End,
     /// It cannot be heard further.
@@ -43,9 +45,18 @@ impl Heard {
         self.bytes
     }
 
-    // Whether no further bytes change what has come.
-    fn is_enough(&self) -> bool {
-        !matches!(read_request(&self.bytes).seen, Seen::Unfinished)
+    /// Whether nothing has come.
+    pub(crate) fn is_empty(&self) -> bool {
+        self.bytes.is_empty()
+    }
+
+    // How far the request has come by its bytes.
+    fn come(&self) -> Come {
+        match read_request(&self.bytes).seen {
+            Seen::Unfinished => Come::Part,
+            Seen::Whole(_) => Come::Whole,
+            Seen::Refused(_) => Come::Refused,
+        }
     }
 
     /// Takes what has come, from a reader that gives an error rather than wait.
@@ -60,8 +71,9 @@ impl Heard {
                     if self.bytes.extend_from_slice(&piece[..n]).is_err() {
                         return Come::Fault;
                     }
-                    if self.is_enough() {
-                        return Come::Whole;
+                    let come = self.come();
+                    if come != Come::Part {
+                        return come;
                     }
                 }
                 Err(error) => {

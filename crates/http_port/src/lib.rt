@@ -3,10 +3,13 @@
 //! here.
 #![tactic(auto)]
 
+mod caller;
 mod callers;
 mod deadline;
 mod heard;
+mod leaving;
 mod log_lines;
+mod outlet;
 mod serve;
 mod times;
 mod visit;

@@ -1,10 +1,13 @@
 //! The line that is written of a connection: moment, method, path and status. No key stands in it.
 
-ghost use Rattle.std.specs.Prelude.{◌≡◌, IfOk, option_and_then, string_bytes};
+ghost use Rattle.std.specs.Prelude.{◌≡◌, ◌⊎◌, ◌++◌, ℕ, List, IfOk, option_map, option_and_then, string_bytes, take};
+ghost use Rattle.std.specs.Char.{is_ascii_graphic};
+ghost use Rattle.std.specs.List.{list_all};
 ghost use Rattle.http_head.specs.Request.{Seen as SeenIn, Sees};
-ghost use Rattle.http_desk.specs.Routes.{path_of, text_of};
+ghost use Rattle.http_desk.specs.Routes.{path_of};
 ghost use Rattle.http_port.specs.LogLine.{IsLineOf, IsLogged, fault_line_written, fault_written, line_written};
-ghost use Rattle.http_port.specs.LogLine.{method_written, or_mark, path_written};
+ghost use Rattle.http_port.specs.LogLine.{method_limit, method_written, or_mark, path_written, shown, left_out_written};
+ghost use Rattle.http_port.specs.LogLine.{IsLeftOut, IsNoted};
 
 use crate::serve::{Exchange, write_reply};
 use clocks::Moment;
@@ -15,19 +18,38 @@ use http_head::{Seen, read_request};
 use std::alloc::{AllocError, Global};
 use std::io::Write;
 
-// The method of a request.
-fn method_shown(method: &[u8]) -> &str
-    ensures { result.now ≡ or_mark (text_of method.now) }
+// Whether bytes are printable ASCII alone, with no blank.
+fn is_graphic(bytes: &[u8]) -> bool
+    ensures { result ≡ list_all is_ascii_graphic bytes.now }
 {
-    text_of(method).unwrap_or("-")
+    bytes.iter().all(|byte| byte.is_ascii_graphic())
+}
+
+// A text that is printable ASCII alone, with no blank.
+fn shown(bytes: &[u8]) -> Option<&str>
+    ensures { option_map (λ t. t.now) result ≡ shown bytes.now }
+{
+    if is_graphic(bytes) {
+        text_of(bytes)
+    } else {
+        None
+    }
+}
+
+// The method of a request, as far as it is shown.
+fn method_shown(method: &[u8]) -> &str
+    ensures { result.now ≡ or_mark (shown (take method_limit method.now)) }
+{
+    let length = method.len().min(16);
+    shown(&method[..length]).unwrap_or("-")
 }
 
 // The path of a target, without what stands behind it.
 fn path_shown(target: &[u8]) -> &str
-    ensures { result.now ≡ or_mark (option_and_then text_of (path_of target.now)) }
+    ensures { result.now ≡ or_mark (option_and_then shown (path_of target.now)) }
 {
     match path_of(target) {
-        Some(path) => text_of(path).unwrap_or("-"),
+        Some(path) => shown(path).unwrap_or("-"),
         None => "-",
     }
 }
@@ -95,18 +117,76 @@ fn line_of(
     }
 }
 
-// Writes the line of a connection, or where the writer fails a beginning of it.
+// The line that tells how many were left out, where there are such.
+fn left_out_line(alloc: Global, seconds: u64, count: u64) -> Result<String, AllocError>
+    ensures { IfOk result (λ line. string_bytes line ≡ left_out_written seconds count) }
+{
+    if count > 0 {
+        format!(in alloc; "{seconds} - - {count} left out\n")
+    } else {
+        Ok(String::new(alloc))
+    }
+}
+
+// The line of a connection, behind the number of those that were left out.
+fn text_of_line(
+    alloc: Global,
+    left_out: u64,
+    moment: Moment,
+    done: &Result<Exchange, DeskFault>,
+) -> Result<String, AllocError>
+    ensures { IfOk result (λ text. (line : List ℕ) × IsLineOf moment done.now line ×
+        (string_bytes text ≡ left_out_written moment left_out ++ line)) }
+{
+    let line = line_of(alloc, moment, done)?;
+    let told = left_out_line(alloc, moment.seconds(), left_out)?;
+    format!(in alloc; "{told}{line}")
+}
+
+// Writes the line of a connection behind the number of those that were left out, or where the writer fails a beginning
+// of that.
 pub(crate) fn log_line<W: Write>(
     alloc: Global,
     writer: &mut W,
+    left_out: u64,
     moment: Moment,
     done: &Result<Exchange, DeskFault>,
 ) -> Result<(), DeskFault>
-    ensures { IsLogged moment done.now (W.contents writer.old) (W.contents writer.new) result }
+    ensures { IsLogged left_out moment done.now (W.contents writer.old) (W.contents writer.new) result }
 {
-    let line = line_of(alloc, moment, done)?;
-    match write_reply(writer, line.as_bytes()) {
+    let text = text_of_line(alloc, left_out, moment, done)?;
+    match write_reply(writer, text.as_bytes()) {
         Ok(()) => Ok(()),
         Err(fault) => Err(fault),
+    }
+}
+
+/// The log of requests, over a writer that fails rather than wait.
+#[derive(Drop)]
+pub(crate) struct Log<W> {
+    writer: W,
+    // How many lines were left out since the last one that was written.
+    left_out: u64,
+}
+
+impl<W: Write> Log<W> {
+    /// A log of which no line was left out.
+    pub(crate) fn new(writer: W) -> Log<W> {
+        Log {
+            writer,
+            left_out: 0,
+        }
+    }
+
+    /// Writes the line of a connection, or leaves it out and counts it.
+    pub(crate) fn note(&mut self, alloc: Global, moment: Moment, done: &Result<Exchange, DeskFault>)
+        ensures { IsNoted self.old.left_out self.new.left_out moment done.now (W.contents self.old.writer)
+            (W.contents self.new.writer) ⊎ IsLeftOut self.old.left_out self.new.left_out moment done.now
+            (W.contents self.old.writer) (W.contents self.new.writer) }
+    {
+        match log_line(alloc, &mut self.writer, self.left_out, moment, done) {
+            Ok(()) => self.left_out = 0,
+            Err(_) => self.left_out = self.left_out.saturating_add(1),
+        }
     }
 }
