@@ -164,7 +164,7 @@ def faults():
 
 
 def full_disk():
-    """A disk that takes no more: who writes is told 73, who comes in the same stretch 74, and nothing is lost."""
+    """A disk that takes no more: who writes is told 73, who comes after it is served anew, and nothing is lost."""
     seated("d.db")
 
     def little():
@@ -177,8 +177,11 @@ def full_disk():
             peers = [stack.enter_context(socket.create_connection(("127.0.0.1", port), 60)) for _ in asked]
             for peer, text in zip(peers, asked):
                 peer.sendall(text.encode())
-            told = [peer.makefile().read().partition("\n\n")[2] for peer in peers]
-        verdict("a move on a full disk, and who comes after it", [shut(73)[1], shut(74)[1]], told)
+            told = [peer.makefile().read() for peer in peers]
+        verdict("a move on a full disk", shut(73)[1], told[0].partition("\n\n")[2])
+        verdict("who comes after it", True, told[1].startswith("HTTP/1.1 200 "))
+        told = [(move(port, 1), shown(port)[0]) for _ in range(5)]
+        verdict("moves and games by turns", [(shut(73), 200)] * 5, told)
     verdict("the game after a full disk", (0,), one("d.db", "SELECT plies FROM games"))
     with desk("d.db") as port:
         verdict("the move where there is room", 200, move(port, 1)[0])

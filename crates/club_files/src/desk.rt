@@ -24,8 +24,8 @@ use sessions::close;
 use sqlite::{FileFrom, FileStore};
 use store::holds_exactly;
 
-/// A stretch of serving over the files of a path, which hold at first what `S` stands for: opens them as soon as no
-/// other program uses them, which it waits for up to five seconds, takes the club over, serves those who come until the
+/// A stretch of serving over the files of a path, which hold at first what `S` stands for: opens them, where no other
+/// program uses them, which is said at once and not waited for, takes the club over, serves those who come until the
 /// desk is to give way, and closes. Gives the fault that further ones are to be told, or why the files were not opened;
 /// and the files where they were. Where sessions led to whatever an opening finds in the files, they lead, with
 /// commands of members added, to whatever an opening finds in them after it, of whatever a stop leaves; where no fault

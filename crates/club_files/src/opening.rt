@@ -19,9 +19,12 @@ use std::hash::{BuildHasher, RandomState};
 use std::thread::sleep;
 use std::time::Duration;
 
-// How often files that are in use are asked for, and how long is waited before they are asked for again: five seconds
+// How often files that are in use are asked for again by an order, and how long is waited before each time: five seconds
 // in all.
-const TURNS: u8 = 50;
+const TURNS_OF_AN_ORDER: u8 = 50;
+
+// The same for a stretch of serving, before which those who come are heard on, and not kept waiting.
+const TURNS_OF_A_STRETCH: u8 = 0;
 
 const PAUSE_MILLISECONDS: u64 = 100;
 
@@ -50,6 +53,15 @@ fn frames_for(purpose: Purpose) -> usize {
         Purpose::Making => FRAMES_OF_AN_ORDER,
         Purpose::Ordering => FRAMES_OF_AN_ORDER,
         Purpose::Serving => FRAMES_OF_A_STRETCH,
+    }
+}
+
+// How often files that are in use are asked for again.
+fn turns_for(purpose: Purpose) -> u8 {
+    match purpose {
+        Purpose::Making => TURNS_OF_AN_ORDER,
+        Purpose::Ordering => TURNS_OF_AN_ORDER,
+        Purpose::Serving => TURNS_OF_A_STRETCH,
     }
 }
 
@@ -97,9 +109,9 @@ fn open_once<S: Start>(
     }
 }
 
-/// Opens the files of a path, which hold at first what `S` stands for, as soon as no other program uses them: for five
-/// seconds it is waited for that. Where a club is made and there are none, they are made, for their owner alone; else
-/// it is said that there is no club, and nothing was touched.
+/// Opens the files of a path, which hold at first what `S` stands for, where no other program uses them: an order waits
+/// five seconds for that, a stretch of serving does not wait. Where a club is made and there are none, they are made,
+/// for their owner alone; else it is said that there is no club, and nothing was touched.
 pub(crate) fn open_in_turn<S: Again>(
     rt: &HostRuntime,
     file: &str,
@@ -117,12 +129,15 @@ pub(crate) fn open_in_turn<S: Again>(
         return Err(Report::NotOpened);
     }
     prepare(rt, file, purpose)?;
-    for _ in 0..TURNS {
+    for _ in 0..turns_for(purpose) {
         match open_once(rt, file, purpose, start.again()) {
             Ok(conn) => return Ok(conn),
             Err(Report::InUse) => sleep(rt, Duration::from_millis(PAUSE_MILLISECONDS)),
             Err(report) => return Err(report),
         }
     }
-    Err(Report::InUse)
+    match open_once(rt, file, purpose, start) {
+        Ok(conn) => Ok(conn),
+        Err(report) => Err(report),
+    }
 }

@@ -3,6 +3,7 @@
 
 ghost use Rattle.std.specs.Prelude.{◌≤◌};
 
+mod course;
 mod orders;
 mod printing;
 mod records;

@@ -2,6 +2,7 @@
 
 ghost use Rattle.std.specs.Prelude.{◌≤◌};
 
+use crate::course::{Course, course_of, lasts};
 use crate::orders::done;
 use crate::printing::{print_report, print_without_room};
 use club_files::{give_up, stretch};
@@ -11,33 +12,70 @@ use http_desk::ClubFault;
 use http_port::{Callers, Terms, serve_closed};
 use sqlite_disk::Wary;
 use std::alloc::AllocError;
-use std::thread::sleep;
 use std::time::Duration;
 
-// How long the files are given up between two stretches, so that who waits for them finds them free.
+// How long the files are given up between two stretches where somebody is to be served, so that who waits for them finds
+// them free.
 const GIVEN_UP_MILLISECONDS: u64 = 200;
 
-// A stretch: the fault that further ones are to be told.
-fn serve_stretch(rt: &HostRuntime, file: &str, callers: &mut Callers<'_>) -> Option<ClubFault> {
+// How long is waited before files that another program has are asked for again.
+const AGAIN_MILLISECONDS: u64 = 100;
+
+// How often they are asked for before those who come are told that they cannot be had: for a second, in which a small
+// word is done.
+const PATIENCE: u32 = 10;
+
+// A stretch over the files, unless another program has them.
+fn serve_stretch(rt: &HostRuntime, file: &str, callers: &mut Callers<'_>) -> Course {
     callers.begin();
-    match give_up(stretch(rt, file, Wary, callers)) {
-        Ok(fault) => fault,
-        Err(Report::Unopened(_)) => Some(ClubFault::Foreign),
-        Err(_) => Some(ClubFault::Store),
+    course_of(give_up(stretch(rt, file, Wary, callers)))
+}
+
+// Tells those who are to be served now, and where the fault lasts those who come for a while, why there is no club.
+fn tell(rt: &HostRuntime, callers: &mut Callers<'_>, fault: ClubFault) {
+    if lasts(fault) {
+        callers.begin();
+    } else {
+        callers.begin_with_these();
     }
+    serve_closed(rt.alloc(), callers, fault);
+}
+
+// Hears those who come until there is something to do, another program having the files since so many tries: false where
+// no one more is to be served.
+fn hear(callers: &mut Callers<'_>, tries: u32) -> bool {
+    if tries > PATIENCE {
+        return callers.await_for(Duration::from_millis(AGAIN_MILLISECONDS));
+    }
+    if tries > 0 {
+        return callers.hear(Duration::from_millis(AGAIN_MILLISECONDS));
+    }
+    if callers.is_awaited() {
+        return callers.hear(Duration::from_millis(GIVEN_UP_MILLISECONDS));
+    }
+    callers.await_next()
 }
 
 // Serves as many as are to be let in, over a file.
 fn serve(rt: &HostRuntime, file: &str, callers: &mut Callers<'_>) {
+    let mut tries: u32 = 0;
     for _ in 0..u64::MAX {
-        if !callers.await_next() {
+        if !hear(callers, tries) {
             return;
         }
-        if let Some(fault) = serve_stretch(rt, file, callers) {
-            callers.begin();
-            serve_closed(rt.alloc(), callers, fault);
+        match serve_stretch(rt, file, callers) {
+            Course::GoesOn => tries = 0,
+            Course::IsTold(fault) => {
+                tries = 0;
+                tell(rt, callers, fault);
+            }
+            Course::IsKept => {
+                if tries >= PATIENCE {
+                    tell(rt, callers, ClubFault::Store);
+                }
+                tries = tries.saturating_add(1);
+            }
         }
-        sleep(rt, Duration::from_millis(GIVEN_UP_MILLISECONDS));
     }
 }
 
