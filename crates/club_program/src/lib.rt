@@ -14,20 +14,21 @@ use club_words::Words;
 use orders::run_with_record;
 use printing::refuse_words;
 use service::run_service;
-use words::{given_words, said};
+use words::{given_words, said, take_explain};
 
 /// Reads the program's words, does what they order and prints what that came to. Gives the exit status: 0 where it was
 /// done, 1 where it was refused, 2 where the words are no order, 3 at a fault.
 pub fn run(rt: &HostRuntime) -> u8
     ensures { result ≤ 3 }
 {
-    let words = match given_words(rt) {
+    let mut words = match given_words(rt) {
         Ok(words) => words,
         Err(bad) => return refuse_words(rt, bad),
     };
+    let explains = take_explain(&mut words);
     match said(rt, words.as_slice()) {
-        Ok(Words::Order(order)) => run_with_record(rt, order),
-        Ok(Words::Serve(service)) => run_service(rt, &service),
+        Ok(Words::Order(order)) => run_with_record(rt, order, explains),
+        Ok(Words::Serve(service)) => run_service(rt, &service, explains),
         Err(bad) => refuse_words(rt, bad),
     }
 }

@@ -2,7 +2,7 @@
 
 ghost use Rattle.std.specs.Prelude.{◌≤◌};
 
-use crate::printing::{line_room, print_report, print_without_room};
+use crate::printing::{explain, line_room, print_report, print_without_room};
 use crate::records::record_in;
 use club_files::{give_up, obey};
 use club_orders::{Report, print};
@@ -18,24 +18,31 @@ pub(crate) fn done(rt: &HostRuntime, order: &Order) -> Report {
     }
 }
 
-// Does what is ordered, and prints what it came to. The room for the line is set aside before.
+// Does what is ordered, and prints what it came to, with an explanation where one is asked for. The room for the line is
+// set aside before.
 #[tactic(auto, using(crate::proofs::StatusLemmas::printed_small))]
-fn run_order(rt: &HostRuntime, order: &Order) -> u8
+fn run_order(rt: &HostRuntime, order: &Order, explains: bool) -> u8
     ensures { result ≤ 3 }
 {
-    match line_room(rt) {
-        Ok(line) => print(line, &done(rt, order), &mut rt.stdout(), &mut rt.stderr()),
-        Err(_) => print_without_room(rt),
+    let line = match line_room(rt) {
+        Ok(line) => line,
+        Err(_) => return print_without_room(rt),
+    };
+    let report = done(rt, order);
+    let status = print(line, &report, &mut rt.stdout(), &mut rt.stderr());
+    if explains {
+        explain(rt, &report);
     }
+    status
 }
 
 /// Does what is ordered, once the record of an import was read.
-pub(crate) fn run_with_record(rt: &HostRuntime, order: Order) -> u8
+pub(crate) fn run_with_record(rt: &HostRuntime, order: Order, explains: bool) -> u8
     ensures { result ≤ 3 }
 {
     match record_in(rt, &order) {
-        Ok(None) => run_order(rt, &order),
-        Ok(Some(text)) => run_order(rt, &order.with_text(text)),
+        Ok(None) => run_order(rt, &order, explains),
+        Ok(Some(text)) => run_order(rt, &order.with_text(text), explains),
         Err(report) => print_report(rt, &report),
     }
 }

@@ -6,6 +6,11 @@ use club_orders::{BAD_WORDS, Report, print};
 use club_words::BadWords;
 use std::alloc::AllocError;
 
+// Why a file could not be had that another program has.
+const IN_USE: &str =
+    "another program holds the file: a desk, a word that takes long, an open prompt of sqlite3 that has \
+    read it, or a backup\n";
+
 // The room that is set aside for the line that is printed, in bytes.
 const LINE_BYTES: usize = 256;
 
@@ -33,6 +38,13 @@ pub(crate) fn print_report(rt: &HostRuntime, report: &Report) -> u8
     match line_room(rt) {
         Ok(line) => print(line, report, &mut rt.stdout(), &mut rt.stderr()),
         Err(_) => print_without_room(rt),
+    }
+}
+
+/// Explains a file that another program has.
+pub(crate) fn explain(rt: &HostRuntime, report: &Report) {
+    if let Report::InUse = report {
+        let _told = rt.eprint(IN_USE);
     }
 }
 

@@ -4,7 +4,7 @@ ghost use Rattle.std.specs.Prelude.{◌≤◌};
 
 use crate::course::{Course, course_of, lasts};
 use crate::orders::done;
-use crate::printing::{print_report, print_without_room};
+use crate::printing::{explain, print_report, print_without_room};
 use club_files::{give_up, stretch};
 use club_orders::{DONE, Report};
 use club_words::{Order, Service, Task};
@@ -21,9 +21,9 @@ const GIVEN_UP_MILLISECONDS: u64 = 200;
 // How long is waited before files that another program has are asked for again.
 const AGAIN_MILLISECONDS: u64 = 100;
 
-// How often they are asked for before those who come are told that they cannot be had: for a second, in which a small
-// word is done.
-const PATIENCE: u32 = 10;
+// How often they are asked for before those who come are told that they cannot be had: for five seconds, in which a word
+// is done. From then on each is told at once.
+const PATIENCE: u32 = 50;
 
 // A stretch over the files, unless another program has them.
 fn serve_stretch(rt: &HostRuntime, file: &str, callers: &mut Callers<'_>) -> Course {
@@ -109,8 +109,19 @@ fn test_of(rt: &HostRuntime, service: &Service) -> Result<Order, AllocError> {
     })
 }
 
+// Prints why a file is not served over, with an explanation where one is asked for.
+fn print_fault(rt: &HostRuntime, report: &Report, explains: bool) -> u8
+    ensures { result ≤ 3 }
+{
+    let status = print_report(rt, report);
+    if explains {
+        explain(rt, report);
+    }
+    status
+}
+
 /// Serves over a file, if it is a club's.
-pub(crate) fn run_service(rt: &HostRuntime, service: &Service) -> u8
+pub(crate) fn run_service(rt: &HostRuntime, service: &Service, explains: bool) -> u8
     ensures { result ≤ 3 }
 {
     let order = match test_of(rt, service) {
@@ -119,6 +130,6 @@ pub(crate) fn run_service(rt: &HostRuntime, service: &Service) -> u8
     };
     match done(rt, &order) {
         Report::Sound => listen(rt, service),
-        report => print_report(rt, &report),
+        report => print_fault(rt, &report, explains),
     }
 }

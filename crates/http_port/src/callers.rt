@@ -346,6 +346,9 @@ impl<'a> Callers<'a> {
     fn hear_all(&mut self) {
         let mut at = 0;
         for _ in 0..MOST_CALLERS {
+            if at >= self.hearing.len() {
+                return;
+            }
             match hear_at(&mut self.hearing, at) {
                 Come::Part => at = at.saturating_add(1),
                 come => {
