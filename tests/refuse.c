@@ -1,10 +1,11 @@
-// Refuses the request for memory whose number REFUSE gives, counted from 1, and leaves a file `refused` where it did;
-// loaded before the C library.
+// Refuses the request for memory whose number REFUSE gives, counted from 1, and leaves a file `refused` where it did; how
+// many there were it writes into the file that COUNTED names. Loaded before the C library.
 #define _GNU_SOURCE
 #include <dlfcn.h>
 #include <errno.h>
 #include <fcntl.h>
 #include <stddef.h>
+#include <stdio.h>
 #include <stdlib.h>
 #include <unistd.h>
 
@@ -36,4 +37,12 @@ void *realloc(void *block, size_t size) {
         return NULL;
     }
     return real(block, size);
+}
+
+__attribute__((destructor)) static void tell(void) {
+    const char *path = getenv("COUNTED");
+    FILE *told = path == NULL ? NULL : fopen(path, "w");
+    if (told == NULL) return;
+    fprintf(told, "%ld\n", asked);
+    fclose(told);
 }

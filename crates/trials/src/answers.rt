@@ -1,16 +1,18 @@
 //! What the lines of a script come to.
 
 use crate::clubs::{changed, copy_of, made, new_club, retaken, run, table, taken, told};
+use crate::courses::whole_at_each_stop;
 use crate::files::{begun, session};
 use crate::held::Held;
+use crate::images::{Stop, empty_files};
 use crate::report::Report;
 use crate::requests::request;
 use crate::rows::found;
 use crate::script::Line;
-use crate::stops::{empty_files, whole_or_none};
+use crate::stops::whole_or_none;
 use anyhow::{Context, Result, bail};
 use club_requests::Request;
-use sqlite::Connection;
+use sqlite::{Connection, Options};
 use std::alloc::{AllocError, Global};
 use store::{OpenFault, Run};
 
@@ -43,22 +45,26 @@ fn told_run(alloc: Global, run: &Run) -> Result<Vec<String>> {
     Ok(texts)
 }
 
-// Gives requests by one call.
-fn give(alloc: Global, held: Held, requests: &[Request]) -> Result<(Held, Run)> {
+// Gives requests by one call. What is held after them, and what each comes to.
+fn give(alloc: Global, held: Held, requests: &[Request]) -> Result<(Held, Vec<String>)> {
     match held {
+        Held::Stopped { frames } => {
+            let (texts, files) = whole_at_each_stop(alloc, requests, frames)?;
+            Ok((Held::Files(files), texts))
+        }
         Held::Files(files) => {
             let (run, files) = session(alloc, files, requests);
-            Ok((Held::Files(files), run?))
+            Ok((Held::Files(files), told_run(alloc, &run?)?))
         }
         held => {
             let (club, run) = run(alloc, held.into_club(alloc)?, requests);
-            Ok((Held::Club(club), run))
+            Ok((Held::Club(club), told_run(alloc, &run)?))
         }
     }
 }
 
 fn new_files(alloc: Global) -> Result<Held> {
-    let (begun, files) = begun(alloc, empty_files(alloc));
+    let (begun, files) = begun(alloc, empty_files(alloc, Stop::Never), Options::new(1));
     begun?;
     Ok(Held::Files(files))
 }
@@ -67,14 +73,22 @@ fn new_held(alloc: Global, place: &str) -> Result<Held> {
     match place {
         "" => Ok(Held::Club(new_club(alloc)?)),
         "in files" => new_files(alloc),
-        _ => bail!("no such place"),
+        _ => stopped_held(place),
     }
+}
+
+// What is held where each call of the disk is to be the last.
+fn stopped_held(place: &str) -> Result<Held> {
+    let frames = place.strip_prefix("stopped ").context("no such place")?;
+    Ok(Held::Stopped {
+        frames: frames.parse()?,
+    })
 }
 
 fn empty_held(alloc: Global, place: &str) -> Result<Held> {
     match place {
         "" => Ok(Held::Database(Connection::open_in_memory(alloc)?)),
-        "in files" => Ok(Held::Files(empty_files(alloc))),
+        "in files" => Ok(Held::Files(empty_files(alloc, Stop::Never))),
         _ => bail!("no such place"),
     }
 }
@@ -162,10 +176,9 @@ fn outcomes(
     group: &[Line<'_>],
     is_alone: bool,
 ) -> Result<(Held, Vec<String>)> {
-    let (held, run) = give(alloc, held, &read_requests(alloc, group)?)?;
-    let texts = told_run(alloc, &run);
+    let (held, texts) = give(alloc, held, &read_requests(alloc, group)?)?;
     let held = if is_alone { again(alloc, held)? } else { held };
-    Ok((held, texts?))
+    Ok((held, texts))
 }
 
 // What is held after a group of lines, and what each comes to.

@@ -16,21 +16,26 @@ use store_tables::Changes;
 fn connected<D: Disk + Drop>(
     alloc: Global,
     files: Files<D>,
+    options: Options,
 ) -> Result<Connection<FileStore<D>>, Files<D>>
     ensures { IfOk result (λ conn. conn.in_transaction ≡ false) }
 {
     if !files.may_be_used() {
         return Err(files);
     }
-    match Connection::open_files(alloc, files, Options::new(1)) {
+    match Connection::open_files(alloc, files, options) {
         Ok(conn) => Ok(conn),
         Err((_, left)) => Err(left.into_files()),
     }
 }
 
 /// Makes a club in the files, or says why none is made. The files after it.
-pub fn begun<D: Disk + Drop>(alloc: Global, files: Files<D>) -> (Result<(), OpenFault>, Files<D>) {
-    let conn = match connected(alloc, files) {
+pub fn begun<D: Disk + Drop>(
+    alloc: Global,
+    files: Files<D>,
+    options: Options,
+) -> (Result<(), OpenFault>, Files<D>) {
+    let conn = match connected(alloc, files, options) {
         Ok(conn) => conn,
         Err(files) => return (Err(OpenFault::Store), files),
     };
@@ -46,7 +51,7 @@ pub fn session<D: Disk + Drop>(
     files: Files<D>,
     requests: &[Request],
 ) -> (Result<Run, OpenFault>, Files<D>) {
-    let conn = match connected(alloc, files) {
+    let conn = match connected(alloc, files, Options::new(1)) {
         Ok(conn) => conn,
         Err(files) => return (Err(OpenFault::Store), files),
     };
@@ -56,50 +61,50 @@ pub fn session<D: Disk + Drop>(
     }
 }
 
-/// What became of a request that may have been stopped.
-#[derive(Drop)]
-pub enum CutOff {
-    /// It is answered so.
-    Answered(Outcome),
-    /// It is not answered, and the club is shut, if one was taken.
-    Stopped,
-    /// It is not answered, and the club goes on.
-    GoesOn,
+// The outcomes of a run, if the club that was asked again after a fault is shut.
+fn shut_after(run: Run, again: &Run) -> Result<Vec<Outcome>> {
+    if run.fault.is_some() && again.fault != Some(StoreFault::Reopen) {
+        bail!("a club goes on after a fault");
+    }
+    Ok(run.outcomes)
 }
 
-// What became of a request, given what the club came to that was asked again after a fault.
-fn cut_off(run: Run, again: &Run) -> CutOff {
-    match run.outcomes.into_iter().next() {
-        Some(outcome) => CutOff::Answered(outcome),
-        None if again.fault == Some(StoreFault::Reopen) => CutOff::Stopped,
-        None => CutOff::GoesOn,
+// That the club was not taken for a call of the disk that failed, and for nothing else.
+fn stopped_before(alloc: Global, fault: OpenFault) -> Result<Vec<Outcome>> {
+    match fault {
+        OpenFault::Store => Ok(Vec::new(alloc)),
+        fault => bail!("a stop is told as {fault}"),
     }
 }
 
-/// Gives the club in the files a request, and if it is not answered once more. What became of it, and the files after
-/// it.
+/// Gives the club in the files requests, and after a fault once more, which must find it shut. What was answered, and
+/// the files after it.
 pub fn stopped<D: Disk + Drop>(
     alloc: Global,
     files: Files<D>,
-    request: &[Request],
-) -> (CutOff, Files<D>) {
-    let conn = match connected(alloc, files) {
+    requests: &[Request],
+    options: Options,
+) -> (Result<Vec<Outcome>>, Files<D>) {
+    let conn = match connected(alloc, files, options) {
         Ok(conn) => conn,
-        Err(files) => return (CutOff::Stopped, files),
+        Err(files) => return (Ok(Vec::new(alloc)), files),
     };
-    let (run, club) = match resume(alloc, conn, request) {
+    let (run, club) = match resume(alloc, conn, requests) {
         Ok(resumed) => resumed,
-        Err(unopened) => return (CutOff::Stopped, close(unopened.conn).close()),
+        Err(unopened) => {
+            let outcomes = stopped_before(alloc, unopened.fault);
+            return (outcomes, close(unopened.conn).close());
+        }
     };
     let mut club = club;
-    let again = if run.fault.is_some() { request } else { &[] };
+    let again = if run.fault.is_some() { requests } else { &[] };
     let again = club.run(alloc, again);
-    (cut_off(run, &again), end(club).close())
+    (shut_after(run, &again), end(club).close())
 }
 
 /// The rows that stand in the files, and the files.
 pub fn rows_in<D: Disk + Drop>(alloc: Global, files: Files<D>) -> (Result<Changes>, Files<D>) {
-    let mut conn = match connected(alloc, files) {
+    let mut conn = match connected(alloc, files, Options::new(1)) {
         Ok(conn) => conn,
         Err(files) => return (unread(), files),
     };

@@ -21,6 +21,11 @@ pub enum Held {
     Database(Connection<MemStore>),
     /// The files of a club.
     Files(Disks),
+    /// A club that is to be made for the requests that follow, and stopped at each call of the disk.
+    Stopped {
+        /// How many frames of the log a commit finds that copies them into the database file.
+        frames: usize,
+    },
 }
 
 impl Held {
@@ -29,7 +34,9 @@ impl Held {
         match self {
             Held::Club(club) => Ok(club.into_connection()),
             Held::Database(conn) => Ok(conn),
-            Held::Files(_) | Held::Nothing => bail!("there is no database in memory"),
+            Held::Files(_) | Held::Stopped { .. } | Held::Nothing => bail!(
+                "there is no database in memory"
+            ),
         }
     }
 

@@ -5,8 +5,10 @@
 
 mod answers;
 mod clubs;
+mod courses;
 mod files;
 mod held;
+mod images;
 mod report;
 mod requests;
 mod rows;

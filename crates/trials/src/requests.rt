@@ -3,10 +3,10 @@
 use anyhow::{Context, Result, bail};
 use clocks::Moment;
 use club_requests::{
-    AddEvent, AddMember, AnswerChallenge, Command, GameCommand, OnGame, OpenChallenge, Request,
-    Seat, Who, Withdraw,
+    AddEvent, AddMember, AnswerChallenge, Command, GameCommand, Import, OnGame, OpenChallenge,
+    Request, Seat, Who, Withdraw,
 };
-use club_rules::GameKind;
+use club_rules::{GameKind, RecordFormat};
 use std::alloc::Global;
 
 // The word, where `''` stands for none.
@@ -83,8 +83,35 @@ fn challenge_command(alloc: Global, words: &[&str]) -> Result<Command> {
     }
 }
 
+// The text of a record, where `\n` stands for the end of a line.
+fn record(alloc: Global, word: &str) -> Result<Vec<u8>> {
+    let mut text = String::new(alloc);
+    for line in word.split("\\n") {
+        text.push_str(line)?;
+        text.push_str("\n")?;
+    }
+    Ok(text.into_bytes())
+}
+
+fn format(word: &str) -> Result<RecordFormat> {
+    match word {
+        "pdn" => Ok(RecordFormat::Pdn),
+        "csa" => Ok(RecordFormat::Csa),
+        _ => bail!("no such format"),
+    }
+}
+
 fn command(alloc: Global, words: &[&str]) -> Result<Command> {
     match *words {
+        ["import", key, event, first, second, part, kind, letters] => Ok(Command::Import(Import {
+            key: text(alloc, key)?,
+            event: text(alloc, event)?,
+            first: text(alloc, first)?,
+            second: text(alloc, second)?,
+            part: part.parse()?,
+            format: format(kind)?,
+            text: record(alloc, letters)?,
+        })),
         ["member", name, key] => Ok(Command::AddMember(AddMember {
             name: text(alloc, name)?,
             key: text(alloc, key)?,

@@ -1,0 +1,207 @@
+//! A club from its making to its closing, stopped at each call of the disk, for each of the two files.
+
+use crate::files::{begun, rows_in, session, stopped};
+use crate::held::Disks;
+use crate::images::{ClubFile, Image, Stop, empty_files};
+use anyhow::{Context, Result, bail};
+use club_requests::{Outcome, Request};
+use sqlite::Options;
+use std::alloc::Global;
+use store::OpenFault;
+use store_tables::Changes;
+
+/// How many calls of the disk a course takes at most.
+const MOST_CALLS: u64 = 100_000;
+
+/// What was done before a stop.
+#[derive(Clone, Copy, PartialEq)]
+enum Done {
+    /// The making of the club was not answered.
+    Nothing,
+    /// The club was made, and so many requests were answered.
+    Requests(usize),
+}
+
+/// Requests to a new club, what each comes to where nothing stops them, and the rows before the first and after each.
+#[derive(Drop)]
+struct Course<'a> {
+    requests: &'a [Request],
+    /// How many frames of the log a commit finds that copies them into the database file.
+    frames: usize,
+    outcomes: Vec<String>,
+    rows: Vec<Changes>,
+}
+
+fn told(alloc: Global, outcomes: &[Outcome]) -> Result<Vec<String>> {
+    let mut texts = Vec::new(alloc);
+    for outcome in outcomes {
+        texts.push(format!(in alloc; "{outcome}")?)?;
+    }
+    Ok(texts)
+}
+
+/// What a request is answered that stood already, given what it was answered at first: an accepted one is repeated, but
+/// for a sweep, which then has nothing more to end.
+fn answered_again(alloc: Global, outcome: &str) -> Result<String> {
+    match outcome.strip_prefix("accepted ") {
+        Some(answer) if answer.starts_with("sweep") => {
+            Ok(String::from_str(alloc, "accepted sweep 0")?)
+        }
+        Some(answer) => Ok(format!(in alloc; "repeated {answer}")?),
+        None => Ok(String::from_str(alloc, outcome)?),
+    }
+}
+
+impl<'a> Course<'a> {
+    /// The course of requests that nothing stops, each a session of its own, and the files after them.
+    fn unstopped(
+        alloc: Global,
+        requests: &'a [Request],
+        frames: usize,
+    ) -> Result<(Course<'a>, Disks)> {
+        let (made, files) = begun(alloc, empty_files(alloc, Stop::Never), Options::new(1));
+        made?;
+        let (mut outcomes, mut rows) = (Vec::new(alloc), Vec::new(alloc));
+        let (first, mut files) = rows_in(alloc, files);
+        rows.push(first?)?;
+        for request in requests {
+            let (run, left) = session(alloc, files, std::slice::from_ref(request));
+            let (after, left) = rows_in(alloc, left);
+            let run = run?;
+            let outcome = run.outcomes.first().context("a request is not answered")?;
+            outcomes.push(format!(in alloc; "{outcome}")?)?;
+            rows.push(after?)?;
+            files = left;
+        }
+        let course = Course {
+            requests,
+            frames,
+            outcomes,
+            rows,
+        };
+        Ok((course, files))
+    }
+
+    fn options(&self) -> Options {
+        Options {
+            checkpoint_frames: self.frames,
+            ..Options::new(1)
+        }
+    }
+
+    /// What is done until the stop, and the files that it leaves.
+    fn stopped(&self, alloc: Global, stop: Stop) -> Result<(Done, Disks)> {
+        let (made, files) = begun(alloc, empty_files(alloc, stop), self.options());
+        match made {
+            Ok(()) => {}
+            Err(OpenFault::Store) => return Ok((Done::Nothing, files)),
+            Err(fault) => bail!("a stop is told as {fault}"),
+        }
+        let (outcomes, left) = stopped(alloc, files, self.requests, self.options());
+        let texts = told(alloc, &outcomes?)?;
+        if self.outcomes.get(..texts.len()) != Some(texts.as_slice()) {
+            bail!("other outcomes than where nothing stops them");
+        }
+        Ok((Done::Requests(texts.len()), left))
+    }
+
+    /// What the request of that number is to be answered now, of those that were not answered before: it stands already
+    /// or not.
+    fn due(&self, alloc: Global, number: usize, stands: bool) -> Result<String> {
+        let outcome = self.outcomes.get(number).context("no such request")?;
+        if stands {
+            return answered_again(alloc, outcome.as_str());
+        }
+        Ok(String::from_str(alloc, outcome.as_str())?)
+    }
+
+    /// Whether the requests from that number on, given to the files, come to what they come to where nothing stops them,
+    /// the first as one that stands already or not, and leave the rows that are left then.
+    fn goes_on(&self, alloc: Global, files: Disks, from: usize, stands: bool) -> Result<bool> {
+        let (run, files) = session(alloc, files, self.requests.get(from..).unwrap_or(&[]));
+        let texts = told(alloc, &run?.outcomes)?;
+        let (rows, _files) = rows_in(alloc, files);
+        if from.checked_add(texts.len()) != Some(self.outcomes.len()) {
+            return Ok(false);
+        }
+        if Some(&rows?) != self.rows.last() {
+            return Ok(false);
+        }
+        for (index, text) in texts.iter().enumerate() {
+            if *text != self.due(alloc, from.saturating_add(index), stands && index == 0)? {
+                return Ok(false);
+            }
+        }
+        Ok(true)
+    }
+
+    /// Whether the rows of the files are those after so many requests, or after one more, and the rest goes on from
+    /// there.
+    fn is_whole(&self, alloc: Global, files: Disks, answered: usize) -> Result<bool> {
+        let (rows, files) = rows_in(alloc, files);
+        let rows = rows?;
+        let before = self.rows.get(answered) == Some(&rows);
+        let after = self.rows.get(answered.saturating_add(1)) == Some(&rows);
+        if !before && !after {
+            return Ok(false);
+        }
+        self.goes_on(alloc, files, answered, !before)
+    }
+
+    /// Whether what is found in files with those bytes is whole. Where the making of the club was stopped it stands, or
+    /// there is none and it can be made.
+    fn is_found_whole(&self, alloc: Global, done: Done, image: &Image) -> Result<bool> {
+        let (run, files) = session(alloc, image.files(alloc, Stop::Never)?, &[]);
+        match (run, done) {
+            (Ok(_), Done::Nothing) => self.is_whole(alloc, files, 0),
+            (Ok(_), Done::Requests(answered)) => self.is_whole(alloc, files, answered),
+            (Err(OpenFault::Foreign), Done::Nothing) => {
+                let (made, files) = begun(alloc, files, Options::new(1));
+                made?;
+                self.is_whole(alloc, files, 0)
+            }
+            (Err(fault), _) => bail!("what is found is refused as {fault}"),
+        }
+    }
+
+    /// Stops the course after so many calls of the file. Whether it came to its end without the stop, if what is found
+    /// is whole, with all that was written and with what was synced alone.
+    fn tried(&self, alloc: Global, file: ClubFile, calls: u64) -> Result<Option<bool>> {
+        let (done, left) = self.stopped(alloc, file.stop(calls))?;
+        let mut left = left;
+        let is_over = done == Done::Requests(self.requests.len()) && file.goes_on(&mut left);
+        let written = Image::written(alloc, &left)?;
+        let synced = Image::synced(alloc, left)?;
+        let is_whole = self.is_found_whole(alloc, done, &written)?
+            && (synced == written || self.is_found_whole(alloc, done, &synced)?);
+        Ok(is_whole.then_some(is_over))
+    }
+
+    /// Stops the course at each call of the file, until it comes to its end without a stop. How many stops there were.
+    fn stop_at_each(&self, alloc: Global, file: ClubFile) -> Result<u64> {
+        let name = file.name();
+        for calls in 0..MOST_CALLS {
+            match self.tried(alloc, file, calls) {
+                Ok(Some(true)) => return Ok(calls),
+                Ok(Some(false)) => {}
+                Ok(None) => bail!("neither whole nor none after {calls} calls of the {name}"),
+                Err(fault) => bail!("{fault} after {calls} calls of the {name}"),
+            }
+        }
+        bail!("not at an end after any number of calls of the {name}")
+    }
+}
+
+/// What each request to a new club comes to, and the files after them, if wherever a call of the log or of the database
+/// file is the last what is found is whole, and the rest goes on from there.
+pub fn whole_at_each_stop(
+    alloc: Global,
+    requests: &[Request],
+    frames: usize,
+) -> Result<(Vec<String>, Disks)> {
+    let (course, files) = Course::unstopped(alloc, requests, frames)?;
+    for file in [ClubFile::Log, ClubFile::Database] {
+        course.stop_at_each(alloc, file)?;
+    }
+    Ok((course.outcomes, files))
+}
