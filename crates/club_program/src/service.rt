@@ -14,8 +14,7 @@ use sqlite_disk::Wary;
 use std::alloc::AllocError;
 use std::time::Duration;
 
-// How long the files are given up between two stretches where somebody is to be served, so that who waits for them finds
-// them free.
+// How long the files are given up after a stretch, so that who waits for them finds them free.
 const GIVEN_UP_MILLISECONDS: u64 = 200;
 
 // How long is waited before files that another program has are asked for again.
@@ -50,9 +49,6 @@ fn hear(callers: &mut Callers<'_>, tries: u32) -> bool {
     if tries > 0 {
         return callers.hear(Duration::from_millis(AGAIN_MILLISECONDS));
     }
-    if callers.is_awaited() {
-        return callers.hear(Duration::from_millis(GIVEN_UP_MILLISECONDS));
-    }
     callers.await_next()
 }
 
@@ -64,7 +60,12 @@ fn serve(rt: &HostRuntime, file: &str, callers: &mut Callers<'_>) {
             return;
         }
         match serve_stretch(rt, file, callers) {
-            Course::GoesOn => tries = 0,
+            Course::GoesOn => {
+                tries = 0;
+                if !callers.hear(Duration::from_millis(GIVEN_UP_MILLISECONDS)) {
+                    return;
+                }
+            }
             Course::IsTold(fault) => {
                 tries = 0;
                 tell(rt, callers, fault);
