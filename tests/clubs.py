@@ -12,7 +12,7 @@ import subprocess
 import tempfile
 
 HERE = pathlib.Path(__file__).resolve().parent
-TABLES = "meta members events challenges moves games seen scores".split()
+TABLES = "meta members events event_rules challenges moves games seen scores".split()
 QUICK = "/dev/shm" if os.access("/dev/shm", os.W_OK) else None  # a folder whose syncs take no time
 NO_CLUB = "no club"
 PORTS = 3  # that a desk tries, as another program may take one first

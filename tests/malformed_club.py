@@ -162,11 +162,17 @@ class Game:
         return self.lost_by(1 - side, "Time")
 
     def declare(self, member, ply):
-        """Of a king that has entered: no event has declarations."""
+        """Of a king that has entered: each event has declarations."""
         side = self.side(member)
+        if ply == self.plies() + 1 and self.is_lost_by(1 - side, "Declared"):
+            return self.ended()
         self.must_run()
         self.must_be_next(ply)
-        raise Refused(67 if side == self.turn() else 59)
+        if side != self.turn():
+            raise Refused(59)
+        if self.event["game"] != "shogi" or not malformed_shogi.may_declare(self.line.position):
+            raise Refused(67)
+        return self.lost_by(1 - side, "Declared")
 
     def shown(self):
         return {"end": self.end, "event": self.event["name"], "first": self.players[0], "game": self.number,
@@ -322,9 +328,10 @@ class Club:
                  for game in self.games for moment, reply in zip(game.moments, game.replies)]
         seen = [(game.number, position, *counted) for game in self.games
                 for position, counted in game.line.seen.items()]
-        return {"meta": [(1, 1, self.last)], "members": [(number, name, key) for number, (key, name)
+        return {"meta": [(1, 2, self.last)], "members": [(number, name, key) for number, (key, name)
                                                          in enumerate(self.keys.items(), 1)],
                 "events": [(number, it["name"], int(it["game"] == "shogi"), it["budget"], it["increment"])
                            for number, it in enumerate(self.events.values(), 1)],
+                "event_rules": [(number, 1) for number in events.values()],
                 "challenges": sorted(challenges), "moves": moves, "games": games, "seen": sorted(seen),
                 "scores": self.scores(events, members)}

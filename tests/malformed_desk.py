@@ -39,7 +39,7 @@ def rows(file):
     with tempfile.TemporaryDirectory() as room:
         copy_club(file, f"{room}/c.db")
         with contextlib.closing(sqlite3.connect(f"{room}/c.db")) as found:
-            tables = "meta members events challenges moves games seen scores".split()
+            tables = "meta members events event_rules challenges moves games seen scores".split()
             return {table: found.execute(f"SELECT * FROM {table} ORDER BY 1, 2").fetchall() for table in tables}
 
 

@@ -39,6 +39,9 @@ class OfficersClub(Club):
     def do_init(self):
         return "ready\n"
 
+    def do_upgrade(self):
+        return "repeated upgrade\n"
+
     def do_verify(self):
         return "sound\n"
 
@@ -99,8 +102,6 @@ class OfficersClub(Club):
                 and (found.texts, found.result) == (moves, score)):
             return f"repeated game {found.number}\n"
         self.must_be_free(key, first, second)
-        if kind == "csa" and line.declared:
-            raise Refused(46)  # no event has declarations
         game = self.seat(key, event, first, second, self.now())
         for move in line.moves:
             game.played(game.turn(), move, 0)

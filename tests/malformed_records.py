@@ -220,8 +220,6 @@ def wanted_of(kind, text, part):
     records = malformed_shogi.read_records(text)
     if part > len(records):
         raise Refused(65)
-    if records[part - 1][2].declared:
-        raise Refused(46)  # no event has declarations
     return records[part - 1]
 
 

@@ -22,6 +22,7 @@ from malformed_requests import whole
 
 COLUMNS = {
     "members": ("id", "name", "key"), "events": ("id", "name", "game", "budget", "increment"),
+    "event_rules": ("event", "declares"),
     "challenges": ("member", "number", "event", "other", "first", "state", "game"),
     "moves": ("game", "ply", "text", "moment", "left", "position"),
     "games": ("id", "key", "event", "first", "second", "start", "since", "plies", "left1", "left2", "offer_side",
@@ -85,8 +86,9 @@ class Audit:
     def verdicts(self):
         """What verify may say: the first table that is wrong, or games or seen sooner, where a row has another type."""
         meta = self.rows["meta"]
-        if [it["id"] for it in meta] == [1] and type(meta[0]["schema"]) is int and meta[0]["schema"] != 1:
-            return [f"store 71 Schema {meta[0]['schema']}"]
+        number = meta[0]["schema"] if [it["id"] for it in meta] == [1] else None
+        if type(number) is int and number != 2:
+            return ["store 70 Foreign" if number == 1 else f"store 71 Schema {number}"]
         wrong = [table for table in COLUMNS if self.is_wrong(table)]
         sooner = [table for table in wrong[1:] if table in ("games", "seen") and not self.are_typed(table)]
         return [f"store 72 Damaged {table}" for table in wrong[:1] + sooner] or ["sound"]
@@ -110,6 +112,16 @@ class Audit:
         return is_numbered(rows, 50) and all(
             NAME.fullmatch(it["name"]) and it["game"] in (0, 1) and 1 <= it["budget"] <= 31536000
             and 0 <= it["increment"] <= 2592000 for it in rows)
+
+    def are_event_rules_good(self):
+        rows = self.rows["event_rules"]
+        return (sorted(it["event"] for it in rows) == sorted(self.events)
+                and all(it["declares"] in (0, 1) for it in rows))
+
+    def may_declare(self, event, line):
+        rules = {it["event"]: it["declares"] for it in self.rows["event_rules"]}
+        return (rules.get(event) == 1 and self.events[event]["game"] == 1
+                and malformed_shogi.may_declare(line.position))
 
     def are_challenges_good(self):
         return all(self.is_challenge_good(it) for it in self.rows["challenges"])
@@ -178,6 +190,9 @@ class Audit:
         mover_loses = ("0-2", "2-0")[len(moves) % 2]
         if stored in ((None, None), ("Resigned", mover_loses), ("Time", mover_loses)):
             return True
+        if it["end"] == "Declared":
+            wins = ("2-0", "0-2")[len(moves) % 2]
+            return it["result"] == wins and self.may_declare(it["event"], line)
         if it["end"] == "Agreed":
             return it["result"] == "1-1" and it["offer_side"] is not None
         return (it["end"] == "Recorded" and it["result"] in POINTS and it["key"] is not None
@@ -288,7 +303,7 @@ def text_near(chance, rows, table, at, value):
         chance.choice(others), chance.choice(others), value[:place] + value[place + 1:],
         value + chance.choice("x \0\u00e9.-"), value[:place] + chance.choice("1aK+ ,:x/\n") + value[place:],
         value.swapcase(), "", value[::-1], value * 2, f"0{value}", "a" * 24, "a" * 25, "b" * 64, "b" * 65, "abcdefg",
-        "abcdefgh", "Resigned", "Agreed", "Time", "Recorded", "NoMove", "Repetition", "PlyLimit", "Fourfold", "2-0",
+        "abcdefgh", "Resigned", "Agreed", "Time", "Declared", "Recorded", "NoMove", "Repetition", "PlyLimit", "Fourfold", "2-0",
         "1-1", "0-2", "1-0", "*", "32-28", "28:19", "7g7f", "-", "NULL"))
 
 
@@ -356,20 +371,24 @@ FULL = {"members": ("INSERT INTO members SELECT n, 'm' || n, 'keymember' || n FR
         "events": ("INSERT INTO events SELECT n, 'e' || n, n % 2, n, n FROM numbers", 50)}
 
 
+RULES_OF_ALL = "INSERT INTO event_rules SELECT id, id % 2 FROM events WHERE id NOT IN (SELECT event FROM event_rules)"
+
+
 def fill(chance, rows, table):
-    """A table with as many rows as it may have, or one fewer or more."""
+    """A table with as many rows as it may have, or one fewer or more, and rules for each event."""
     insert, most = FULL[table]
     numbers = (len(rows[table]) + 1, most + chance.choice((-1, 0, 1)))
     counted = "WITH RECURSIVE numbers(n) AS (SELECT ? UNION ALL SELECT n + 1 FROM numbers WHERE n < ?)"
-    return f"{counted} {insert}", numbers
+    return [(f"{counted} {insert}", numbers), (RULES_OF_ALL, ())]
 
 
 def change(chance, rows, is_loose):
+    """The texts of SQL that change something, each with its values."""
     if chance.random() < 0.02:
         return fill(chance, rows, chance.choice(list(FULL)))
     table = chance.choice((*COLUMNS, "games", "games", "moves", "challenges"))
     kinds = (change_cell,) * 8 + (drop_row, double_row) + (change_type,) * (10 if is_loose else 0)
-    return chance.choice(kinds)(chance, rows, table)
+    return [chance.choice(kinds)(chance, rows, table)]
 
 
 def loosened(base, file):
@@ -404,7 +423,8 @@ def run(test):
             pathlib.Path(f"{file}-wal").unlink(missing_ok=True)
             is_loose = chance.random() < 0.3
             shutil.copyfile(loose if is_loose else base, file)
-            given = [change(chance, rows, is_loose) for _ in range(chance.choice((0, 1, 1, 1, 1, 1, 1, 1, 2, 3)))]
+            changes = chance.choice((0, 1, 1, 1, 1, 1, 1, 1, 2, 3))
+            given = [words for _ in range(changes) for words in change(chance, rows, is_loose)]
             said = case(test, f"change {index}", file, given)
             said = said.removeprefix("store ") if "Schema" not in said else "71 Schema"
             told[said] = told.get(said, 0) + 1

@@ -219,7 +219,6 @@ class Line:
     def __init__(self):
         self.position = read_sfen(OPENING)
         self.moves, self.checks, self.seen, self.given = [], {"b": 0, "w": 0}, {}, []
-        self.declared = False  # whether a record says that it ended so
         self.count()
 
     def count(self):
@@ -438,7 +437,7 @@ def said_score(line, end, word):
     elif word == "%KACHI":
         if not may_declare(line.position):
             raise Refused(46)
-        score, line.declared = lost[other(mover)], True
+        score = lost[other(mover)]
     else:
         raise Refused(44)
     needed = {"%TSUMI": "NoMove", "%SENNICHITE": "Fourfold"}.get(word)

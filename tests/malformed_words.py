@@ -20,7 +20,7 @@ KINDS = {  # the kinds of each command's words
     "init": (), "member": ("name", "key"), "event": ("name", "game", "number", "number"),
     "seat": ("name", "name", "name", "name"), "import-pdn": ("name", "name", "name", "name", "record"),
     "import-csa": ("name", "name", "name", "name", "record"), "move": ("number", "number", "move"), "sweep": (),
-    "legal": ("number",), "export": ("number",), "table": ("name",), "verify": (),
+    "legal": ("number",), "export": ("number",), "table": ("name",), "verify": (), "upgrade": (),
 }
 POOLS = {
     "name": ("anna", "bert", "cara", "dora", "autumn", "fuji", "winter", "g1", "g2", "g3", "a", "a" * 24, "a" * 25,
@@ -191,7 +191,7 @@ def printed(club, order, standard_input):
     club.moment, command, values, part = order
     acts = {"member": club.add_member, "event": club.add_event, "seat": club.add_seat, "move": club.do_officers_move,
             "sweep": club.do_sweep, "legal": club.do_list, "export": club.do_export, "table": club.do_table,
-            "verify": club.do_verify}
+            "verify": club.do_verify, "upgrade": club.do_upgrade}
     if command.startswith("import-"):
         text = record_of(values[-1], standard_input)
         if text is None:

@@ -72,7 +72,7 @@ def word(name, words, told, query, before, after, **more):
 
 def word_cases():
     init = Word("init", "ready", "store 70 Foreign")
-    yield Case("init", (init,), "SELECT schema, last FROM meta", None, (1, 0), files="nothing")
+    yield Case("init", (init,), "SELECT schema, last FROM meta", None, (2, 0), files="nothing")
     yield word("member", "member dora keydora4", "accepted member 4", COUNT.format("members"), (3, 3), (4, 4))
     yield word("event", "event open draughts 3600 10", "accepted event 4", COUNT.format("events"), (3, 3), (4, 4))
     yield word("seat", "seat d3 cup cara bert", "accepted game 7", COUNT.format("games"), (6, 6), (7, 7))

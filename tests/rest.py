@@ -22,7 +22,7 @@ import urllib.error
 import urllib.request
 
 PROGRAM = str(pathlib.Path(sys.argv[1] if sys.argv[1:] else f"{__file__}/../../build/club").resolve())
-TABLES = "meta members events challenges moves games seen scores".split()
+TABLES = "meta members events event_rules challenges moves games seen scores".split()
 ORDERS = "init", "member anna keyanna1", "member bert keybert2", "event cup draughts 86400 0", "seat g cup anna bert"
 MOVES = ["32-28", "19-23", "28x19", "14x23", "37-32", "10-14"]
 bad = []

@@ -97,7 +97,7 @@ at 3 'store 70 Foreign' init
 says 3 'store 73 Store' --now 1000 nowhere/c.db init
 says 2 'error: a word is not UTF-8' --now 1000 c.db $'\xff'
 reads 'ok' 'PRAGMA integrity_check'
-reads '1|1|1000' 'SELECT * FROM meta'
+reads '1|2|1000' 'SELECT * FROM meta'
 reads '1|anna|keyanna1
 2|bert|keybert2' 'SELECT * FROM members ORDER BY id'
 reads '1|autumn|0|60|5' 'SELECT * FROM events'
@@ -178,8 +178,7 @@ both 0 'accepted game 10' import-csa checkmate fuji anna bert "$records/checkmat
 both 0 "$(cat "$records/checkmate.csa")" export 10
 both 0 'accepted game 11' import-csa perpetual fuji anna bert "$records/perpetual.csa"
 both 0 "$(cat "$records/perpetual.csa")" export 11
-# A king that has entered: it may declare after these 82 plies, and no event has declarations.
-both 1 'refused 46 ResultDiffers' import-csa entered fuji anna bert "$records/entered.csa"
+# A king that has entered: it may declare after these 82 plies, and not a ply before.
 both 1 'refused 46 ResultDiffers' import-csa entered fuji anna bert - < <(sed '/^-3334FU$/d' "$records/entered.csa")
 reads '9|12|Fourfold|1-1
 10|'"$(grep -c '^[-+][0-9]' "$records/checkmate.csa")"'|NoMove|2-0
@@ -216,7 +215,7 @@ if begun; then echo 'ok beginnings of a record'; else echo 'not ok beginnings of
 # told FILE: all rows of all tables, as sqlite3 reads them.
 told() {
     local table
-    for table in meta members events challenges moves games seen scores; do
+    for table in meta members events event_rules challenges moves games seen scores; do
         if command -v sqlite3 > /dev/null 2>&1; then
             sqlite3 "$1" "SELECT * FROM $table ORDER BY 1, 2"
         else
@@ -247,7 +246,7 @@ late 1120 0 'accepted ply 2 19-23' move 1 2 19-23
 late 5000 0 'repeated ply 1 32-28' move 1 1 32-28
 late 5000 1 'refused 58 Conflict' move 1 1 33-28
 late 1125 0 'accepted sweep 0' sweep
-reads '1|1|1125' 'SELECT * FROM meta' late.db
+reads '1|2|1125' 'SELECT * FROM meta' late.db
 copies late.db unswept.db
 "$top/build/club" --now 2000 unswept.db export 1 > unswept.pdn
 verdict 'a game that goes on' '[Result "*"] *' "$(sed -n '5p' unswept.pdn) $(tail -n 1 unswept.pdn)"

@@ -1,5 +1,5 @@
 -- Which table is the first wrong one, by all rows of one game of an event.
-use Rattle.std.proofs.Common.{◌≡◌, ◌≢◌, ◌≤◌, ℕ, pos, List, Option, Some, None, refl, sym, subst, ◌∙◌, arith}
+use Rattle.std.proofs.Common.{◌≡◌, ◌≢◌, ◌≤◌, ℕ, Bool, pos, List, Option, Some, None, refl, sym, subst, ◌∙◌, arith}
 use Rattle.std.proofs.lemmas.Option.{same_Some}
 use Rattle.club_rules.specs.declared.names.GameKind.{GameKind}
 use Rattle.club_rules.specs.declared.names.GameKind.TheVariants.{Draughts, Shogi}
@@ -11,8 +11,8 @@ use Rattle.store_tables.specs.declared.rows.GameRecord.{GameRecord}
 use Rattle.store_tables.specs.declared.rows.MoveRow.{MoveRow}
 use Rattle.store_tables.specs.declared.rows.SeenRow.{SeenRow}
 use Rattle.store_tables.specs.declared.names.Table.{Table}
-use Rattle.store_tables.specs.declared.names.Table.TheVariants.{Members, Events, Challenges, Moves, Games, Seen, Scores}
-use Rattle.store_tables.specs.declared.names.Table.TheVariants.{Meta}
+use Rattle.store_tables.specs.declared.names.Table.TheVariants.{Members, Events, EventRules, Challenges, Moves}
+use Rattle.store_tables.specs.declared.names.Table.TheVariants.{Games, Seen, Scores, Meta}
 use Rattle.club_rows.specs.Club.{both_games}
 use Rattle.club_rows.specs.Tables.{kind_number}
 use Rattle.club_rows.proofs.Proved.{kinds-alike, same-pos}
@@ -42,9 +42,10 @@ have-later rules terms n m row moves seen low have = record {
   seen_are = have.seen_are;
 }
 
-module _ (event : EventRow) (last : Option ℕ) (row : GameRecord) (moves : List MoveRow) (seen : List SeenRow) where
+module _ (event : EventRow) (declares : Bool) (last : Option ℕ) (row : GameRecord) (moves : List MoveRow)
+    (seen : List SeenRow) where
   abbrev In : Table → Type 0
-  In = IsRightInEvent event last row moves seen
+  In = IsRightInEvent event declares last row moves seen
 
   members-in : In Members
   members-in Draughts b i kind_is gives = tt
@@ -61,21 +62,21 @@ module _ (event : EventRow) (last : Option ℕ) (row : GameRecord) (moves : List
   module _ (kind : GameKind) (budget increment : ℕ) (kind_is : event.game ≡ pos (kind_number kind))
       (gives : GivesTerms event budget increment) where
     abbrev Of : Table → Type 0
-    Of = IsRightOf kind (terms_told budget increment) last row moves seen
+    Of = IsRightOf kind (terms_told budget increment declares) last row moves seen
 
     same-kind : (k : GameKind) → event.game ≡ pos (kind_number k) → kind ≡ k
     same-kind k is = kinds-alike kind k (same-pos _ _ (sym kind_is ∙ is))
 
-    same-terms : (b i : ℕ) → GivesTerms event b i → terms_told budget increment ≡ terms_told b i
+    same-terms : (b i : ℕ) → GivesTerms event b i → terms_told budget increment declares ≡ terms_told b i declares
     same-terms b i other =
         let one : budget ≡ b = same-pos _ _ (sym gives.budget_is ∙ other.budget_is) in
         let two : increment ≡ i = same-pos _ _ (sym gives.increment_is ∙ other.increment_is) in
-        λ j. terms_told (one j) (two j)
+        λ j. terms_told (one j) (two j) declares
 
     by-any : (t : Table) → Of t → (k : GameKind) (b i : ℕ) → event.game ≡ pos (kind_number k) → GivesTerms event b i
-        → IsRightOf k (terms_told b i) last row moves seen t
+        → IsRightOf k (terms_told b i declares) last row moves seen t
     by-any t right k b i is other =
-        subst (λ x. IsRightOf x (terms_told b i) last row moves seen t) (same-kind k is)
+        subst (λ x. IsRightOf x (terms_told b i declares) last row moves seen t) (same-kind k is)
         (subst (λ x. IsRightOf kind x last row moves seen t) (same-terms b i other) right)
 
     unit-of-events : (k : GameKind) (terms : Terms) → IsRightOf k terms last row moves seen Events
@@ -91,6 +92,7 @@ module _ (event : EventRow) (last : Option ℕ) (row : GameRecord) (moves : List
       increment = increment;
       terms = gives;
     }
+    to-event EventRules right = by-any EventRules right
     to-event Challenges right = by-any Challenges right
     to-event Moves right = by-any Moves right
     to-event Games right = by-any Games right
@@ -100,7 +102,8 @@ module _ (event : EventRow) (last : Option ℕ) (row : GameRecord) (moves : List
 
     from-event : (t : Table) → In t → Of t
     from-event Members right = right kind budget increment kind_is gives
-    from-event Events right = unit-of-events kind (terms_told budget increment)
+    from-event Events right = unit-of-events kind (terms_told budget increment declares)
+    from-event EventRules right = right kind budget increment kind_is gives
     from-event Challenges right = right kind budget increment kind_is gives
     from-event Moves right = right kind budget increment kind_is gives
     from-event Games right = right kind budget increment kind_is gives
@@ -114,18 +117,18 @@ module _ (event : EventRow) (last : Option ℕ) (row : GameRecord) (moves : List
 
 -- ---- where a last moment is given
 
-module _ (event : EventRow) (last : ℕ) (low : last ≤ 253402300799) (row : GameRecord) (moves : List MoveRow)
-    (seen : List SeenRow) (wrong : Option Table)
-    (first : IsFirstWrong (IsRightInEvent event (Some last) row moves seen) wrong) where
+module _ (event : EventRow) (declares : Bool) (last : ℕ) (low : last ≤ 253402300799) (row : GameRecord)
+    (moves : List MoveRow) (seen : List SeenRow) (wrong : Option Table)
+    (first : IsFirstWrong (IsRightInEvent event declares (Some last) row moves seen) wrong) where
   abbrev Right : Table → Type 0
-  Right = IsRightInEvent event (Some last) row moves seen
+  Right = IsRightInEvent event declares (Some last) row moves seen
 
   all-of-kind : (kind : GameKind) (terms : Terms) → IsRightOf kind terms (Some last) row moves seen Meta
       → HaveAllOf kind terms last row moves seen
   all-of-kind Draughts terms right = right last refl low
   all-of-kind Shogi terms right = right last refl low
 
-  pub event-sound : wrong ≡ None → AreOfEvent event last row moves seen
+  pub event-sound : wrong ≡ None → AreOfEvent event declares last row moves seen
   event-sound none =
       let rules = all-right Right wrong first none Events in
       let right = all-right Right wrong first none Meta in
@@ -135,7 +138,7 @@ module _ (event : EventRow) (last : ℕ) (low : last ≤ 253402300799) (row : Ga
         budget = rules.budget;
         increment = rules.increment;
         terms = rules.terms;
-        all = all-of-kind rules.kind (terms_told rules.budget rules.increment)
+        all = all-of-kind rules.kind (terms_told rules.budget rules.increment declares)
             (right rules.kind rules.budget rules.increment rules.kind_is rules.terms);
       }
 
@@ -144,6 +147,7 @@ module _ (event : EventRow) (last : ℕ) (low : last ≤ 253402300799) (row : Ga
     by-rules : (t : Table) → IsRightIn rules terms (Some last) row moves seen t
     by-rules Members = tt
     by-rules Events = tt
+    by-rules EventRules = tt
     by-rules Challenges = tt
     by-rules Moves = moves-of rules terms row moves have.id have.game have.are
     by-rules Games = record {
@@ -162,8 +166,8 @@ module _ (event : EventRow) (last : ℕ) (low : last ≤ 253402300799) (row : Ga
   by-kind Draughts terms have t = by-rules both_games.draughts terms have t
   by-kind Shogi terms have t = by-rules both_games.shogi terms have t
 
-  pub event-complete : AreOfEvent event last row moves seen → wrong ≡ None
+  pub event-complete : AreOfEvent event declares last row moves seen → wrong ≡ None
   event-complete of =
       none-named Right wrong first
-      (λ t. to-event event (Some last) row moves seen of.kind of.budget of.increment of.kind_is of.terms t
-      (by-kind of.kind (terms_told of.budget of.increment) of.all t))
+      (λ t. to-event event declares (Some last) row moves seen of.kind of.budget of.increment of.kind_is of.terms t
+      (by-kind of.kind (terms_told of.budget of.increment declares) of.all t))

@@ -1,6 +1,6 @@
 -- A game of the club that its rows show.
 use Rattle.std.proofs.Common.{◌≡◌, ℕ, zero, suc, pos, ◌+◌, ◌<◌, ◌≤◌, List, [], ◌∷◌, length, map, Option, Some, None}
-use Rattle.std.proofs.Common.{refl, ap, sym, subst, ◌∙◌, arith}
+use Rattle.std.proofs.Common.{Bool, refl, ap, sym, subst, ◌∙◌, arith}
 use Rattle.std.specs.Prelude.{slice_get, IsSome}
 use Rattle.std.specs.Option.{option_map}
 use Rattle.std.proofs.lemmas.Option.{same_Some, slice_get-map}
@@ -19,29 +19,31 @@ use Rattle.club_core.specs.Events.{Event, Terms}
 use Rattle.club_core.specs.Game.{Entry, Game, Clocks, clocks_of, end_with, left_of, moments_of, opening_clocks}
 use Rattle.club_core.specs.Game.{rule_end, spend, spend_all, turn_of}
 use Rattle.club_core.specs.Legal.{IsTimely, IsLegalGame}
-use Rattle.club_core.specs.LegalState.{Each, IsLegalEvent, IsGameOf}
+use Rattle.club_core.specs.LegalState.{Each, IsGameOf}
 use Rattle.club_core.specs.State.{draughts, shogi, place, kind_at, terms_at}
 use Rattle.club_core.specs.View.{IsRowOf, Shows, clocks_in, terms_of}
 use Rattle.club_laws.proofs.Proved.{in-place}
-use Rattle.store_tables.specs.Cells.{event_cells, seen_cells}
+use Rattle.store_tables.specs.Cells.{event_cells, event_rule_cells, seen_cells}
 use Rattle.store_tables.specs.declared.rows.EventRow.{EventRow}
+use Rattle.store_tables.specs.declared.rows.EventRuleRow.{EventRuleRow}
 use Rattle.store_tables.specs.declared.rows.GameRecord.{GameRecord}
 use Rattle.store_tables.specs.declared.rows.MemberRow.{MemberRow}
 use Rattle.store_tables.specs.declared.rows.MoveRow.{MoveRow}
 use Rattle.store_tables.specs.declared.rows.Rows.{Rows}
 use Rattle.store_tables.specs.Cells.{member_cells}
 use Rattle.club_audit.specs.Audit.{AreAllOf, AreMembers, AreEvents, GivesTerms, HasPeople, NamesEvent, IsWithin, EndsBy}
-use Rattle.club_audit.specs.Audit.{HaveGame, IsGameAt, terms_told}
+use Rattle.club_audit.specs.Audit.{AreRulesOf, HaveGame, IsGameAt, NamesRule, SaysDeclares, terms_told}
 use Rattle.club_audit.specs.GameAudit.{HaveAll, StandsAt}
 use Rattle.club_rows.specs.EachOnce.{AreEachOnce}
 use Rattle.store_tables.specs.declared.rows.SeenRow.{SeenRow}
 use Rattle.club_rows.specs.Club.{ClubGame, ClubState, both_games}
 use Rattle.club_rows.specs.Shown.{AreRowsOf}
+use Rattle.club_rows.specs.Tables.{declares_number, rule_row}
 use Rattle.club_rows.specs.Tables.{event_row, member_row, kind_number, game_row, move_rows, rows_of_seen}
 use Rattle.club_rows.specs.Seen.{seen_rows}
 use Rattle.club_rows.proofs.Proved.{Kind, event_in, in_draughts, in_shogi, kinds-alike, IsToldBy, columns-told}
-use Rattle.club_rows.proofs.Proved.{same-pos, since-rises, spend-since}
-use Rattle.club_audit.proofs.PeopleLemmas.{EventParts, event-parts}
+use Rattle.club_rows.proofs.Proved.{declares-alike, same-pos, since-rises, spend-since}
+use Rattle.club_audit.proofs.PeopleLemmas.{EventParts, event-parts, rule-parts}
 use Rattle.club_audit.proofs.PlacedLemmas.{numbered-at, numbered-back, numbered-length}
 
 -- ---- places
@@ -70,6 +72,27 @@ some-is o x is = rw is refl
 module _ (members : List Member) (rows : List MemberRow) (are : AreMembers members rows) where
   pub same-count : length rows ≡ length members
   same-count = numbered-length member_cells member_row 1 rows members are.rows_are
+
+-- the event of whose rules the row tells has declarations as it says
+pub rule-known : (events : List Event) (rules : List EventRuleRow) → AreRulesOf events rules → (id : ℕ) (e : Event)
+    (rule : EventRuleRow) (declares : Bool) → place events id ≡ Some e → place rules id ≡ Some rule
+    → SaysDeclares rule declares → e.terms.declares ≡ declares
+rule-known events rules are zero e rule declares at there says = cc
+rule-known events rules are (suc n) e rule declares at there says =
+    let (known, stands, cells) = numbered-at event_rule_cells rule_row 1 rules events are n rule there in
+    let same : known ≡ e = same_Some known e (sym stands ∙ at) in
+    let told = rule-parts _ known rule cells in
+    declares-alike e.terms.declares declares
+    (same-pos _ _ (ap (λ (x : Event). pos (declares_number x.terms.declares)) (sym same) ∙ (sym told.1 ∙ says)))
+
+-- and each event has a row of its rules
+pub rule-back : (events : List Event) (rules : List EventRuleRow) → AreRulesOf events rules → (id : ℕ) (e : Event)
+    → place events id ≡ Some e → (rule : EventRuleRow) × (place rules id ≡ Some rule)
+    × SaysDeclares rule e.terms.declares
+rule-back events rules are zero e at = cc
+rule-back events rules are (suc n) e at =
+    let (rule, stands, cells) = numbered-back event_rule_cells rule_row 1 rules events are n e at in
+    (rule, stands, (rule-parts _ e rule cells).1)
 
 module _ (events : List Event) (rows : List EventRow) (are : AreEvents events rows) where
   pub event-at : (id : ℕ) (row : EventRow) → place rows id ≡ Some row → (e : Event) × (place events id ≡ Some e)
@@ -183,12 +206,12 @@ module _ {R P M E T : Type 0} (rules : GameRules P M E T) (terms : Terms) (game 
 
 -- ---- a game of the club
 
-terms-are : (e : Event) (row : EventRow) (id budget increment : ℕ) → IsLegalEvent e → EventParts id e row
-    → GivesTerms row budget increment → e.terms ≡ terms_told budget increment
-terms-are e row id budget increment legal parts gives =
+terms-are : (e : Event) (row : EventRow) (id budget increment : ℕ) (declares : Bool) → EventParts id e row
+    → GivesTerms row budget increment → e.terms.declares ≡ declares → e.terms ≡ terms_told budget increment declares
+terms-are e row id budget increment declares parts gives rule =
     let b : e.terms.budget ≡ budget = same-pos _ _ (sym parts.budget_is ∙ gives.budget_is) in
     let i : e.terms.increment ≡ increment = same-pos _ _ (sym parts.increment_is ∙ gives.increment_is) in
-    λ j. record { budget = b j; increment = i j; declares = legal.declares j }
+    λ j. record { budget = b j; increment = i j; declares = rule j }
 
 -- the row has the number of this kind
 abbrev pub HasKind : EventRow → GameKind → Type 0
@@ -198,12 +221,13 @@ module _ (s : ClubState) (rows : Rows) (people : HasPeople s rows) (index : ℕ)
     (moves : List MoveRow) where
   -- the rows of a game of one kind that is played in an event of this kind are those of a game of the club
   module _ {P M E T : Type 0} {rules : GameRules P M E T} {kind : GameKind} (k : Kind rules kind)
-      (event : ℕ) (e : EventRow) (budget increment : ℕ) (named : NamesEvent rows row event e)
-      (gives : GivesTerms e budget increment) (has_kind : HasKind e kind) (stands_at : StandsAt rows index row) where
-    game-stands : (have : HaveGame rules (terms_told budget increment) s.last row moves)
+      (event : ℕ) (e : EventRow) (budget increment : ℕ) (declares : Bool) (named : NamesEvent rows row event e)
+      (ruled : NamesRule rows row event declares) (gives : GivesTerms e budget increment) (has_kind : HasKind e kind)
+      (stands_at : StandsAt rows index row) where
+    game-stands : (have : HaveGame rules (terms_told budget increment declares) s.last row moves)
         → (have.id ≡ index + 1) × IsGameAt s (index + 1) row moves (k.into have.game)
     game-stands have =
-        let terms = terms_told budget increment in
+        let terms = terms_told budget increment declares in
         let players = stands_at.players in
         let game = have.game in
         let are = have.are in
@@ -215,8 +239,9 @@ module _ (s : ClubState) (rows : Rows) (people : HasPeople s rows) (index : ℕ)
         in
         let (known, at, parts) = event-at s.events rows.events.items people.events event e named.row_is in
         let stands : place s.events game.event ≡ Some known = ap (place s.events) event_same ∙ at in
-        let same : known.terms ≡ terms = terms-are known e event budget increment
-        (in-place IsLegalEvent s.events event known people.events.legal at) parts gives in
+        let same : known.terms ≡ terms = terms-are known e event budget increment declares parts gives
+        (rule-known s.events rows.event_rules.items people.rules event known ruled.rule declares at ruled.rule_is
+        ruled.says) in
         let by : terms_at (place s.events game.event) ≡ terms = ap terms_at stands ∙ same in
         let count = same-count s.members rows.members.items people.members in (
           id_same,
@@ -247,12 +272,12 @@ module _ (s : ClubState) (rows : Rows) (people : HasPeople s rows) (index : ℕ)
           },
         )
 
-    pub game-shown : HaveGame rules (terms_told budget increment) s.last row moves → (g : ClubGame)
+    pub game-shown : HaveGame rules (terms_told budget increment declares) s.last row moves → (g : ClubGame)
         × IsGameAt s (index + 1) row moves g
     game-shown have = (k.into have.game, (game-stands have).1)
 
     -- and so are all its rows
-    pub all-shown : (seen : List SeenRow) → HaveAll rules (terms_told budget increment) s.last row moves seen
+    pub all-shown : (seen : List SeenRow) → HaveAll rules (terms_told budget increment declares) s.last row moves seen
         → (g : ClubGame) × AreAllOf s (index + 1) row moves seen g
     all-shown seen have =
         let all = game-stands
@@ -282,6 +307,13 @@ module _ (s : ClubState) (rows : Rows) (people : HasPeople s rows) (index : ℕ)
         let (e, stands, parts) = event-back s.events rows.events.items people.events g.event of-game.event
         of-game.in_event in
         (e, record { event_is = told-at.numbers.event; row_is = stands })
+
+    -- and the rules of its event one
+    pub names-rule : NamesRule rows row g.event of-game.event.terms.declares
+    names-rule =
+        let (rule, stands, says) = rule-back s.events rows.event_rules.items people.rules g.event of-game.event
+        of-game.in_event in
+        record { event_is = told-at.numbers.event; rule = rule; rule_is = stands; says = says }
 
     -- it has its place, and its players exist
     pub game-stands-at : index < 5000 → StandsAt rows index row
@@ -329,18 +361,22 @@ module _ (s : ClubState) (rows : Rows) (people : HasPeople s rows) (index : ℕ)
       pub has-kind : HasKind e kind
       has-kind = named-parts.game_is ∙ ap (λ x. pos (kind_number x)) of-game.of_kind
 
-      module _ (budget increment : ℕ) (gives : GivesTerms e budget increment) where
-        known-terms : of-game.event.terms ≡ terms_told budget increment
-        known-terms = terms-are of-game.event e g.event budget increment
-            (in-place IsLegalEvent s.events g.event of-game.event people.events.legal of-game.in_event)
-            named-parts gives
+      module _ (budget increment : ℕ) (declares : Bool) (ruled : NamesRule rows row event declares)
+          (gives : GivesTerms e budget increment) where
+        known-terms : of-game.event.terms ≡ terms_told budget increment declares
+        known-terms =
+            let same : event ≡ g.event = same-pos _ _ (sym named.event_is ∙ told-at.numbers.event) in
+            terms-are of-game.event e g.event budget increment declares named-parts gives
+            (rule-known s.events rows.event_rules.items people.rules g.event of-game.event ruled.rule declares
+            of-game.in_event (subst (λ n. place rows.event_rules.items n ≡ Some ruled.rule) same ruled.rule_is)
+            ruled.says)
 
-        by-terms : terms_at (place s.events g.event) ≡ terms_told budget increment
+        by-terms : terms_at (place s.events g.event) ≡ terms_told budget increment declares
         by-terms = ap terms_at of-game.in_event ∙ known-terms
 
         -- the rows are those of a legal game by these seconds
         pub rows-of : index < 5000 → s.last ≤ 253402300799
-            → AreRowsOf rules (terms_told budget increment) (index + 1) row moves g
+            → AreRowsOf rules (terms_told budget increment declares) (index + 1) row moves g
         rows-of low last =
             let one = some-placed s.members g.first of-game.first in
             let two = some-placed s.members g.second of-game.second in
@@ -366,7 +402,7 @@ module _ (s : ClubState) (rows : Rows) (people : HasPeople s rows) (index : ℕ)
             }
 
         -- the game ends by the club's last moment
-        pub in-time : EndsBy rules (terms_told budget increment) s.last g
+        pub in-time : EndsBy rules (terms_told budget increment declares) s.last g
         in-time = record {
           start = of-game.start;
           entries = of-game.entries;
@@ -381,6 +417,11 @@ module _ (s : ClubState) (rows : Rows) (people : HasPeople s rows) (index : ℕ)
       × NamesEvent rows row event e
   any-names (draughts g) is = let (e, named) = names-event in_draughts g is in (g.event, e, named)
   any-names (shogi g) is = let (e, named) = names-event in_shogi g is in (g.event, e, named)
+
+  pub any-rules : (g : ClubGame) → IsGameAt s (index + 1) row moves g → (event : ℕ) × (declares : Bool)
+      × NamesRule rows row event declares
+  any-rules (draughts g) is = (g.event, _, names-rule in_draughts g is)
+  any-rules (shogi g) is = (g.event, _, names-rule in_shogi g is)
 
   pub any-stands : (g : ClubGame) → IsGameAt s (index + 1) row moves g → index < 5000 → StandsAt rows index row
   any-stands (draughts g) is low = game-stands-at in_draughts g is low
@@ -411,32 +452,33 @@ module _ (s : ClubState) (rows : Rows) (people : HasPeople s rows) (index : ℕ)
         k.back s g is.legal (ap kind_at at ∙ kinds-alike known.game kind (same-pos _ _ (sym game_is ∙ has_kind)))
 
     module _ {P M E T : Type 0} {rules : GameRules P M E T} {kind : GameKind} (k : Kind rules kind)
-        (budget increment : ℕ) (gives : GivesTerms e budget increment) (has_kind : HasKind e kind) (low : index < 5000)
+        (budget increment : ℕ) (declares : Bool) (ruled : NamesRule rows row event declares)
+        (gives : GivesTerms e budget increment) (has_kind : HasKind e kind) (low : index < 5000)
         (last : s.last ≤ 253402300799) where
       -- and its rows are those of a game of this kind
       pub game-had : (g : ClubGame) → IsGameAt s (index + 1) row moves g
-          → HaveGame rules (terms_told budget increment) s.last row moves
+          → HaveGame rules (terms_told budget increment declares) s.last row moves
       game-had g is =
           let (game, same) = game-in k g is has_kind in
           let one = subst (IsGameAt s (index + 1) row moves) same is in
           record {
             id = index + 1;
             game = game;
-            are = rows-of k game one event e named budget increment gives low last;
-            within = in-time k game one event e named budget increment gives;
+            are = rows-of k game one event e named budget increment declares ruled gives low last;
+            within = in-time k game one event e named budget increment declares ruled gives;
           }
 
       -- all of them
       pub all-had : (seen : List SeenRow) (g : ClubGame) → AreAllOf s (index + 1) row moves seen g
-          → HaveAll rules (terms_told budget increment) s.last row moves seen
+          → HaveAll rules (terms_told budget increment declares) s.last row moves seen
       all-had seen g is =
           let (game, same) = game-in k g is.at has_kind in
           let one = subst (IsGameAt s (index + 1) row moves) same is.at in
           record {
             id = index + 1;
             game = game;
-            are = rows-of k game one event e named budget increment gives low last;
-            within = in-time k game one event e named budget increment gives;
+            are = rows-of k game one event e named budget increment declares ruled gives low last;
+            within = in-time k game one event e named budget increment declares ruled gives;
             seen_are =
                 subst (AreEachOnce (map seen_cells seen))
                 (ap (rows_of_seen both_games (index + 1)) same ∙ k.seen (index + 1) game) is.seen_are;

@@ -28,22 +28,25 @@ use Rattle.club_core.specs.LegalState.{IsLegalIn}
 use Rattle.club_core.specs.State.{draughts, shogi, place}
 use Rattle.club_laws.proofs.Proved.{in-place}
 use Rattle.store_tables.specs.declared.rows.EventRow.{EventRow}
+use Rattle.store_tables.specs.declared.rows.EventRuleRow.{EventRuleRow}
 use Rattle.store_tables.specs.declared.rows.GameRecord.{GameRecord}
 use Rattle.store_tables.specs.declared.rows.MoveRow.{MoveRow}
 use Rattle.store_tables.specs.declared.rows.Rows.{Rows}
 use Rattle.store_tables.specs.declared.rows.SeenRow.{SeenRow}
 use Rattle.store_tables.specs.declared.names.Table.{Table}
-use Rattle.store_tables.specs.declared.names.Table.TheVariants.{Members, Events, Challenges, Moves, Games, Seen, Scores}
-use Rattle.store_tables.specs.declared.names.Table.TheVariants.{Meta}
+use Rattle.store_tables.specs.declared.names.Table.TheVariants.{Members, Events, EventRules, Challenges, Moves}
+use Rattle.store_tables.specs.declared.names.Table.TheVariants.{Games, Seen, Scores, Meta}
 use Rattle.club_rows.specs.Club.{ClubGame, ClubState, both_games}
 use Rattle.club_rows.specs.Tables.{kind_number}
-use Rattle.club_rows.proofs.Proved.{in_draughts, in_shogi, same-pos}
-use Rattle.club_audit.specs.Audit.{AreAllOf, GivesTerms, HasPeople, IsGameAt, NamesEvent, terms_told, until}
+use Rattle.club_rows.proofs.Proved.{declares-alike, in_draughts, in_shogi, same-pos}
+use Rattle.club_audit.specs.Audit.{AreAllOf, GivesTerms, HasPeople, IsGameAt, NamesEvent, NamesRule, terms_told}
+use Rattle.club_audit.specs.Audit.{until}
 use Rattle.club_audit.specs.FirstWrong.{IsFirstWrong, Precedes}
 use Rattle.club_audit.specs.GameAudit.{GivesRules, IsRightAt, IsRightBy, IsRightInEvent, IsRightOf, StandsAt}
 use Rattle.club_audit.proofs.FirstLemmas.{first-as, first-games, first-moves}
 use Rattle.club_audit.proofs.WrongLemmas.{moves-of}
 use Rattle.club_audit.proofs.GameLemmas.{all-had, all-shown, any-names, any-stands, event-at, game-had, game-shown}
+use Rattle.club_audit.proofs.GameLemmas.{rule-back}
 
 module _ (s : ClubState) (rows : Rows) (people : HasPeople s rows) (index : ℕ) (row : GameRecord)
     (moves : List MoveRow) (seen : List SeenRow) (last : Option ℕ) where
@@ -51,19 +54,20 @@ module _ (s : ClubState) (rows : Rows) (people : HasPeople s rows) (index : ℕ)
   At = IsRightAt s rows index row moves seen last
 
   pub people-until : (n : ℕ) → HasPeople (until n s) rows
-  people-until n = record { members = people.members; events = people.events }
+  people-until n = record { members = people.members; events = people.events; rules = people.rules }
 
   -- a game that names no event is wrong, and its moves are passed over
   pub no-event : ((id : ℕ) (e : EventRow) → ¬ NamesEvent rows row id e) → IsFirstWrong At (Some Games)
   no-event none =
-      first-games At tt tt tt (λ id e named. absurd (none id e named))
+      first-games At tt tt tt tt (λ id e declares named ruled. absurd (none id e named))
       (λ it. let (low, g, is) = it in
       let (id, e, named) = any-names (until 253402300799 s) rows (people-until 253402300799) index row moves g is in
       none id e named)
 
-  module _ (id : ℕ) (e : EventRow) (named : NamesEvent rows row id e) where
+  module _ (id : ℕ) (e : EventRow) (declares : Bool) (named : NamesEvent rows row id e)
+      (ruled : NamesRule rows row id declares) where
     abbrev In : Table → Type 0
-    In = IsRightInEvent e last row moves seen
+    In = IsRightInEvent e declares last row moves seen
 
     -- the event gives a kind and terms
     rules-of : GivesRules e
@@ -89,12 +93,28 @@ module _ (s : ClubState) (rows : Rows) (people : HasPeople s rows) (index : ℕ)
         let same : id ≡ n = same-pos _ _ (sym named.event_is ∙ other.event_is) in
         same_Some e f (sym named.row_is ∙ (ap (place rows.events.items) same ∙ other.row_is))
 
+    -- nor another rule
+    same-rule : (n : ℕ) (d : Bool) → NamesRule rows row n d → declares ≡ d
+    same-rule n d other =
+        let same : id ≡ n = same-pos _ _ (sym ruled.event_is ∙ other.event_is) in
+        let rule : ruled.rule ≡ other.rule =
+        same_Some ruled.rule other.rule
+        (sym ruled.rule_is ∙ (ap (place rows.event_rules.items) same ∙ other.rule_is))
+        in
+        declares-alike declares d
+        (same-pos _ _ (sym ruled.says ∙ (ap (λ (r : EventRuleRow). r.declares) rule ∙ other.says)))
+
     moves-at : In Moves → At Moves
-    moves-at right n f other = subst (λ x. IsRightBy x last row moves seen Moves) (same-event n f other) right
+    moves-at right n f d other also = subst (λ x. IsRightBy x d last row moves seen Moves) (same-event n f other)
+        (subst (λ x. IsRightBy e x last row moves seen Moves) (same-rule n d also) right)
 
     members-in : In Members
     members-in Draughts b i kind_is gives = tt
     members-in Shogi b i kind_is gives = tt
+
+    rules-in : In EventRules
+    rules-in Draughts b i kind_is gives = tt
+    rules-in Shogi b i kind_is gives = tt
 
     challenges-in : In Challenges
     challenges-in Draughts b i kind_is gives = tt
@@ -108,65 +128,73 @@ module _ (s : ClubState) (rows : Rows) (people : HasPeople s rows) (index : ℕ)
 
     module _ (stands : StandsAt rows index row) where
       game-of : (kind : GameKind) (budget increment : ℕ) → e.game ≡ pos (kind_number kind)
-          → GivesTerms e budget increment → IsRightOf kind (terms_told budget increment) last row moves seen Games
+          → GivesTerms e budget increment
+          → IsRightOf kind (terms_told budget increment declares) last row moves seen Games
           → (g : ClubGame) × IsGameAt (until 253402300799 s) (index + 1) row moves g
       game-of Draughts budget increment kind_is gives have =
           game-shown (until 253402300799 s) rows (people-until 253402300799) index row moves in_draughts id e budget
-          increment named gives kind_is stands have
+          increment declares named ruled gives kind_is stands have
       game-of Shogi budget increment kind_is gives have =
           game-shown (until 253402300799 s) rows (people-until 253402300799) index row moves in_shogi id e budget
-          increment named gives kind_is stands have
+          increment declares named ruled gives kind_is stands have
 
       all-of : (kind : GameKind) (budget increment : ℕ) → e.game ≡ pos (kind_number kind)
-          → GivesTerms e budget increment → IsRightOf kind (terms_told budget increment) last row moves seen Seen
+          → GivesTerms e budget increment
+          → IsRightOf kind (terms_told budget increment declares) last row moves seen Seen
           → (g : ClubGame) × AreAllOf (until 253402300799 s) (index + 1) row moves seen g
       all-of Draughts budget increment kind_is gives have =
           all-shown (until 253402300799 s) rows (people-until 253402300799) index row moves in_draughts id e budget
-          increment named gives kind_is stands seen have
+          increment declares named ruled gives kind_is stands seen have
       all-of Shogi budget increment kind_is gives have =
           all-shown (until 253402300799 s) rows (people-until 253402300799) index row moves in_shogi id e budget
-          increment named gives kind_is stands seen have
+          increment declares named ruled gives kind_is stands seen have
 
       end-of : (kind : GameKind) (budget increment : ℕ) → e.game ≡ pos (kind_number kind)
-          → GivesTerms e budget increment → IsRightOf kind (terms_told budget increment) last row moves seen Meta
+          → GivesTerms e budget increment
+          → IsRightOf kind (terms_told budget increment declares) last row moves seen Meta
           → (n : ℕ) → last ≡ Some n → n ≤ 253402300799
           → (g : ClubGame) × AreAllOf (until n s) (index + 1) row moves seen g
       end-of Draughts budget increment kind_is gives have n is low =
-          all-shown (until n s) rows (people-until n) index row moves in_draughts id e budget increment named gives
+          all-shown (until n s) rows (people-until n) index row moves in_draughts id e budget increment declares
+          named ruled gives
           kind_is stands seen (have n is low)
       end-of Shogi budget increment kind_is gives have n is low =
-          all-shown (until n s) rows (people-until n) index row moves in_shogi id e budget increment named gives
+          all-shown (until n s) rows (people-until n) index row moves in_shogi id e budget increment declares named
+          ruled gives
           kind_is stands seen (have n is low)
 
       game-in-kind : (g : ClubGame) → IsGameAt (until 253402300799 s) (index + 1) row moves g → (kind : GameKind)
           (budget increment : ℕ) → e.game ≡ pos (kind_number kind) → GivesTerms e budget increment
-          → IsRightOf kind (terms_told budget increment) last row moves seen Games
+          → IsRightOf kind (terms_told budget increment declares) last row moves seen Games
       game-in-kind g is Draughts budget increment kind_is gives =
           game-had (until 253402300799 s) rows (people-until 253402300799) index row moves id e named in_draughts budget
-          increment gives kind_is stands.low (omega arith) g is
+          increment declares ruled gives kind_is stands.low (omega arith) g is
       game-in-kind g is Shogi budget increment kind_is gives =
           game-had (until 253402300799 s) rows (people-until 253402300799) index row moves id e named in_shogi budget
-          increment gives kind_is stands.low (omega arith) g is
+          increment declares ruled gives kind_is stands.low (omega arith) g is
 
       all-in-kind : (g : ClubGame) → AreAllOf (until 253402300799 s) (index + 1) row moves seen g → (kind : GameKind)
           (budget increment : ℕ) → e.game ≡ pos (kind_number kind) → GivesTerms e budget increment
-          → IsRightOf kind (terms_told budget increment) last row moves seen Seen
+          → IsRightOf kind (terms_told budget increment declares) last row moves seen Seen
       all-in-kind g is Draughts budget increment kind_is gives =
           all-had (until 253402300799 s) rows (people-until 253402300799) index row moves id e named in_draughts budget
-          increment gives kind_is stands.low (omega arith) seen g is
+          increment declares ruled gives kind_is stands.low (omega arith) seen g is
       all-in-kind g is Shogi budget increment kind_is gives =
           all-had (until 253402300799 s) rows (people-until 253402300799) index row moves id e named in_shogi budget
-          increment gives kind_is stands.low (omega arith) seen g is
+          increment declares ruled gives kind_is stands.low (omega arith) seen g is
 
       end-in-kind : At Meta → (kind : GameKind) (budget increment : ℕ) → e.game ≡ pos (kind_number kind)
-          → GivesTerms e budget increment → IsRightOf kind (terms_told budget increment) last row moves seen Meta
+          → GivesTerms e budget increment
+          → IsRightOf kind (terms_told budget increment declares) last row moves seen Meta
       end-in-kind right Draughts budget increment kind_is gives = λ n is low.
           let (g, all) = right n is low in
-          all-had (until n s) rows (people-until n) index row moves id e named in_draughts budget increment gives
+          all-had (until n s) rows (people-until n) index row moves id e named in_draughts budget increment declares
+          ruled gives
           kind_is stands.low low seen g all
       end-in-kind right Shogi budget increment kind_is gives = λ n is low.
           let (g, all) = right n is low in
-          all-had (until n s) rows (people-until n) index row moves id e named in_shogi budget increment gives
+          all-had (until n s) rows (people-until n) index row moves id e named in_shogi budget increment declares
+          ruled gives
           kind_is stands.low low seen g all
 
       -- ---- table by table
@@ -174,6 +202,7 @@ module _ (s : ClubState) (rows : Rows) (people : HasPeople s rows) (index : ℕ)
       to-place : (t : Table) → In t → At t
       to-place Members right = tt
       to-place Events right = tt
+      to-place EventRules right = tt
       to-place Challenges right = tt
       to-place Moves right = moves-at right
       to-place Games right =
@@ -192,8 +221,9 @@ module _ (s : ClubState) (rows : Rows) (people : HasPeople s rows) (index : ℕ)
       from-place : (t : Table) → At t → In t
       from-place Members right = members-in
       from-place Events right = rules-of
+      from-place EventRules right = rules-in
       from-place Challenges right = challenges-in
-      from-place Moves right = right id e named
+      from-place Moves right = right id e declares named ruled
       from-place Games right = λ kind b i kind_is gives. game-in-kind right.1 right.2 kind b i kind_is gives
       from-place Seen right = λ kind b i kind_is gives. all-in-kind right.0 right.1 kind b i kind_is gives
       from-place Scores right = scores-in
@@ -204,12 +234,13 @@ module _ (s : ClubState) (rows : Rows) (people : HasPeople s rows) (index : ℕ)
 
     -- where its moves are wrong, that is named whatever its place
     pub moves-first : IsFirstWrong In (Some Moves) → IsFirstWrong At (Some Moves)
-    moves-first first = first-moves At tt tt tt (λ right. first.named (right id e named))
+    moves-first first = first-moves At tt tt tt tt (λ right. first.named (right id e declares named ruled))
 
     moves-come : (wrong : Option Table) → IsFirstWrong In wrong → wrong ≢ Some Moves → Precedes Moves wrong
     moves-come None first other = tt
     moves-come (Some Members) first other = absurd (first.named members-in)
     moves-come (Some Events) first other = absurd (first.named rules-of)
+    moves-come (Some EventRules) first other = absurd (first.named rules-in)
     moves-come (Some Challenges) first other = absurd (first.named challenges-in)
     moves-come (Some Moves) first other = absurd (other refl)
     moves-come (Some Games) first other = omega arith
@@ -221,7 +252,7 @@ module _ (s : ClubState) (rows : Rows) (people : HasPeople s rows) (index : ℕ)
     pub misplaced : (wrong : Option Table) → IsFirstWrong In wrong → wrong ≢ Some Moves
         → ¬ StandsAt rows index row → IsFirstWrong At (Some Games)
     misplaced wrong first other none =
-        first-games At tt tt tt (moves-at (first.before Moves (moves-come wrong first other)))
+        first-games At tt tt tt tt (moves-at (first.before Moves (moves-come wrong first other)))
         (λ it. let (low, g, is) = it in
         none (any-stands (until 253402300799 s) rows (people-until 253402300799) index row moves g is low))
 
@@ -229,6 +260,7 @@ module _ (s : ClubState) (rows : Rows) (people : HasPeople s rows) (index : ℕ)
     moves-or-not None = inr (λ is. cc)
     moves-or-not (Some Members) = inr (λ is. cc)
     moves-or-not (Some Events) = inr (λ is. cc)
+    moves-or-not (Some EventRules) = inr (λ is. cc)
     moves-or-not (Some Challenges) = inr (λ is. cc)
     moves-or-not (Some Moves) = inl refl
     moves-or-not (Some Games) = inr (λ is. cc)
@@ -251,6 +283,15 @@ module _ (s : ClubState) (rows : Rows) (people : HasPeople s rows) (index : ℕ)
             (misplaced wrong first other (λ it. let both = sym (complete it) ∙ not_it in absurd cc))
       ]
     ]
+
+-- an event of a club has a row of its rules
+pub no-rule : (s : ClubState) (rows : Rows) → HasPeople s rows → (row : GameRecord) (id : ℕ) (e : EventRow)
+    → NamesEvent rows row id e → ((n : ℕ) (declares : Bool) → ¬ NamesRule rows row n declares) → ⊥
+no-rule s rows people row id e named none =
+    let (known, at, parts) = event-at s.events rows.events.items people.events id e named.row_is in
+    let (rule, stands, says) = rule-back s.events rows.event_rules.items people.rules id known at in
+    none id known.terms.declares
+    (record { event_is = named.event_is; rule = rule; rule_is = stands; says = says })
 
 -- ---- a club's own game
 
@@ -299,21 +340,24 @@ module _ (s : ClubState) (rows : Rows) (people : HasPeople s rows) (index : ℕ)
       → ((n : ℕ) → last ≡ Some n → s.last ≡ n) → (t : Table) → IsRightAt s rows index row moves seen last t
   club-right low g all moment Members = tt
   club-right low g all moment Events = tt
+  club-right low g all moment EventRules = tt
   club-right low g all moment Challenges = tt
   club-right low g all moment Moves = by-kind
     where
-      by-kind : (id : ℕ) (e : EventRow) → NamesEvent rows row id e → (kind : GameKind) (budget increment : ℕ)
-          → e.game ≡ pos (kind_number kind) → GivesTerms e budget increment
-          → IsRightOf kind (terms_told budget increment) last row moves seen Moves
-      by-kind id e named Draughts budget increment kind_is gives =
-          let have = game-had s rows people index row moves id e named in_draughts budget increment gives kind_is low
+      by-kind : (id : ℕ) (e : EventRow) (declares : Bool) → NamesEvent rows row id e → NamesRule rows row id declares
+          → (kind : GameKind) (budget increment : ℕ) → e.game ≡ pos (kind_number kind) → GivesTerms e budget increment
+          → IsRightOf kind (terms_told budget increment declares) last row moves seen Moves
+      by-kind id e declares named ruled Draughts budget increment kind_is gives =
+          let have = game-had s rows people index row moves id e named in_draughts budget increment declares ruled
+          gives kind_is low
           within g all.at in
-          moves-of both_games.draughts (terms_told budget increment) row moves have.id have.game have.are
-      by-kind id e named Shogi budget increment kind_is gives =
-          let have = game-had s rows people index row moves id e named in_shogi budget increment gives kind_is low
+          moves-of both_games.draughts (terms_told budget increment declares) row moves have.id have.game have.are
+      by-kind id e declares named ruled Shogi budget increment kind_is gives =
+          let have = game-had s rows people index row moves id e named in_shogi budget increment declares ruled gives
+          kind_is low
           within
           g all.at in
-          moves-of both_games.shogi (terms_told budget increment) row moves have.id have.game have.are
+          moves-of both_games.shogi (terms_told budget increment declares) row moves have.id have.game have.are
   club-right low g all moment Games =
       (low, g, later-game s 253402300799 within (index + 1) row moves g all.at)
   club-right low g all moment Seen = (g, later-all s 253402300799 within (index + 1) row moves seen g all)

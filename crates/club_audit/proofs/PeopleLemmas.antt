@@ -1,19 +1,23 @@
 -- The members and the events that rows show.
-use Rattle.std.proofs.Common.{◌≡◌, ◌≢◌, ℕ, suc, pos, ◌+◌, ◌≤◌, List, [], ◌∷◌, length, Some, ap, sym, subst, ◌∙◌, arith}
+use Rattle.std.proofs.Common.{◌≡◌, ◌≢◌, ℕ, zero, suc, pos, ◌+◌, ◌≤◌, List, [], ◌∷◌, length, map, Bool, Some, ap, sym}
+use Rattle.std.proofs.Common.{false, refl, subst, ◌∙◌, arith}
 use Rattle.std.proofs.Common.{inl, inr}
 use Rattle.std.specs.Prelude.{ℤ, slice_get, string_bytes}
 use Rattle.std.proofs.lemmas.Bool.{cases_eq}
+use Rattle.std.proofs.lemmas.Option.{same_Some}
 use Rattle.sqlite_value.specs.declared.value.Value.TheVariants.{Int, Text}
 use Rattle.club_rules.specs.declared.names.GameKind.{GameKind}
 use Rattle.club_core.specs.Members.{Member}
 use Rattle.club_core.specs.Events.{Event}
-use Rattle.club_core.specs.LegalState.{IsLegalMember, IsLegalEvent}
-use Rattle.store_tables.specs.Cells.{member_cells, event_cells}
+use Rattle.club_core.specs.LegalState.{AreApart, Each, IsLegalMember, IsLegalEvent}
+use Rattle.store_tables.specs.Cells.{member_cells, event_cells, event_rule_cells}
 use Rattle.store_tables.specs.declared.rows.MemberRow.{MemberRow}
 use Rattle.store_tables.specs.declared.rows.EventRow.{EventRow}
-use Rattle.club_audit.specs.Audit.{IsMemberAt, AreMembers, IsEventAt, AreEvents, terms_told}
-use Rattle.club_rows.specs.Tables.{member_row, event_row, kind_number}
-use Rattle.club_audit.proofs.PlacedLemmas.{numbered-of, numbered-at, numbered-back, numbered-length}
+use Rattle.store_tables.specs.declared.rows.EventRuleRow.{EventRuleRow}
+use Rattle.club_audit.specs.Audit.{IsMemberAt, AreMembers, IsEventAt, AreEvents, AreRules, AreRulesOf}
+use Rattle.club_audit.specs.Audit.{IsRuleAt, SaysDeclares, terms_told}
+use Rattle.club_rows.specs.Tables.{member_row, event_row, rule_row, declares_number, kind_number, numbered_from}
+use Rattle.club_audit.proofs.PlacedLemmas.{each-cons, numbered-of, numbered-at, numbered-back, numbered-length}
 
 same-by : (i j : ℕ) → (i ≢ j → ⊥) → i ≡ j
 same-by i j never = elim (cases_eq i j) [ inl same ↦ same | inr other ↦ absurd (never other) ]
@@ -117,7 +121,7 @@ event-parts id e r is = record { id_is = cc; name_is = cc; game_is = cc; budget_
 
 abbrev pub event_told : EventRow → GameKind → ℕ → ℕ → Event
 event_told r kind budget increment =
-    record { name = string_bytes r.name; game = kind; terms = terms_told budget increment }
+    record { name = string_bytes r.name; game = kind; terms = terms_told budget increment false }
 
 pub event-cells : (id budget increment : ℕ) (kind : GameKind) (r : EventRow) → r.id ≡ pos id
     → r.game ≡ pos (kind_number kind) → r.budget ≡ pos budget → r.increment ≡ pos increment
@@ -169,3 +173,104 @@ events-at es rows are k r at =
           ∙ (ap (λ i. pos (1 + i)) (are.names j k n e stands' stands (sym q.name_is ∙ (same ∙ p.name_is)))
           ∙ sym p.id_is));
     }
+
+-- ---- rules of events
+
+pub rule-parts : (id : ℕ) (e : Event) (r : EventRuleRow) → event_rule_cells r ≡ rule_row id e
+    → (r.event ≡ pos id) × SaysDeclares r e.terms.declares
+rule-parts id e r is = (cc, cc)
+
+pub rule-cells : (id : ℕ) (e : Event) (r : EventRuleRow) → r.event ≡ pos id → SaysDeclares r e.terms.declares
+    → event_rule_cells r ≡ rule_row id e
+rule-cells id e r event_is says = λ i. Int (event_is i) ∷ Int (says i) ∷ []
+
+-- the events with declarations as their rules say
+abbrev with-declares : Event → Bool → Event
+with-declares e declares = record e { terms = record e.terms { declares = declares } }
+
+pub record AreRuled (events : List Event) (rows : List EventRow) (rules : List EventRuleRow) : Type 0 where
+  pub ruled : List Event
+  pub events_are : AreEvents ruled rows
+  pub rules_are : AreRulesOf ruled rules
+
+-- rows of events and of their rules are those of one list of events
+ruled-from : (n : ℕ) (es : List Event) (rules : List EventRuleRow) → length rules ≡ length es
+    → ((k : ℕ) (r : EventRuleRow) → slice_get rules k ≡ Some r → (r.event ≡ pos (n + k)) × ((d : Bool)
+    × SaysDeclares r d))
+    → (fs : List Event) × (numbered_from event_row n fs ≡ numbered_from event_row n es)
+    × (map event_rule_cells rules ≡ numbered_from rule_row n fs)
+    × (map (λ e. e.name) fs ≡ map (λ e. e.name) es)
+    × ((P : Event → Type 0) → ((e : Event) (d : Bool) → P e → P (with-declares e d)) → Each P es → Each P fs)
+ruled-from n [] [] long each = ([], refl, refl, refl, λ P keeps all k x at. cc)
+ruled-from n [] (r ∷ rules) long each = cc
+ruled-from n (e ∷ es) [] long each = cc
+ruled-from n (e ∷ es) (r ∷ rules) long each =
+    let shorter : length rules ≡ length es = cc in
+    let (event_is, (d, says)) = each 0 r refl in
+    let (fs, events_are, rules_are, names_are, legal) = ruled-from (suc n) es rules shorter (λ k x at.
+    let next = each (suc k) x at in (next.0 ∙ ap pos (shifted n k), next.1)) in
+    let f : Event = with-declares e d in
+    let here : r.event ≡ pos n = event_is ∙ ap pos (here-is n) in (
+      f ∷ fs,
+      ap (λ l. event_row n e ∷ l) events_are,
+      (λ i. rule-cells n f r here says i ∷ rules_are i),
+      ap (λ l. e.name ∷ l) names_are,
+      λ P keeps all. each-cons P f fs (keeps e d (all 0 e refl))
+          (legal P keeps (λ k x at. all (suc k) x at)),
+    )
+  where
+    shifted : (n k : ℕ) → n + suc k ≡ suc n + k
+    shifted n k = omega arith
+
+    here-is : (n : ℕ) → n + 0 ≡ n
+    here-is n = omega arith
+
+named-apart : (es fs : List Event) → map (λ e. e.name) fs ≡ map (λ e. e.name) es → AreApart (λ e. e.name) es
+    → AreApart (λ e. e.name) fs
+named-apart es fs same apart i j x y one two is =
+    let (a, at_a, name_a) = name-at es fs i x same one in
+    let (b, at_b, name_b) = name-at es fs j y same two in
+    apart i j a b at_a at_b (sym name_a ∙ (is ∙ name_b))
+  where
+    name-at : (es fs : List Event) (i : ℕ) (x : Event) → map (λ e. e.name) fs ≡ map (λ e. e.name) es
+        → slice_get fs i ≡ Some x → (e : Event) × (slice_get es i ≡ Some e) × (x.name ≡ e.name)
+    name-at es [] i x same at = cc
+    name-at [] (f ∷ fs) i x same at = cc
+    name-at (e ∷ es) (f ∷ fs) zero x same at =
+        let head : f.name ≡ e.name = cc in (e, refl, ap (λ (z : Event). z.name) (sym (same_Some f x at)) ∙ head)
+    name-at (e ∷ es) (f ∷ fs) (suc i) x same at =
+        let rest : map (λ z. z.name) fs ≡ map (λ z. z.name) es = cc in name-at es fs i x rest at
+
+-- where the rules are told, the rows are those of events with declarations as they say
+pub ruled-of : (es : List Event) (rows : List EventRow) (rules : List EventRuleRow) → AreEvents es rows
+    → AreRules rules (length rows) → AreRuled es rows rules
+ruled-of es rows rules are ruled =
+    let count : length rows ≡ length es = numbered-length event_cells event_row 1 rows es are.rows_are in
+    let long : length rules ≡ length es = ruled.number ∙ count in
+    let (fs, events_are, rules_are, names_are, legal) = ruled-from 1 es rules long (λ k r at.
+    let is = ruled.rows_are k r at in (is.event_is ∙ ap pos (next-is k), (is.declares, is.says))) in
+    let fewer : length fs ≡ length es = sym (numbered-length event_cells event_row 1 rows fs
+    (are.rows_are ∙ sym events_are)) ∙ count in
+    record {
+      ruled = fs;
+      events_are = record {
+        rows_are = are.rows_are ∙ sym events_are;
+        legal = legal IsLegalEvent (λ e d is. record { name = is.name; budget = is.budget; increment = is.increment })
+            are.legal;
+        count = omega (arith, fewer, are.count);
+        names = named-apart es fs names_are are.names;
+      };
+      rules_are = rules_are;
+    }
+
+-- the rules of events that are told are those of as many
+pub rules-counted : (es : List Event) (rows : List EventRow) (rules : List EventRuleRow) → AreEvents es rows
+    → AreRulesOf es rules → AreRules rules (length rows)
+rules-counted es rows rules are ruled = record {
+  number = numbered-length event_rule_cells rule_row 1 rules es ruled
+      ∙ sym (numbered-length event_cells event_row 1 rows es are.rows_are);
+  rows_are = λ k r at.
+      let (e, stands, cells) = numbered-at event_rule_cells rule_row 1 rules es ruled k r at in
+      let told = rule-parts _ e r cells in
+      record { event_is = told.0 ∙ ap pos (sym (next-is k)); declares = e.terms.declares; says = told.1 };
+}

@@ -47,12 +47,12 @@ module _ {P M E T : Type 0} (rules : GameRules P M E T) (terms : Terms) (row : G
     Right = IsRightIn rules terms last row moves seen
 
     pub wrong-moves : ¬ AreMovesOf rules terms row moves → IsFirstWrong Right (Some Moves)
-    wrong-moves wrong = first-moves Right tt tt tt wrong
+    wrong-moves wrong = first-moves Right tt tt tt tt wrong
 
     pub wrong-row : AreMovesOf rules terms row moves × ((id : ℕ) (game : Game M) → ¬ AreRowsOf rules terms id row
         moves game)
         → IsFirstWrong Right (Some Games)
-    wrong-row it = first-games Right tt tt tt it.0 (λ have. it.1 have.id have.game have.are)
+    wrong-row it = first-games Right tt tt tt tt it.0 (λ have. it.1 have.id have.game have.are)
 
     -- of rows that show a game
     module _ {R : Type 0} (view : GameView R P M E T) (id : ℕ) (game : Game M)
@@ -74,13 +74,14 @@ module _ {P M E T : Type 0} (rules : GameRules P M E T) (terms : Terms) (row : G
           view-within rules terms have.game view it same n have.within
 
       pub late-game : ¬ IsWithin rules view 253402300799 → IsFirstWrong Right (Some Games)
-      late-game late = first-games Right tt tt tt (moves-of id game are) (λ have. late (until-game 253402300799 have))
+      late-game late = first-games Right tt tt tt tt (moves-of id game are) (λ have. late
+          (until-game 253402300799 have))
 
       pub wrong-seen : IsWithin rules view 253402300799
           → ((n : ℕ) (g : Game M) → AreRowsOf rules terms n row moves g
           → ¬ AreEachOnce (map seen_cells seen) (seen_rows rules n g)) → IsFirstWrong Right (Some Seen)
       wrong-seen within other =
-          first-seen Right tt tt tt (moves-of id game are) (game-until 253402300799 within)
+          first-seen Right tt tt tt tt (moves-of id game are) (game-until 253402300799 within)
           (λ have. other have.id have.game have.are have.seen_are)
 
       module _ (within : IsWithin rules view 253402300799)
@@ -101,14 +102,14 @@ module _ {P M E T : Type 0} (rules : GameRules P M E T) (terms : Terms) (row : G
         pub late-end : ¬ ((n : ℕ) → last ≡ Some n → n ≤ 253402300799 → IsWithin rules view n)
             → IsFirstWrong Right (Some Meta)
         late-end late =
-            first-meta Right tt tt tt (moves-of id game are) (game-until 253402300799 within)
+            first-meta Right tt tt tt tt (moves-of id game are) (game-until 253402300799 within)
             (all-until 253402300799 within) tt
             (λ all. late (λ n is low. until-all n (all n is low)))
 
         pub none-late : ((n : ℕ) → last ≡ Some n → n ≤ 253402300799 → IsWithin rules view n)
             → IsFirstWrong Right None
         none-late in_time =
-            none-wrong Right tt tt tt (moves-of id game are) (game-until 253402300799 within)
+            none-wrong Right tt tt tt tt (moves-of id game are) (game-until 253402300799 within)
             (all-until 253402300799 within) tt (λ n is low. all-until n (in_time n is low))
 
 -- ---- the last moment that there is, as one that is given

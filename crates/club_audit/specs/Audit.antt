@@ -1,6 +1,6 @@
 -- What the rows of single tables are tested for: the members, the events, the challenges and the games of a legal club.
-use Rattle.std.specs.Prelude.{◌≡◌, ◌≢◌, ◌+◌, ◌<◌, ◌≤◌, ℕ, pos, List, map, length, Option, Some, false, IsTrue}
-use Rattle.std.specs.Prelude.{string_bytes}
+use Rattle.std.specs.Prelude.{◌≡◌, ◌≢◌, ◌+◌, ◌<◌, ◌≤◌, ℕ, pos, List, map, length, Option, Some, Bool, IsTrue}
+use Rattle.std.specs.Prelude.{slice_get, string_bytes}
 use Rattle.std.specs.Option.{option_map}
 use Rattle.club_rules.specs.GameRules.{GameRules}
 use Rattle.club_core.specs.declared.rows.GameEnd.TheVariants.{Outside}
@@ -14,20 +14,24 @@ use Rattle.club_core.specs.Game.{Game, clocks_of, left_of, turn_of}
 use Rattle.club_core.specs.LegalState.{Each, AreApart, AreApartIfAny, IsLegalMember, IsLegalEvent, IsLegalIn}
 use Rattle.club_core.specs.State.{place}
 use Rattle.club_core.specs.View.{clocks_in}
+use Rattle.store_tables.specs.Cells.{event_rule_cells}
 use Rattle.store_tables.specs.Cells.{member_cells, event_cells, move_cells, game_cells, seen_cells}
 use Rattle.store_tables.specs.declared.rows.MemberRow.{MemberRow}
 use Rattle.store_tables.specs.declared.rows.EventRow.{EventRow}
+use Rattle.store_tables.specs.declared.rows.EventRuleRow.{EventRuleRow}
 use Rattle.store_tables.specs.declared.rows.MoveRow.{MoveRow}
 use Rattle.store_tables.specs.declared.rows.GameRecord.{GameRecord}
 use Rattle.store_tables.specs.declared.rows.Rows.{Rows}
 use Rattle.store_tables.specs.declared.rows.SeenRow.{SeenRow}
 use Rattle.store_tables.specs.declared.names.Table.{Table}
-use Rattle.store_tables.specs.declared.names.Table.TheVariants.{Members, Events, Challenges, Games, Meta}
+use Rattle.store_tables.specs.declared.names.Table.TheVariants.{Members, Events, EventRules, Challenges}
+use Rattle.store_tables.specs.declared.names.Table.TheVariants.{Games, Meta}
 use Rattle.club_rows.specs.Club.{ClubState, ClubGame, both_games}
 use Rattle.club_rows.specs.EachOnce.{AreEachOnce}
 use Rattle.club_rows.specs.Shown.{AreRowsOf}
 use Rattle.club_audit.specs.ChallengeAudit.{AreChallenges}
-use Rattle.club_rows.specs.Tables.{member_row, event_row, numbered_from, row_of_game, rows_of_moves, rows_of_seen}
+use Rattle.club_rows.specs.Tables.{member_row, event_row, rule_row, declares_number, numbered_from, row_of_game}
+use Rattle.club_rows.specs.Tables.{rows_of_moves, rows_of_seen}
 
 -- ---- members
 
@@ -60,9 +64,9 @@ pub record GivesTerms (row : EventRow) (budget increment : ℕ) : Type 0 where
   pub has_budget : IsTrue (is_budget budget)
   pub has_increment : IsTrue (is_increment increment)
 
--- the terms that an event's row tells: no event of these tables has declarations
-abbrev pub terms_told : ℕ → ℕ → Terms
-terms_told budget increment = record { budget = budget; increment = increment; declares = false }
+-- the terms that an event's row and that of its rules tell
+abbrev pub terms_told : ℕ → ℕ → Bool → Terms
+terms_told budget increment declares = record { budget = budget; increment = increment; declares = declares }
 
 -- where the other row is of another event, it has another name
 abbrev pub IsOtherEvent : EventRow → EventRow → Type 0
@@ -82,12 +86,32 @@ pub record AreEvents (events : List Event) (rows : List EventRow) : Type 0 where
   pub count : length events ≤ most_events
   pub names : AreApart (λ e. e.name) events
 
+-- the row says this of an event's declarations
+abbrev pub SaysDeclares : EventRuleRow → Bool → Type 0
+SaysDeclares row declares = row.declares ≡ pos (declares_number declares)
+
+-- the row is that of the rules of the event at this place, from 0
+pub record IsRuleAt (index : ℕ) (row : EventRuleRow) : Type 0 where
+  pub event_is : row.event ≡ pos (index + 1)
+  pub declares : Bool
+  pub says : SaysDeclares row declares
+
+-- the rows are those of the rules of these events
+abbrev pub AreRulesOf : List Event → List EventRuleRow → Type 0
+AreRulesOf events rules = map event_rule_cells rules ≡ numbered_from rule_row 1 events
+
+-- the rows are those of the rules of so many events
+pub record AreRules (rules : List EventRuleRow) (count : ℕ) : Type 0 where
+  pub number : length rules ≡ count
+  pub rows_are : (index : ℕ) (row : EventRuleRow) → slice_get rules index ≡ Some row → IsRuleAt index row
+
 -- ---- games
 
--- the club's members and its events are those of the rows
+-- the club's members and its events, with their rules, are those of the rows
 pub record HasPeople (s : ClubState) (rows : Rows) : Type 0 where
   pub members : AreMembers s.members rows.members.items
   pub events : AreEvents s.events rows.events.items
+  pub rules : AreRulesOf s.events rows.event_rules.items
 
 -- the club as it would be if this were the moment of its last command
 abbrev pub until : ℕ → ClubState → ClubState
@@ -97,6 +121,13 @@ until last s = record s { last = last }
 pub record NamesEvent (rows : Rows) (game : GameRecord) (event : ℕ) (row : EventRow) : Type 0 where
   pub event_is : game.event ≡ pos event
   pub row_is : place rows.events.items event ≡ Some row
+
+-- the row of the rules of the game's event says this of declarations
+pub record NamesRule (rows : Rows) (game : GameRecord) (event : ℕ) (declares : Bool) : Type 0 where
+  pub event_is : game.event ≡ pos event
+  pub rule : EventRuleRow
+  pub rule_is : place rows.event_rules.items event ≡ Some rule
+  pub says : SaysDeclares rule declares
 
 -- the game names these players, who are members
 pub record NamesPlayers (rows : Rows) (game : GameRecord) (first second : ℕ) : Type 0 where
@@ -167,6 +198,7 @@ pub record HaveRegister (rows : Rows) : Type 0 where
 abbrev pub IsRightInRegister : Rows → Table → Type 0
 IsRightInRegister rows Members = (ms : List Member) × AreMembers ms rows.members.items
 IsRightInRegister rows Events = (es : List Event) × AreEvents es rows.events.items
+IsRightInRegister rows EventRules = AreRules rows.event_rules.items (length rows.events.items)
 IsRightInRegister rows Challenges = (cs : List Challenge) × AreChallenges cs rows
 IsRightInRegister rows Games = AreApartGames rows.games.items
 IsRightInRegister rows Meta = (n : ℕ) × (rows.meta.last ≡ pos n) × (n ≤ last_moment)

@@ -1,19 +1,20 @@
 -- The first of the tables that is wrong, in the order in which they are looked at.
 use Rattle.std.specs.Prelude.{◌<◌, ℕ, Option, Some, None, IfSome}
 use Rattle.store_tables.specs.declared.names.Table.{Table}
-use Rattle.store_tables.specs.declared.names.Table.TheVariants.{Members, Events, Challenges, Moves, Games, Seen, Scores}
-use Rattle.store_tables.specs.declared.names.Table.TheVariants.{Meta}
+use Rattle.store_tables.specs.declared.names.Table.TheVariants.{Members, Events, EventRules, Challenges, Moves}
+use Rattle.store_tables.specs.declared.names.Table.TheVariants.{Games, Seen, Scores, Meta}
 
 -- the place of a table in the order in which they are looked at
 abbrev pub order : Table → ℕ
 order Members = 0
 order Events = 1
-order Challenges = 2
-order Moves = 3
-order Games = 4
-order Seen = 5
-order Scores = 6
-order Meta = 7
+order EventRules = 2
+order Challenges = 3
+order Moves = 4
+order Games = 5
+order Seen = 6
+order Scores = 7
+order Meta = 8
 
 -- the table comes before the one that is named, if one is
 abbrev pub Precedes : Table → Option Table → Type 0

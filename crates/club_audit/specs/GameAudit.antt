@@ -1,5 +1,5 @@
 -- When all rows of one game are those of a legal game of its event, and which table is wrong first.
-use Rattle.std.specs.Prelude.{◌≡◌, ◌+◌, ◌<◌, ◌≤◌, ℕ, pos, List, map, Option, Some}
+use Rattle.std.specs.Prelude.{◌≡◌, ◌+◌, ◌<◌, ◌≤◌, ℕ, pos, List, map, Option, Some, Bool}
 use Rattle.club_rules.specs.declared.names.GameKind.{GameKind}
 use Rattle.club_rules.specs.declared.names.GameKind.TheVariants.{Draughts, Shogi}
 use Rattle.club_rules.specs.GameRules.{GameRules}
@@ -15,7 +15,7 @@ use Rattle.store_tables.specs.declared.names.Table.{Table}
 use Rattle.store_tables.specs.declared.names.Table.TheVariants.{Events, Moves, Games, Seen, Meta}
 use Rattle.club_requests.specs.Limits.{last_moment, most_games}
 use Rattle.club_audit.specs.Audit.{AreAllOf, EndsBy, GivesTerms, HaveGame, IsGameAt, NamesEvent, NamesPlayers}
-use Rattle.club_audit.specs.Audit.{terms_told, until}
+use Rattle.club_audit.specs.Audit.{NamesRule, terms_told, until}
 use Rattle.club_rows.specs.Club.{both_games, ClubGame, ClubState}
 use Rattle.club_rows.specs.EachOnce.{AreEachOnce}
 use Rattle.club_rows.specs.Seen.{seen_rows}
@@ -36,15 +36,16 @@ abbrev pub HaveAllOf : GameKind → Terms → ℕ → GameRecord → List MoveRo
 HaveAllOf Draughts terms last row moves seen = HaveAll both_games.draughts terms last row moves seen
 HaveAllOf Shogi terms last row moves seen = HaveAll both_games.shogi terms last row moves seen
 
--- the rows are all those of some legal game of the kind and the terms that the event's row gives, up to the last moment
-pub record AreOfEvent (event : EventRow) (last : ℕ)
+-- the rows are all those of some legal game of the kind and the terms that the event's row gives, with declarations or
+-- without, up to the last moment
+pub record AreOfEvent (event : EventRow) (declares : Bool) (last : ℕ)
     (row : GameRecord) (moves : List MoveRow) (seen : List SeenRow) : Type 0 where
   pub kind : GameKind
   pub kind_is : event.game ≡ pos (kind_number kind)
   pub budget : ℕ
   pub increment : ℕ
   pub terms : GivesTerms event budget increment
-  pub all : HaveAllOf kind (terms_told budget increment) last row moves seen
+  pub all : HaveAllOf kind (terms_told budget increment declares) last row moves seen
 
 -- ---- table by table
 
@@ -73,22 +74,23 @@ pub record GivesRules (event : EventRow) : Type 0 where
   pub increment : ℕ
   pub terms : GivesTerms event budget increment
 
--- the same, by the kind and the terms that the event's row gives
-abbrev pub IsRightBy : EventRow → Option ℕ → GameRecord → List MoveRow → List SeenRow → Table → Type 0
-IsRightBy event last row moves seen t =
+-- the same, by the kind and the terms that the event's row gives, with declarations or without
+abbrev pub IsRightBy : EventRow → Bool → Option ℕ → GameRecord → List MoveRow → List SeenRow → Table → Type 0
+IsRightBy event declares last row moves seen t =
     (kind : GameKind) (budget increment : ℕ) → event.game ≡ pos (kind_number kind) → GivesTerms event budget increment
-    → IsRightOf kind (terms_told budget increment) last row moves seen t
+    → IsRightOf kind (terms_told budget increment declares) last row moves seen t
 
 -- and the event's row gives them
-abbrev pub IsRightInEvent : EventRow → Option ℕ → GameRecord → List MoveRow → List SeenRow → Table → Type 0
-IsRightInEvent event last row moves seen Events = GivesRules event
-IsRightInEvent event last row moves seen t = IsRightBy event last row moves seen t
+abbrev pub IsRightInEvent : EventRow → Bool → Option ℕ → GameRecord → List MoveRow → List SeenRow → Table → Type 0
+IsRightInEvent event declares last row moves seen Events = GivesRules event
+IsRightInEvent event declares last row moves seen t = IsRightBy event declares last row moves seen t
 
 -- The same of the game at this place, from 0, of a club with these members and events, among so many games as it may
 -- have. The moves of a game that names no event are passed over.
 abbrev pub IsRightAt : ClubState → Rows → ℕ → GameRecord → List MoveRow → List SeenRow → Option ℕ → Table → Type 0
 IsRightAt s rows place row moves seen last Moves =
-    (id : ℕ) (event : EventRow) → NamesEvent rows row id event → IsRightBy event last row moves seen Moves
+    (id : ℕ) (event : EventRow) (declares : Bool) → NamesEvent rows row id event → NamesRule rows row id declares
+    → IsRightBy event declares last row moves seen Moves
 IsRightAt s rows place row moves seen last Games =
     (place < most_games) × (g : ClubGame) × IsGameAt (until last_moment s) (place + 1) row moves g
 IsRightAt s rows place row moves seen last Seen =

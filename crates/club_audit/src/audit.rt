@@ -1,21 +1,21 @@
 //! Whether the rows of a club are those of a legal one: those that are read whole, and those of each game.
 
-ghost use Rattle.std.specs.Prelude.{◌≡◌, ◌≢◌, ◌<◌, ◌≤◌, ℕ, pos, true, false, None, IfOk, IfSome};
+ghost use Rattle.std.specs.Prelude.{◌≡◌, ◌≢◌, ◌<◌, ◌≤◌, ℕ, Bool, pos, true, false, None, IfOk, IfSome};
 ghost use Rattle.std.specs.Prelude.{string_bytes, Some};
 ghost use Rattle.std.specs.Option.{option_map};
 ghost use Rattle.club_core.specs.LegalState.{AreApartIfAny};
 ghost use Rattle.club_audit.specs.Audit.{AreApartGames, HasPeople, HaveRegister, IsRightInRegister, NamesEvent};
-ghost use Rattle.club_audit.specs.Audit.{NamesPlayers};
+ghost use Rattle.club_audit.specs.Audit.{NamesPlayers, NamesRule};
 ghost use Rattle.club_audit.specs.FirstWrong.{IsFirstWrong};
 ghost use Rattle.club_audit.specs.GameAudit.{IsRightAt, StandsAt};
 ghost use Rattle.club_rows.specs.Club.{ClubState};
 
 use crate::challenges::are_challenges;
 use crate::game_audit::wrong_in_event;
-use crate::people::{are_events, are_members, is_place};
+use crate::people::{are_events, are_members, are_rules, is_place};
 use clocks::Moment;
 use club_requests::values::MOST_GAMES;
-use club_rows::numbers::moment;
+use club_rows::numbers::{declares_of, moment};
 use club_rules::Memory;
 use std::alloc::Global;
 use std::collections::HashSet;
@@ -41,6 +41,22 @@ fn event_of<'a>(rows: &'a Rows, game: &GameRecord) -> Option<&'a EventRow>
         Ok(0) => None,
         Ok(event) => rows.events.as_slice().get(event - 1),
         Err(_) => None,
+    }
+}
+
+// Whether the rules of the game's event have declarations, if they are told.
+fn declares_in(rows: &Rows, game: &GameRecord) -> Option<bool>
+    ensures some { IfSome result (λ declares. (event : ℕ) × NamesRule rows.now game.now event declares) }
+    ensures none { result ≡ None → (event : ℕ) (declares : Bool) → ¬ NamesRule rows.now game.now event declares }
+{
+    let event = match usize::try_from(game.event) {
+        Ok(0) => return None,
+        Ok(event) => event,
+        Err(_) => return None,
+    };
+    match rows.event_rules.as_slice().get(event - 1) {
+        Some(rule) => declares_of(rule.declares),
+        None => None,
     }
 }
 
@@ -100,7 +116,12 @@ pub fn wrong_game(
         Some(event) => event,
         None => return Ok(Some(Table::Games)),
     };
-    let wrong = wrong_in_event(alloc, event, game, moves, seen, last)?;
+    // The rules of the events are those of a club.
+    let declares = match declares_in(rows, game) {
+        Some(declares) => declares,
+        None => return Ok(Some(Table::EventRules)),
+    };
+    let wrong = wrong_in_event(alloc, event, declares, game, moves, seen, last)?;
     Ok(with_place(wrong, stands_at(rows, place, game)))
 }
 
@@ -115,6 +136,9 @@ pub fn wrong_register(alloc: Global, rows: &Rows) -> Result<Option<Table>, Memor
     }
     if !are_events(&rows.events) {
         return Ok(Some(Table::Events));
+    }
+    if !are_rules(&rows.event_rules, rows.events.as_slice().len()) {
+        return Ok(Some(Table::EventRules));
     }
     if !are_challenges(alloc, rows)? {
         return Ok(Some(Table::Challenges));

@@ -11,6 +11,6 @@ mod standings;
 pub use audit::{are_apart, wrong_game, wrong_register};
 pub use challenges::are_challenges;
 pub use game_audit::audit_game;
-pub use people::{are_events, are_members, terms_of};
+pub use people::{are_events, are_members, are_rules, terms_of};
 pub use seen_audit::are_seen;
 pub use standings::scores_are;

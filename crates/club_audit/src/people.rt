@@ -5,15 +5,15 @@ ghost use Rattle.club_core.specs.Members.{Member};
 ghost use Rattle.club_core.specs.Events.{Event};
 ghost use Rattle.club_core.specs.LegalState.{Each};
 ghost use Rattle.club_audit.specs.Audit.{IsOtherMember, IsMemberAt, AreMembers, GivesTerms, IsOtherEvent, IsEventAt};
-ghost use Rattle.club_audit.specs.Audit.{AreEvents, terms_told};
+ghost use Rattle.club_audit.specs.Audit.{AreEvents, AreRules, IsRuleAt, terms_told};
 ghost use Rattle.club_rows.specs.Replay.{terms_given};
 
 use club_requests::values::{MOST_EVENTS, MOST_MEMBERS, is_budget, is_increment};
 use club_requests::{is_member_key, is_name};
 use club_rows::kinds::kind_of;
-use club_rows::numbers::counted;
+use club_rows::numbers::{counted, declares_of};
 use club_rows::replay::Terms;
-use store_tables::{EventRow, MemberRow};
+use store_tables::{EventRow, EventRuleRow, MemberRow};
 
 /// Whether the id is that of the row at this place, from 0.
 pub(crate) fn is_place(id: i64, place: usize) -> bool
@@ -85,10 +85,10 @@ pub fn are_members(members: &[MemberRow]) -> bool
     true
 }
 
-/// What an event gives its players, unless the seconds are outside their limits.
-pub fn terms_of(event: &EventRow) -> Option<Terms>
+/// What an event gives its players, with declarations or without, unless the seconds are outside their limits.
+pub fn terms_of(event: &EventRow, declares: bool) -> Option<Terms>
     ensures some { IfSome result (λ t. GivesTerms event.now t.budget t.increment) }
-    ensures told { IfSome result (λ t. terms_given t ≡ terms_told t.budget t.increment) }
+    ensures told { IfSome result (λ t. terms_given t ≡ terms_told t.budget t.increment declares) }
     ensures none { result ≡ None → (budget increment : ℕ) → ¬ GivesTerms event.now budget increment }
 {
     let budget = match counted(event.budget) {
@@ -108,7 +108,7 @@ pub fn terms_of(event: &EventRow) -> Option<Terms>
     Some(Terms {
         budget,
         increment,
-        declares: false,
+        declares,
     })
 }
 
@@ -152,7 +152,7 @@ fn is_event(events: &[EventRow], place: usize, event: &EventRow) -> bool
         Some(_) => {}
         None => return false,
     }
-    match terms_of(event) {
+    match terms_of(event, false) {
         Some(_) => !is_used(events, event),
         None => false,
     }
@@ -168,6 +168,37 @@ pub fn are_events(events: &[EventRow]) -> bool
     }
     for (place, event) in events.iter().enumerate() {
         if !is_event(events, place, event) {
+            return false;
+        }
+    }
+    true
+}
+
+// Whether the row is that of the rules of the event at its place, from 0.
+fn is_rule(rule: &EventRuleRow, place: usize) -> bool
+    requires { place + 1 < 2 ^ 64 }
+    ensures sound { result ≡ true → IsRuleAt place rule.now }
+    ensures complete { IsRuleAt place rule.now → result ≡ true }
+{
+    if !is_place(rule.event, place) {
+        return false;
+    }
+    match declares_of(rule.declares) {
+        Some(_) => true,
+        None => false,
+    }
+}
+
+/// Whether the rows are those of the rules of so many events.
+pub fn are_rules(rules: &[EventRuleRow], count: usize) -> bool
+    ensures sound { result ≡ true → AreRules rules.now count }
+    ensures complete { AreRules rules.now count → result ≡ true }
+{
+    if rules.len() != count {
+        return false;
+    }
+    for (place, rule) in rules.iter().enumerate() {
+        if !is_rule(rule, place) {
             return false;
         }
     }

@@ -33,7 +33,8 @@ use Rattle.store_tables.specs.declared.rows.Changes.{Changes}
 use Rattle.club_changes.specs.declared.decided.Decided.{Decided}
 use Rattle.club_changes.specs.Challenged.{PutsBegun, AnswersTo, standing_after, begun_games, begun_seen, begun_meetings}
 use Rattle.club_changes.specs.Steps.{AreSame, Puts, IsDecided, started, started_seen, started_scores, no_rows}
-use Rattle.club_changes.proofs.NextRows.{meta_row, puts_all, no_moves, first_of_game}
+use Rattle.club_rows.specs.Tables.{meta_row}
+use Rattle.club_changes.proofs.NextRows.{puts_all, no_moves, first_of_game}
 use Rattle.club_changes.proofs.OutcomeLemmas.{all_decided, none_decided, answered_mapped, one_seen}
 use Rattle.club_changes.proofs.PutSame.{same_itself, same_by, one_replaced, row_added, nothing_added}
 
@@ -42,15 +43,30 @@ use Rattle.club_changes.proofs.PutSame.{same_itself, same_by, one_replaced, row_
 module _ {DP DM DE DT SP SM SE ST : Type 0} (kinds : ClubRules DP DM DE DT SP SM SE ST) where
   -- a challenge that is put
   challenge_next : (s : State DM SM) (moment : ℕ) (c : Challenge) → AreApart goes_by s.challenges
-      → AreSame (puts_all moment [] [] (challenge_row c ∷ []) [] [] [] [] (tables_of kinds s))
+      → AreSame (puts_all moment [] [] [] (challenge_row c ∷ []) [] [] [] [] (tables_of kinds s))
       (tables_of kinds (with_challenge s moment c))
   challenge_next s moment c apart = (
-    one_replaced (meta_row s.last) (meta_row moment) 1 refl refl,
+    one_replaced (meta_row 2 s.last) (meta_row 2 moment) 1 refl refl,
     (
       same_itself _,
       (
         same_itself _,
-        (challenge-put s.challenges c apart, (same_itself _, (same_itself _, (same_itself _, (same_itself _, tt))))),
+        (
+          challenge-put s.challenges c apart,
+          (
+            same_itself _,
+            (
+              same_itself _,
+              (
+                same_itself _,
+                (
+                  same_itself _,
+                  (same_itself _, tt),
+                ),
+              ),
+            ),
+          ),
+        ),
       ),
     ),
   )
@@ -63,7 +79,7 @@ module _ {DP DM DE DT SP SM SE ST : Type 0} (kinds : ClubRules DP DM DE DT SP SM
       → meetings_in kinds (seated_as (kind_at (place s.events pairing.event)) None pairing moment) ≡ []
       →
       AreSame
-      (puts_all moment [] [] (challenge_row c ∷ [])
+      (puts_all moment [] [] [] (challenge_row c ∷ [])
       (row_of_game kinds s.events (1 + length s.games)
       (seated_as (kind_at (place s.events pairing.event)) None pairing moment) ∷ []) [] (row ∷ []) []
       (tables_of kinds s))
@@ -73,7 +89,7 @@ module _ {DP DM DE DT SP SM SE ST : Type 0} (kinds : ClubRules DP DM DE DT SP SM
   begun_next s moment c pairing row apart row_is running =
       let kind = kind_at (place s.events pairing.event) in
       let new : AnyGame DM SM = seated_as kind None pairing moment in (
-        one_replaced (meta_row s.last) (meta_row moment) 1 refl refl,
+        one_replaced (meta_row 2 s.last) (meta_row 2 moment) 1 refl refl,
         (
           same_itself _,
           (
@@ -88,7 +104,7 @@ module _ {DP DM DE DT SP SM SE ST : Type 0} (kinds : ClubRules DP DM DE DT SP SM
                       (row_of_game kinds s.events (1 + length s.games) new) refl,
                   (
                     altered (0 ∷ 1 ∷ []) (row ∷ []) _ _ (seated-added kinds s None pairing moment row row_is),
-                    (same_by _ _ (sym (scores_seated kinds s.games new running)), tt),
+                    (same_by _ _ (sym (scores_seated kinds s.games new running)), (same_itself _, tt)),
                   ),
                 ),
               ),
@@ -127,7 +143,7 @@ module _ (s : ClubState) (is_club : IsClub s) (moment : ℕ) where
       (record { outcome = given_is.Accepted a; changes = Some changes })
   challenge_decided c a changes puts =
       all_decided s (accepted (with_challenge s moment c) (reply_of a)) (with_challenge s moment c)
-      (given_is.Accepted a) changes moment [] [] (challenge_row c ∷ []) [] [] [] [] refl refl puts
+      (given_is.Accepted a) changes moment [] [] [] (challenge_row c ∷ []) [] [] [] [] refl refl puts
       (challenge_next both_games s moment c is_club.challenge_numbers)
 
   -- a challenge and the game that it starts are put
@@ -163,7 +179,7 @@ module _ (s : ClubState) (is_club : IsClub s) (moment : ℕ) where
             begun_seen s.events moment c z;
       })) is begun.puts in
       all_decided s (map_outcome (with_answer s moment true) (accepted c (reply_of a))) new (given_is.Accepted a)
-      changes moment [] [] (challenge_row c ∷ []) (started s.events n None p moment ∷ []) [] (seen ∷ []) [] refl
+      changes moment [] [] [] (challenge_row c ∷ []) (started s.events n None p moment ∷ []) [] (seen ∷ []) [] refl
       (sym same)
       (subst
       (λ l.

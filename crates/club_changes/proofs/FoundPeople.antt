@@ -17,7 +17,7 @@ use Rattle.club_requests.specs.declared.requests.Caller.{Caller}
 use Rattle.club_requests.specs.declared.requests.Caller.TheVariants as caller
 use Rattle.club_laws.proofs.Proved.{bytes_eq-same, same-bytes_eq, find_id-found, find_id-none}
 use Rattle.club_rows.specs.Club.{ClubState, IsClub, tables}
-use Rattle.club_rows.specs.Tables.{number, member_row, event_row}
+use Rattle.club_rows.specs.Tables.{number, member_row, event_row, rule_row}
 use Rattle.store_tables.specs.Cells.{member_cells}
 use Rattle.store_tables.specs.declared.rows.MemberRow.{MemberRow}
 use Rattle.store_tables.specs.Content.{same_key}
@@ -113,6 +113,23 @@ event_found s id found z known those has at =
     let e_is : e ≡ known = one_at (slice_get s.events k) e known
     (subst (λ i. slice_get s.events i ≡ Some e) k_is stands) there in
     is ∙ (λ i. event_row (same i) (e_is i))
+  where
+    one_at : {A : Type 0} (o : Option A) (x y : A) → o ≡ Some x → o ≡ Some y → x ≡ y
+    one_at o x y one two = let e = sym one ∙ two in cc
+
+-- and what is found of its rules is theirs
+pub rule_found : (s : ClubState) (id : ℕ) (found : List Row) (z : Row) (known : Event)
+    → AreThose (0 ∷ []) (number id ∷ []) (tables s 16) found → Has found z → place s.events id ≡ Some known
+    → z ≡ rule_row id known
+rule_found s id found z known those has at =
+    let those_z = those.sound z has in
+    let (n, e, stands, is) = numbered_had rule_row 1 s.events z those_z.0 in
+    let same : 1 + n ≡ id = ids_same z (number id ∷ []) (1 + n) id (ap (λ w. column w 0) is) refl those_z.1 in
+    let (k, id_is, there) = place_at s.events id known at in
+    let k_is : n ≡ k = omega (arith, same, id_is) in
+    let e_is : e ≡ known = one_at (slice_get s.events k) e known
+    (subst (λ i. slice_get s.events i ≡ Some e) k_is stands) there in
+    is ∙ (λ i. rule_row (same i) (e_is i))
   where
     one_at : {A : Type 0} (o : Option A) (x y : A) → o ≡ Some x → o ≡ Some y → x ≡ y
     one_at o x y one two = let e = sym one ∙ two in cc

@@ -380,6 +380,7 @@ put_as laws terms id moment game rows scores c are puts = record {
   meta = puts.meta;
   members_are = puts.members_are;
   events_are = puts.events_are;
+  rules_are = puts.rules_are;
   challenges_are = puts.challenges_are;
   games_are = puts.games_are ∙ ap (λ (r : Row). r ∷ []) are.game_is;
   moves_are = puts.moves_are ∙ are.moves_are;

@@ -16,7 +16,7 @@ use Rattle.club_core.specs.State.{AnyGame, draughts, shogi, State, place, terms_
 use Rattle.club_laws.proofs.Proved.{got-append, get-append, at-last}
 use Rattle.club_rows.specs.Scores.{meetings, meetings_in, scores_in}
 use Rattle.club_rows.specs.Tables.{number, at_start, move_rows, member_row, event_row, challenge_row, numbered_from}
-use Rattle.club_rows.specs.Tables.{row_of_game, rows_of_moves, rows_of_seen, tables_of}
+use Rattle.club_rows.specs.Tables.{meta_row, rule_row, row_of_game, rows_of_moves, rows_of_seen, tables_of}
 use Rattle.club_rows.proofs.Proved.{challenges-unaltered, gathered-added, scores_added, seen-added}
 use Rattle.store_tables.specs.Cells.{meta_cells}
 use Rattle.store_tables.specs.Changed.{changed, maybe_row}
@@ -27,7 +27,7 @@ use Rattle.store_tables.specs.declared.rows.MetaRow.{MetaRow}
 use Rattle.store_tables.proofs.Proved.{unaltered, tables_altered}
 use Rattle.club_changes.specs.Steps.{AreSame, Puts, PutsScores, no_rows}
 use Rattle.club_changes.proofs.FoundMoves.{numbers_same}
-use Rattle.club_changes.proofs.NextRows.{meta_row, entry_rows_at, move_rows_had, first_of_game, moves_had}
+use Rattle.club_changes.proofs.NextRows.{entry_rows_at, move_rows_had, first_of_game, moves_had}
 use Rattle.club_changes.proofs.PutSame.{numbered_had, numbered_has, ids_agree, ids_same, had_at}
 
 -- ---- one table
@@ -77,12 +77,12 @@ module _ {A : Type 0} (row : ℕ → A → Row) (first : (id : ℕ) (x : A) → 
       (unaltered (0 ∷ []) (numbered_from row 1 xs) (numbered_one xs))
 
 -- the one row of `meta` is put for the one before
-meta_altered : (old new : ℕ) → Alters (0 ∷ []) (meta_row new ∷ []) (meta_row old ∷ []) (meta_row new ∷ [])
+meta_altered : (old new : ℕ) → Alters (0 ∷ []) (meta_row 2 new ∷ []) (meta_row 2 old ∷ []) (meta_row 2 new ∷ [])
 meta_altered old new = record {
   among = λ z h. h;
   from = λ z h. inr h;
   stays = λ z h. elim h [
-    | inl is ↦ inr (meta_row new, inl refl, ids_agree z (meta_row new) 1 (ap (λ v. column v 0) is) refl)
+    | inl is ↦ inr (meta_row 2 new, inl refl, ids_agree z (meta_row 2 new) 1 (ap (λ v. column v 0) is) refl)
     | inr none ↦ absurd none
   ];
   one = λ z w h k same. elim h [
@@ -149,10 +149,11 @@ module _ {DP DM DE DT SP SM SE ST : Type 0} (kinds : ClubRules DP DM DE DT SP SM
       let events = s.events in
       let games = s.games in
       tables_altered c (tables_of kinds s) (tables_of kinds (with_imported s moment new)) (record {
-        meta = subst (λ l. Alters (0 ∷ []) l (meta_row s.last ∷ []) (meta_row moment ∷ []))
-            (sym (maybe_is c.meta (meta_row moment) are.meta)) (meta_altered s.last moment);
+        meta = subst (λ l. Alters (0 ∷ []) l (meta_row 2 s.last ∷ []) (meta_row 2 moment ∷ []))
+            (sym (maybe_is c.meta (meta_row 2 moment) are.meta)) (meta_altered s.last moment);
         members = rows_stay member_row (λ id x. refl) s.members _ are.members_are;
         events = rows_stay event_row (λ id x. refl) events _ are.events_are;
+        event_rules = rows_stay rule_row (λ id x. refl) events _ are.rules_are;
         challenges =
             subst (λ l. Alters (0 ∷ 1 ∷ []) l (map challenge_row s.challenges) (map challenge_row s.challenges))
             (sym are.challenges_are) (challenges-unaltered s.challenges apart);

@@ -21,7 +21,7 @@ pub use Rattle.import_rows.proofs.Proved.{entry_rows_at}
 use Rattle.club_rows.specs.Scores.{meetings_in, scores_in}
 use Rattle.club_rows.specs.Tables.{number, game_row, entry_rows, move_rows, at_start, with_entry}
 use Rattle.club_rows.specs.Tables.{gathered_from, member_row, event_row, row_of_game, rows_of_moves, rows_of_seen}
-use Rattle.club_rows.specs.Tables.{tables_of}
+use Rattle.club_rows.specs.Tables.{meta_row, rule_row, tables_of}
 use Rattle.store_tables.specs.Changes.{put_rows}
 use Rattle.store_tables.proofs.Proved.{altered}
 use Rattle.store_tables.specs.Contents.{Content, put_in, put_each}
@@ -30,22 +30,20 @@ use Rattle.club_changes.specs.Steps.{AreSame, HaveSame}
 use Rattle.club_changes.proofs.PutSame.{same_itself, same_by, one_replaced, row_added, row_replaced, nothing_added}
 use Rattle.club_changes.proofs.PutSame.{one_row_more, rows_kept, numbered_alike, gathered_alike, pairs_apart}
 
-abbrev pub meta_row : ℕ → Row
-meta_row last = number 1 ∷ number 1 ∷ number last ∷ []
-
 -- the content with these rows put, and the moment
-abbrev pub puts_all : ℕ → (members events challenges games moves seen scores : List Row) → Content → Content
-puts_all moment members events challenges games moves seen scores content =
-    put_in 0 (0 ∷ []) (meta_row moment)
+abbrev pub puts_all : ℕ → (members events rules challenges games moves seen scores : List Row) → Content → Content
+puts_all moment members events rules challenges games moves seen scores content =
+    put_in 0 (0 ∷ []) (meta_row 2 moment)
     (put_each 14 (0 ∷ 1 ∷ 2 ∷ []) scores
     (put_each 12 (0 ∷ 1 ∷ []) seen
     (put_each 8 (0 ∷ 1 ∷ []) moves
     (put_each 10 (0 ∷ []) games
-    (put_each 6 (0 ∷ 1 ∷ []) challenges (put_each 4 (0 ∷ []) events (put_each 1 (0 ∷ []) members content)))))))
+    (put_each 6 (0 ∷ 1 ∷ []) challenges
+    (put_each 16 (0 ∷ []) rules (put_each 4 (0 ∷ []) events (put_each 1 (0 ∷ []) members content))))))))
 
--- and no challenge
+-- and no rules and no challenge
 abbrev pub puts : ℕ → (members events games moves seen scores : List Row) → Content → Content
-puts moment members events games moves seen scores = puts_all moment members events [] games moves seen scores
+puts moment members events games moves seen scores = puts_all moment members events [] [] games moves seen scores
 
 -- ---- the rows of the moves of a game
 
@@ -85,10 +83,28 @@ module _ {DP DM DE DT SP SM SE ST : Type 0} (kinds : ClubRules DP DM DE DT SP SM
       → AreSame (puts moment (member_row (1 + length s.members) m ∷ []) [] [] [] [] [] (tables_of kinds s))
       (tables_of kinds (with_members s moment (s.members ++ m ∷ [])))
   member_next s m moment = (
-    one_replaced (meta_row s.last) (meta_row moment) 1 refl refl,
+    one_replaced (meta_row 2 s.last) (meta_row 2 moment) 1 refl refl,
     (
       row_added member_row (λ id x. refl) s.members m (member_row (1 + length s.members) m) refl,
-      (same_itself _, (same_itself _, (same_itself _, (same_itself _, (same_itself _, (same_itself _, tt)))))),
+      (
+        same_itself _,
+        (
+          same_itself _,
+          (
+            same_itself _,
+            (
+              same_itself _,
+              (
+                same_itself _,
+                (
+                  same_itself _,
+                  (same_itself _, tt),
+                ),
+              ),
+            ),
+          ),
+        ),
+      ),
     ),
   )
 
@@ -109,10 +125,13 @@ module _ {DP DM DE DT SP SM SE ST : Type 0} (kinds : ClubRules DP DM DE DT SP SM
 
   -- an event more
   pub event_next : (s : State DM SM) (e : Event) (moment : ℕ) → Each (IsLegalIn kinds s) s.games
-      → AreSame (puts moment [] (event_row (1 + length s.events) e ∷ []) [] [] [] [] (tables_of kinds s))
+      → AreSame
+      (puts_all moment [] (event_row (1 + length s.events) e ∷ []) (rule_row
+      (1 + length s.events) e ∷ []) [] [] [] [] []
+      (tables_of kinds s))
       (tables_of kinds (with_events s moment (s.events ++ e ∷ [])))
   event_next s e moment legal = (
-    one_replaced (meta_row s.last) (meta_row moment) 1 refl refl,
+    one_replaced (meta_row 2 s.last) (meta_row 2 moment) 1 refl refl,
     (
       same_itself _,
       (
@@ -127,7 +146,16 @@ module _ {DP DM DE DT SP SM SE ST : Type 0} (kinds : ClubRules DP DM DE DT SP SM
               same_by _ _
                   (numbered_alike (row_of_game kinds s.events) (row_of_game kinds (s.events ++ e ∷ [])) 1 s.games
                   (λ n g at. game_stays s e g (legal n g at))),
-              (same_itself _, (same_itself _, tt)),
+              (
+                same_itself _,
+                (
+                  same_itself _,
+                  (
+                    row_added rule_row (λ id x. refl) s.events e (rule_row (1 + length s.events) e) refl,
+                    tt,
+                  ),
+                ),
+              ),
             ),
           ),
         ),
@@ -153,7 +181,7 @@ module _ {DP DM DE DT SP SM SE ST : Type 0} (kinds : ClubRules DP DM DE DT SP SM
       (tables_of kinds s)) (tables_of kinds (with_new_game s moment key pairing))
   seat_next s key pairing moment row row_is running =
       let new : AnyGame DM SM = seated_as (kind_at (place s.events pairing.event)) (Some key) pairing moment in (
-        one_replaced (meta_row s.last) (meta_row moment) 1 refl refl,
+        one_replaced (meta_row 2 s.last) (meta_row 2 moment) 1 refl refl,
         (
           same_itself _,
           (
@@ -168,7 +196,7 @@ module _ {DP DM DE DT SP SM SE ST : Type 0} (kinds : ClubRules DP DM DE DT SP SM
                       (row_of_game kinds s.events (1 + length s.games) new) refl,
                   (
                     altered (0 ∷ 1 ∷ []) (row ∷ []) _ _ (seen-table-added kinds s key pairing moment row row_is),
-                    (same_by _ _ (sym (scores_seated kinds s.games new running)), tt),
+                    (same_by _ _ (sym (scores_seated kinds s.games new running)), (same_itself _, tt)),
                   ),
                 ),
               ),
@@ -197,7 +225,7 @@ module _ {DP DM DE DT SP SM SE ST : Type 0} (kinds : ClubRules DP DM DE DT SP SM
         subst
         (λ l. AreSame (puts moment [] [] (row_of_game kinds s.events (1 + n) new ∷ []) [] [] l (tables_of kinds s))
         (tables_of kinds (record s { last = moment; games = slice_set s.games n new }))) (sym none) (
-          one_replaced (meta_row s.last) (meta_row moment) 1 refl refl,
+          one_replaced (meta_row 2 s.last) (meta_row 2 moment) 1 refl refl,
           (
             same_itself _,
             (
@@ -215,7 +243,7 @@ module _ {DP DM DE DT SP SM SE ST : Type 0} (kinds : ClubRules DP DM DE DT SP SM
                         subst
                             (λ l. HaveSame (put_rows (0 ∷ 1 ∷ 2 ∷ []) l (scores_in kinds s.games))
                             (scores_in kinds (slice_set s.games n new))) none same,
-                        tt,
+                        (same_itself _, tt),
                       ),
                     ),
                   ),
@@ -228,7 +256,7 @@ module _ {DP DM DE DT SP SM SE ST : Type 0} (kinds : ClubRules DP DM DE DT SP SM
         subst
         (λ l. AreSame (puts moment [] [] (row_of_game kinds s.events (1 + n) new ∷ []) [] [] l (tables_of kinds s))
         (tables_of kinds (record s { last = moment; games = slice_set s.games n new }))) (sym two.2) (
-          one_replaced (meta_row s.last) (meta_row moment) 1 refl refl,
+          one_replaced (meta_row 2 s.last) (meta_row 2 moment) 1 refl refl,
           (
             same_itself _,
             (
@@ -246,7 +274,7 @@ module _ {DP DM DE DT SP SM SE ST : Type 0} (kinds : ClubRules DP DM DE DT SP SM
                         subst
                             (λ l. HaveSame (put_rows (0 ∷ 1 ∷ 2 ∷ []) l (scores_in kinds s.games))
                             (scores_in kinds (slice_set s.games n new))) two.2 same,
-                        tt,
+                        (same_itself _, tt),
                       ),
                     ),
                   ),
@@ -293,7 +321,7 @@ module _ {DP DM DE DT SP SM SE ST : Type 0} (kinds : ClubRules DP DM DE DT SP SM
           (scores_in kinds (slice_set s.games n new)) → after scores
       play_next scores few same = elim few [
         | inl none ↦ subst after (sym none) (
-          one_replaced (meta_row s.last) (meta_row moment) 1 refl refl,
+          one_replaced (meta_row 2 s.last) (meta_row 2 moment) 1 refl refl,
           (
             same_itself _,
             (
@@ -311,7 +339,7 @@ module _ {DP DM DE DT SP SM SE ST : Type 0} (kinds : ClubRules DP DM DE DT SP SM
                         subst
                             (λ l. HaveSame (put_rows (0 ∷ 1 ∷ 2 ∷ []) l (scores_in kinds s.games))
                             (scores_in kinds (slice_set s.games n new))) none same,
-                        tt,
+                        (same_itself _, tt),
                       ),
                     ),
                   ),
@@ -321,7 +349,7 @@ module _ {DP DM DE DT SP SM SE ST : Type 0} (kinds : ClubRules DP DM DE DT SP SM
           ),
         )
         | inr two ↦ subst after (sym two.2) (
-          one_replaced (meta_row s.last) (meta_row moment) 1 refl refl,
+          one_replaced (meta_row 2 s.last) (meta_row 2 moment) 1 refl refl,
           (
             same_itself _,
             (
@@ -339,7 +367,7 @@ module _ {DP DM DE DT SP SM SE ST : Type 0} (kinds : ClubRules DP DM DE DT SP SM
                         subst
                             (λ l. HaveSame (put_rows (0 ∷ 1 ∷ 2 ∷ []) l (scores_in kinds s.games))
                             (scores_in kinds (slice_set s.games n new))) two.2 same,
-                        tt,
+                        (same_itself _, tt),
                       ),
                     ),
                   ),

@@ -18,14 +18,14 @@ use Rattle.club_core.specs.Members as core_members
 use Rattle.club_core.specs.Members.{find_id, member_step, same_member, member_refusal}
 use Rattle.club_requests.specs.Limits.{is_name, is_budget, is_increment}
 use Rattle.club_core.specs.Events.{Event, has_event_name, has_good_values, event_step, same_event, event_refusal}
-use Rattle.club_core.specs.Events.{event_tests, plain}
+use Rattle.club_core.specs.Events.{event_tests, declaring}
 use Rattle.club_core.specs.Seats.{Pairing, KeyedGame, pair, seat_found, seat_step, same_seats, seat_refusal}
 use Rattle.club_core.specs.Seats.{has_member_name}
 use Rattle.club_core.specs.State.{state_after, is_accepted, add_member, add_event, seat, seated, seated_as, kind_at}
 use Rattle.club_core.specs.State.{place, with_members, with_events, with_new_game, game_under, caller_of, step_by}
 use Rattle.club_core.proofs.Proved.{none-holds}
 use Rattle.club_laws.proofs.Proved.{unmoved, not-false}
-use Rattle.club_rows.specs.Tables.{member_row, event_row}
+use Rattle.club_rows.specs.Tables.{member_row, event_row, rule_row}
 use Rattle.sqlite.specs.Order.{Row}
 use Rattle.store_tables.specs.declared.rows.Changes.{Changes}
 use Rattle.club_changes.specs.declared.decided.Decided.{Decided}
@@ -46,7 +46,25 @@ same_content s = (
   same_itself _,
   (
     same_itself _,
-    (same_itself _, (same_itself _, (same_itself _, (same_itself _, (same_itself _, (same_itself _, tt)))))),
+    (
+      same_itself _,
+      (
+        same_itself _,
+        (
+          same_itself _,
+          (
+            same_itself _,
+            (
+              same_itself _,
+              (
+                same_itself _,
+                (same_itself _, tt),
+              ),
+            ),
+          ),
+        ),
+      ),
+    ),
   ),
 )
 
@@ -69,13 +87,14 @@ none_decided s after d o is none answer not_accepted =
 
 -- where a command is accepted, the rows that are put make the tables of the state after it
 pub all_decided : (s : ClubState) (after : Outcome ClubState) (new : ClubState) (o : given.Outcome) (c : Changes)
-    (moment : ℕ) (members events challenges games moves seen scores : List Row) → outcome_of o ≡ answered after
+    (moment : ℕ) (members events rules challenges games moves seen scores : List Row) → outcome_of o ≡ answered after
     → state_after s after ≡ new
     →
     Puts c moment
     (record {
       members = members;
       events = events;
+      rules = rules;
       challenges = challenges;
       games = games;
       moves = moves;
@@ -83,14 +102,15 @@ pub all_decided : (s : ClubState) (after : Outcome ClubState) (new : ClubState) 
           seen;
       scores = scores;
     })
-    → AreSame (puts_all moment members events challenges games moves seen scores (tables s)) (tables new)
+    → AreSame (puts_all moment members events rules challenges games moves seen scores (tables s)) (tables new)
     → IsDecided s after (record { outcome = o; changes = Some c })
-all_decided s after new o c moment members events challenges games moves seen scores answer stands are same = record {
-  answer = answer;
-  rows = subst (λ n. AreSame (changed_if (Some c) (tables s)) (tables n)) (sym stands)
-      (subst (λ content. AreSame content (tables new))
-      (sym (all_changed c moment members events challenges games moves seen scores are (tables s))) same);
-}
+all_decided s after new o c moment members events rules challenges games moves seen scores answer stands are same =
+    record {
+      answer = answer;
+      rows = subst (λ n. AreSame (changed_if (Some c) (tables s)) (tables n)) (sym stands)
+          (subst (λ content. AreSame content (tables new))
+          (sym (all_changed c moment members events rules challenges games moves seen scores are (tables s))) same);
+    }
 
 pub put_decided : (s : ClubState) (after : Outcome ClubState) (new : ClubState) (o : given.Outcome) (c : Changes)
     (moment : ℕ) (members events games moves seen scores : List Row) → outcome_of o ≡ answered after
@@ -98,6 +118,7 @@ pub put_decided : (s : ClubState) (after : Outcome ClubState) (new : ClubState) 
     (record {
       members = members;
       events = events;
+      rules = [];
       challenges = [];
       games = games;
       moves = moves;
@@ -108,7 +129,7 @@ pub put_decided : (s : ClubState) (after : Outcome ClubState) (new : ClubState) 
     → AreSame (puts moment members events games moves seen scores (tables s)) (tables new)
     → IsDecided s after (record { outcome = o; changes = Some c })
 put_decided s after new o c moment members events games moves seen scores answer stands are same =
-    all_decided s after new o c moment members events [] games moves seen scores answer stands are same
+    all_decided s after new o c moment members events [] [] games moves seen scores answer stands are same
 
 module _ {T : Type 0} (s : ClubState) (f : T → ClubState) where
   pub answered_mapped : (o : Outcome T) → answered (map_outcome f o) ≡ answered o
@@ -166,17 +187,22 @@ member_decided s moment who name key o c answer is_in are =
 
 pub event_decided : (s : ClubState) (moment : ℕ) (who : Caller) (e : Event) (o : given.Outcome) (c : Changes) → IsClub s
     → outcome_of o ≡ answered (by_officer who (event_step s.events e)) → is_accepted (outcome_of o) ≡ true
-    → Puts c moment (record no_rows { events = event_row (1 + length s.events) e ∷ [] })
+    →
+    Puts c moment
+    (record no_rows {
+      events = event_row (1 + length s.events) e ∷ [];
+      rules = rule_row (1 + length s.events) (declaring e) ∷ [];
+    })
     → IsDecided s (caller_step s moment who (add_event e)) (record { outcome = o; changes = Some c })
 event_decided s moment who e o c club answer is_in are =
     let f = with_events s moment in
-    put_decided s (caller_step s moment who (add_event e)) (f (s.events ++ plain e ∷ [])) o c moment []
-    (event_row (1 + length s.events) e ∷ []) [] [] [] []
+    all_decided s (caller_step s moment who (add_event e)) (f (s.events ++ declaring e ∷ [])) o c moment []
+    (event_row (1 + length s.events) e ∷ []) (rule_row (1 + length s.events) (declaring e) ∷ []) [] [] [] [] []
     (answer ∙ sym (answered_officer s f who (event_step s.events e)))
-    (officer_added s f who (same_event s.events e) (event_refusal s.events e) (s.events ++ plain e ∷ [])
+    (officer_added s f who (same_event s.events e) (event_refusal s.events e) (s.events ++ declaring e ∷ [])
     (event_added (length s.events + 1)) (ap is_accepted (sym answer) ∙ is_in))
     are
-    (event_next both_games s (plain e) moment club.games)
+    (event_next both_games s (declaring e) moment club.games)
 
 -- ---- what an accepted command meets
 
@@ -200,7 +226,7 @@ pub event_limits : (who : Caller) (events : List Event) (e : Event) (o : given.O
 event_limits who events e o answer is_in =
     let none : event_refusal events e ≡ None =
     unrefused_by who (same_event events e) (event_refusal events e)
-    (accepted (events ++ plain e ∷ []) (event_added (length events + 1))) (ap is_accepted (sym answer) ∙ is_in) in
+    (accepted (events ++ declaring e ∷ []) (event_added (length events + 1))) (ap is_accepted (sym answer) ∙ is_in) in
     let fails = none-holds (event_tests events e) none in
     three_true (is_name e.name) (is_budget e.terms.budget) (is_increment e.terms.increment)
     (not-false (has_good_values e) fails.1.0)

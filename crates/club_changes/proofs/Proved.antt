@@ -4,7 +4,8 @@ pub use Rattle.club_changes.proofs.ChallengedTables.{member_answers, member_mapp
 pub use Rattle.club_changes.proofs.ClubPlayed.{place_at, unknown_decided}
 pub use Rattle.club_changes.proofs.FoundLemmas.{moved, on_ok}
 pub use Rattle.club_changes.proofs.FoundMoves.{id_of, in_table, of_game, past_none, ply_is, tells_moves}
-pub use Rattle.club_changes.proofs.FoundPeople.{event_found, member_found, name_same, with_none, with_some}
+pub use Rattle.club_changes.proofs.FoundPeople.{event_found, member_found, name_same, rule_found, with_none}
+pub use Rattle.club_changes.proofs.FoundPeople.{with_some}
 pub use Rattle.club_changes.proofs.GameRows.{event_stands, id_none, id_some, ids_read, none_stored, pairing_same}
 pub use Rattle.club_changes.proofs.GameRows.{no_such_number, players_stand, stored_as, stored_decided, tells-seen}
 pub use Rattle.club_changes.proofs.GameRows.{under_none, under_some, under_stored}
@@ -18,6 +19,6 @@ pub use Rattle.club_changes.proofs.PutSame.{AreAtPlaces, gathered_had, gathered_
 pub use Rattle.club_changes.proofs.PutSame.{numbered_has, numbered_length, numbered_places, one_line, take_next}
 pub use Rattle.club_changes.proofs.ReadRows.{all_read, first_is, first_mapped, member_read, none_mapped, one_more_of}
 pub use Rattle.club_changes.proofs.ReadRows.{one_more_read}
-pub use Rattle.club_changes.proofs.ReadRows.{placed, score_first}
+pub use Rattle.club_changes.proofs.ReadRows.{placed, row_at_place, score_first}
 pub use Rattle.club_changes.proofs.SameLemmas.{exactly_same, leaves_same}
 pub use Rattle.club_changes.proofs.SweptTables.{member_refused}

@@ -52,6 +52,15 @@ module _ {A B R : Type 0} (of : B → A) (cells : R → Row) (row : ℕ → A �
       let k_is : k ≡ length all = omega (arith, count, rows_count, least, most) in
       so_far ∙ (ap (λ n. take n all) k_is ∙ take-length all)
 
+-- the row at a place is that of the element there
+pub row_at_place : {A R : Type 0} (cells : R → Row) (row : ℕ → A → Row) (rows : List R) (all : List A)
+    → map cells rows ≡ numbered_from row 1 all → (k : ℕ) (r : R) → k < length rows → r ≡ get_or rows k r → (x : A)
+    → slice_get all k ≡ Some x → cells r ≡ row (1 + k) x
+row_at_place cells row rows all same k r within is x at =
+    let (y, there, stands) = numbered_at row cells 1 rows all same k r (at_get rows k r within is) in
+    let y_is : y ≡ x = cc in
+    stands ∙ ap (row (1 + k)) y_is
+
 pub member_read : (r : MemberRow) (m : given_member.Member) → string_bytes m.name ≡ string_bytes r.name
     → string_bytes m.key ≡ string_bytes r.key → (id : ℕ) (x : Member) → member_cells r ≡ member_row id x
     → member_of m ≡ x

@@ -19,7 +19,8 @@ use Rattle.sweep_rows.specs.declared.swept.SweptRows.{SweptRows}
 use Rattle.sweep_rows.proofs.Proved.{leaves_others}
 use Rattle.club_changes.specs.declared.decided.Decided.{Decided}
 use Rattle.club_changes.specs.Steps.{AreSame, HaveSame, Puts, caller_step, IsDecided, no_rows}
-use Rattle.club_changes.proofs.NextRows.{meta_row, puts}
+use Rattle.club_rows.specs.Tables.{meta_row}
+use Rattle.club_changes.proofs.NextRows.{puts}
 use Rattle.club_changes.proofs.OutcomeLemmas.{none_decided, put_decided}
 use Rattle.club_changes.proofs.PutSame.{same_by, one_replaced}
 
@@ -48,6 +49,9 @@ module _ (games scores : List Row) (content : Content) where
   in_events : with_both 4 ≡ content 4
   in_events = each_at (0 ∷ 1 ∷ 2 ∷ []) 14 scores with_games 4 ∙ each_at (0 ∷ []) 10 games content 4
 
+  in_rules : with_both 16 ≡ content 16
+  in_rules = each_at (0 ∷ 1 ∷ 2 ∷ []) 14 scores with_games 16 ∙ each_at (0 ∷ []) 10 games content 16
+
   in_challenges : with_both 6 ≡ content 6
   in_challenges = each_at (0 ∷ 1 ∷ 2 ∷ []) 14 scores with_games 6 ∙ each_at (0 ∷ []) 10 games content 6
 
@@ -71,8 +75,8 @@ module _ (s : ClubState) (moment : ℕ) (rows : SweptRows) (swept : IsSwept s mo
   swept_next : AreSame (puts moment [] [] games [] [] scores (tables s)) new
   swept_next =
       let others : LeavesOthers s moment = leaves_others s moment in (
-        subst (λ l. HaveSame (put_rows (0 ∷ []) (meta_row moment ∷ []) l) (meta_row moment ∷ []))
-            (sym (in_meta games scores (tables s))) (one_replaced (meta_row s.last) (meta_row moment) 1 refl refl),
+        subst (λ l. HaveSame (put_rows (0 ∷ []) (meta_row 2 moment ∷ []) l) (meta_row 2 moment ∷ []))
+            (sym (in_meta games scores (tables s))) (one_replaced (meta_row 2 s.last) (meta_row 2 moment) 1 refl refl),
         (
           same_by _ _ (in_members games scores (tables s) ∙ sym others.members_stay),
           (
@@ -85,7 +89,10 @@ module _ (s : ClubState) (moment : ℕ) (rows : SweptRows) (swept : IsSwept s mo
                   subst (λ l. HaveSame l (new 10)) (sym (in_games games scores (tables s))) swept.games_are,
                   (
                     same_by _ _ (in_seen games scores (tables s) ∙ sym others.seen_stays),
-                    (subst (λ l. HaveSame l (new 14)) (sym (in_scores games scores (tables s))) swept.scores_are, tt),
+                    (
+                      subst (λ l. HaveSame l (new 14)) (sym (in_scores games scores (tables s))) swept.scores_are,
+                      (same_by _ _ (in_rules games scores (tables s) ∙ sym others.rules_stay), tt),
+                    ),
                   ),
                 ),
               ),

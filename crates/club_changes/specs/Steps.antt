@@ -33,9 +33,9 @@ use Rattle.club_rows.specs.NextScores.{AreNext, pair_of, IsFound as score_found}
 use Rattle.club_rows.specs.Scores.{Meeting, meetings_in}
 use Rattle.club_rows.specs.Seen.{seen_rows, IsSeenRow, IsFound}
 use Rattle.club_rows.specs.declared.scores.ScorePair.{ScorePair}
-use Rattle.club_rows.specs.Tables.{number, game_row, move_rows, row_of_game, rows_of_seen}
+use Rattle.club_rows.specs.Tables.{meta_row, number, game_row, move_rows, row_of_game, rows_of_seen}
 use Rattle.store_tables.specs.Cells.{meta_cells, member_cells, event_cells, challenge_cells, move_cells, game_cells}
-use Rattle.store_tables.specs.Cells.{seen_cells, score_cells}
+use Rattle.store_tables.specs.Cells.{event_rule_cells, seen_cells, score_cells}
 use Rattle.store_tables.specs.Contents.{Content, AreThose}
 use Rattle.store_tables.specs.Tables.{club_schema}
 use Rattle.store_tables.specs.declared.rows.Changes.{Changes}
@@ -78,6 +78,7 @@ AreSame = changes.AreSame club_schema
 pub record PutRows : Type 0 where
   pub members : List Row
   pub events : List Row
+  pub rules : List Row
   pub challenges : List Row
   pub games : List Row
   pub moves : List Row
@@ -85,13 +86,23 @@ pub record PutRows : Type 0 where
   pub scores : List Row
 
 abbrev pub no_rows : PutRows
-no_rows = record { members = []; events = []; challenges = []; games = []; moves = []; seen = []; scores = [] }
+no_rows = record {
+  members = [];
+  events = [];
+  rules = [];
+  challenges = [];
+  games = [];
+  moves = [];
+  seen = [];
+  scores = [];
+}
 
 -- These rows are put, with the moment as that of the last accepted command, and no other.
 pub record Puts (changes : Changes) (moment : ℕ) (rows : PutRows) : Type 0 where
-  pub meta : option_map meta_cells changes.meta ≡ Some (number 1 ∷ number 1 ∷ number moment ∷ [])
+  pub meta : option_map meta_cells changes.meta ≡ Some (meta_row 2 moment)
   pub members_are : map member_cells changes.members.items ≡ rows.members
   pub events_are : map event_cells changes.events.items ≡ rows.events
+  pub rules_are : map event_rule_cells changes.event_rules.items ≡ rows.rules
   pub challenges_are : map challenge_cells changes.challenges.items ≡ rows.challenges
   pub games_are : map game_cells changes.games.items ≡ rows.games
   pub moves_are : map move_cells changes.moves.items ≡ rows.moves

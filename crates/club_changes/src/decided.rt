@@ -38,6 +38,7 @@ pub(crate) fn at(alloc: Global, moment: Moment) -> Changes
     Changes {
         members: Vec::new(alloc),
         events: Vec::new(alloc),
+        event_rules: Vec::new(alloc),
         challenges: Vec::new(alloc),
         games: Vec::new(alloc),
         moves: Vec::new(alloc),
@@ -45,7 +46,7 @@ pub(crate) fn at(alloc: Global, moment: Moment) -> Changes
         scores: Vec::new(alloc),
         meta: Some(MetaRow {
             id: 1,
-            schema: 1,
+            schema: 2,
             last: stored(moment.seconds()),
         }),
     }

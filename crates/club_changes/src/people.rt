@@ -4,8 +4,9 @@ ghost use Rattle.std.specs.Prelude.{◌≡◌, ◌≤◌, ◌<◌, ◌^◌, Some
 ghost use Rattle.std.specs.Prelude.{length, string_bytes};
 ghost use Rattle.club_core.specs.Answer.{members_of, events_of, added_event};
 ghost use Rattle.club_core.specs.State.{is_accepted, add_member, add_event};
-ghost use Rattle.club_rows.specs.Tables.{member_row, event_row};
-ghost use Rattle.store_tables.specs.Cells.{member_cells, event_cells};
+ghost use Rattle.club_core.specs.Events.{declaring};
+ghost use Rattle.club_rows.specs.Tables.{member_row, event_row, rule_row};
+ghost use Rattle.store_tables.specs.Cells.{member_cells, event_cells, event_rule_cells};
 ghost use Rattle.club_rows.specs.Club.{ClubState, IsClub};
 ghost use Rattle.club_changes.specs.Steps.{caller_step};
 ghost use Rattle.club_changes.specs.Steps.{IsDecided};
@@ -16,10 +17,10 @@ use clocks::Moment;
 use club_core::{Event, Member, add_event, add_member};
 use club_requests::{AddEvent, AddMember, Caller};
 use club_rows::kind_number;
-use club_rows::numbers::stored;
+use club_rows::numbers::{declares_number, stored};
 use club_rules::Memory;
 use std::alloc::Global;
-use store_tables::{EventRow, MemberRow};
+use store_tables::{EventRow, EventRuleRow, MemberRow};
 
 // The row of a member that is added.
 fn member_row(id: u32, command: &AddMember) -> Result<MemberRow, Memory>
@@ -79,6 +80,16 @@ fn event_row(id: u32, command: &AddEvent) -> Result<EventRow, Memory>
     })
 }
 
+// The row of the rules of an event that is added: its players may declare that they have won.
+fn rule_row(id: u32) -> EventRuleRow
+    ensures { (e : _) → event_rule_cells result ≡ rule_row id (declaring e) }
+{
+    EventRuleRow {
+        event: i64::from(id),
+        declares: declares_number(true),
+    }
+}
+
 /// What adding an event does, by the events of the club.
 pub fn on_event(
     alloc: Global,
@@ -96,10 +107,10 @@ pub fn on_event(
     if !is_accepted(&outcome) {
         return Ok(unchanged(outcome));
     }
+    let id = events.len() as u32 + 1;
     let mut changes = at(alloc, moment);
-    changes
-        .events
-        .push(event_row(events.len() as u32 + 1, command)?)?;
+    changes.events.push(event_row(id, command)?)?;
+    changes.event_rules.push(rule_row(id))?;
     Ok(Decided {
         outcome,
         changes: Some(changes),

@@ -1,5 +1,5 @@
 -- What the program's values stand for: its answers, its members and events, and its requests.
-use Rattle.std.specs.Prelude.{List, map, false, string_bytes}
+use Rattle.std.specs.Prelude.{List, map, true, string_bytes}
 use Rattle.club_requests.specs.declared.answers.Moved.{Moved}
 use Rattle.club_requests.specs.declared.answers.Answer.{Answer}
 use Rattle.club_requests.specs.declared.answers.Answer.TheVariants as answer
@@ -81,7 +81,7 @@ added_event e =
     record {
       name = string_bytes e.name;
       game = e.game;
-      terms = record { budget = e.budget; increment = e.increment; declares = false };
+      terms = record { budget = e.budget; increment = e.increment; declares = true };
     }
 
 abbrev pub events_of : List given_event.Event → List Event

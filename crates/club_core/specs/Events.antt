@@ -49,9 +49,9 @@ event_kind (e ∷ es) name = if has_event_name name e then e.game else event_kin
 abbrev pub event_declares : List Event → List ℕ → Bool
 event_declares es name = list_any (λ e. has_event_name name e && e.terms.declares) es
 
--- an event as it is added, without declarations
-abbrev pub plain : Event → Event
-plain given = record given { terms = record given.terms { declares = false } }
+-- an event as it is added: its players may declare that they have won, in whatever game
+abbrev pub declaring : Event → Event
+declaring given = record given { terms = record given.terms { declares = true } }
 
 module _ (events : List Event) (given : Event) where
   -- such an event is there already
@@ -72,4 +72,4 @@ module _ (events : List Event) (given : Event) where
   event_step =
       unless_repeat same_event
       (unless event_refusal
-      (accepted (events ++ plain given ∷ []) (event_added (length events + 1))))
+      (accepted (events ++ declaring given ∷ []) (event_added (length events + 1))))

@@ -1,5 +1,5 @@
 -- A legal state of the club: its games are legal, its values and counts keep their limits, and what is named exists.
-use Rattle.std.specs.Prelude.{◌≡◌, ◌≢◌, ◌+◌, ◌<◌, ◌≤◌, ℕ, List, length, Option, Some, false, IsTrue}
+use Rattle.std.specs.Prelude.{◌≡◌, ◌≢◌, ◌+◌, ◌<◌, ◌≤◌, ℕ, List, length, Option, Some, IsTrue}
 use Rattle.std.specs.Prelude.{IsSome, IfSome, slice_get}
 use Rattle.club_rules.specs.declared.names.GameKind.{GameKind}
 use Rattle.club_rules.specs.declared.names.GameKind.TheVariants.{Draughts, Shogi}
@@ -39,8 +39,6 @@ pub record IsLegalEvent (e : Event) : Type 0 where
   pub name : IsTrue (is_name e.name)
   pub budget : IsTrue (is_budget e.terms.budget)
   pub increment : IsTrue (is_increment e.terms.increment)
-  -- the tables of this schema have no declarations
-  pub declares : e.terms.declares ≡ false
 
 -- a game of the club, of an event in its kind and between two members
 pub record IsGameOf {DM SM P M E T : Type 0} (rules : GameRules P M E T) (kind : GameKind) (s : State DM SM)

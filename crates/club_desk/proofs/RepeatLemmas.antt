@@ -1,6 +1,6 @@
 -- An accepted request that comes again after further sessions is answered alike.
 use Rattle.std.proofs.Common.{◌≡◌, ℕ, List, [], ◌∷◌, ◌++◌, Bool, true, false, Option, Some, None, refl, sym, subst, ap}
-use Rattle.std.proofs.Common.{◌∙◌, ap₂}
+use Rattle.std.proofs.Common.{◌∙◌, ap₂, inl, inr}
 use Rattle.std.specs.Prelude.{take, is_some}
 use Rattle.club_requests.specs.declared.requests.Caller.{Caller}
 use Rattle.club_requests.specs.declared.refusals.Refusal.TheVariants.{UnknownKey}
@@ -11,11 +11,13 @@ use Rattle.club_rows.specs.Club.{both_games, ClubState, IsClub}
 use Rattle.club_laws.specs.Laws.{AnswersAgain, StillRepeats}
 use Rattle.club_changes.specs.Steps.{club_next, club_step}
 use Rattle.store.specs.Runs.{club_fold, club_accepted}
-use Rattle.store.specs.Histories.{Session, SessionReaches, Reaches}
+use Rattle.store.specs.Histories as history
+use Rattle.store.specs.Histories.{Chapter, Place, SessionLeads, SessionReaches, Reaches}
+use Rattle.store_tables.specs.declared.names.Version.TheVariants.{Current}
 use Rattle.http_head.specs.Request as head
 use Rattle.http_desk.specs.Desk.{Due, this, outcome_answer, serve, serve_command}
 use Rattle.club_desk.specs.Served.{has_key, served}
-use Rattle.club_desk.specs.Repeats.{AsksFor, AnswersAlike}
+use Rattle.club_desk.specs.Repeats.{AsksFor, AnswersAlike, stands_at}
 
 fold_more : (s : ClubState) (first second : List Request) → club_fold (club_fold s first) second
     ≡ club_fold s (first ++ second)
@@ -27,15 +29,22 @@ pub record IsFolded (before after : ClubState) : Type 0 where
   pub requests : List Request
   pub is : after ≡ club_fold before requests
 
-reached : (before after : ClubState) (sessions : List Session) → Reaches before sessions after → IsFolded before after
-reached before after [] is = record { requests = []; is = is }
-reached before after (session ∷ sessions) (between, one, rest) =
-    let first = take one.k (club_accepted before session.requests) in
-    let later = reached between after sessions rest in
+reached : (before after : Place) (chapters : List Chapter) → before.version ≡ Current → Reaches before chapters after
+    → IsFolded before.state after.state
+reached before after [] last is = record { requests = []; is = ap (λ (p : Place). p.state) is }
+reached before after (history.served session ∷ chapters) last (between, (version, leads), rest) =
+    let one : SessionReaches before.state session between.state =
+    subst (λ v. SessionLeads v before.state session between.state) last leads in
+    let first = take one.k (club_accepted before.state session.requests) in
+    let later = reached between after chapters (version ∙ last) rest in
     record {
       requests = first ++ later.requests;
-      is = later.is ∙ (ap (λ s. club_fold s later.requests) one.is ∙ fold_more before first later.requests);
+      is = later.is ∙ (ap (λ s. club_fold s later.requests) one.is ∙ fold_more before.state first later.requests);
     }
+reached before after (history.upgraded answered ∷ chapters) last (between, (same, version), rest) =
+    let current : between.version ≡ Current = elim version [ inl is ↦ is | inr stays ↦ stays.1 ∙ last ] in
+    let later = reached between after chapters current rest in
+    record { requests = later.requests; is = later.is ∙ ap (λ s. club_fold s later.requests) same }
 
 -- what is not refused for its key is of a member
 some_caller : (s : ClubState) (moment : ℕ) (command : Command) (caller : Option Caller) (outcome : Outcome ClubState)
@@ -64,7 +73,7 @@ answers_alike again before after later moment next request key number command re
     still =
     let first : Request = record { who = key_holder key; command = command; moment = moment } in
     let second : Request = record { who = key_holder key; command = command; moment = next } in
-    let folded = reached after later between leads in
+    let folded = reached (stands_at after) (stands_at later) between refl leads in
     let stood : StillRepeats (club_fold after folded.requests) command =
     subst (λ s. StillRepeats s command) folded.is still in
     let told : club_step (club_fold after folded.requests) second ≡ repeated reply =

@@ -4,48 +4,51 @@ use Rattle.std.proofs.Common.{inr}
 use Rattle.std.proofs.Common.{append_assoc}
 use Rattle.std.proofs.lemmas.List.{append-nil}
 use Rattle.sqlite.specs.State.{State, HasCleanDisk}
+use Rattle.sqlite.specs.Tree.{Trees}
 use Rattle.store_tables.specs.Reading.{OnlyReads}
 use Rattle.club_requests.specs.Limits.{last_moment}
 use Rattle.club_core.specs.State.{Request}
 use Rattle.club_rows.specs.Club.{ClubState}
-use Rattle.store.specs.Histories.{Session, IsReachable, IsHistory, cut_session}
+use Rattle.store.specs.Histories.{Chapter, IsReachable, IsHistory, cut_session}
 use Rattle.club_changes.specs.Steps.{KeepsClub, club_next}
 use Rattle.store.proofs.Proved.{taken_session, one_leads, one_cut}
 use Rattle.club_desk.specs.Served.{served}
 use Rattle.club_desk.specs.Standing.{IsServed, IsLeft, MayLeave}
-use Rattle.club_desk.specs.Turns.{IsTurn, AreTurns, AreWhole, IsHistoryOn, IsReachableOn}
+use Rattle.club_desk.specs.Repeats.{stands_at}
+use Rattle.club_desk.specs.Turns.{IsTurn, IsTurnOf, AreTurns, IsWhole, AreWhole, IsHistoryOn, IsReachableOn}
 use Rattle.http_port.specs.Visits.{HasActed, HasServed}
 use Rattle.club_desk.proofs.NextLemmas.{seen_next}
 
-turns_more : (turns : List Session) (session : Session) (request : Request) → AreTurns turns → IsTurn request
-    → session.requests ≡ request ∷ [] → AreTurns (turns ++ session ∷ [])
-turns_more [] session request are turn is = ((request, turn, is), tt)
-turns_more (one ∷ turns) session request are turn is = (are.0, turns_more turns session request are.1 turn is)
+turns_more : (turns : List Chapter) (chapter : Chapter) → AreTurns turns → IsTurnOf chapter
+    → AreTurns (turns ++ chapter ∷ [])
+turns_more [] chapter are turn = (turn, tt)
+turns_more (one ∷ turns) chapter are turn = (are.0, turns_more turns chapter are.1 turn)
 
-whole_more : (turns : List Session) (session : Session) → AreWhole turns → session.is_whole ≡ true
-    → AreWhole (turns ++ session ∷ [])
-whole_more [] session whole is = (is, tt)
-whole_more (one ∷ turns) session whole is = (whole.0, whole_more turns session whole.1 is)
+whole_more : (turns : List Chapter) (chapter : Chapter) → AreWhole turns → IsWhole chapter
+    → AreWhole (turns ++ chapter ∷ [])
+whole_more [] chapter whole is = (is, tt)
+whole_more (one ∷ turns) chapter whole is = (whole.0, whole_more turns chapter whole.1 is)
 
 -- where it began
-pub stands_first : (sessions : List Session) (now : State) → IsHistory sessions now → IsHistoryOn sessions now
+pub stands_first : (sessions : List Chapter) (now : State) → IsHistory sessions now → IsHistoryOn sessions now
 stands_first sessions now stands =
     record {
       turns = [];
       are_turns = tt;
       whole = tt;
-      stands = let P : List Session → Type 0 = λ xs. IsHistory xs now in
+      stands = let P : List Chapter → Type 0 = λ xs. IsHistory xs now in
           subst P (sym (append-nil sessions)) stands;
     }
 
-pub stands_led : (sessions : List Session) (now : State) → IsHistoryOn sessions now → IsReachableOn sessions now
+pub stands_led : (sessions : List Chapter) (now : State) → IsHistoryOn sessions now → IsReachableOn sessions now
 stands_led sessions now on =
     record {
       turns = on.turns;
       are_turns = on.are_turns;
       led =
           λ db may. record {
-            after = on.stands.after;
+            from = on.stands.from;
+            after = stands_at on.stands.after;
             legal = on.stands.legal;
             leads = on.stands.leads;
             leaves =
@@ -54,13 +57,17 @@ stands_led sessions now on =
     }
 
 -- a call that only read leaves nothing else
-pub reads_led : (sessions : List Session) (old new : State) → OnlyReads old new → HasCleanDisk new
-    → IsHistory sessions old → IsReachableOn sessions new
-reads_led sessions old new reads clean stands =
-    let on = stands_led sessions old (stands_first sessions old stands) in
-    record { turns = on.turns; are_turns = on.are_turns; led = λ db may. on.led db (reads.may clean db may) }
+pub reads_led : (sessions : List Chapter) (old new : State) → OnlyReads old new → HasCleanDisk new
+    → ((db : Trees) → old.may_leave db → IsReachable sessions db) → IsReachableOn sessions new
+reads_led sessions old new reads clean led = record {
+  turns = [];
+  are_turns = tt;
+  led = λ db may.
+      let P : List Chapter → Type 0 = λ xs. IsReachable xs db in
+      subst P (sym (append-nil sessions)) (led db (reads.may clean db may));
+}
 
-module _ (keeps : KeepsClub) (sessions : List Session) (old : State) (on : IsHistoryOn sessions old) where
+module _ (keeps : KeepsClub) (sessions : List Chapter) (old : State) (on : IsHistoryOn sessions old) where
   abbrev before : ClubState
   before = on.stands.after
 
@@ -70,22 +77,30 @@ module _ (keeps : KeepsClub) (sessions : List Session) (old : State) (on : IsHis
         turns = on.turns;
         are_turns = on.are_turns;
         whole = on.whole;
-        stands = record { after = before; legal = is.legal; leads = on.stands.leads; exactly = is.exactly };
+        stands = record {
+          from = on.stands.from;
+          after = before;
+          legal = is.legal;
+          leads = on.stands.leads;
+          exactly =
+              is.exactly;
+        };
       }
 
   goes : (shut : Bool) (now : State) (request : Request) → IsTurn request → IsServed shut now (club_next before request)
       → IsHistoryOn sessions now
   goes shut now request turn is =
       let one = taken_session before request in
-      let P : List Session → Type 0 = λ xs. IsHistory xs now in
+      let P : List Chapter → Type 0 = λ xs. IsHistory xs now in
       record {
         turns = on.turns ++ one ∷ [];
-        are_turns = turns_more on.turns one request on.are_turns turn refl;
+        are_turns = turns_more on.turns one on.are_turns (request, turn, refl);
         whole = whole_more on.turns one on.whole refl;
         stands = subst P (append_assoc sessions on.turns (one ∷ [])) (record {
+          from = on.stands.from;
           after = club_next before request;
           legal = is.legal;
-          leads = one_leads before (sessions ++ on.turns) request on.stands.leads;
+          leads = one_leads on.stands.from before (sessions ++ on.turns) request on.stands.leads;
           exactly = is.exactly;
         });
       }
@@ -116,7 +131,8 @@ module _ (keeps : KeepsClub) (sessions : List Session) (old : State) (on : IsHis
         turns = on.turns;
         are_turns = on.are_turns;
         led = λ db may. record {
-          after = before;
+          from = on.stands.from;
+          after = stands_at before;
           legal = on.stands.legal;
           leads = on.stands.leads;
           leaves = elim (left db may) [ inl it ↦ it | inr it ↦ it ];
@@ -129,11 +145,11 @@ module _ (keeps : KeepsClub) (sessions : List Session) (old : State) (on : IsHis
       let one = cut_session request in
       record {
         turns = on.turns ++ one ∷ [];
-        are_turns = turns_more on.turns one request on.are_turns turn refl;
+        are_turns = turns_more on.turns one on.are_turns (request, turn, refl);
         led = λ db may.
-            let P : List Session → Type 0 = λ xs. IsReachable xs db in
+            let P : List Chapter → Type 0 = λ xs. IsReachable xs db in
             subst P (append_assoc sessions on.turns (one ∷ []))
-            (one_cut before (sessions ++ on.turns) request db on.stands.leads on.stands.legal
+            (one_cut on.stands.from before (sessions ++ on.turns) request db on.stands.leads on.stands.legal
             (keeps before request turn.within on.stands.legal) (left db may));
       }
 
@@ -158,7 +174,7 @@ module _ (keeps : KeepsClub) (sessions : List Session) (old : State) (on : IsHis
 abbrev pub Acted : Bool → State → ClubState → Type 0
 Acted shut now s = HasServed served (IsServed shut now) (IsLeft shut now) s
 
-module _ (keeps : KeepsClub) (sessions : List Session) (old_shut : Bool) (old : State) (ready : old_shut ≡ false)
+module _ (keeps : KeepsClub) (sessions : List Chapter) (old_shut : Bool) (old : State) (ready : old_shut ≡ false)
     (on : IsHistoryOn sessions old) where
   abbrev served_before : IsServed old_shut old on.stands.after
   served_before = record { ready = ready; legal = on.stands.legal; exactly = on.stands.exactly }

@@ -5,7 +5,8 @@ use Rattle.club_core.specs.State.{Command, key_holder}
 use Rattle.club_rows.specs.Club.{ClubState, IsClub}
 use Rattle.club_laws.specs.Laws.{StillRepeats}
 use Rattle.club_changes.specs.Steps.{club_step}
-use Rattle.store.specs.Histories.{Session, Reaches}
+use Rattle.store.specs.Histories.{Chapter, Place, Reaches}
+use Rattle.store_tables.specs.declared.names.Version.TheVariants.{Current}
 use Rattle.http_head.specs.Request as head
 use Rattle.http_desk.specs.Desk.{serve, serve_command}
 use Rattle.club_desk.specs.Served.{has_key, served}
@@ -15,13 +16,18 @@ pub record AsksFor (request : head.Request) (key : List ℕ) (number : ℕ) (com
   pub is : (s : ClubState) (moment : ℕ) → has_key s key ≡ true
       → serve served s moment request ≡ serve_command served s moment key number (Some command)
 
--- Whatever sessions came between, with their ends and openings, and whatever the moment is: it changes nothing, and is
+-- the state, in the last version
+abbrev pub stands_at : ClubState → Place
+stands_at s = record { version = Current; state = s }
+
+-- Whatever sessions came between, with their ends and openings and upgrades, and whatever the moment is: it changes
+-- nothing, and is
 -- due the answer that it was given. An offer of a draw is so only as long as no move came since.
 abbrev pub AnswersAlike : Type 0
 AnswersAlike =
     (before after later : ClubState) (moment again : ℕ) (request : head.Request) (key : List ℕ) (number : ℕ)
-    (command : Command) (reply : Reply) (between : List Session) →
+    (command : Command) (reply : Reply) (between : List Chapter) →
     IsClub before → AsksFor request key number command →
     club_step before (record { who = key_holder key; command = command; moment = moment }) ≡ accepted after reply →
-    Reaches after between later → StillRepeats later command →
+    Reaches (stands_at after) between (stands_at later) → StillRepeats later command →
     serve served later again request ≡ (later, (serve served before moment request).1)

@@ -5,7 +5,8 @@ use Rattle.sqlite.specs.State.{State}
 use Rattle.club_requests.specs.Limits.{last_moment}
 use Rattle.club_core.specs.State.{Command, add_member, add_event, seat, import_record, on_game, sweep}
 use Rattle.club_core.specs.State.{open_challenge, withdraw_challenge, answer_challenge, Request, key_holder}
-use Rattle.store.specs.Histories.{Session, IsReachable, IsHistory}
+use Rattle.store.specs.Histories as history
+use Rattle.store.specs.Histories.{Chapter, IsReachable, IsHistory}
 
 -- a command that members give at the desk: one on a game, or one about a challenge
 abbrev pub IsMembers : Command → Type 0
@@ -27,26 +28,33 @@ pub record IsTurn (request : Request) : Type 0 where
   pub is : request ≡ record { who = key_holder key; command = command; moment = request.moment }
   pub within : request.moment ≤ last_moment
 
--- each session has one request, which is such a command
-abbrev pub AreTurns : List Session → Type 0
-AreTurns [] = ⊤
-AreTurns (session ∷ sessions) = ((request : Request) × IsTurn request × (session.requests ≡ request ∷ []))
-    × AreTurns sessions
+-- a session of one request, which is such a command
+abbrev pub IsTurnOf : Chapter → Type 0
+IsTurnOf (history.served session) = (request : Request) × IsTurn request × (session.requests ≡ request ∷ [])
+IsTurnOf (history.upgraded answered) = ⊥
 
--- none of the sessions was cut off
-abbrev pub AreWhole : List Session → Type 0
+abbrev pub AreTurns : List Chapter → Type 0
+AreTurns [] = ⊤
+AreTurns (chapter ∷ chapters) = IsTurnOf chapter × AreTurns chapters
+
+-- a session that was not cut off
+abbrev pub IsWhole : Chapter → Type 0
+IsWhole (history.served session) = session.is_whole ≡ true
+IsWhole (history.upgraded answered) = ⊥
+
+abbrev pub AreWhole : List Chapter → Type 0
 AreWhole [] = ⊤
-AreWhole (session ∷ sessions) = (session.is_whole ≡ true) × AreWhole sessions
+AreWhole (chapter ∷ chapters) = IsWhole chapter × AreWhole chapters
 
 -- with turns added, none of which was cut off, the sessions lead to what stands
-pub record IsHistoryOn (sessions : List Session) (now : State) : Type 0 where
-  pub turns : List Session
+pub record IsHistoryOn (sessions : List Chapter) (now : State) : Type 0 where
+  pub turns : List Chapter
   pub are_turns : AreTurns turns
   pub whole : AreWhole turns
   pub stands : IsHistory (sessions ++ turns) now
 
 -- with turns added, the sessions lead to whatever a stop leaves
-pub record IsReachableOn (sessions : List Session) (now : State) : Type 0 where
-  pub turns : List Session
+pub record IsReachableOn (sessions : List Chapter) (now : State) : Type 0 where
+  pub turns : List Chapter
   pub are_turns : AreTurns turns
   pub led : (db : Trees) → now.may_leave db → IsReachable (sessions ++ turns) db

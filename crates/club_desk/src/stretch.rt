@@ -5,7 +5,7 @@ ghost use Rattle.sqlite.specs.State.{HasCleanDisk, Opens, IsLive};
 ghost use Rattle.sqlite.specs.Held.{state};
 ghost use Rattle.store.specs.Histories.{IsReachable, IsHistory};
 ghost use Rattle.store_tables.specs.Club.{Leaves};
-ghost use Rattle.store_tables.specs.Tables.{club_schema};
+ghost use Rattle.store_tables.specs.Tables.{IsClubSchema};
 ghost use Rattle.club_rows.specs.Club.{ClubState, IsClub, tables};
 ghost use Rattle.club_opening.specs.Refused.{HoldClub};
 ghost use Rattle.club_desk.specs.Told.{IfTaken, IsOfClub, IsTold, fault_behind};
@@ -80,7 +80,7 @@ pub fn serve_stretch<S: Alter, V: Visits>(
     ensures told { HasCleanDisk (state S.Store result.1) →
         IsTold (state S.Store conn) (state S.Store result.1) result.0 }
     ensures taken { HasCleanDisk (state S.Store result.1) → Opens (state S.Store conn) → IsLive (state S.Store conn) →
-        (state S.Store conn).now.schema ≡ club_schema →
+        IsClubSchema (state S.Store conn).now.schema →
         IfTaken result.0 (HoldClub (state S.Store conn).committed.trees) }
     ensures good { HasCleanDisk (state S.Store result.1) → Opens (state S.Store conn) → IsLive (state S.Store conn) →
         (s : ClubState) → IsClub s → Leaves (tables s) (state S.Store conn).committed.trees →

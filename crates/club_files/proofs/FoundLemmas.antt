@@ -6,8 +6,13 @@ use Rattle.sqlite.specs.Tree.{Trees}
 use Rattle.sqlite.specs.State.{State, Opens}
 use Rattle.sqlite.specs.Start.{FindsIn}
 use Rattle.store_tables.specs.Contents.{Content}
-use Rattle.store_tables.specs.Club.{IsExactly, Leaves}
-use Rattle.store_tables.specs.Tables.{club_schema}
+use Rattle.store_tables.specs.Contents as of_schema
+use Rattle.store_tables.specs.Tables.{IsClubSchema, schema_of}
+use Rattle.store_tables.specs.declared.names.Version.{Version}
+use Rattle.store_tables.specs.declared.names.Version.TheVariants.{First, Current}
+use Rattle.club_rows.specs.Club.{ClubState}
+use Rattle.club_opening.specs.Blames.{Names}
+use Rattle.club_opening.proofs.Proved.{schema_known}
 use Rattle.club_opening.specs.declared.fault.OpenFault.{OpenFault}
 use Rattle.sessions.specs.Finds.{Finds, IsFoundIn}
 use Rattle.club_words.specs.declared.words.Task.{Task}
@@ -15,14 +20,16 @@ use Rattle.club_words.specs.declared.words.Task.TheVariants as task
 use Rattle.club_orders.specs.declared.report.Report.{Report}
 use Rattle.club_orders.specs.declared.report.Report.TheVariants.{Ready, Sound, Answered, Listed, Exported, Unwritten}
 use Rattle.club_orders.specs.declared.report.Report.TheVariants.{Unopened, Stopped, InUse, NotOpened, NoMoment, Unread}
-use Rattle.club_orders.specs.declared.report.Report.TheVariants.{Listening, Unbound, NoMemory}
-use Rattle.club_orders.specs.Report.{IfUnopened, IfVerify}
-use Rattle.club_opening.specs.Refused.{HoldClub, IsBlamed, IsKept, IsRefusal}
-use Rattle.club_orders.specs.Refused.{IfTakesOver}
+use Rattle.club_orders.specs.declared.report.Report.TheVariants.{Listening, Unbound, NoMemory, Upgraded}
+use Rattle.club_orders.specs.declared.report.Report.TheVariants.{AlreadyUpgraded}
+use Rattle.club_orders.specs.Report.{IfUnopened, IfVerify, IsCarriedOver}
+use Rattle.club_opening.specs.Refused.{HoldClub, IsKept, IsRefusal}
+use Rattle.club_orders.specs.Refused.{IfTakesOver, IfUpgrade, IsUpgradeRefusal}
 use Rattle.http_desk.specs.declared.faults.ClubFault.{ClubFault}
 use Rattle.http_desk.specs.declared.faults.ClubFault.TheVariants.{Foreign, Schema, Damaged, Store, Reopen, Memory}
 use Rattle.club_desk.specs.Told.{IfTaken, IsTold}
-use Rattle.club_files.specs.Found.{AreKept, AreRefused, AreSound, IsToldOf, club_database}
+use Rattle.club_files.specs.Found.{AreCarriedOver, AreKept, AreNotUpgraded, AreRefused, AreSound, IsToldOf}
+use Rattle.club_files.specs.Found.{club_database}
 
 -- ---- what is said of one task or of one report goes on
 
@@ -33,6 +40,7 @@ if_verify (task.Legal game) goes is = tt
 if_verify (task.Table name) goes is = tt
 if_verify (task.Export game) goes is = tt
 if_verify task.Verify goes is = goes is
+if_verify task.Upgrade goes is = tt
 
 pub verify_under : (P Q : Type 0) (t : Task) → (P → IfVerify t Q) → IfVerify t (P → Q)
 verify_under P Q task.Init is = tt
@@ -41,6 +49,7 @@ verify_under P Q (task.Legal game) is = tt
 verify_under P Q (task.Table name) is = tt
 verify_under P Q (task.Export game) is = tt
 verify_under P Q task.Verify is = is
+verify_under P Q task.Upgrade is = tt
 
 pub if_takes_over : {P Q : Type 0} (t : Task) → (P → Q) → IfTakesOver t P → IfTakesOver t Q
 if_takes_over task.Init goes is = tt
@@ -49,11 +58,23 @@ if_takes_over (task.Legal game) goes is = goes is
 if_takes_over (task.Table name) goes is = goes is
 if_takes_over (task.Export game) goes is = goes is
 if_takes_over task.Verify goes is = goes is
+if_takes_over task.Upgrade goes is = tt
+
+pub if_upgrade : {P Q : Type 0} (t : Task) → (P → Q) → IfUpgrade t P → IfUpgrade t Q
+if_upgrade task.Init goes is = tt
+if_upgrade (task.Request command) goes is = tt
+if_upgrade (task.Legal game) goes is = tt
+if_upgrade (task.Table name) goes is = tt
+if_upgrade (task.Export game) goes is = tt
+if_upgrade task.Verify goes is = tt
+if_upgrade task.Upgrade goes is = goes is
 
 pub if_unopened : (P Q : OpenFault → Type 0) (report : Report) → ((fault : OpenFault) → P fault → Q fault)
     → IfUnopened report P → IfUnopened report Q
 if_unopened P Q Ready goes is = tt
 if_unopened P Q Sound goes is = tt
+if_unopened P Q Upgraded goes is = tt
+if_unopened P Q AlreadyUpgraded goes is = tt
 if_unopened P Q (Answered outcome) goes is = tt
 if_unopened P Q (Listed texts) goes is = tt
 if_unopened P Q Exported goes is = tt
@@ -88,28 +109,35 @@ taken_under P Q (Some Memory) is = tt
 
 -- ---- the tables that an opening found
 
-blamed_found : (content : Content) (s : State) (fault : OpenFault) → IsExactly content s → IsBlamed s.now fault
-    → IsBlamed (club_database s.committed.trees) fault
-blamed_found content s fault at blamed =
-    let P : Trees → Type 0 = λ trees. IsBlamed (club_database trees) fault in
+-- content of whatever version that stands there is what the connection has
+abbrev pub IsExact : State → Type 0
+IsExact s = (version : Version) (content : Content)
+    → of_schema.Leaves (schema_of version) content s.committed.trees
+    → of_schema.IsExactly (schema_of version) content s
+
+blamed_found : (oldest version : Version) (content : Content) (s : State) (fault : OpenFault)
+    → of_schema.IsExactly (schema_of version) content s → Names oldest s.now fault
+    → Names oldest (club_database version s.committed.trees) fault
+blamed_found oldest version content s fault at blamed =
+    let P : Trees → Type 0 = λ trees. Names oldest (club_database version trees) fault in
     subst P (sym (ap (λ d. d.trees) at.committed))
-    (subst (λ schema. IsBlamed (record { schema = schema; trees = s.now.trees }) fault) at.now.schema blamed)
+    (subst (λ schema. Names oldest (record { schema = schema; trees = s.now.trees }) fault) at.now.schema blamed)
 
 module _ (files : Image) (old : State) (here : FindsIn files old) where
   abbrev pub found_there : IsFoundIn files old.committed.trees
   found_there = record { holds = here.holds; reads = here.reads }
 
-  pub sound_files : ((content : Content) → Leaves content old.committed.trees → IsExactly content old)
-      → (old.now.schema ≡ club_schema → HoldClub old.committed.trees) → AreSound files
+  pub sound_files : IsExact old → (IsClubSchema old.now.schema → HoldClub old.committed.trees) → AreSound files
   sound_files exact legal =
       record {
         found = old.committed.trees;
         is_found = found_there;
-        legal = λ stand. legal (exact stand.0 stand.1).now.schema;
+        legal = λ version stand.
+            legal (schema_known version old.now.schema (exact version stand.0 stand.1).now.schema);
       }
 
-  pub taken_files : ((content : Content) → Leaves content old.committed.trees → IsExactly content old)
-      → (told : Option ClubFault) → (old.now.schema ≡ club_schema → IfTaken told (HoldClub old.committed.trees))
+  pub taken_files : IsExact old → (told : Option ClubFault)
+      → (IsClubSchema old.now.schema → IfTaken told (HoldClub old.committed.trees))
       → IfTaken told (AreSound files)
   taken_files exact told taken =
       if_taken told (λ legal. sound_files exact legal)
@@ -125,20 +153,41 @@ module _ (files : Image) (old : State) (here : FindsIn files old) where
           stays = λ left may later finds. ∥∥₁_map (member left may later finds.holds) (λ now. kept later now);
         }
 
-    pub refused_files : Opens old
-        → ((content : Content) → Leaves content old.committed.trees → IsExactly content old) → (fault : OpenFault)
+    pub refused_files : Opens old → IsExact old → (fault : OpenFault)
         → IsRefusal old new fault → AreRefused files MayLeave fault
     unfolding kept_files
     refused_files opens exact fault refusal =
         record {
           kept = kept_files (refusal.kept opens);
-          blames = λ stand.
-              let at = exact stand.0 stand.1 in
-              blamed_found stand.0 old fault at (refusal.blames at.now.schema);
+          blames = λ version stand.
+              let at = exact version stand.0 stand.1 in
+              blamed_found Current version stand.0 old fault at
+              (refusal.blames (schema_known version old.now.schema at.now.schema));
         }
 
-    pub told_files : Opens old
-        → ((content : Content) → Leaves content old.committed.trees → IsExactly content old)
+    pub not_upgraded : Opens old → IsExact old → (fault : OpenFault) → IsUpgradeRefusal old new fault
+        → AreNotUpgraded files MayLeave fault
+    not_upgraded opens exact fault refusal =
+        record {
+          found = old.committed.trees;
+          is_found = found_there;
+          blames = λ version stand.
+              let at = exact version stand.0 stand.1 in
+              blamed_found First version stand.0 old fault at
+              (refusal.blames (schema_known version old.now.schema at.now.schema));
+          kept = λ other. kept_files (refusal.kept other opens);
+        }
+
+    pub carried_files : (s : ClubState) (report : Report) → IsCarriedOver s report new
+        → AreCarriedOver s report MayLeave
+    carried_files s report carried =
+        record {
+          answer = carried.answer;
+          leaves = λ left may later finds.
+              ∥∥₁_map (member left may later finds.holds) (λ now. carried.leaves later now);
+        }
+
+    pub told_files : Opens old → IsExact old
         → (told : Option ClubFault) → IsTold old new told → IsToldOf files MayLeave told
     told_files opens exact None is = tt
     told_files opens exact (Some fault) (inl is) = inl is

@@ -1,15 +1,23 @@
 -- What an opening finds in files, and what later ones find in them.
-use Rattle.std.specs.Prelude.{◌≡◌, ◌⊎◌, ⊤, Option, Some, None}
+use Rattle.std.specs.Prelude.{◌≡◌, ◌≢◌, ◌⊎◌, ⊤, Option, Some, None}
 use Rattle.sqlite_wal.specs.Recovery.{Image}
 use Rattle.sqlite.specs.Tree.{Trees}
 use Rattle.sqlite.specs.Effect.{Database}
+use Rattle.store_tables.specs.Contents as of_schema
 use Rattle.store_tables.specs.Contents.{Content}
 use Rattle.store_tables.specs.Club.{Leaves}
-use Rattle.store_tables.specs.Tables.{club_schema}
+use Rattle.store_tables.specs.Tables.{first_schema, schema_of}
+use Rattle.store_tables.specs.declared.names.Version.{Version}
+use Rattle.store_tables.specs.declared.names.Version.TheVariants.{First, Current}
 use Rattle.club_rows.specs.Club.{ClubState, IsClub, tables}
+use Rattle.club_rows.specs.FirstSchema.{IsFirstClub, first_tables}
+use Rattle.club_opening.specs.Blames.{Names}
 use Rattle.club_opening.specs.declared.fault.OpenFault.{OpenFault}
+use Rattle.club_opening.specs.declared.fault.OpenFault.TheVariants as opening
 use Rattle.sessions.specs.Finds.{IsFoundIn}
-use Rattle.club_opening.specs.Refused.{HoldClub, IsBlamed}
+use Rattle.club_opening.specs.Refused.{HoldClub}
+use Rattle.club_orders.specs.Report.{AreCarried, IsUpgraded}
+use Rattle.club_orders.specs.declared.report.Report.{Report}
 use Rattle.http_desk.specs.declared.faults.ClubFault.{ClubFault}
 use Rattle.http_desk.specs.declared.faults.ClubFault.TheVariants.{Reopen}
 use Rattle.club_desk.specs.Faults.{told_of_opening}
@@ -19,15 +27,20 @@ pub record AreFilesOf (s : ClubState) (files : Image) : Type 0 where
   pub legal : IsClub s
   pub finds : (found : Trees) → IsFoundIn files found → Leaves (tables s) found
 
--- the tables of a club stand there, whatever their rows
-abbrev pub HasTables : Trees → Type 0
-HasTables trees = (content : Content) × Leaves content trees
+-- The files are those of this legal state in schema 1.
+pub record AreFirstFilesOf (s : ClubState) (files : Image) : Type 0 where
+  pub legal : IsFirstClub s
+  pub finds : (found : Trees) → IsFoundIn files found → of_schema.Leaves first_schema (first_tables s) found
 
--- Where an opening found the tables of a club, they are those of a legal state.
+-- the tables of a club stand there, in this version, whatever their rows
+abbrev pub HasTables : Version → Trees → Type 0
+HasTables version trees = (content : Content) × of_schema.Leaves (schema_of version) content trees
+
+-- Where an opening found the tables of a club, they are those of a legal state in schema 2.
 pub record AreSound (files : Image) : Type 0 where
   pub found : Trees
   pub is_found : IsFoundIn files found
-  pub legal : HasTables found → HoldClub found
+  pub legal : (version : Version) → HasTables version found → HoldClub found
 
 -- Later openings find what an opening found, of whatever a stop leaves.
 pub record AreKept (files : Image) (MayLeave : Image → Type 0) : Type 0 where
@@ -35,17 +48,31 @@ pub record AreKept (files : Image) (MayLeave : Image → Type 0) : Type 0 where
   pub is_found : IsFoundIn files found
   pub stays : (left : Image) → MayLeave left → (later : Trees) → IsFoundIn left later → ∥ later ≡ found ∥₁
 
-abbrev pub club_database : Trees → Database
-club_database trees = record { schema = club_schema; trees = trees }
+abbrev pub club_database : Version → Trees → Database
+club_database version trees = record { schema = schema_of version; trees = trees }
 
 -- What an opening found was not taken as a club's: where the tables of a club stood there, they are blamed; and later
 -- openings find the same.
 pub record AreRefused (files : Image) (MayLeave : Image → Type 0) (fault : OpenFault) : Type 0 where
   pub kept : AreKept files MayLeave
-  pub blames : HasTables kept.found → IsBlamed (club_database kept.found) fault
+  pub blames : (version : Version) → HasTables version kept.found
+      → Names Current (club_database version kept.found) fault
+
+-- The same of an upgrade, after which a call of the database may have failed: then later openings may find more.
+pub record AreNotUpgraded (files : Image) (MayLeave : Image → Type 0) (fault : OpenFault) : Type 0 where
+  pub found : Trees
+  pub is_found : IsFoundIn files found
+  pub blames : (version : Version) → HasTables version found → Names First (club_database version found) fault
+  pub kept : fault ≢ opening.Store → AreKept files MayLeave
+
+-- What an upgrade of a club of schema 1 came to: later openings find the tables of its state, in schema 2, or where it
+-- was not carried over in schema 1.
+pub record AreCarriedOver (s : ClubState) (report : Report) (MayLeave : Image → Type 0) : Type 0 where
+  pub answer : IsUpgraded report
+  pub leaves : (left : Image) → MayLeave left → (later : Trees) → IsFoundIn left later → ∥ AreCarried s report later ∥₁
 
 -- what is told of a stretch: nothing, that a call failed, or why the club was not taken over
 abbrev pub IsToldOf : Image → (Image → Type 0) → Option ClubFault → Type 0
 IsToldOf files MayLeave None = ⊤
 IsToldOf files MayLeave (Some fault) = (fault ≡ Reopen)
-    ⊎ ((opening : OpenFault) × (fault ≡ told_of_opening opening) × AreRefused files MayLeave opening)
+    ⊎ ((why : OpenFault) × (fault ≡ told_of_opening why) × AreRefused files MayLeave why)

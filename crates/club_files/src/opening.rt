@@ -19,8 +19,8 @@ use std::hash::{BuildHasher, RandomState};
 use std::thread::sleep;
 use std::time::Duration;
 
-// How often files that are in use are asked for again by an order, and how long is waited before each time: five seconds
-// in all.
+// How often files that are in use are asked for again by an order, and how long is waited before each time: five
+// seconds in all.
 const TURNS_OF_AN_ORDER: u8 = 50;
 
 // The same for a stretch of serving, before which those who come are heard on, and not kept waiting.

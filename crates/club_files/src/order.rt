@@ -16,9 +16,10 @@ ghost use Rattle.club_orders.specs.declared.report.Report.TheVariants.{InUse, No
 ghost use Rattle.club_files.specs.declared.places.Purpose.TheVariants.{Making};
 ghost use Rattle.club_orders.specs.Report.{given, Answers, IfRequest, IfLegal, IfTable, IfExport, IfVerify};
 ghost use Rattle.club_orders.specs.Report.{ListsMoves, ListsTable, WritesRecord, IsPassed, IsBegun, task_sessions};
-ghost use Rattle.club_orders.specs.Report.{IfUnopened, writes};
-ghost use Rattle.club_orders.specs.Refused.{IfTakesOver};
-ghost use Rattle.club_files.specs.Found.{AreFilesOf, AreKept, AreRefused, AreSound};
+ghost use Rattle.club_orders.specs.Report.{IfUnopened, IsRepeated, OnlyUnopened, writes};
+ghost use Rattle.club_orders.specs.Refused.{IfTakesOver, IfUpgrade, IsOlder};
+ghost use Rattle.club_files.specs.Found.{AreCarriedOver, AreFilesOf, AreFirstFilesOf, AreKept, AreNotUpgraded, AreRefused};
+ghost use Rattle.club_files.specs.Found.{AreSound};
 
 use crate::opening::{Again, open_in_turn};
 use crate::places::Purpose;
@@ -43,7 +44,7 @@ fn purpose_of(task: &Task) -> Purpose
 /// Does what is ordered, at that moment, over the files of the order's path, which hold at first what `S` stands for:
 /// opens them as soon as no other program uses them, which it waits for up to five seconds; makes a club, gives the
 /// club that stands there a command of the officer's, lists a game's moves, shows the cross table of an event, writes
-/// the record of a game to `out` or tests that the rows are a club's; and closes. Gives what it came to, and the files
+/// the record of a game to `out`, tests that the rows are a club's or carries them over to schema 2; and closes. Gives what it came to, and the files
 /// where they were opened.
 ///
 /// Where sessions led to whatever an opening finds in the files, they lead, with this command as one more, to whatever
@@ -87,6 +88,19 @@ pub fn obey<S: Again, W: Write>(
     ensures refuses { IfSome result.1 (λ store. IsClean (store_view store) →
         IfTakesOver order.entry.now.task (IfUnopened result.0
         (AreRefused (image_at S.Start) (store_state store).may_leave))) }
+    ensures older { IfSome result.1 (λ store. IsClean (store_view store) →
+        (s : ClubState) → AreFirstFilesOf s (image_at S.Start) →
+        IfTakesOver order.entry.now.task (OnlyUnopened result.0 IsOlder)) }
+    ensures carries { IfSome result.1 (λ store. IsClean (store_view store) →
+        (s : ClubState) → AreFirstFilesOf s (image_at S.Start) →
+        IfUpgrade order.entry.now.task (AreCarriedOver s result.0 (store_state store).may_leave)) }
+    ensures repeats { IfSome result.1 (λ store. IsClean (store_view store) →
+        (s : ClubState) → AreFilesOf s (image_at S.Start) →
+        IfUpgrade order.entry.now.task (IsRepeated result.0 ×
+        AreKept (image_at S.Start) (store_state store).may_leave)) }
+    ensures withheld { IfSome result.1 (λ store. IsClean (store_view store) →
+        IfUpgrade order.entry.now.task (IfUnopened result.0
+        (AreNotUpgraded (image_at S.Start) (store_state store).may_leave))) }
     ensures spares { IfSome result.1 (λ store. IsClean (store_view store) →
         order.entry.now.task ≡ Init → result.0 ≡ Unopened Foreign →
         AreKept (image_at S.Start) (store_state store).may_leave) }

@@ -23,7 +23,7 @@ use Rattle.club_requests.specs.Limits.{is_budget, is_increment}
 use Rattle.club_requests.specs.Outcome.{Reply, Outcome, refused}
 use Rattle.club_requests.specs.Outcome.{map_outcome, by_officer, unless, unless_repeat}
 use Rattle.club_core.specs.Members.{find_id, has_name_or_key, member_tests, member_refusal}
-use Rattle.club_core.specs.Events.{Event, has_event_name, has_good_values, event_tests, event_refusal, plain}
+use Rattle.club_core.specs.Events.{Event, has_event_name, has_good_values, event_tests, event_refusal, declaring}
 use Rattle.club_core.specs.Seats.{Pairing, KeyedGame, are_two, same_seats, seat_tests, seat_refusal}
 use Rattle.club_core.specs.Seats.{pair, seat_found}
 use Rattle.club_core.specs.Challenges.{pairing_for, standing_as}
@@ -260,7 +260,7 @@ module _ {DP DM DE DT SP SM SE ST : Type 0} (kinds : ClubRules DP DM DE DT SP SM
   -- an event is added
   pub events-added : (s : State DM SM) (moment : ℕ) (event : Event) → s.last ≤ moment → moment ≤ last_moment
       → IsLegalState kinds s → event_refusal s.events event ≡ None
-      → IsLegalState kinds (with_events s moment (s.events ++ plain event ∷ []))
+      → IsLegalState kinds (with_events s moment (s.events ++ declaring event ∷ []))
   events-added s moment event later within legal allowed =
       let tests = none-holds (event_tests s.events event) allowed in
       let good : has_good_values event ≡ true = not-false _ tests.1.0 in
@@ -273,11 +273,12 @@ module _ {DP DM DE DT SP SM SE ST : Type 0} (kinds : ClubRules DP DM DE DT SP SM
         member_count = legal.member_count;
         member_names = legal.member_names;
         member_keys = legal.member_keys;
-        events = each-append IsLegalEvent s.events (plain event) legal.events
-            (record { name = values.0; budget = values.1; increment = values.2; declares = refl });
-        event_count = let count : length (s.events ++ plain event ∷ []) ≡ length s.events + 1 = simp length-append in
+        events = each-append IsLegalEvent s.events (declaring event) legal.events
+            (record { name = values.0; budget = values.1; increment = values.2 });
+        event_count = let count : length (s.events ++ declaring event ∷ [])
+            ≡ length s.events + 1 = simp length-append in
             omega (arith, count, room);
-        event_names = are_apart-append (λ e. e.name) s.events (plain event) legal.event_names
+        event_names = are_apart-append (λ e. e.name) s.events (declaring event) legal.event_names
             (λ n x at same. false-true _ (list_any-false (has_event_name event.name) s.events tests.0 n x at)
             (bytes_eq-same x.name event.name same));
         games = λ n g at. later-any s _ (λ id e is. place-append s.events _ id e is) (λ id is. is) later g

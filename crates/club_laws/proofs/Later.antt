@@ -31,7 +31,7 @@ use Rattle.club_rules.specs.declared.names.GameKind.{GameKind}
 use Rattle.club_rules.specs.declared.names.GameKind.TheVariants.{Draughts, Shogi}
 use Rattle.club_core.specs.Imports.{Import}
 use Rattle.club_core.specs.Events.{Terms, Event, has_event_name, event_kind, event_refusal, same_event, event_step}
-use Rattle.club_core.specs.Events.{plain}
+use Rattle.club_core.specs.Events.{declaring}
 use Rattle.club_core.specs.Seats.{has_member_name, seat_step}
 use Rattle.club_core.specs.Challenges.{is_under, challenge_under, challenge_by, put_challenge, is_open, standing_as}
 use Rattle.club_core.specs.Challenges.{opening_step, withdrawal_step, answer_step}
@@ -558,8 +558,8 @@ module _ {DP DM DE DT SP SM SE ST : Type 0} (kinds : ClubRules DP DM DE DT SP SM
       officer-later (λ t. IsLater s t) s (with_events s moment) who (event_step s.events event) (later-refl s)
       (λ all reply is.
       let added = unless-accepted (same_event s.events event) (event_refusal s.events event) _ all reply is in
-      let e : s.events ++ plain event ∷ [] ≡ all = (accepted-same _ all _ reply added.2).0 in
-      rw (← e) (events-later s moment (plain event ∷ [])))
+      let e : s.events ++ declaring event ∷ [] ≡ all = (accepted-same _ all _ reply added.2).0 in
+      rw (← e) (events-later s moment (declaring event ∷ [])))
   command-later s moment who (seat key event first second) =
       officer-later (λ t. IsLater s t) s (with_new_game s moment key) who
       (seat_step s.members s.events (game_under s.games key) _ key event first second) (later-refl s)

@@ -31,7 +31,8 @@ use Rattle.club_requests.specs.Outcome.{challenge_refused, challenge_accepted, O
 use Rattle.club_requests.specs.Outcome.{map_outcome, by_officer}
 use Rattle.club_core.specs.Members as members
 use Rattle.club_core.specs.Members.{find_id, is_member, member_refusal, same_member, member_step}
-use Rattle.club_core.specs.Events.{Terms, Event, event_kind, same_game, is_event, has_event_name, event_refusal, plain}
+use Rattle.club_core.specs.Events.{Terms, Event, event_kind, same_game, is_event, has_event_name, event_refusal}
+use Rattle.club_core.specs.Events.{declaring}
 use Rattle.club_core.specs.Events.{same_event, event_step}
 use Rattle.club_core.specs.Seats.{Pairing, KeyedGame, has_member_name, same_seats, seat_tests, seat_refusal, pair}
 use Rattle.club_core.specs.Seats.{seat_found, seat_step}
@@ -132,16 +133,17 @@ module _ {DM SM : Type 0} (s t : State DM SM) (moment again : ℕ) where
       let by = officer-accepted who _ after reply is in
       let (all, step_is, after_is) = map-accepted (with_events s moment) (event_step s.events event) after reply by.1 in
       let added = unless-accepted (same_event s.events event) (event_refusal s.events event) _ all reply step_is in
-      let stands = accepted-same (s.events ++ plain event ∷ []) all (event_added (length s.events + 1)) reply added.2 in
-      let begins : Begins (s.events ++ plain event ∷ []) t.events =
+      let stands = accepted-same (s.events ++ declaring event ∷ []) all (event_added
+      (length s.events + 1)) reply added.2 in
+      let begins : Begins (s.events ++ declaring event ∷ []) t.events =
       rw (← ap (λ u. u.events) after_is, ← stands.0) at later.events in
       let itself : is_event event event ≡ true =
       and-true _ _
       (and-true _ _ (and-true _ _ (bytes_eq-same event.name event.name refl) (same_game-refl event.game))
       (eq-eqb event.terms.budget event.terms.budget refl)) (eq-eqb event.terms.increment event.terms.increment refl)
       in
-      let found : find_id (is_event event) (s.events ++ plain event ∷ []) ≡ Some (length s.events + 1) =
-      find_id-new (is_event event) s.events (plain event)
+      let found : find_id (is_event event) (s.events ++ declaring event ∷ []) ≡ Some (length s.events + 1) =
+      find_id-new (is_event event) s.events (declaring event)
       (none-found event_added (find_id (is_event event) s.events) added.0) itself in
       let again_found : find_id (is_event event) t.events ≡ Some (length s.events + 1) =
       find-later (is_event event) _ t.events _ begins found in

@@ -1,6 +1,7 @@
 -- From what was read of a table to what a fault says of it, and to the content.
 use Rattle.std.proofs.Common.{
   ◌≡◌,
+  ◌≢◌,
   ◌⊎◌,
   ℕ,
   List,
@@ -28,26 +29,34 @@ use Rattle.sqlite.specs.State.{State, IsUnchanged}
 use Rattle.sqlite.specs.declared.types.Value.TheVariants.{Int}
 use Rattle.sqlite.proofs.Callers.{unchanged_then}
 use Rattle.sqlite_rules.proofs.ListLemmas.{all_has, has_got}
-use Rattle.store_tables.specs.Cells.{IsMeta, meta_cells, member_cells, event_cells, game_cells}
+use Rattle.store_tables.specs.Cells.{IsMeta, meta_cells, member_cells, event_cells, event_rule_cells, game_cells}
 use Rattle.store_tables.specs.declared.rows.MetaRow.{MetaRow}
 use Rattle.sqlite_rules.specs.Lists.{Has}
 use Rattle.store_tables.specs.Content.{Keeps, AreApart, cells}
 use Rattle.store_tables.specs.Contents.{Content, Stores}
-use Rattle.store_tables.specs.Club.{Holds}
+use Rattle.store_tables.specs.Contents as of_schema
 use Rattle.store_tables.specs.Reading.{Tells, AreIds, by_columns}
 use Rattle.sqlite_trees.specs.View.{is_int}
 use Rattle.std.specs.Prelude.{IsTrue, ℤ}
 use Rattle.store_tables.specs.Rows.{HaveIds}
 use Rattle.store_tables.specs.declared.rows.Rows.{Rows}
-use Rattle.store_tables.specs.Tables.{club_schema, meta, members, events, games}
+use Rattle.sqlite.specs.Schema.{Schema}
+use Rattle.store_tables.specs.Tables.{club_schema, first_schema, IsClubSchema, schema_of, schema_number, meta, members}
+use Rattle.store_tables.specs.Tables.{events, event_rules, games}
+use Rattle.store_tables.specs.declared.rows.EventRow.{EventRow}
+use Rattle.store_tables.specs.declared.rows.EventRuleRow.{EventRuleRow}
+use Rattle.store_tables.specs.declared.names.Version.{Version}
+use Rattle.store_tables.specs.declared.names.Version.TheVariants.{First, Current}
 use Rattle.store_tables.proofs.Proved.{one_shown, ids_of, apart_of}
 use Rattle.store_tables.specs.declared.names.Table.{Table}
 use Rattle.club_opening.specs.declared.fault.OpenFault.{OpenFault}
 use Rattle.store_sql.specs.declared.fault.ReadFault.{ReadFault}
 use Rattle.store_sql.specs.Read.{Blames as BlamesRead}
 use Rattle.club_opening.specs.Faults.{told}
-use Rattle.club_opening.specs.declared.fault.OpenFault.TheVariants.{Schema}
-use Rattle.club_opening.specs.Blames.{IsMetaRead, IsOneMeta, HasTypes, Blames, NamesTable, NamesSchema, AreRead}
+use Rattle.club_opening.specs.declared.fault.OpenFault.TheVariants.{Foreign, Memory, Store}
+use Rattle.club_opening.specs.declared.fault.OpenFault.TheVariants as open_fault
+use Rattle.club_opening.specs.Blames.{AreRead, Blames, HasNumber, HasTypes, IsMetaRead, IsOneMeta, Names, NamesForeign}
+use Rattle.club_opening.specs.Blames.{AreRulesRead, IsNumberFrom, NamesSchema, NamesTable}
 use Rattle.club_opening.specs.Places.{NamesRows}
 use Rattle.store_sql.specs.Read.{IsReadAs}
 
@@ -60,16 +69,22 @@ blames_told t definition IsTyped old e fault is (inr (inr (named, wrong))) = inr
 
 -- ---- the row of meta
 
+pub meta_stored : (version : Version) (db : Database) (content : Content)
+    → of_schema.Holds (schema_of version) db content → Stores (meta 0) db.trees content
+meta_stored First db content k = k.tables.0
+meta_stored Current db content k = k.tables.0
+
 pub one_is_meta : (rows : List Row) (row : Row) → row ≡ get_or rows 0 row → IsOneMeta rows → IsMeta row
 one_is_meta rows row at one =
     let is : row ≡ Int (pos 1) ∷ Int one.schema ∷ Int one.last ∷ [] = at ∙ ap (λ l. get_or l 0 row) one.is in
     subst IsMeta (sym is)
     (record { width = refl; id = (pos 1, refl); schema = (one.schema, refl); last = (one.last, refl) })
 
-pub shown_one : (db : Database) (content : Content) (slice shown : List Row) (old new : State) → slice ≡ shown
-    → db ≡ old.now → Tells (meta 0) 1 shown old new → Holds db content → IsOneMeta (content 0) → IsOneMeta slice
-shown_one db content slice shown old new is same tells k one =
-    let stored : Stores (meta 0) db.trees content = k.tables.0 in
+pub shown_one : (db : Database) (version : Version) (content : Content) (slice shown : List Row) (old new : State)
+    → slice ≡ shown → db ≡ old.now → Tells (meta 0) 1 shown old new → of_schema.Holds (schema_of version) db content
+    → IsOneMeta (content 0) → IsOneMeta slice
+shown_one db version content slice shown old new is same tells k one =
+    let stored : Stores (meta 0) db.trees content = meta_stored version db content k in
     let x : Row = Int (pos 1) ∷ Int one.schema ∷ Int one.last ∷ [] in
     let kept : Keeps (meta 0) old.now.trees (x ∷ []) =
     subst (λ (d : Database). Keeps (meta 0) d.trees (x ∷ [])) same
@@ -85,25 +100,47 @@ shown_one db content slice shown old new is same tells k one =
 
 -- ---- several tables in turn
 
--- of a table that the schema has at this place
+-- a table of both versions, by its place
+pub place_in : (definition : Definition) (place : ℕ) → slice_get first_schema.tables place ≡ Some definition
+    → slice_get club_schema.tables place ≡ Some definition → (version : Version)
+    → slice_get (schema_of version).tables place ≡ Some definition
+place_in definition place first current First = first
+place_in definition place first current Current = current
+
+-- of a table that the schemas have at this place
 pub names : (t : Table) (definition : Definition) (place : ℕ) (IsTyped : Row → Type 0) (old : State) (e : OpenFault)
-    → slice_get club_schema.tables place ≡ Some definition
-    → ((content : Content) → HasTypes t content → AllByRecursion IsTyped (content definition.tree))
+    → ((version : Version) (content : Content) → of_schema.Holds (schema_of version) old.now content
+    → HasTypes t content
+    → Stores definition old.now.trees content × AllByRecursion IsTyped (content definition.tree))
     → Blames t definition IsTyped old e → NamesTable old.now e
-names t definition place IsTyped old e at typed (inl store) = inl store
-names t definition place IsTyped old e at typed (inr (inl memory)) = inr (inl memory)
-names t definition place IsTyped old e at typed (inr (inr (named, wrong))) = inr (inr (
+names t definition place IsTyped old e typed (inl store) = inl store
+names t definition place IsTyped old e typed (inr (inl memory)) = inr (inl memory)
+names t definition place IsTyped old e typed (inr (inr (named, wrong))) = inr (inr (
   t,
   named,
-  λ content k all.
-      let stored : Stores definition old.now.trees content =
-      all_has (λ d. Stores d old.now.trees content) club_schema.tables definition k.tables
-      (has_got club_schema.tables place definition at) in
-      wrong (content definition.tree) stored.rows stored.apart (typed content all),
+  λ version content k all.
+      let (stored, are) = typed version content k all in wrong (content definition.tree) stored.rows stored.apart are,
 ))
 
-pub still : (old mid : State) → IsUnchanged old mid → old.now.schema ≡ club_schema → mid.now.schema ≡ club_schema
-still old mid same has = ap (λ (d : Database). d.schema) same.0.now_is ∙ has
+-- of a table that both versions have at this place
+pub names_both : (t : Table) (definition : Definition) (place : ℕ) (IsTyped : Row
+    → Type 0) (old : State) (e : OpenFault)
+    → slice_get first_schema.tables place ≡ Some definition → slice_get club_schema.tables place ≡ Some definition
+    → ((content : Content) → HasTypes t content → AllByRecursion IsTyped (content definition.tree))
+    → Blames t definition IsTyped old e → NamesTable old.now e
+names_both t definition place IsTyped old e first current typed =
+    names t definition place IsTyped old e (λ version content k all. (
+      all_has (λ d. Stores d old.now.trees content) (schema_of version).tables definition k.tables
+          (has_got (schema_of version).tables place definition (place_in definition place first current version)),
+      typed content all,
+    ))
+
+pub still : (old mid : State) → IsUnchanged old mid → IsClubSchema old.now.schema → IsClubSchema mid.now.schema
+still old mid same has = subst IsClubSchema (sym (ap (λ (d : Database). d.schema) same.0.now_is)) has
+
+pub still_of : (old mid : State) (schema : Schema) → IsUnchanged old mid → old.now.schema ≡ schema
+    → mid.now.schema ≡ schema
+still_of old mid schema same has = ap (λ (d : Database). d.schema) same.0.now_is ∙ has
 
 pub read_after : (table : Definition) (count : ℕ) (rows : List Row) (old mid new : State) → IsUnchanged old mid
     → IsReadAs table count rows mid new → IsReadAs table count rows old new
@@ -127,33 +164,101 @@ read_before table count rows old mid new it same =
           unchanged_then old mid new it.same same;
     }
 
-pub meta_before : (row : MetaRow) (old mid new : State) → IsMetaRead row old mid → IsUnchanged mid new
-    → IsMetaRead row old new
-meta_before row old mid new (inl one) same =
+pub meta_before : (version : Version) (row : MetaRow) (old mid new : State) → IsMetaRead version row old mid
+    → IsUnchanged mid new → IsMetaRead version row old new
+meta_before version row old mid new (inl one) same =
     inl (read_before (meta 0) 1 (meta_cells row ∷ []) old mid new one.0 same, one.1, one.2)
-meta_before row old mid new (inr missing) same = inr missing
+meta_before version row old mid new (inr missing) same = inr missing
+
+-- the rules of events that were read of a database that did not change
+pub rules_unchanged : (version : Version) (events : List EventRow) (rules : List EventRuleRow) (old new : State)
+    → AreRulesRead version events rules old new → IsUnchanged old new
+rules_unchanged First events rules old new it = it.0
+rules_unchanged Current events rules old new it = it.same
+
+pub rules_after : (version : Version) (events : List EventRow) (rules : List EventRuleRow) (old one two new : State)
+    → IsUnchanged old one → AreRulesRead version events rules one two → IsUnchanged two new
+    → AreRulesRead version events rules old new
+rules_after First events rules old one two new before it after =
+    (unchanged_then old two new (unchanged_then old one two before it.0) after, it.1)
+rules_after Current events rules old one two new before it after =
+    read_after (event_rules 16) 1 (map event_rule_cells rules) old one new before
+    (read_before (event_rules 16) 1 (map event_rule_cells rules) one two new it after)
 
 -- what is said of rows of a database that did not change
-pub rows_blamed_before : (old mid : State) (fault : OpenFault) → IsUnchanged old mid → NamesTable mid.now fault
-    ⊎ NamesRows mid.now fault → NamesTable old.now fault
-    ⊎ (NamesSchema old.now fault ⊎ NamesRows old.now fault)
-rows_blamed_before old mid fault same (inl table) =
+pub rows_blamed_before : (oldest : Version) (old mid : State) (fault : OpenFault) → IsUnchanged old mid
+    → NamesTable mid.now fault ⊎ NamesRows mid.now fault → Names oldest old.now fault
+rows_blamed_before oldest old mid fault same (inl table) =
     inl (subst (λ (d : Database). NamesTable d fault) same.0.now_is table)
-rows_blamed_before old mid fault same (inr rows) =
-    inr (inr (subst (λ (d : Database). NamesRows d fault) same.0.now_is rows))
+rows_blamed_before oldest old mid fault same (inr rows) =
+    inr (inr (inr (subst (λ (d : Database). NamesRows d fault) same.0.now_is rows)))
 
-pub names_schema : (found : MetaRow) (old new : State) → IsReadAs (meta 0) 1 (meta_cells found ∷ []) old new
-    → found.id ≡ pos 1 → (found.schema ≡ pos 1 → ⊥) → NamesSchema old.now (Schema found.schema)
-names_schema found old new read id other = (
-  found.schema,
+-- the number that the one row of `meta` shows
+pub has_number : (found : MetaRow) (old new : State) → IsReadAs (meta 0) 1 (meta_cells found ∷ []) old new
+    → found.id ≡ pos 1 → HasNumber old.now found.schema
+has_number found old new read id version content k =
+    let stored : Stores (meta 0) old.now.trees content = meta_stored version old.now content k in
+    let here = read.keeps.stored (meta_cells found) (inl refl) in
+    let has : Has (content 0) (meta_cells found) = subst (Has (content 0)) here.2 (stored.rows.only here.0 here.1) in
+    (found.last, subst (λ n. Has (content 0) (Int n ∷ Int found.schema ∷ Int found.last ∷ [])) id has)
+
+-- a number beside the tables of another version
+pub names_foreign : (found : MetaRow) (old new : State) (version : Version)
+    → IsReadAs (meta 0) 1 (meta_cells found ∷ []) old new → found.id ≡ pos 1
+    → found.schema ≡ pos (schema_number version) → old.now.schema ≢ schema_of version
+    → NamesForeign old.now Foreign
+names_foreign found old new version read id number other = (
   refl,
-  other,
-  λ content k.
-      let stored : Stores (meta 0) old.now.trees content = k.tables.0 in
-      let here = read.keeps.stored (meta_cells found) (inl refl) in
-      let has : Has (content 0) (meta_cells found) = subst (Has (content 0)) here.2 (stored.rows.only here.0 here.1) in
-      (found.last, subst (λ n. Has (content 0) (Int n ∷ Int found.schema ∷ Int found.last ∷ [])) id has),
+  λ there content k one.
+      let (last, has) = has_number found old new read id there content k in
+      other (k.schema ∙ ap schema_of (same_number there version found.schema last one.0
+      (subst (λ rows. Has rows (Int (pos 1) ∷ Int found.schema ∷ Int last ∷ [])) one.1 has) number)),
 )
+  where
+    same_number : (v w : Version) (n last other : ℤ)
+        → Has ((Int (pos 1) ∷ Int (pos (schema_number v)) ∷ Int other ∷ []) ∷ []) (Int (pos 1) ∷ Int n ∷ Int last ∷ [])
+        → n ≡ pos (schema_number w) → v ≡ w
+    same_number First First n last other h is = refl
+    same_number Current Current n last other h is = refl
+    same_number First Current n last other (inl h) is = cc
+    same_number Current First n last other (inl h) is = cc
+    same_number First Current n last other (inr none) is = absurd none
+    same_number Current First n last other (inr none) is = absurd none
+
+-- tables of another version than `meta` tells
+pub foreign_named : (version : Version) (row : MetaRow) (old mid : State) → IsMetaRead version row old mid
+    → old.now.schema ≢ schema_of version → NamesForeign old.now Foreign
+foreign_named version row old mid (inl (read, id, number)) other =
+    names_foreign row old mid version read id number other
+foreign_named version row old mid (inr (last, never, none)) other = (
+  refl,
+  λ there content k one.
+      none there content k (record { schema = pos (schema_number there); last = one.0; is = one.1 }),
+)
+
+-- ---- the head
+
+-- a number that is of no version is of none from a later one on
+no_later : (oldest : Version) (n : ℤ) → ¬ IsNumberFrom First n → ¬ IsNumberFrom oldest n
+no_later First n none = none
+no_later Current n none = λ is. none (inr is)
+
+pub told_blamed : (oldest : Version) (db : Database) (e : OpenFault)
+    → (e ≡ Store) ⊎ ((e ≡ Memory) ⊎ NamesSchema First db e) → Names oldest db e
+told_blamed oldest db e (inl store) = inl (inl store)
+told_blamed oldest db e (inr (inl memory)) = inl (inr (inl memory))
+told_blamed oldest db e (inr (inr (n, named, none, has))) = inr (inl (n, named, no_later oldest n none, has))
+
+-- the first version is not taken where the last one alone is
+pub refused_named : (row : MetaRow) (old mid : State) (e : OpenFault) → IsMetaRead First row old mid
+    → e ≡ open_fault.Schema (pos 1) → NamesSchema Current old.now e
+refused_named row old mid e (inl (read, id, number)) named = (
+  pos 1,
+  named,
+  λ is. absurd cc,
+  subst (HasNumber old.now) number (has_number row old mid read id),
+)
+refused_named row old mid e (inr missing) named = let no : First ≡ Current = missing.0 in absurd cc
 
 -- ---- all tables
 
@@ -173,8 +278,8 @@ read_one slice rows row id old new whole one first tells =
     }
 
 -- no two members, events or games have one id
-pub have_ids : (rows : Rows) (old new : State) → AreRead rows old new → HaveIds rows
-have_ids rows old new it = record {
+pub have_ids : (version : Version) (rows : Rows) (old new : State) → AreRead version rows old new → HaveIds rows
+have_ids version rows old new it = record {
   members = ids_of (members 1) (old.now.trees 1) (map member_cells rows.members.items) (λ r. refl) it.members.once
       it.members.apart;
   events = ids_of (events 4) (old.now.trees 4) (map event_cells rows.events.items) (λ r. refl) it.events.once

@@ -1,6 +1,8 @@
 -- From the rows that were read to the club that is stored so, and back.
 use Rattle.std.proofs.Common.{◌≡◌, ◌⊎◌, ℕ, ℤ, zero, suc, pos, ◌+◌, ◌<◌, List, [], ◌∷◌, length, map, refl, ap, ◌∙◌}
-use Rattle.std.proofs.Common.{arith, get_or, inl, inr}
+use Rattle.std.proofs.Common.{Some, false, sym, subst, arith, get_or, inl, inr}
+use Rattle.std.specs.Prelude.{slice_get}
+use Rattle.std.proofs.lemmas.Option.{same_Some}
 use Rattle.sqlite_value.specs.declared.value.Value.TheVariants.{Int}
 use Rattle.sqlite.specs.Effect.{Database}
 use Rattle.sqlite.specs.Order.{Row, column}
@@ -9,32 +11,43 @@ use Rattle.sqlite.specs.Table.{Table as Definition}
 use Rattle.sqlite_rules.specs.Lists.{Has}
 use Rattle.club_core.specs.Events.{Event}
 use Rattle.club_core.specs.State.{draughts, shogi}
-use Rattle.store_tables.specs.Cells.{meta_cells, member_cells, event_cells, challenge_cells, game_cells}
+use Rattle.store_tables.specs.Cells.{meta_cells, member_cells, event_cells, event_rule_cells, challenge_cells}
+use Rattle.store_tables.specs.Cells.{game_cells}
 use Rattle.store_tables.specs.Content.{Keeps}
-use Rattle.store_tables.specs.Club.{Holds}
 use Rattle.store_tables.specs.Reading.{AreIds}
 use Rattle.store_tables.specs.Rows.{HaveIds}
-use Rattle.store_tables.specs.Tables.{meta, members, events, games}
+use Rattle.store_tables.specs.Tables.{club_schema, schema_number, schema_of, meta, members, events, event_rules, games}
 use Rattle.store_tables.specs.declared.names.Table.{Table}
-use Rattle.store_tables.specs.declared.names.Table.TheVariants.{Members, Events, Challenges, Moves, Games, Seen, Scores}
-use Rattle.store_tables.specs.declared.names.Table.TheVariants.{Meta}
+use Rattle.store_tables.specs.declared.names.Table.TheVariants.{Members, Events, EventRules, Challenges, Moves}
+use Rattle.store_tables.specs.declared.names.Table.TheVariants.{Games, Seen, Scores, Meta}
+use Rattle.store_tables.specs.declared.names.Version.{Version}
+use Rattle.store_tables.specs.declared.names.Version.TheVariants.{First, Current}
 use Rattle.store_tables.specs.declared.rows.Rows.{Rows}
 use Rattle.store_tables.proofs.Proved.{ids_of, in_order, one_list, places_rise}
 use Rattle.club_rows.specs.Club.{ClubGame, both_games, ClubState, IsClub}
-use Rattle.club_rows.specs.Tables.{member_row, event_row, numbered_from, row_of_game, tables_of}
+use Rattle.club_rows.specs.FirstSchema.{IsClubOf, tables_at}
+use Rattle.club_rows.specs.Tables.{declares_number, member_row, event_row, rule_row, numbered_from, row_of_game}
+use Rattle.club_rows.specs.Tables.{tables_of}
+use Rattle.club_rows.proofs.Proved.{rules-typed}
 use Rattle.club_rows.proofs.Proved.{members-typed, events-typed, moves-typed, games-typed, scores_typed, seen-typed}
 use Rattle.club_changes.proofs.Proved.{challenges_typed, moved}
 use Rattle.club_opening.proofs.OnceLemmas.{challenges_are}
-use Rattle.club_opening.specs.Blames.{AreRead, HasTypes, NamesTable, NamesSchema}
+use Rattle.club_opening.specs.Blames.{AreRead, AreRulesRead, HasTypes, IsNumberFrom, Names, undeclared_row}
+use Rattle.club_opening.specs.Versions.{HasEvents, HoldsClub}
 use Rattle.store_sql.specs.Read.{IsReadAs}
 use Rattle.club_opening.specs.Places.{IsRegisterOf, NamesRows}
-use Rattle.club_audit.specs.Audit.{AreEvents, AreMembers}
+use Rattle.club_audit.specs.Audit.{AreEvents, AreMembers, AreRules}
+use Rattle.club_audit.proofs.Proved.{rules-counted}
+use Rattle.club_core.specs.LegalState.{Each}
 use Rattle.club_core.specs.Members.{Member}
 use Rattle.store_tables.specs.declared.rows.EventRow.{EventRow}
+use Rattle.store_tables.specs.declared.rows.EventRuleRow.{EventRuleRow}
 use Rattle.store_tables.specs.declared.rows.MemberRow.{MemberRow}
 use Rattle.store_sql.specs.Read.{BeginWithPlaces}
 use Rattle.club_opening.specs.declared.fault.OpenFault.{OpenFault}
-use Rattle.club_opening.specs.declared.fault.OpenFault.TheVariants.{Damaged, Store, Memory}
+use Rattle.club_opening.specs.declared.fault.OpenFault.TheVariants.{Damaged, Schema, Store, Memory}
+use Rattle.club_opening.proofs.StoredLemmas.{IsStored, club_of_version, one_version, rules_stored, schemas_differ}
+use Rattle.club_opening.proofs.StoredLemmas.{stored_of}
 
 -- ---- places
 
@@ -73,28 +86,64 @@ begin_places row first xs k low = numbered_begin row first 1 xs k low ∙ ap (λ
 pub club_typed : (s : ClubState) → IsClub s → (t : Table) → HasTypes t (tables_of both_games s)
 club_typed s club Members = members-typed s club
 club_typed s club Events = events-typed s club
+club_typed s club EventRules = rules-typed s club
 club_typed s club Challenges = challenges_typed s.challenges
 club_typed s club Moves = moves-typed s club
 club_typed s club Games = games-typed s club
 club_typed s club Seen = seen-typed s club
 club_typed s club Scores = scores_typed both_games s.games
-club_typed s club Meta = record { schema = pos 1; last = pos s.last; is = refl }
+club_typed s club Meta = record { schema = pos 2; last = pos s.last; is = refl }
 
-one_schema : (s : ClubState) (n last : ℤ) → Has (tables_of both_games s 0) (Int (pos 1) ∷ Int n ∷ Int last ∷ [])
-    → n ≡ pos 1
-one_schema s n last (inl is) = cc
-one_schema s n last (inr none) = absurd none
+typed_at : (version : Version) (s : ClubState) → IsClub s → (t : Table) → HasTypes t (tables_at version s)
+typed_at Current s club t = club_typed s club t
+typed_at First s club Members = club_typed s club Members
+typed_at First s club Events = club_typed s club Events
+typed_at First s club EventRules = tt
+typed_at First s club Challenges = club_typed s club Challenges
+typed_at First s club Moves = club_typed s club Moves
+typed_at First s club Games = club_typed s club Games
+typed_at First s club Seen = club_typed s club Seen
+typed_at First s club Scores = club_typed s club Scores
+typed_at First s club Meta = record { schema = pos 1; last = pos s.last; is = refl }
 
--- a database with the tables of a legal club is blamed for nothing
-pub good_fault : (s : ClubState) → IsClub s → (db : Database) → Holds db (tables_of both_games s) → (fault : OpenFault)
-    → NamesTable db fault ⊎ (NamesSchema db fault ⊎ NamesRows db fault) → (fault ≡ Store) ⊎ (fault ≡ Memory)
-good_fault s club db holds fault (inl (inl store)) = inl store
-good_fault s club db holds fault (inl (inr (inl memory))) = inr memory
-good_fault s club db holds fault (inl (inr (inr (t, named, wrong)))) =
-    absurd (wrong (tables_of both_games s) holds (club_typed s club t))
-good_fault s club db holds fault (inr (inl (n, named, other, has))) =
-    absurd (let (last, at) = has (tables_of both_games s) holds in other (one_schema s n last at))
-good_fault s club db holds fault (inr (inr (t, named, none))) = absurd (none s club holds)
+one_number : (version : Version) (s : ClubState) (n last : ℤ)
+    → Has (tables_at version s 0) (Int (pos 1) ∷ Int n ∷ Int last ∷ []) → n ≡ pos (schema_number version)
+one_number First s n last (inl is) = cc
+one_number First s n last (inr none) = absurd none
+one_number Current s n last (inl is) = cc
+one_number Current s n last (inr none) = absurd none
+
+one_meta_row : (version : Version) (s : ClubState) → (last : ℤ)
+    × (tables_at version s 0 ≡ (Int (pos 1) ∷ Int (pos (schema_number version)) ∷ Int last ∷ []) ∷ [])
+one_meta_row First s = (pos s.last, refl)
+one_meta_row Current s = (pos s.last, refl)
+
+-- A database with the tables of a legal club is blamed for nothing, but for a version that is not taken.
+pub good_in : (oldest version : Version) (s : ClubState) → IsClubOf version s → (db : Database)
+    → HoldsClub version db s → (fault : OpenFault) → Names oldest db fault
+    → (fault ≡ Store)
+    ⊎ ((fault ≡ Memory) ⊎ ((fault ≡ Schema (pos (schema_number version)))
+    × (¬ IsNumberFrom oldest (pos (schema_number version)))))
+good_in oldest version s club db holds fault (inl (inl store)) = inl store
+good_in oldest version s club db holds fault (inl (inr (inl memory))) = inr (inl memory)
+good_in oldest version s club db holds fault (inl (inr (inr (t, named, wrong)))) =
+    absurd (wrong version (tables_at version s) holds (typed_at version s (club_of_version version s club) t))
+good_in oldest version s club db holds fault (inr (inl (n, named, other, has))) =
+    let (last, at) = has version (tables_at version s) holds in
+    let is : n ≡ pos (schema_number version) = one_number version s n last at in
+    inr (inr (named ∙ ap Schema is, subst (λ k. ¬ IsNumberFrom oldest k) is other))
+good_in oldest version s club db holds fault (inr (inr (inl (named, none)))) =
+    absurd (none version (tables_at version s) holds (one_meta_row version s))
+good_in oldest version s club db holds fault (inr (inr (inr (t, named, none)))) = absurd (none version s club holds)
+
+-- one of the last version is blamed for nothing
+pub good_fault : (s : ClubState) → IsClub s → (db : Database) → HoldsClub Current db s → (fault : OpenFault)
+    → Names Current db fault → (fault ≡ Store) ⊎ (fault ≡ Memory)
+good_fault s club db holds fault blamed = elim (good_in Current Current s club db holds fault blamed) [
+  | inl store ↦ inl store
+  | inr (inl memory) ↦ inr memory
+  | inr (inr (named, other)) ↦ absurd (other refl)
+]
 
 -- ---- what was read
 
@@ -106,25 +155,49 @@ ids_read table rows wanted old new read ids keeps places =
     (moved table old.now.trees rows wanted read.keeps keeps)
     (moved table old.now.trees wanted rows keeps read.keeps)
 
-one_last : (last moment : ℤ) (schema : ℤ) (id : ℤ)
-    → Has ((Int (pos 1) ∷ Int (pos 1) ∷ Int moment ∷ []) ∷ []) (Int id ∷ Int schema ∷ Int last ∷ []) → last ≡ moment
-one_last last moment schema id (inl is) = cc
-one_last last moment schema id (inr none) = absurd none
+one_last : (last moment : ℤ) (number schema : ℤ) (id : ℤ)
+    → Has ((Int (pos 1) ∷ Int number ∷ Int moment ∷ []) ∷ []) (Int id ∷ Int schema ∷ Int last ∷ []) → last ≡ moment
+one_last last moment number schema id (inl is) = cc
+one_last last moment number schema id (inr none) = absurd none
 
 -- rows of members that were read of a legal club are its own, and so are those of events
-pub members_read : (s : ClubState) (rows : List MemberRow) (old new : State) → Holds old.now (tables_of both_games s)
+pub members_read : (s : ClubState) (rows : List MemberRow) (old new : State) → IsStored old.now s
     → IsReadAs (members 1) 1 (map member_cells rows) old new → map member_cells rows ≡ tables_of both_games s 1
 members_read s rows old new holds read =
     ids_read (members 1) (map member_cells rows) (tables_of both_games s 1) old new read
     (ids_of (members 1) (old.now.trees 1) (map member_cells rows) (λ r. refl) read.once read.apart)
-    holds.tables.1.0.rows (begin_places member_row (λ n x. refl) s.members)
+    holds.members.rows (begin_places member_row (λ n x. refl) s.members)
 
-pub events_read : (s : ClubState) (rows : List EventRow) (old new : State) → Holds old.now (tables_of both_games s)
+pub events_read : (s : ClubState) (rows : List EventRow) (old new : State) → IsStored old.now s
     → IsReadAs (events 4) 1 (map event_cells rows) old new → map event_cells rows ≡ tables_of both_games s 4
 events_read s rows old new holds read =
     ids_read (events 4) (map event_cells rows) (tables_of both_games s 4) old new read
     (ids_of (events 4) (old.now.trees 4) (map event_cells rows) (λ r. refl) read.once read.apart)
-    holds.tables.1.1.0.rows (begin_places event_row (λ n x. refl) s.events)
+    holds.events.rows (begin_places event_row (λ n x. refl) s.events)
+
+-- so are those of their rules
+pub rules_read : (s : ClubState) (rows : List EventRuleRow) (old new : State) → HoldsClub Current old.now s
+    → IsReadAs (event_rules 16) 1 (map event_rule_cells rows) old new
+    → map event_rule_cells rows ≡ tables_of both_games s 16
+rules_read s rows old new holds read =
+    ids_read (event_rules 16) (map event_rule_cells rows) (tables_of both_games s 16) old new read
+    (ids_of (event_rules 16) (old.now.trees 16) (map event_rule_cells rows) (λ r. refl) read.once read.apart)
+    (rules_stored old.now s holds).rows (begin_places rule_row (λ n x. refl) s.events)
+
+members_of : (s : ClubState) → IsClub s → (rows : List MemberRow) → map member_cells rows ≡ tables_of both_games s 1
+    → AreMembers s.members rows
+members_of s club rows are = record {
+  rows_are = are;
+  legal = club.members;
+  count = club.member_count;
+  names = club.member_names;
+  keys = club.member_keys;
+}
+
+events_of : (s : ClubState) → IsClub s → (rows : List EventRow) → map event_cells rows ≡ tables_of both_games s 4
+    → AreEvents s.events rows
+events_of s club rows are =
+    record { rows_are = are; legal = club.events; count = club.event_count; names = club.event_names }
 
 -- members that are those of no legal club are blamed, and so are events
 pub members_blamed : (rows : List MemberRow) (old new : State)
@@ -133,14 +206,10 @@ pub members_blamed : (rows : List MemberRow) (old new : State)
 members_blamed rows old new read none = (
   Members,
   refl,
-  λ s club holds.
-      none s.members (record {
-        rows_are = members_read s rows old new holds read;
-        legal = club.members;
-        count = club.member_count;
-        names = club.member_names;
-        keys = club.member_keys;
-      }),
+  λ version s club holds.
+      none s.members
+      (members_of s (club_of_version version s club) rows
+      (members_read s rows old new (stored_of version old.now s holds) read)),
 )
 
 pub events_blamed : (rows : List EventRow) (old new : State) → IsReadAs (events 4) 1 (map event_cells rows) old new
@@ -148,33 +217,129 @@ pub events_blamed : (rows : List EventRow) (old new : State) → IsReadAs (event
 events_blamed rows old new read none = (
   Events,
   refl,
-  λ s club holds.
-      none s.events (record {
-        rows_are = events_read s rows old new holds read;
-        legal = club.events;
-        count = club.event_count;
-        names = club.event_names;
-      }),
+  λ version s club holds.
+      none s.events
+      (events_of s (club_of_version version s club) rows
+      (events_read s rows old new (stored_of version old.now s holds) read)),
 )
 
+-- rows of events that were read are those of the club
+pub has_events : (rows : List EventRow) (old new : State) → IsReadAs (events 4) 1 (map event_cells rows) old new
+    → HasEvents rows new.now
+has_events rows old new read version s club holds =
+    events_read s rows old new
+    (subst (λ (d : Database). IsStored d s) read.same.0.now_is (stored_of version new.now s holds)) read
+
+-- rules of events that are those of no club with these rows of events are blamed
+pub rules_blamed : (events_rows : List EventRow) (rows : List EventRuleRow) (old new : State)
+    → HasEvents events_rows old.now → old.now.schema ≡ club_schema
+    → IsReadAs (event_rules 16) 1 (map event_rule_cells rows) old new → ¬ AreRules rows (length events_rows)
+    → NamesRows old.now (Damaged EventRules)
+rules_blamed events_rows rows old new of has read none = (EventRules, refl, by_version)
+  where
+    by_version : (version : Version) (s : ClubState) → IsClubOf version s → HoldsClub version old.now s → ⊥
+    by_version First s club holds = schemas_differ (sym holds.schema ∙ has)
+    by_version Current s club holds =
+        none
+        (rules-counted s.events events_rows rows (events_of s club events_rows (of Current s club holds))
+        (rules_read s rows old new holds read))
+
+-- the rules of a club of schema 1, as rows that say 0
+undeclared_rules : (n : ℕ) (es : List Event) (rows : List EventRow)
+    → map event_cells rows ≡ numbered_from event_row n es
+    → Each (λ e. e.terms.declares ≡ false) es → map undeclared_row rows ≡ numbered_from rule_row n es
+undeclared_rules n [] [] are none = refl
+undeclared_rules n [] (row ∷ rows) are none = cc
+undeclared_rules n (e ∷ es) [] are none = cc
+undeclared_rules n (e ∷ es) (row ∷ rows) are none =
+    let (first, rest) = heads (event_cells row) (event_row n e) _ _ are in
+    let id : row.id ≡ pos n = cc in
+    let number : declares_number e.terms.declares ≡ 0 = ap declares_number (none 0 e refl) in
+    λ i. (Int (id i) ∷ Int (pos (sym number i)) ∷ [])
+    ∷ undeclared_rules (suc n) es rows rest (λ k x at. none (suc k) x at) i
+
+-- such rows have the places of the events
+undeclared_at : (n : ℕ) (es : List Event) (rows : List EventRow) (rules : List EventRuleRow)
+    → map event_cells rows ≡ numbered_from event_row n es → map event_rule_cells rules ≡ map undeclared_row rows
+    → (k : ℕ) (rule : EventRuleRow) → slice_get rules k ≡ Some rule
+    → (rule.event ≡ pos (n + k)) × (rule.declares ≡ pos 0)
+undeclared_at n es rows [] are same k rule at = cc
+undeclared_at n es [] (r ∷ rules) are same k rule at = cc
+undeclared_at n [] (row ∷ rows) (r ∷ rules) are same k rule at = cc
+undeclared_at n (e ∷ es) (row ∷ rows) (r ∷ rules) are same zero rule at =
+    let (first, rest) = heads (event_cells row) (event_row n e) _ _ are in
+    let (mine, others) = heads (event_rule_cells r) (undeclared_row row) _ _ same in
+    let is : r ≡ rule = same_Some r rule at in
+    let id : row.id ≡ pos n = cc in
+    let event : r.event ≡ row.id = cc in
+    let declares : r.declares ≡ pos 0 = cc in
+    subst (λ (x : EventRuleRow). (x.event ≡ pos (n + 0)) × (x.declares ≡ pos 0)) is
+    (event ∙ id ∙ ap pos (here-is n), declares)
+undeclared_at n (e ∷ es) (row ∷ rows) (r ∷ rules) are same (suc k) rule at =
+    let (first, rest) = heads (event_cells row) (event_row n e) _ _ are in
+    let (mine, others) = heads (event_rule_cells r) (undeclared_row row) _ _ same in
+    let (event, declares) = undeclared_at (suc n) es rows rules rest others k rule at in
+    (event ∙ ap pos (next-is n k), declares)
+
+-- and are as many
+undeclared_count : (rows : List EventRow) (rules : List EventRuleRow)
+    → map event_rule_cells rules ≡ map undeclared_row rows → length rules ≡ length rows
+undeclared_count [] [] same = refl
+undeclared_count [] (r ∷ rules) same = cc
+undeclared_count (row ∷ rows) [] same = cc
+undeclared_count (row ∷ rows) (r ∷ rules) same =
+    ap suc (undeclared_count rows rules (heads (event_rule_cells r) (undeclared_row row) _ _ same).1)
+
+pub undeclared_are : (es : List Event) (rows : List EventRow) (rules : List EventRuleRow) → AreEvents es rows
+    → map event_rule_cells rules ≡ map undeclared_row rows → AreRules rules (length rows)
+undeclared_are es rows rules are same = record {
+  number = undeclared_count rows rules same;
+  rows_are = λ k rule at.
+      let (event, declares) = undeclared_at 1 es rows rules are.rows_are same k rule at in
+      record { event_is = event ∙ ap pos (one-more k); declares = false; says = declares };
+}
+
+-- the rules that were read of a club are those of its events
+rules_of : (version : Version) (s : ClubState) → IsClubOf version s → (events_rows : List EventRow)
+    (rules : List EventRuleRow) (old new : State) → HoldsClub version old.now s
+    → map event_cells events_rows ≡ tables_of both_games s 4 → AreRulesRead version events_rows rules old new
+    → map event_rule_cells rules ≡ numbered_from rule_row 1 s.events
+rules_of First s club events_rows rules old new holds events_are (same, are) =
+    are ∙ undeclared_rules 1 s.events events_rows events_are club.undeclared
+rules_of Current s club events_rows rules old new holds events_are read = rules_read s rules old new holds read
+
 -- the rows that were read of a legal club are its own
-pub club_read : (s : ClubState) → IsClub s → (rows : Rows) (old new : State) → Holds old.now (tables_of both_games s)
-    → AreRead rows old new → HaveIds rows → IsRegisterOf s rows
-club_read s club rows old new holds read ids =
+pub club_read : (version : Version) (s : ClubState) → IsClubOf version s → (rows : Rows) (old new : State)
+    → HoldsClub version old.now s → AreRead version rows old new → HaveIds rows → IsRegisterOf s rows
+club_read version s club rows old new holds read ids =
     let made = tables_of both_games s in
     let db = old.now.trees in
-    let t = holds.tables in
+    let stored = stored_of version old.now s holds in
+    let events_are = events_read s rows.events.items old new stored read.events in
     record {
       last = elim read.meta [
         | inl one ↦
-            one_last rows.meta.last (pos s.last) rows.meta.schema rows.meta.id
-            (moved (meta 0) db (meta_cells rows.meta ∷ []) (made 0) one.0.keeps t.0.rows (meta_cells rows.meta)
-            (inl refl))
-        | inr missing ↦ absurd (missing.1 made holds (club_typed s club Meta))
+            one_last rows.meta.last (pos s.last) stored.number rows.meta.schema rows.meta.id
+            (moved (meta 0) db (meta_cells rows.meta ∷ [])
+            ((Int (pos 1) ∷ Int stored.number ∷ Int (pos s.last) ∷ []) ∷ []) one.0.keeps stored.meta
+            (meta_cells rows.meta) (inl refl))
+        | inr missing ↦
+            absurd
+            (missing.2 version (tables_at version s) holds (typed_at version s (club_of_version version s club) Meta))
       ];
-      members = members_read s rows.members.items old new holds read.members;
-      events = events_read s rows.events.items old new holds read.events;
-      challenges = challenges_are s (map challenge_cells rows.challenges.items) old new holds read.challenges;
+      members = members_read s rows.members.items old new stored read.members;
+      events = events_are;
+      rules = rules_of version s club rows.events.items rows.event_rules.items old new holds events_are read.rules;
+      challenges = challenges_are s (map challenge_cells rows.challenges.items) old new stored read.challenges;
       games = ids_read (games 10) (map game_cells rows.games.items) (made 10) old new read.games ids.games
-          t.1.1.1.1.1.0.rows (begin_places (row_of_game both_games s.events) (row_id s.events) s.games);
+          stored.games.rows (begin_places (row_of_game both_games s.events) (row_id s.events) s.games);
     }
+
+-- and those of a database of another version are of no club in this one
+pub club_read_as : (version other : Version) (s : ClubState) → IsClubOf other s → (rows : Rows) (old new : State)
+    → old.now.schema ≡ schema_of version → HoldsClub other old.now s → AreRead version rows old new → HaveIds rows
+    → IsRegisterOf s rows
+club_read_as version other s club rows old new has holds read ids =
+    let same : other ≡ version = one_version other version old.now.schema holds.schema has in
+    club_read version s (subst (λ v. IsClubOf v s) same club) rows old new
+    (subst (λ v. HoldsClub v old.now s) same holds) read ids

@@ -13,18 +13,19 @@ use Rattle.sqlite.proofs.Callers.{unchanged_then}
 use Rattle.club_core.specs.LegalState.{IsLegalIn}
 use Rattle.club_laws.proofs.Proved.{each-append, got-append}
 use Rattle.store_tables.specs.Cells.{game_cells, move_cells, seen_cells}
-use Rattle.store_tables.specs.Club.{Holds}
 use Rattle.store_tables.specs.Content.{AreApart, cells}
-use Rattle.store_tables.specs.Tables.{moves, seen}
+use Rattle.store_tables.specs.Tables.{moves, scores as scored, seen}
 use Rattle.store_tables.specs.declared.names.Table.{Table}
 use Rattle.store_tables.specs.declared.names.Table.TheVariants.{Meta}
+use Rattle.store_tables.specs.declared.names.Version.{Version}
 use Rattle.store_tables.specs.declared.rows.GameRecord.{GameRecord}
 use Rattle.store_tables.specs.declared.rows.MoveRow.{MoveRow}
 use Rattle.store_tables.specs.declared.rows.Rows.{Rows}
 use Rattle.store_tables.specs.declared.rows.SeenRow.{SeenRow}
 use Rattle.store_tables.proofs.Proved.{same_by}
 use Rattle.store_sql.specs.Read.{AreCounted, AreReadOf, beginning_with}
-use Rattle.club_rows.specs.Club.{both_games, ClubGame, ClubState, IsClub, tables}
+use Rattle.club_rows.specs.Club.{both_games, ClubGame, ClubState, IsClub}
+use Rattle.club_rows.specs.FirstSchema.{IsClubOf}
 use Rattle.club_rows.specs.Tables.{numbered_from, row_of_game, rows_of_moves, rows_of_seen}
 use Rattle.club_audit.specs.Audit.{AreAllOf, HasPeople}
 use Rattle.club_audit.specs.FirstWrong.{IsFirstWrong}
@@ -33,14 +34,17 @@ use Rattle.club_audit.proofs.Proved.{all-right, club-right, id-told, none-named,
 use Rattle.club_audit.proofs.Proved.{numbered-length, right-club, take-got}
 use Rattle.club_rows.proofs.Proved.{same-pos}
 use Rattle.club_opening.specs.Examined.{AreGamesFound, AreLeftAfter, IsFoundAs, IsGameFound, IsPlayExamined, NamesPlay}
-use Rattle.club_opening.specs.Examined.{IsOf, NoneIsLeft, WereFound, moves_in, past, seen_in}
+use Rattle.club_opening.specs.Examined.{AreScoresExamined, IsOf, NoneIsLeft, WereFound, moves_in, past, seen_in}
 use Rattle.club_opening.specs.Blames.{NamesTable}
 use Rattle.club_opening.specs.Places.{IsMomentOf, IsNoRegister, IsRegisterOf}
 use Rattle.club_changes.specs.Steps.{HaveSame}
 use Rattle.club_opening.specs.declared.fault.OpenFault.{OpenFault}
 use Rattle.club_opening.specs.declared.fault.OpenFault.TheVariants.{Damaged}
+use Rattle.club_opening.proofs.BlameLemmas.{read_after}
 use Rattle.club_opening.proofs.GroupRows.{none_left, own_moves, own_seen, same_on, turned_same}
+use Rattle.club_opening.specs.Versions.{HoldsClub}
 use Rattle.club_opening.proofs.PastLemmas.{past_step}
+use Rattle.club_opening.proofs.StoredLemmas.{IsStored, club_of_version, stored_of}
 
 -- ---- one game
 
@@ -57,6 +61,7 @@ people_of s rows club register = record {
       };
   events =
       record { rows_are = register.events; legal = club.events; count = club.event_count; names = club.event_names };
+  rules = register.rules;
 }
 
 -- what a moment was read of
@@ -108,7 +113,7 @@ module _ (rows : Rows) (place : ℕ) (game : GameRecord) (ms : List MoveRow) (ss
 
   -- those of a club's game are judged so
   game_all : slice_get rows.games.items place ≡ Some game → (s : ClubState) → IsClub s → IsRegisterOf s rows
-      → Holds old.now (tables s) → (place < 5000) × ((g : ClubGame) × AreAllOf s (place + 1) game ms ss g)
+      → IsStored old.now s → (place < 5000) × ((g : ClubGame) × AreAllOf s (place + 1) game ms ss g)
   game_all at s club register holds =
       let (g, stands, cells) = numbered-at game_cells (row_of_game both_games s.events) 1 rows.games.items s.games
       register.games place game at in
@@ -145,10 +150,11 @@ module _ (rows : Rows) (place : ℕ) (game : GameRecord) (ms : List MoveRow) (ss
     game_blamed at t is = (
       t,
       refl,
-      λ s club register holds.
+      λ version s of_version register holds.
+          let club = club_of_version version s of_version in
           let people = people_of s rows club register in
           let of = club_of s rows last told club register in
-          let (low, known) = game_all at s club register holds in
+          let (low, known) = game_all at s club register (stored_of version old.now s holds) in
           let (g, all) = known in
           let right = club-right s rows people place game ms ss last club.last low g all (λ n some. same_moment s n
           some of.moment)
@@ -191,7 +197,11 @@ left_start rows last ms ss known old none same one two = record {
             λ n g at. cc;
         seen_are = λ n g at. cc;
       };
-  blamed = λ t is. (t, refl, λ s club register holds. none t is s club register);
+  blamed = λ t is. (
+    t,
+    refl,
+    λ version s club register holds. none t is s (club_of_version version s club) register,
+  );
   moves_left = λ free s of. one;
   seen_left = λ free s of. two;
 }
@@ -304,16 +314,19 @@ module _ (rows : Rows) (last : Option ℕ) (told : IsMomentOf rows.meta.last las
       register.games
 
   -- where no table was wrong before and a row is left, no club has the tables
-  left_blames : (o : Option Table) → o ≡ w → (0 < ms) ⊎ (0 < ss) → (s : ClubState) → IsClub s → IsRegisterOf s rows
-      → ¬ Holds old.now (tables s)
-  left_blames (Some t) is some s club register holds = (was.blamed t (sym is)).2 s club register holds
-  left_blames None is (inl some) s club register holds =
-      let none = (none_left s club old.now holds).0 in
+  left_blames : (o : Option Table) → o ≡ w → (0 < ms) ⊎ (0 < ss) → (version : Version) (s : ClubState)
+      → IsClubOf version s → IsRegisterOf s rows → ¬ HoldsClub version old.now s
+  left_blames (Some t) is some version s of_version register holds =
+      (was.blamed t (sym is)).2 version s of_version register holds
+  left_blames None is (inl some) version s of_version register holds =
+      let club = club_of_version version s of_version in
+      let none = (none_left s club old.now (stored_of version old.now s holds)).0 in
       let left = was.moves_left (sym is) s (club_of s rows last told club register)
       ∙ ap (λ n. length (past n (moves_in old.now.trees))) (counts s register) in
       omega (arith, some, left, none)
-  left_blames None is (inr some) s club register holds =
-      let none = (none_left s club old.now holds).1 in
+  left_blames None is (inr some) version s of_version register holds =
+      let club = club_of_version version s of_version in
+      let none = (none_left s club old.now (stored_of version old.now s holds)).1 in
       let left = was.seen_left (sym is) s (club_of s rows last told club register)
       ∙ ap (λ n. length (past n (seen_in old.now.trees))) (counts s register) in
       omega (arith, some, left, none)
@@ -392,3 +405,26 @@ module _ (old one two : State) (m n : ℕ) (moves_are : AreCounted 8 m old one) 
         moves_apart = moves_are.apart;
         seen_apart = subst (λ (t : Trees). AreApart (t 12)) seen_trees seen_are.apart;
       }
+
+-- what was examined of a database that did not change after it
+pub play_later : (rows : Rows) (last : Option ℕ) (old mid new : State) → IsPlayExamined rows last None old mid
+    → IsUnchanged mid new → IsPlayExamined rows last None old new
+play_later rows last old mid new play same = record {
+  games = record {
+    same = unchanged_then old mid new play.games.same same;
+    found = play.games.found;
+    none_left = play.games.none_left;
+    blamed = play.games.blamed;
+  };
+  moves_apart = play.moves_apart;
+  seen_apart = play.seen_apart;
+}
+
+-- nor before it
+pub scores_after : (rows : Rows) (old mid new : State) → IsUnchanged old mid → AreScoresExamined rows mid new
+    → AreScoresExamined rows old new
+scores_after rows old mid new same scores = record {
+  rows_of = scores.rows_of;
+  read = read_after (scored 14) 3 scores.rows_of old mid new same scores.read;
+  are = scores.are;
+}

@@ -15,16 +15,14 @@ use Rattle.sqlite.specs.State.{State}
 use Rattle.sqlite.specs.Table.{Table as Definition}
 use Rattle.sqlite.specs.Tree.{Trees}
 use Rattle.sqlite.specs.Values.{IsInt}
-use Rattle.sqlite_catalog.specs.Listing.{IsSound}
 use Rattle.sqlite_rules.specs.Lists.{Has}
 use Rattle.sqlite_rules.proofs.ListLemmas.{all_has}
 use Rattle.sqlite_trees.proofs.ListLemmas.{ascending-filter}
 use Rattle.store_tables.specs.Cells.{IsMove, IsSeen}
 use Rattle.store_tables.specs.Content.{Keeps, cells, same_key}
 use Rattle.store_tables.specs.Contents.{Stores}
-use Rattle.store_tables.specs.Club.{Holds}
 use Rattle.store_tables.specs.Queries.{by_others}
-use Rattle.store_tables.specs.Tables.{club_schema, moves, seen}
+use Rattle.store_tables.specs.Tables.{moves, seen}
 use Rattle.store_tables.proofs.Proved.{pairs_turned, has_index, has_map, has_mapped, has_turned}
 use Rattle.store_sql.specs.Read.{AreReadOf, beginning_with}
 use Rattle.club_rows.specs.Club.{ClubGame, both_games, ClubState, IsClub}
@@ -39,6 +37,7 @@ use Rattle.club_opening.proofs.MoveOrderLemmas.{by, Apart, apart_back, rises, on
 use Rattle.club_changes.proofs.Proved.{moves_had}
 use Rattle.club_opening.proofs.OnceLemmas.{Differ, differ_back, at_once, stored_differ, seen_key}
 use Rattle.club_opening.proofs.PastLemmas.{table_group, table_past}
+use Rattle.club_opening.proofs.StoredLemmas.{IsStored}
 
 -- a row of a position begins with its game's number
 pub seen_had : (id : ℕ) (g : ClubGame) (z : Row) → Has (rows_of_seen both_games id g) z → column z 0 ≡ number id
@@ -85,15 +84,12 @@ by_sorted rows n all sorted k d low high =
     (all (get_or rows (k + 1) d) (has_index rows (k + 1) d later))
     (all (get_or rows k d) (has_index rows k d here))) ∙ sorted k d low high
 
-module _ (s : ClubState) (club : IsClub s) (db : Database) (holds : Holds db (tables_of both_games s)) where
-  sound : IsSound club_schema db.trees
-  sound = subst (λ schema. IsSound schema db.trees) holds.schema holds.sound
-
+module _ (s : ClubState) (club : IsClub s) (db : Database) (holds : IsStored db s) where
   moves_stored : Stores (moves 8) db.trees (tables_of both_games s)
-  moves_stored = holds.tables.1.1.1.1.0
+  moves_stored = holds.moves
 
   seen_stored : Stores (seen 12) db.trees (tables_of both_games s)
-  seen_stored = holds.tables.1.1.1.1.1.1.0
+  seen_stored = holds.seen
 
   pub moves_same : HaveSame (moves_in db.trees) (tables_of both_games s 8)
   moves_same = shown_same (moves 8) db.trees (tables_of both_games s 8) moves_stored.rows
@@ -135,7 +131,7 @@ module _ (s : ClubState) (club : IsClub s) (db : Database) (holds : Holds db (ta
         read.sorted in
         let apart = pairs_turned Apart apart_back (beginning_with (pos (1 + n)) shown) rows once
         (ascending-filter Apart (λ x. same_key (0 ∷ []) x (Int (pos (1 + n)) ∷ [])) shown
-        (stored_apart db.trees sound moves_stored.apart ints)) in
+        (stored_apart db.trees holds.unique.moves moves_stored.apart ints)) in
         one_rising rows made (rises rows sorted apart) (game_rise s.events (1 + n) g) same.there same.back
 
     -- those of its positions are the game's, each once
@@ -149,7 +145,7 @@ module _ (s : ClubState) (club : IsClub s) (db : Database) (holds : Holds db (ta
         let group = table_group (rows_of_seen both_games) (λ id x z h. seen_had id x z h) shown s.games seen_same n g at
         in
         let keyed =
-        seen_key db.trees sound
+        seen_key db.trees holds.unique
         (λ r h. all_has IsSeen (tables_of both_games s 12) (cells (seen 12) r) (seen-typed s club)
         (seen_stored.rows.only r h)) in
         record {

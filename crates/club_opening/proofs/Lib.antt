@@ -7,3 +7,4 @@ pub mod OnceLemmas
 pub mod PastLemmas
 pub mod Proved
 pub mod RegisterLemmas
+pub mod StoredLemmas

@@ -17,9 +17,7 @@ use Rattle.sqlite.specs.Collation.TheVariants.{Binary}
 use Rattle.sqlite.specs.Order.{Row, column}
 use Rattle.sqlite.specs.Tree.{Trees}
 use Rattle.sqlite.specs.Values.{IsInt}
-use Rattle.sqlite_catalog.specs.Listing.{IsSound}
 use Rattle.sqlite_schema.specs.Rules.{agree, clashes, differ, equal}
-use Rattle.sqlite_schema.specs.declared.schema.Constraint.TheVariants.{Unique}
 use Rattle.sqlite_sql.specs.Ops.{is_null}
 use Rattle.sqlite_sql.proofs.QueryLemmas.{key_cmp_total}
 use Rattle.sqlite_trees.specs.Tree.{IsAscending, rowid}
@@ -34,7 +32,7 @@ use Rattle.club_core.specs.Game.{Entry, Game}
 use Rattle.club_core.specs.State.{draughts, shogi, place, terms_at}
 use Rattle.store_tables.specs.Content.{AreApart, cells}
 use Rattle.store_tables.specs.Reading.{by_columns, rising}
-use Rattle.store_tables.specs.Tables.{club_schema, moves}
+use Rattle.store_tables.specs.Tables.{moves}
 use Rattle.store_tables.proofs.Proved.{differ_ints, equal_from}
 use Rattle.club_rows.specs.Club.{ClubGame, both_games}
 use Rattle.club_rows.specs.Tables.{entry_row, entry_rows, with_entry, gathered_from, rows_of_moves}
@@ -273,11 +271,8 @@ turned {D} {Q} stored pair (x ∷ rows) sub up = (
   turned stored pair rows (λ r h. sub r (inr h)) up.1,
 )
 
-module _ (trees : Trees) (sound : IsSound club_schema trees) (apart : AreApart (trees 8))
-    (ints : (r : Row) → Has (trees 8) r → IsInt (column r 1) × IsInt (column r 2)) where
-  no_clash : (r : Row) → Has (trees 8) r → clashes plain (1 ∷ 2 ∷ []) (trees 8) r ≡ false
-  no_clash r h = not_true _ (and_first _ (all_has _ (trees 8) r (sound.obeys.rules Unique).1.1.1.1.0 h))
-
+module _ (trees : Trees) (no_clash : (r : Row) → Has (trees 8) r → clashes plain (1 ∷ 2 ∷ []) (trees 8) r ≡ false)
+    (apart : AreApart (trees 8)) (ints : (r : Row) → Has (trees 8) r → IsInt (column r 1) × IsInt (column r 2)) where
   keys_apart : (r s : Row) → Has (trees 8) r → Has (trees 8) s → value_cmp (rowid r) (rowid s) ≢ Equal
       → Apart (cells (moves 8) r) (cells (moves 8) s)
   keys_apart r s h k other tie =

@@ -15,9 +15,7 @@ use Rattle.sqlite.specs.Values.{IsInt}
 use Rattle.sqlite.specs.State.{State}
 use Rattle.sqlite.specs.Table.{Table as Definition}
 use Rattle.sqlite.specs.Tree.{Trees}
-use Rattle.sqlite_catalog.specs.Listing.{IsSound}
 use Rattle.sqlite_schema.specs.Rules.{agree, clashes, equal}
-use Rattle.sqlite_schema.specs.declared.schema.Constraint.TheVariants.{Unique}
 use Rattle.sqlite_sql.specs.Ops.{is_null}
 use Rattle.sqlite_trees.specs.Tree.{IsAscending, rowid}
 use Rattle.sqlite_trees.proofs.ListLemmas.{all_both, ascending-map}
@@ -26,8 +24,7 @@ use Rattle.sqlite_rules.proofs.ListLemmas.{all_has, has_got}
 use Rattle.store_tables.specs.Cells.{IsText, IsChallenge, IsSeen, IsScore}
 use Rattle.store_tables.specs.Content.{AreApart, Keeps, cells}
 use Rattle.store_tables.specs.Contents.{Stores}
-use Rattle.store_tables.specs.Club.{Holds}
-use Rattle.store_tables.specs.Tables.{club_schema, challenges, seen, scores}
+use Rattle.store_tables.specs.Tables.{challenges, seen, scores}
 use Rattle.store_tables.proofs.Proved.{pairs_turned, equal_from}
 use Rattle.club_rows.specs.Club.{both_games, ClubState, IsClub}
 use Rattle.club_rows.specs.EachOnce.{AreEachOnce}
@@ -35,7 +32,8 @@ use Rattle.club_rows.specs.Tables.{tables_of}
 use Rattle.club_rows.proofs.Proved.{scores_typed}
 use Rattle.store_sql.specs.Read.{IsReadAs}
 use Rattle.club_changes.proofs.Proved.{challenges_typed, moved}
-use Rattle.club_opening.proofs.MoveOrderLemmas.{and_first, not_true, one_rowid, turned}
+use Rattle.club_opening.proofs.MoveOrderLemmas.{one_rowid, turned}
+use Rattle.club_opening.proofs.StoredLemmas.{AreUnique, IsStored}
 
 -- ---- rows that differ, each at one place
 
@@ -124,51 +122,49 @@ int_there v (n, is) = ap is_null is
 text_there : (v : Value) → IsText v → is_null v ≡ false
 text_there v (t, is, fits) = ap is_null is
 
-pub seen_key : (trees : Trees) → IsSound club_schema trees → ((r : Row) → Has (trees 12) r → IsSeen (cells (seen 12) r))
+pub seen_key : (trees : Trees) → AreUnique trees → ((r : Row) → Has (trees 12) r → IsSeen (cells (seen 12) r))
     → HasKey (seen 12) (1 ∷ 2 ∷ []) (trees 12)
-seen_key trees sound typed = record {
+seen_key trees unique typed = record {
   filled = λ r h. let is = typed r h in (int_there _ is.game, (text_there _ is.position, tt));
   shown = λ r s is. (ap (λ c. column c 0) is, (ap (λ c. column c 1) is, tt));
-  unique = λ r h. not_true _ (and_first _ (all_has _ (trees 12) r (sound.obeys.rules Unique).1.1.1.1.1.1.0 h));
+  unique = unique.seen;
 }
 
-challenge_key : (trees : Trees) → IsSound club_schema trees
+challenge_key : (trees : Trees) → AreUnique trees
     → ((r : Row) → Has (trees 6) r → IsChallenge (cells (challenges 6) r))
     → HasKey (challenges 6) (1 ∷ 2 ∷ []) (trees 6)
-challenge_key trees sound typed = record {
+challenge_key trees unique typed = record {
   filled = λ r h. let is = typed r h in (int_there _ is.member, (int_there _ is.number, tt));
   shown = λ r s is. (ap (λ c. column c 0) is, (ap (λ c. column c 1) is, tt));
-  unique = λ r h. not_true _ (and_first _ (all_has _ (trees 6) r (sound.obeys.rules Unique).1.1.1.0 h));
+  unique = unique.challenges;
 }
 
-score_key : (trees : Trees) → IsSound club_schema trees → ((r : Row) → Has (trees 14) r → IsScore (cells (scores 14) r))
+score_key : (trees : Trees) → AreUnique trees → ((r : Row) → Has (trees 14) r → IsScore (cells (scores 14) r))
     → HasKey (scores 14) (1 ∷ 2 ∷ 3 ∷ []) (trees 14)
-score_key trees sound typed = record {
+score_key trees unique typed = record {
   filled = λ r h. let is = typed r h in (int_there _ is.event, (int_there _ is.member, (int_there _ is.opponent, tt)));
   shown = λ r s is. (ap (λ c. column c 0) is, (ap (λ c. column c 1) is, (ap (λ c. column c 2) is, tt)));
-  unique = λ r h. not_true _ (and_first _ (all_has _ (trees 14) r (sound.obeys.rules Unique).1.1.1.1.1.1.1.0 h));
+  unique = unique.scores;
 }
 
 -- the rows of scores that were read are those of the club, each once
 pub scores_are : (s : ClubState) → IsClub s → (rows : List Row) (old new : State)
-    → Holds old.now (tables_of both_games s) → IsReadAs (scores 14) 3 rows old new
+    → IsStored old.now s → IsReadAs (scores 14) 3 rows old new
     → AreEachOnce rows (tables_of both_games s 14)
 scores_are s club rows old new holds read =
     let made = tables_of both_games s 14 in
-    let stored : Stores (scores 14) old.now.trees (tables_of both_games s) = holds.tables.1.1.1.1.1.1.1.0 in
-    let sound = subst (λ schema. IsSound schema old.now.trees) holds.schema holds.sound in
-    let keyed = score_key old.now.trees sound
+    let stored : Stores (scores 14) old.now.trees (tables_of both_games s) = holds.scores in
+    let keyed = score_key old.now.trees holds.unique
     (λ r h. all_has IsScore made (cells (scores 14) r) (scores_typed both_games s.games) (stored.rows.only r h)) in
     each_once (scores 14) 3 (1 ∷ 2 ∷ 3 ∷ []) rows made old new keyed stored.rows read
 
 -- so are those of challenges
-pub challenges_are : (s : ClubState) → (rows : List Row) (old new : State) → Holds old.now (tables_of both_games s)
+pub challenges_are : (s : ClubState) → (rows : List Row) (old new : State) → IsStored old.now s
     → IsReadAs (challenges 6) 2 rows old new → AreEachOnce rows (tables_of both_games s 6)
 challenges_are s rows old new holds read =
     let made = tables_of both_games s 6 in
-    let stored : Stores (challenges 6) old.now.trees (tables_of both_games s) = holds.tables.1.1.1.0 in
-    let sound = subst (λ schema. IsSound schema old.now.trees) holds.schema holds.sound in
-    let keyed = challenge_key old.now.trees sound
+    let stored : Stores (challenges 6) old.now.trees (tables_of both_games s) = holds.challenges in
+    let keyed = challenge_key old.now.trees holds.unique
     (λ r h. all_has IsChallenge made (cells (challenges 6) r) (challenges_typed s.challenges)
     (stored.rows.only r h)) in
     each_once (challenges 6) 2 (1 ∷ 2 ∷ []) rows made old new keyed stored.rows read

@@ -1,2 +1,3 @@
 -- What is proved of an opening, for the proofs of crates above.
-pub use Rattle.club_opening.proofs.ClubLemmas.{good_fault}
+pub use Rattle.club_opening.proofs.ClubLemmas.{good_fault, good_in}
+pub use Rattle.club_opening.proofs.StoredLemmas.{club_of_version, one_version, schema_known, schemas_differ}

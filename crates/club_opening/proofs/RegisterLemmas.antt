@@ -2,7 +2,9 @@
 use Rattle.std.proofs.Common.{◌≡◌, true, false, true≢false, ◌==◌, ◌≤◌, ℕ, pos, List, [], ◌∷◌, length, map, Option}
 use Rattle.std.proofs.Common.{Some, None, refl, ap, sym}
 use Rattle.std.proofs.Common.{subst, ◌∙◌, ◌⊎◌, arith, inl, inr}
-use Rattle.std.specs.Prelude.{if◌then◌else◌}
+use Rattle.std.specs.Prelude.{if◌then◌else◌, ℤ}
+use Rattle.std.specs.List.{AllByRecursion}
+use Rattle.sqlite.specs.Schema.{Schema}
 use Rattle.std.proofs.lemmas.List.{take_all}
 use Rattle.sqlite_value.specs.declared.value.Value.TheVariants.{Int}
 use Rattle.sqlite.specs.Effect.{Database}
@@ -11,41 +13,55 @@ use Rattle.sqlite.specs.State.{State, IsUnchanged}
 use Rattle.sqlite.specs.Table.{Table as Definition}
 use Rattle.sqlite.specs.Tree.{Trees}
 use Rattle.sqlite.proofs.Callers.{unchanged_then}
-use Rattle.store_tables.specs.Cells.{meta_cells, member_cells, event_cells, challenge_cells, game_cells, score_cells}
+use Rattle.store_tables.specs.Cells.{meta_cells, member_cells, event_cells, event_rule_cells, challenge_cells}
+use Rattle.store_tables.specs.Cells.{game_cells, score_cells}
+use Rattle.store_tables.specs.Changes as changes
 use Rattle.store_tables.specs.Content.{AreApart, Keeps, cells}
-use Rattle.store_tables.specs.Contents.{Content}
-use Rattle.store_tables.specs.Club.{Holds, IsExactly, IsOpened, Leaves}
+use Rattle.store_tables.specs.Contents as of_schema
+use Rattle.store_tables.specs.Contents.{AreStored, Content, Stores}
 use Rattle.store_tables.specs.Reading.{KeepsMay}
-use Rattle.store_tables.specs.Tables.{club_schema, meta, moves, scores as scored, seen}
+use Rattle.store_tables.specs.Tables.{first_schema, schema_number, schema_of, event_rules, meta, moves}
+use Rattle.store_tables.specs.Tables.{scores as scored}
+use Rattle.store_tables.specs.Tables.{seen}
+use Rattle.store_tables.specs.declared.names.Version.{Version}
+use Rattle.store_tables.specs.declared.names.Version.TheVariants.{First, Current}
+use Rattle.store_tables.specs.declared.rows.EventRow.{EventRow}
 use Rattle.store_tables.specs.declared.names.Table.TheVariants.{Scores}
 use Rattle.store_tables.specs.declared.rows.Rows.{Rows}
 use Rattle.store_tables.specs.declared.rows.ScoreRow.{ScoreRow}
 use Rattle.store_sql.specs.Read.{IsReadAs}
 use Rattle.store_tables.proofs.Proved.{leaves_of, same_by, has_map, has_mapped}
-use Rattle.club_rows.specs.Club.{both_games, ClubState, IsClub, tables}
+use Rattle.club_rows.specs.Club.{both_games, ClubState, IsClub}
+use Rattle.club_rows.specs.FirstSchema.{IsClubOf, tables_at}
+use Rattle.club_rows.proofs.Proved.{declares-alike, same-pos}
+use Rattle.club_core.specs.LegalState.{Each}
+use Rattle.club_opening.specs.Versions.{IsExactlyClub, IsOpenedAt}
 use Rattle.club_rows.specs.EachOnce.{AreEachOnce}
 use Rattle.club_rows.specs.Scores.{scores_in}
-use Rattle.club_rows.specs.Tables.{rows_of_moves, rows_of_seen, tables_of}
-use Rattle.club_audit.specs.Audit.{AreApartGames, AreEvents, AreMembers, HasPeople}
+use Rattle.club_rows.specs.Tables.{declares_number, meta_row, numbered_from, rule_row, rows_of_moves, rows_of_seen}
+use Rattle.club_rows.specs.Tables.{tables_of}
+use Rattle.club_audit.specs.Audit.{AreApartGames, AreEvents, AreMembers, AreRulesOf, HasPeople}
 use Rattle.club_audit.specs.ChallengeAudit.{AreChallenges}
 use Rattle.club_core.specs.declared.challenges.Challenge.{Challenge}
 use Rattle.club_core.specs.Events.{Event}
 use Rattle.club_core.specs.Members.{Member}
 use Rattle.club_audit.specs.Standings.{AreGamesOf}
-use Rattle.club_audit.proofs.Proved.{challenges-of, club-challenges, game-elsewhere, keys-in, keys-of, numbered-length}
-use Rattle.club_opening.specs.Blames.{AreRead, IsMetaRead, NamesSchema, NamesTable}
+use Rattle.club_audit.proofs.Proved.{challenges-of, club-challenges, game-elsewhere, keys-in, keys-of, numbered-back}
+use Rattle.club_audit.proofs.Proved.{numbered-length}
+use Rattle.club_opening.specs.Blames.{AreRead, AreRulesRead, IsMetaRead, Names, NamesTable, undeclared_row}
 use Rattle.club_opening.specs.Examined.{AreScoresExamined, IsOf, IsPlayExamined, NamesPlay, moves_in, past, seen_in}
-use Rattle.club_opening.specs.Places.{IsRegisterOf, NamesRows}
+use Rattle.club_opening.specs.Places.{IsRegisterOf}
 use Rattle.club_changes.specs.Steps.{HaveSame}
 use Rattle.club_opening.specs.declared.fault.OpenFault.{OpenFault}
 use Rattle.club_opening.specs.declared.fault.OpenFault.TheVariants.{Damaged}
 use Rattle.club_opening.proofs.BlameLemmas.{have_ids}
-use Rattle.club_opening.proofs.ClubLemmas.{club_read}
+use Rattle.club_opening.proofs.ClubLemmas.{club_read_as}
 use Rattle.club_opening.proofs.ExaminedLemmas.{blamed_before, people_of}
 use Rattle.club_opening.proofs.GroupRows.{seen_had}
-use Rattle.club_changes.proofs.Proved.{moves_had, exactly_same}
+use Rattle.club_changes.proofs.Proved.{moves_had}
 use Rattle.club_opening.proofs.OnceLemmas.{scores_are}
 use Rattle.club_opening.proofs.PastLemmas.{table_gathered}
+use Rattle.club_opening.proofs.StoredLemmas.{club_of_version, stored_of}
 
 -- the challenges of a legal club are those of its register, and its games stand beside one another
 pub register_challenges : (s : ClubState) (rows : Rows) → IsClub s → IsRegisterOf s rows
@@ -75,7 +91,8 @@ content_with rows scored db t =
     else (if t == 10 then map game_cells rows.games.items
     else (if t == 12 then seen_in db
     else (if t == 14 then scored
-    else [])))))))
+    else (if t == 16 then map event_rule_cells rows.event_rules.items
+    else []))))))))
 
 keeps_shown : (table : Definition) (db : Trees) → Keeps table db (map (cells table) (db table.tree))
 keeps_shown table db = record {
@@ -83,97 +100,163 @@ keeps_shown table db = record {
   only = λ r h. has_map (cells table) (db table.tree) r h;
 }
 
-module _ (rows : Rows) (last : Option ℕ) (old mid after new : State) (opened : IsOpened old)
-    (read : AreRead rows old mid)
+-- rows of rules that say 0 are those of events without declarations
+none_declared : (n : ℕ) (es : List Event) (rows : List EventRow)
+    → map undeclared_row rows ≡ numbered_from rule_row n es → Each (λ e. e.terms.declares ≡ false) es
+none_declared n es rows are k e at =
+    let (row, stands, cells) = numbered-back undeclared_row rule_row n rows es are k e at in
+    let says : ◌≡◌ {A = ℤ} (pos (declares_number e.terms.declares)) (pos 0) = cc in
+    declares-alike e.terms.declares false (same-pos _ _ says)
+
+-- tables with the same rows are held alike
+keeps_same : (table : Definition) (db : Trees) (one other : List Row) → HaveSame one other → Keeps table db one
+    → Keeps table db other
+keeps_same table db one other same keeps = record {
+  stored = λ row h. keeps.stored row (same.back row h);
+  only = λ r h. same.there _ (keeps.only r h);
+}
+
+both_all : {A : Type 0} (P Q R : A → Type 0) (xs : List A) → ((x : A) → P x → Q x → R x) → AllByRecursion P xs
+    → AllByRecursion Q xs → AllByRecursion R xs
+both_all P Q R [] f p q = tt
+both_all P Q R (x ∷ xs) f p q = (f x p.0 q.0, both_all P Q R xs f p.1 q.1)
+
+stored_same : (schema : Schema) (db : Trees) (one other : Content) → changes.AreSame schema one other
+    → AreStored schema db one → AreStored schema db other
+stored_same schema db one other =
+    both_all (λ t. HaveSame (one t.tree) (other t.tree)) (λ t. Stores t db one) (λ t. Stores t db other)
+    schema.tables (λ t same stores. record {
+      rows = keeps_same t db (one t.tree) (other t.tree) same stores.rows;
+      apart = stores.apart;
+    })
+
+exactly_at : (v : Version) (one other : Content) (s : State) → changes.AreSame (schema_of v) one other
+    → of_schema.IsExactly (schema_of v) one s → of_schema.IsExactly (schema_of v) other s
+exactly_at v one other s same k = record {
+  is_open = k.is_open;
+  idle = k.idle;
+  now = record {
+    schema = k.now.schema;
+    sound = k.now.sound;
+    tables = stored_same (schema_of v) s.now.trees one other same k.now.tables;
+  };
+  committed = k.committed;
+  may_leave = λ db h. let left = k.may_leave db h in
+      record { sound = left.sound; tables = stored_same (schema_of v) db one other same left.tables };
+}
+
+module _ (version : Version) (rows : Rows) (last : Option ℕ) (old mid new : State) (opened : IsOpenedAt version old)
+    (read : AreRead version rows old mid)
     (one : IsReadAs (meta 0) 1 (meta_cells rows.meta ∷ []) old mid × (rows.meta.id ≡ pos 1)
-    × (rows.meta.schema ≡ pos 1)) (play : IsPlayExamined rows last None mid after)
-    (scores : AreScoresExamined rows after new) (may : KeepsMay old new) where
+    × (rows.meta.schema ≡ pos (schema_number version))) (play : IsPlayExamined rows last None mid new)
+    (scores : AreScoresExamined rows mid new) (may : KeepsMay old new) where
   mid_is : mid.now ≡ old.now
   mid_is = read.same.0.now_is
 
   trees_are : mid.now.trees ≡ old.now.trees
   trees_are = ap (λ (d : Database). d.trees) mid_is
 
-  after_same : IsUnchanged old after
-  after_same = unchanged_then old mid after read.same play.games.same
+  abbrev content : Content
+  content = content_with rows scores.rows_of old.now.trees
 
-  later_trees : after.now.trees ≡ old.now.trees
-  later_trees = ap (λ (d : Database). d.trees) after_same.0.now_is
-
-  holds : Holds old.now (content_with rows scores.rows_of old.now.trees)
-  holds = record {
-    schema = opened.schema;
-    sound = opened.sound;
-    tables = (
-      record { rows = one.0.keeps; apart = one.0.apart },
+  first_eight : AreStored first_schema old.now.trees content
+  first_eight = (
+    record { rows = one.0.keeps; apart = one.0.apart },
+    (
+      record { rows = read.members.keeps; apart = read.members.apart },
       (
-        record { rows = read.members.keeps; apart = read.members.apart },
+        record { rows = read.events.keeps; apart = read.events.apart },
         (
-          record { rows = read.events.keeps; apart = read.events.apart },
+          record { rows = read.challenges.keeps; apart = read.challenges.apart },
           (
-            record { rows = read.challenges.keeps; apart = read.challenges.apart },
+            record {
+              rows = keeps_shown (moves 8) old.now.trees;
+              apart = subst (λ (t : Trees). AreApart (t 8)) trees_are play.moves_apart;
+            },
             (
-              record {
-                rows = keeps_shown (moves 8) old.now.trees;
-                apart =
-                    subst (λ (t : Trees). AreApart (t 8)) trees_are play.moves_apart;
-              },
+              record { rows = read.games.keeps; apart = read.games.apart },
               (
-                record { rows = read.games.keeps; apart = read.games.apart },
+                record {
+                  rows = keeps_shown (seen 12) old.now.trees;
+                  apart = subst (λ (t : Trees). AreApart (t 12)) trees_are play.seen_apart;
+                },
                 (
                   record {
-                    rows = keeps_shown (seen 12) old.now.trees;
-                    apart =
-                        subst (λ (t : Trees). AreApart (t 12)) trees_are play.seen_apart;
+                    rows = subst (λ (t : Trees). Keeps (scored 14) t scores.rows_of) trees_are scores.read.keeps;
+                    apart = subst (λ (t : Trees). AreApart (t 14)) trees_are scores.read.apart;
                   },
-                  (
-                    record {
-                      rows = subst (λ (t : Trees). Keeps (scored 14) t scores.rows_of) later_trees scores.read.keeps;
-                      apart = subst (λ (t : Trees). AreApart (t 14)) later_trees scores.read.apart;
-                    },
-                    tt,
-                  ),
+                  tt,
                 ),
               ),
             ),
           ),
         ),
       ),
-    );
-  }
+    ),
+  )
 
-  exactly : IsExactly (content_with rows scores.rows_of old.now.trees) new
+  all_of : (v : Version) → v ≡ version → AreStored (schema_of v) old.now.trees content
+  all_of First is = first_eight
+  all_of Current is =
+      let rules : IsReadAs (event_rules 16) 1 (map event_rule_cells rows.event_rules.items) old mid =
+      subst (λ v. AreRulesRead v rows.events.items rows.event_rules.items old mid) (sym is) read.rules in
+      let t = first_eight in (
+        t.0,
+        (
+          t.1.0,
+          (
+            t.1.1.0,
+            (
+              t.1.1.1.0,
+              (
+                t.1.1.1.1.0,
+                (
+                  t.1.1.1.1.1.0,
+                  (
+                    t.1.1.1.1.1.1.0,
+                    (t.1.1.1.1.1.1.1.0, (record { rows = rules.keeps; apart = rules.apart }, tt)),
+                  ),
+                ),
+              ),
+            ),
+          ),
+        ),
+      )
+
+  holds : of_schema.Holds (schema_of version) old.now content
+  holds = record { schema = opened.schema; sound = opened.sound; tables = all_of version refl }
+
+  exactly : of_schema.IsExactly (schema_of version) content new
   exactly =
-      let same = (unchanged_then old after new after_same scores.read.same).0 in
-      let content = content_with rows scores.rows_of old.now.trees in
+      let same = (unchanged_then old mid new read.same scores.read.same).0 in
       record {
         is_open = same.is_open;
         idle = same.mode ∙ opened.idle;
-        now = subst (λ (d : Database). Holds d content) (sym same.now_is) holds;
+        now = subst (λ (d : Database). of_schema.Holds (schema_of version) d content) (sym same.now_is) holds;
         committed = same.committed_is ∙ opened.committed ∙ sym same.now_is;
-        may_leave = λ db left. subst (Leaves content)
+        may_leave = λ db left. subst (of_schema.Leaves (schema_of version) content)
             (sym (opened.settled db (may db left) ∙ ap (λ (d : Database). d.trees) opened.committed))
-            (leaves_of club_schema old.now content holds);
+            (leaves_of (schema_of version) old.now content holds);
       }
 
   -- ---- the club
 
-  module _ (ms : List Member) (es : List Event) (cs : List Challenge) (n : ℕ) (are_ms : AreMembers ms
-      rows.members.items)
-      (are_es : AreEvents es rows.events.items) (are_cs : AreChallenges cs rows) (apart : AreApartGames
-      rows.games.items)
+  module _ (ms : List Member) (es : List Event) (cs : List Challenge) (n : ℕ)
+      (are_ms : AreMembers ms rows.members.items) (are_es : AreEvents es rows.events.items)
+      (are_rules : AreRulesOf es rows.event_rules.items) (are_cs : AreChallenges cs rows)
+      (apart : AreApartGames rows.games.items)
       (moment : rows.meta.last ≡ pos n) (within : n ≤ 253402300799) (is_last : last ≡ Some n) where
     abbrev known : ClubState
     known = record { last = n; members = ms; events = es; games = []; challenges = cs }
 
     people : HasPeople known rows
-    people = record { members = are_ms; events = are_es }
+    people = record { members = are_ms; events = are_es; rules = are_rules }
 
     of_rows : IsOf known rows last
     of_rows = record { people = people; moment = is_last; within = within }
 
     -- the tables that were examined are those of a legal club
-    pub examined_club : (t : ClubState) × IsClub t × IsExactly (tables t) new
+    pub examined_club : (t : ClubState) × IsClubOf version t × IsRegisterOf t rows × IsExactlyClub version t new
     examined_club =
         let s = known in
         let found = play.games.found refl s of_rows in
@@ -193,71 +276,130 @@ module _ (rows : Rows) (last : Option ℕ) (old mid after new : State) (opened :
         (subst (λ n. length (past n (seen_in mid.now.trees)) ≡ 0) (sym found.number_of) none.seen)
         found.seen_are in
         let are_scores = scores.are t (record { few = few; rows_are = rows_are }) in
-        let are_meta : ◌≡◌ {A = List Row} (meta_cells rows.meta ∷ []) (tables_of both_games t 0) = λ i.
-        (Int (one.1 i) ∷ Int (one.2 i) ∷ Int (moment i) ∷ []) ∷ [] in (
+        let club : IsClub t = record {
+          last = within;
+          members = people.members.legal;
+          member_count = people.members.count;
+          member_names = people.members.names;
+          member_keys = people.members.keys;
+          events = people.events.legal;
+          event_count = people.events.count;
+          event_names = people.events.names;
+          games = λ n any at. game-elsewhere s found.games any (found.legal n any at);
+          game_count = few;
+          game_keys = keys-of s found.games rows.games.items rows_are apart.keys;
+          challenges = challenges-of s rows people found.games rows_are are_cs.legal;
+          challenge_numbers = are_cs.numbers;
+        } in
+        let register : IsRegisterOf t rows = record {
+          last = moment;
+          members = people.members.rows_are;
+          events = people.events.rows_are;
+          rules = are_rules;
+          challenges = are_cs.rows_are;
+          games = rows_are;
+        } in (
           t,
-          record {
-            last = within;
-            members = people.members.legal;
-            member_count = people.members.count;
-            member_names = people.members.names;
-            member_keys = people.members.keys;
-            events = people.events.legal;
-            event_count = people.events.count;
-            event_names = people.events.names;
-            games = λ n any at. game-elsewhere s found.games any (found.legal n any at);
-            game_count = few;
-            game_keys = keys-of s found.games rows.games.items rows_are apart.keys;
-            challenges = challenges-of s rows people found.games rows_are are_cs.legal;
-            challenge_numbers = are_cs.numbers;
-          },
-          exactly_same (content_with rows scores.rows_of old.now.trees) (tables t) new (
-            same_by _ _ are_meta,
+          of_version version refl t refl club,
+          register,
+          same_tables version refl t register
+              (subst (λ (d : Trees). HaveSame (moves_in d) (tables_of both_games t 8)) trees_are are_moves)
+              (subst (λ (d : Trees). HaveSame (seen_in d) (tables_of both_games t 12)) trees_are are_seen)
+              are_scores.same,
+        )
+      where
+        of_version : (v : Version) → v ≡ version → (t : ClubState) → t.events ≡ es → IsClub t → IsClubOf v t
+        of_version First is t same club =
+            let rules = subst (λ w. AreRulesRead w rows.events.items rows.event_rules.items old mid)
+            (sym is) read.rules in
+            record {
+              club = club;
+              undeclared = subst (Each (λ e. e.terms.declares ≡ false)) (sym same)
+                  (none_declared 1 es rows.events.items (sym rules.1 ∙ are_rules));
+            }
+        of_version Current is t same club = club
+
+        number_is : (v : Version) → v ≡ version → (t : ClubState) → IsRegisterOf t rows
+            → ◌≡◌ {A = List Row} (meta_cells rows.meta ∷ []) (meta_row (schema_number v) t.last ∷ [])
+        number_is v is t register = λ i.
+            (Int (one.1 i) ∷ Int ((one.2 ∙ ap (λ w. pos (schema_number w)) (sym is)) i) ∷ Int (register.last i) ∷ [])
+            ∷ []
+
+        same_at : (v : Version) → v ≡ version → (t : ClubState) → IsRegisterOf t rows
+            → HaveSame (moves_in old.now.trees) (tables_of both_games t 8)
+            → HaveSame (seen_in old.now.trees) (tables_of both_games t 12)
+            → HaveSame scores.rows_of (tables_of both_games t 14)
+            → changes.AreSame (schema_of v) content (tables_at v t)
+        same_at First is t register are_moves are_seen are_scores = (
+          same_by _ _ (number_is First is t register),
+          (
+            same_by _ _ register.members,
             (
-              same_by _ _ people.members.rows_are,
+              same_by _ _ register.events,
               (
-                same_by _ _ people.events.rows_are,
+                register.challenges.same,
+                (are_moves, (same_by _ _ register.games, (are_seen, (are_scores, tt)))),
+              ),
+            ),
+          ),
+        )
+        same_at Current is t register are_moves are_seen are_scores = (
+          same_by _ _ (number_is Current is t register),
+          (
+            same_by _ _ register.members,
+            (
+              same_by _ _ register.events,
+              (
+                register.challenges.same,
                 (
-                  are_cs.rows_are.same,
+                  are_moves,
                   (
-                    subst (λ (d : Trees). HaveSame (moves_in d) (tables_of both_games t 8)) trees_are are_moves,
-                    (
-                      same_by _ _ rows_are,
-                      (
-                        subst (λ (d : Trees). HaveSame (seen_in d) (tables_of both_games t 12)) trees_are are_seen,
-                        (are_scores.same, tt),
-                      ),
-                    ),
+                    same_by _ _ register.games,
+                    (are_seen, (are_scores, (same_by _ _ register.rules, tt))),
                   ),
                 ),
               ),
             ),
-          ) exactly,
+          ),
         )
 
+        same_tables : (v : Version) → v ≡ version → (t : ClubState) → IsRegisterOf t rows
+            → HaveSame (moves_in old.now.trees) (tables_of both_games t 8)
+            → HaveSame (seen_in old.now.trees) (tables_of both_games t 12)
+            → HaveSame scores.rows_of (tables_of both_games t 14) → IsExactlyClub v t new
+        same_tables v is t register are_moves are_seen are_scores =
+            exactly_at v content (tables_at v t) new
+            (same_at v is t register are_moves are_seen are_scores)
+            (subst (λ w. of_schema.IsExactly (schema_of w) content new) (sym is) exactly)
+
 -- the row of `meta` was read, where its moment is one
-pub meta_found : (rows : Rows) (old mid : State) (n : ℕ) → rows.meta.last ≡ pos n → IsMetaRead rows.meta old mid
-    → IsReadAs (meta 0) 1 (meta_cells rows.meta ∷ []) old mid × (rows.meta.id ≡ pos 1) × (rows.meta.schema ≡ pos 1)
-meta_found rows old mid n is (inl one) = one
-meta_found rows old mid n is (inr missing) = absurd (missing.0 n is)
+pub meta_found : (version : Version) (rows : Rows) (old mid : State) (n : ℕ) → rows.meta.last ≡ pos n
+    → IsMetaRead version rows.meta old mid
+    → IsReadAs (meta 0) 1 (meta_cells rows.meta ∷ []) old mid × (rows.meta.id ≡ pos 1)
+    × (rows.meta.schema ≡ pos (schema_number version))
+meta_found version rows old mid n is (inl one) = one
+meta_found version rows old mid n is (inr missing) = absurd (missing.1 n is)
 
 -- ---- what is blamed
 
 -- What a fault says of rows that were read, and of a database that did not change since, it says of the database.
-pub play_blamed : (rows : Rows) (old mid later : State) (fault : OpenFault) → AreRead rows old mid
-    → IsUnchanged old later → NamesTable later.now fault ⊎ NamesPlay rows later.now fault → NamesTable old.now fault
-    ⊎ (NamesSchema old.now fault ⊎ NamesRows old.now fault)
-play_blamed rows old mid later fault read same blamed = elim (blamed_before rows old later fault same blamed) [
-  | inl named ↦ inl named
-  | inr (t, is, none) ↦
-      inr
-      (inr (
-        t,
-        is,
-        λ s club holds. none s club (club_read s club rows old mid holds read (have_ids rows old mid read))
-            holds,
-      ))
-]
+pub play_blamed : (oldest version : Version) (rows : Rows) (old mid later : State) (fault : OpenFault)
+    → old.now.schema ≡ schema_of version → AreRead version rows old mid
+    → IsUnchanged old later → NamesTable later.now fault ⊎ NamesPlay rows later.now fault → Names oldest old.now fault
+play_blamed oldest version rows old mid later fault has read same blamed = elim
+    (blamed_before rows old later fault same blamed) [
+      | inl named ↦ inl named
+      | inr (t, is, none) ↦
+          inr
+          (inr
+          (inr (
+            t,
+            is,
+            λ other s club holds.
+                none other s club
+                (club_read_as version other s club rows old mid has holds read (have_ids version rows old mid read)) holds,
+          )))
+    ]
 
 -- rows of scores that were judged to be other ones are no club's
 pub scores_blamed : (rows : Rows) (scored_rows : List ScoreRow) (old new : State)
@@ -268,9 +410,10 @@ pub scores_blamed : (rows : Rows) (scored_rows : List ScoreRow) (old new : State
 scores_blamed rows scored_rows old new read complete = (
   Scores,
   refl,
-  λ s club register holds.
+  λ version s of_version register holds.
+      let club = club_of_version version s of_version in
       true≢false
       (sym
       (complete s (record { few = club.game_count; rows_are = register.games })
-      (scores_are s club (map score_cells scored_rows) old new holds read))),
+      (scores_are s club (map score_cells scored_rows) old new (stored_of version old.now s holds) read))),
 )

@@ -8,19 +8,25 @@ use Rattle.sqlite.specs.State.{State, IsUnchanged}
 use Rattle.sqlite.specs.declared.types.Value.TheVariants.{Int}
 use Rattle.sqlite_rules.specs.Lists.{Has}
 use Rattle.store_tables.specs.Cells.{meta_cells, member_cells, event_cells, challenge_cells, game_cells}
+use Rattle.store_tables.specs.Cells.{event_rule_cells, IsEventRule}
 use Rattle.store_tables.specs.Cells.{IsMember, IsEvent, IsChallenge, IsMove, IsGame, IsSeen, IsScore}
 use Rattle.store_tables.specs.Content.{Keeps, AreApart}
 use Rattle.store_tables.specs.Contents.{Content}
-use Rattle.store_tables.specs.Club.{Holds}
+use Rattle.store_tables.specs.Contents as of_schema
 use Rattle.store_sql.specs.Read.{IsReadAs}
-use Rattle.store_tables.specs.Tables.{meta, members, events, challenges, games}
+use Rattle.store_tables.specs.Tables.{meta, members, events, event_rules, challenges, games, schema_of, schema_number}
+use Rattle.store_tables.specs.declared.rows.EventRow.{EventRow}
+use Rattle.store_tables.specs.declared.rows.EventRuleRow.{EventRuleRow}
 use Rattle.store_tables.specs.declared.rows.MetaRow.{MetaRow}
 use Rattle.store_tables.specs.declared.rows.Rows.{Rows}
 use Rattle.store_tables.specs.declared.names.Table.{Table}
-use Rattle.store_tables.specs.declared.names.Table.TheVariants.{Members, Events, Challenges, Moves, Games, Seen, Scores}
-use Rattle.store_tables.specs.declared.names.Table.TheVariants.{Meta}
+use Rattle.store_tables.specs.declared.names.Table.TheVariants.{Members, Events, EventRules, Challenges, Moves}
+use Rattle.store_tables.specs.declared.names.Table.TheVariants.{Games, Seen, Scores, Meta}
+use Rattle.store_tables.specs.declared.names.Version.{Version}
+use Rattle.store_tables.specs.declared.names.Version.TheVariants.{First, Current}
+use Rattle.club_opening.specs.Places.{NamesRows}
 use Rattle.club_opening.specs.declared.fault.OpenFault.{OpenFault}
-use Rattle.club_opening.specs.declared.fault.OpenFault.TheVariants.{Schema, Damaged, Store, Memory}
+use Rattle.club_opening.specs.declared.fault.OpenFault.TheVariants.{Foreign, Schema, Damaged, Store, Memory}
 
 -- ---- what is blamed
 
@@ -34,6 +40,7 @@ pub record IsOneMeta (rows : List Row) : Type 0 where
 abbrev pub HasTypes : Table → Content → Type 0
 HasTypes Members content = AllByRecursion IsMember (content 1)
 HasTypes Events content = AllByRecursion IsEvent (content 4)
+HasTypes EventRules content = AllByRecursion IsEventRule (content 16)
 HasTypes Challenges content = AllByRecursion IsChallenge (content 6)
 HasTypes Moves content = AllByRecursion IsMove (content 8)
 HasTypes Games content = AllByRecursion IsGame (content 10)
@@ -41,19 +48,37 @@ HasTypes Seen content = AllByRecursion IsSeen (content 12)
 HasTypes Scores content = AllByRecursion IsScore (content 14)
 HasTypes Meta content = IsOneMeta (content 0)
 
--- This is the one row of `meta`, with schema 1; or there is none, and this has a moment that no club has.
-abbrev pub IsMetaRead : MetaRow → State → State → Type 0
-IsMetaRead row old new =
-    (IsReadAs (meta 0) 1 (meta_cells row ∷ []) old new × (row.id ≡ pos 1) × (row.schema ≡ pos 1))
-    ⊎
-    (((n : ℕ) → row.last ≢ pos n) × ((content : Content) → Holds old.now content → ¬ HasTypes Meta content))
+-- no content that the database may hold, in whatever version, is so
+abbrev pub HoldsNone : Database → (Version → Content → Type 0) → Type 0
+HoldsNone db IsSo = (version : Version) (content : Content) → of_schema.Holds (schema_of version) db content
+    → ¬ IsSo version content
 
--- Each table but those of moves, positions and scores has its rows, and the schema is number 1, where `meta` has its
--- row.
-pub record AreRead (rows : Rows) (old new : State) : Type 0 where
-  pub meta : IsMetaRead rows.meta old new
+-- This is the one row of `meta`, with the number of this version; or there is none, and then the version is the last,
+-- and this has a moment that no club has.
+abbrev pub IsMetaRead : Version → MetaRow → State → State → Type 0
+IsMetaRead version row old new =
+    (IsReadAs (meta 0) 1 (meta_cells row ∷ []) old new × (row.id ≡ pos 1) × (row.schema ≡ pos (schema_number version)))
+    ⊎ ((version ≡ Current) × ((n : ℕ) → row.last ≢ pos n) × HoldsNone old.now (λ _ content. HasTypes Meta content))
+
+-- the row of the rules of an event without declarations
+abbrev pub undeclared_row : EventRow → Row
+undeclared_row event = Int event.id ∷ Int (pos 0) ∷ []
+
+-- the rules of these events that are read of a database: those of its table, or where the version has none, one that
+-- says 0 for each event
+abbrev pub AreRulesRead : Version → List EventRow → List EventRuleRow → State → State → Type 0
+AreRulesRead First events rules old new = IsUnchanged old new
+    × (map event_rule_cells rules ≡ map undeclared_row events)
+AreRulesRead Current events rules old new = IsReadAs (event_rules 16) 1 (map event_rule_cells rules) old new
+
+-- Each table but those of moves, positions and scores has its rows, and the number of the schema is that of the
+-- version,
+-- where `meta` has its row.
+pub record AreRead (version : Version) (rows : Rows) (old new : State) : Type 0 where
+  pub meta : IsMetaRead version rows.meta old new
   pub members : IsReadAs (members 1) 1 (map member_cells rows.members.items) old new
   pub events : IsReadAs (events 4) 1 (map event_cells rows.events.items) old new
+  pub rules : AreRulesRead version rows.events.items rows.event_rules.items old new
   pub challenges : IsReadAs (challenges 6) 2 (map challenge_cells rows.challenges.items) old new
   pub games : IsReadAs (games 10) 1 (map game_cells rows.games.items) old new
   pub same : IsUnchanged old new
@@ -74,10 +99,29 @@ Blames table definition IsTyped old fault =
 abbrev pub NamesTable : Database → OpenFault → Type 0
 NamesTable db fault = (fault ≡ Store)
     ⊎
-    ((fault ≡ Memory)
-    ⊎ ((t : Table) × (fault ≡ Damaged t) × ((content : Content) → Holds db content → ¬ HasTypes t content)))
+    ((fault ≡ Memory) ⊎ ((t : Table) × (fault ≡ Damaged t) × HoldsNone db (λ _ content. HasTypes t content)))
 
--- `meta` has this number, and it is not 1
-abbrev pub NamesSchema : Database → OpenFault → Type 0
-NamesSchema db fault = (n : ℤ) × (fault ≡ Schema n) × (n ≢ pos 1)
-    × ((content : Content) → Holds db content → (last : ℤ) × Has (content 0) (Int (pos 1) ∷ Int n ∷ Int last ∷ []))
+-- `meta` has this number
+abbrev pub HasNumber : Database → ℤ → Type 0
+HasNumber db n = (version : Version) (content : Content) → of_schema.Holds (schema_of version) db content
+    → (last : ℤ) × Has (content 0) (Int (pos 1) ∷ Int n ∷ Int last ∷ [])
+
+-- the number is that of a version from this one on
+abbrev pub IsNumberFrom : Version → ℤ → Type 0
+IsNumberFrom First n = (n ≡ pos 1) ⊎ (n ≡ pos 2)
+IsNumberFrom Current n = n ≡ pos 2
+
+-- `meta` has a number that is not that of a version from this one on
+abbrev pub NamesSchema : Version → Database → OpenFault → Type 0
+NamesSchema oldest db fault = (n : ℤ) × (fault ≡ Schema n) × (¬ IsNumberFrom oldest n) × HasNumber db n
+
+-- the database is called foreign, and the number in `meta`, if there is one, is not that of its tables
+abbrev pub NamesForeign : Database → OpenFault → Type 0
+NamesForeign db fault = (fault ≡ Foreign)
+    × HoldsNone db (λ version content. (last : ℤ)
+    × (content 0 ≡ (Int (pos 1) ∷ Int (pos (schema_number version)) ∷ Int last ∷ []) ∷ []))
+
+-- what a fault says of a database with the tables of a club, of which versions from this one on are taken
+abbrev pub Names : Version → Database → OpenFault → Type 0
+Names oldest db fault = NamesTable db fault
+    ⊎ (NamesSchema oldest db fault ⊎ (NamesForeign db fault ⊎ NamesRows db fault))

@@ -24,7 +24,8 @@ use Rattle.sqlite.specs.Tree.{Trees}
 use Rattle.sqlite.specs.Effect.{Database}
 use Rattle.sqlite.specs.State.{State, IsUnchanged}
 use Rattle.club_core.specs.LegalState.{Each, IsLegalIn}
-use Rattle.club_rows.specs.Club.{ClubGame, ClubState, IsClub, both_games, tables}
+use Rattle.club_rows.specs.Club.{ClubGame, ClubState, both_games}
+use Rattle.club_rows.specs.FirstSchema.{IsClubOf}
 use Rattle.club_rows.specs.EachOnce.{AreEachOnce}
 use Rattle.club_rows.specs.Scores.{scores_in}
 use Rattle.club_rows.specs.Tables.{number, numbered_from, row_of_game, rows_of_moves, rows_of_seen}
@@ -33,12 +34,15 @@ use Rattle.store_tables.specs.Content.{AreApart, cells, same_key}
 use Rattle.store_tables.specs.Tables.{moves, scores, seen}
 use Rattle.store_tables.specs.declared.rows.GameRecord.{GameRecord}
 use Rattle.store_sql.specs.Read.{IsReadAs, beginning_with}
-use Rattle.store_tables.specs.Club.{Holds}
 use Rattle.store_tables.specs.declared.names.Table.{Table}
+use Rattle.store_tables.specs.declared.names.Version.{Version}
 use Rattle.store_tables.specs.declared.rows.Rows.{Rows}
-use Rattle.club_audit.specs.Audit.{HasPeople}
+use Rattle.club_audit.specs.Audit.{AreApartGames, HasPeople}
+use Rattle.club_audit.specs.ChallengeAudit.{AreChallenges}
+use Rattle.club_core.specs.declared.challenges.Challenge.{Challenge}
 use Rattle.club_audit.specs.Standings.{AreGamesOf}
 use Rattle.club_opening.specs.Places.{IsRegisterOf, last_moment}
+use Rattle.club_opening.specs.Versions.{HoldsClub}
 use Rattle.club_changes.specs.Steps.{HaveSame}
 use Rattle.club_opening.specs.declared.fault.OpenFault.{OpenFault}
 use Rattle.club_opening.specs.declared.fault.OpenFault.TheVariants.{Damaged}
@@ -78,7 +82,7 @@ pub record WereFound (s : ClubState) (rows : List GameRecord) (db : Trees) (coun
 -- A table is called damaged, and no legal club whose register these rows are has the tables of the database.
 abbrev pub NamesPlay : Rows → Database → OpenFault → Type 0
 NamesPlay rows db fault = (t : Table) × (fault ≡ Damaged t)
-    × ((s : ClubState) → IsClub s → IsRegisterOf s rows → ¬ Holds db (tables s))
+    × ((version : Version) (s : ClubState) → IsClubOf version s → IsRegisterOf s rows → ¬ HoldsClub version db s)
 
 -- the club has these members and events, and its last moment is this one
 pub record IsOf (s : ClubState) (rows : Rows) (last : Option ℕ) : Type 0 where
@@ -133,3 +137,12 @@ pub record AreScoresExamined (rows : Rows) (old new : State) : Type 0 where
   pub rows_of : List Row
   pub read : IsReadAs (scores 14) 3 rows_of old new
   pub are : (t : ClubState) → AreGamesOf t rows.games.items → AreEachOnce rows_of (scores_in both_games t.games)
+
+-- What was examined of rows that were read: they and those of moves, positions and scores are those of one club.
+pub record AreExamined (rows : Rows) (old new : State) : Type 0 where
+  pub moment : ℕ
+  pub last : (rows.meta.last ≡ pos moment) × (moment ≤ last_moment)
+  pub challenges : (cs : List Challenge) × AreChallenges cs rows
+  pub games : AreApartGames rows.games.items
+  pub play : IsPlayExamined rows (Some moment) None old new
+  pub scores : AreScoresExamined rows old new

@@ -3,4 +3,5 @@ pub mod Examined
 pub mod FaultText
 pub mod Faults
 pub mod Places
+pub mod Versions
 pub mod Refused

@@ -1,13 +1,13 @@
 -- The rows of a club that are read whole, and what a fault says of the rows of all tables.
 use Rattle.std.specs.Prelude.{◌≡◌, ◌≢◌, ◌⊎◌, ℕ, ◌≤◌, ℤ, pos, map, Option, Some, None}
 use Rattle.sqlite.specs.Effect.{Database}
-use Rattle.store_tables.specs.Club.{Holds}
 use Rattle.store_tables.specs.declared.rows.Rows.{Rows}
 use Rattle.store_tables.specs.declared.names.Table.{Table}
-use Rattle.club_rows.specs.Club.{both_games, ClubState, IsClub, tables}
+use Rattle.club_rows.specs.Club.{both_games, ClubState, IsClub}
 use Rattle.club_rows.specs.EachOnce.{AreEachOnce}
-use Rattle.club_rows.specs.Tables.{challenge_row, event_row, member_row, numbered_from, row_of_game}
-use Rattle.store_tables.specs.Cells.{member_cells, event_cells, challenge_cells, game_cells}
+use Rattle.club_rows.specs.Tables.{challenge_row, event_row, member_row, numbered_from, row_of_game, rule_row}
+use Rattle.store_tables.specs.Cells.{member_cells, event_cells, event_rule_cells, challenge_cells, game_cells}
+use Rattle.club_opening.specs.Versions.{IsNoClub}
 use Rattle.club_opening.specs.declared.fault.OpenFault.{OpenFault}
 use Rattle.club_opening.specs.declared.fault.OpenFault.TheVariants.{Damaged, Memory}
 
@@ -16,6 +16,7 @@ pub record IsRegisterOf (s : ClubState) (rows : Rows) : Type 0 where
   pub last : rows.meta.last ≡ pos s.last
   pub members : map member_cells rows.members.items ≡ numbered_from member_row 1 s.members
   pub events : map event_cells rows.events.items ≡ numbered_from event_row 1 s.events
+  pub rules : map event_rule_cells rows.event_rules.items ≡ numbered_from rule_row 1 s.events
   pub challenges : AreEachOnce (map challenge_cells rows.challenges.items) (map challenge_row s.challenges)
   pub games : map game_cells rows.games.items ≡ numbered_from (row_of_game both_games s.events) 1 s.games
 
@@ -39,4 +40,4 @@ BlamesRows rows fault = (fault ≡ Memory)
 
 -- A table is called damaged, and no legal club has the tables of the database.
 abbrev pub NamesRows : Database → OpenFault → Type 0
-NamesRows db fault = (t : Table) × (fault ≡ Damaged t) × ((s : ClubState) → IsClub s → ¬ Holds db (tables s))
+NamesRows db fault = (t : Table) × (fault ≡ Damaged t) × IsNoClub db

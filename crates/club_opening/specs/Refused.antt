@@ -1,13 +1,12 @@
 -- What is said of a database that was just opened: a club stands there, or it was not taken as a club's.
-use Rattle.std.specs.Prelude.{◌≡◌, ◌⊎◌}
+use Rattle.std.specs.Prelude.{◌≡◌}
 use Rattle.sqlite.specs.Tree.{Trees}
-use Rattle.sqlite.specs.Effect.{Database}
 use Rattle.sqlite.specs.State.{State, Opens}
 use Rattle.store_tables.specs.Club.{Leaves}
-use Rattle.store_tables.specs.Tables.{club_schema}
+use Rattle.store_tables.specs.Tables.{IsClubSchema}
+use Rattle.store_tables.specs.declared.names.Version.TheVariants.{Current}
 use Rattle.club_rows.specs.Club.{ClubState, IsClub, tables}
-use Rattle.club_opening.specs.Blames.{NamesTable, NamesSchema}
-use Rattle.club_opening.specs.Places.{NamesRows}
+use Rattle.club_opening.specs.Blames.{Names}
 use Rattle.club_opening.specs.declared.fault.OpenFault.{OpenFault}
 
 -- a stop leaves what the opening found, and nothing else
@@ -20,11 +19,7 @@ pub record HoldClub (trees : Trees) : Type 0 where
   pub legal : IsClub state
   pub leaves : Leaves (tables state) trees
 
--- the fault is about the types of a table, the number of the schema or the rows of the tables
-abbrev pub IsBlamed : Database → OpenFault → Type 0
-IsBlamed db fault = NamesTable db fault ⊎ (NamesSchema db fault ⊎ NamesRows db fault)
-
 -- The tables were not taken as a club's: they are blamed, and they stay as they were found.
 pub record IsRefusal (old new : State) (fault : OpenFault) : Type 0 where
-  pub blames : old.now.schema ≡ club_schema → IsBlamed old.now fault
+  pub blames : IsClubSchema old.now.schema → Names Current old.now fault
   pub kept : Opens old → IsKept old new

@@ -5,7 +5,7 @@ ghost use Rattle.std.specs.Prelude.{length, slice_get};
 ghost use Rattle.sqlite.specs.State.{HasCleanDisk};
 ghost use Rattle.sqlite.specs.Held.{state};
 ghost use Rattle.store_tables.specs.Reading.{OnlyReads};
-ghost use Rattle.store_tables.specs.Tables.{club_schema};
+ghost use Rattle.store_tables.specs.Tables.{IsClubSchema};
 ghost use Rattle.store_sql.specs.Read.{AreCounted, AreReadOf};
 ghost use Rattle.club_opening.specs.Blames.{Blames, NamesTable};
 ghost use Rattle.club_audit.specs.FirstWrong.{order};
@@ -42,12 +42,13 @@ fn order_of(table: Table) -> u8
     match table {
         Table::Members => 0,
         Table::Events => 1,
-        Table::Challenges => 2,
-        Table::Moves => 3,
-        Table::Games => 4,
-        Table::Seen => 5,
-        Table::Scores => 6,
-        Table::Meta => 7,
+        Table::EventRules => 2,
+        Table::Challenges => 3,
+        Table::Moves => 4,
+        Table::Games => 5,
+        Table::Seen => 6,
+        Table::Scores => 7,
+        Table::Meta => 8,
     }
 }
 
@@ -88,10 +89,10 @@ pub(crate) fn count_of<T: Select, S: Alter>(
 ) -> Result<usize, OpenFault>
     ensures reads { OnlyReads (state S.Store conn.old) (state S.Store conn.new) }
     ensures counted { HasCleanDisk (state S.Store conn.new) → IfOk result (λ count.
-        (state S.Store conn.old).now.schema ≡ club_schema → AreCounted T.table.tree count
+        T.stands (state S.Store conn.old).now.schema → AreCounted T.table.tree count
         (state S.Store conn.old) (state S.Store conn.new)) }
     ensures blames { HasCleanDisk (state S.Store conn.new) → IfErr result (λ e.
-        (state S.Store conn.old).now.schema ≡ club_schema → Blames table T.table T.IsTyped
+        T.stands (state S.Store conn.old).now.schema → Blames table T.table T.IsTyped
         (state S.Store conn.old) e) }
 {
     match check_rowids::<T, S>(alloc, conn) {
@@ -109,10 +110,10 @@ fn read_of<T: Select, S: Alter>(
 ) -> Result<Vec<T>, OpenFault>
     ensures reads { OnlyReads (state S.Store conn.old) (state S.Store conn.new) }
     ensures rows { HasCleanDisk (state S.Store conn.new) → IfOk result (λ found.
-        (state S.Store conn.old).now.schema ≡ club_schema → AreReadOf T.table T.width game.now.id
+        T.stands (state S.Store conn.old).now.schema → AreReadOf T.table T.width game.now.id
         (map T.cells found.items) (state S.Store conn.old) (state S.Store conn.new)) }
     ensures blames { HasCleanDisk (state S.Store conn.new) → IfErr result (λ e.
-        (state S.Store conn.old).now.schema ≡ club_schema → Blames table T.table T.IsTyped
+        T.stands (state S.Store conn.old).now.schema → Blames table T.table T.IsTyped
         (state S.Store conn.old) e) }
 {
     match read_by_first(alloc, conn, &game.id) {
@@ -145,10 +146,10 @@ fn examine_game<S: Alter>(
     requires at { slice_get rows.now.games.items place ≡ Some game.now }
     ensures reads { OnlyReads (state S.Store conn.old) (state S.Store conn.new) }
     ensures found { HasCleanDisk (state S.Store conn.new) → IfOk result (λ found.
-        (state S.Store conn.old).now.schema ≡ club_schema → IsGameFound rows.now last.now place game.now found.own.moves
+        IsClubSchema (state S.Store conn.old).now.schema → IsGameFound rows.now last.now place game.now found.own.moves
         found.own.seen found.wrong (state S.Store conn.old) (state S.Store conn.new)) }
     ensures blames { HasCleanDisk (state S.Store conn.new) → IfErr result (λ e.
-        (state S.Store conn.old).now.schema ≡ club_schema →
+        IsClubSchema (state S.Store conn.old).now.schema →
         NamesTable (state S.Store conn.old).now e ⊎ NamesPlay rows.now (state S.Store conn.old).now e) }
 {
     let moves = match read_of::<MoveRow, S>(alloc, conn, Table::Moves, game) {
@@ -186,13 +187,13 @@ pub(crate) fn examine_games<S: Alter>(
     requires known { (t : _) → known ≡ Some t → IsNoRegister rows.now }
     ensures reads { OnlyReads (state S.Store conn.old) (state S.Store conn.new) }
     ensures found { HasCleanDisk (state S.Store conn.new) → IfOk result (λ wrong.
-        (state S.Store conn.old).now.schema ≡ club_schema → IsTrue (state S.Store conn.old).is_open →
+        IsClubSchema (state S.Store conn.old).now.schema → IsTrue (state S.Store conn.old).is_open →
         all.moves ≡ length (moves_in (state S.Store conn.old).now.trees) →
         all.seen ≡ length (seen_in (state S.Store conn.old).now.trees) →
         AreGamesFound rows.now last wrong (state S.Store conn.old) (state S.Store conn.new)) }
     ensures known { IfOk result (λ wrong. wrong ≡ None → known ≡ None) }
     ensures blames { HasCleanDisk (state S.Store conn.new) → IfErr result (λ e.
-        (state S.Store conn.old).now.schema ≡ club_schema → IsTrue (state S.Store conn.old).is_open →
+        IsClubSchema (state S.Store conn.old).now.schema → IsTrue (state S.Store conn.old).is_open →
         all.moves ≡ length (moves_in (state S.Store conn.old).now.trees) →
         all.seen ≡ length (seen_in (state S.Store conn.old).now.trees) →
         NamesTable (state S.Store conn.old).now e ⊎ NamesPlay rows.now (state S.Store conn.old).now e) }

@@ -8,5 +8,5 @@ mod opening;
 mod read;
 
 pub use fault::OpenFault;
-pub use opening::examine;
-pub use read::fault_of;
+pub use opening::{examine, examine_from};
+pub use read::{Register, fault_of};

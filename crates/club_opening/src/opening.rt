@@ -5,22 +5,25 @@ ghost use Rattle.sqlite.specs.State.{HasCleanDisk, IsUnchanged};
 ghost use Rattle.sqlite.specs.Held.{state};
 ghost use Rattle.store_tables.specs.Club.{IsExactly, IsOpened};
 ghost use Rattle.store_tables.specs.Reading.{OnlyReads};
-ghost use Rattle.store_tables.specs.Tables.{club_schema};
-ghost use Rattle.club_opening.specs.Blames.{NamesTable, NamesSchema};
-ghost use Rattle.club_opening.specs.Examined.{AreScoresExamined, IsPlayExamined, NamesPlay};
-ghost use Rattle.club_rows.specs.Club.{IsClub, tables};
-ghost use Rattle.club_opening.specs.Places.{IsMomentOf, IsNoRegister, NamesRows};
+ghost use Rattle.store_tables.specs.Tables.{club_schema, IsClubSchema, schema_of};
+ghost use Rattle.store_tables.specs.declared.names.Version.TheVariants.{Current};
+ghost use Rattle.club_opening.specs.Blames.{Names, NamesTable};
+ghost use Rattle.club_opening.specs.Versions.{HoldsClub, IsExactlyClub, IsOpenedAt};
+ghost use Rattle.club_opening.specs.Examined.{AreExamined, AreScoresExamined, IsPlayExamined, NamesPlay};
+ghost use Rattle.club_rows.specs.FirstSchema.{IsClubOf};
+ghost use Rattle.club_rows.specs.Club.{ClubState, IsClub, tables};
+ghost use Rattle.club_opening.specs.Places.{IsMomentOf, IsNoRegister, IsRegisterOf};
 
 use crate::audit::audit;
 use crate::fault::OpenFault;
 use crate::games::{Counts, count_of, examine_games};
-use crate::read::{read, read_rows};
+use crate::read::{Register, read, read_rows};
 use clocks::Moment;
 use club_audit::scores_are;
 use club_rows::numbers::moment;
 use sqlite::{Alter, Connection};
 use std::alloc::Global;
-use store_tables::{MoveRow, Rows, ScoreRow, SeenRow, Table};
+use store_tables::{MoveRow, Rows, ScoreRow, SeenRow, Table, Version};
 
 /// Tests that the moves and the positions are those of the games, which were read: the first wrong table by them, or
 /// the one that is known, whichever is named first.
@@ -35,11 +38,11 @@ fn examine_play<S: Alter>(
     requires known { (t : _) → known ≡ Some t → IsNoRegister rows.now }
     ensures reads { OnlyReads (state S.Store conn.old) (state S.Store conn.new) }
     ensures found { HasCleanDisk (state S.Store conn.new) → IfOk result (λ wrong.
-        (state S.Store conn.old).now.schema ≡ club_schema →
+        IsClubSchema (state S.Store conn.old).now.schema →
         IsPlayExamined rows.now last wrong (state S.Store conn.old) (state S.Store conn.new)) }
     ensures known { IfOk result (λ wrong. wrong ≡ None → known ≡ None) }
     ensures blames { HasCleanDisk (state S.Store conn.new) → IfErr result (λ e.
-        (state S.Store conn.old).now.schema ≡ club_schema →
+        IsClubSchema (state S.Store conn.old).now.schema →
         NamesTable (state S.Store conn.old).now e ⊎ NamesPlay rows.now (state S.Store conn.old).now e) }
 {
     let moves = match count_of::<MoveRow, S>(alloc, conn, Table::Moves) {
@@ -64,10 +67,10 @@ fn examine_scores<S: Alter>(
 ) -> Result<(), OpenFault>
     ensures reads { OnlyReads (state S.Store conn.old) (state S.Store conn.new) }
     ensures found { HasCleanDisk (state S.Store conn.new) → OnOk result (
-        (state S.Store conn.old).now.schema ≡ club_schema →
+        IsClubSchema (state S.Store conn.old).now.schema →
         AreScoresExamined rows.now (state S.Store conn.old) (state S.Store conn.new)) }
     ensures blames { HasCleanDisk (state S.Store conn.new) → IfErr result (λ e.
-        (state S.Store conn.old).now.schema ≡ club_schema →
+        IsClubSchema (state S.Store conn.old).now.schema →
         NamesTable (state S.Store conn.old).now e ⊎ NamesPlay rows.now (state S.Store conn.old).now e) }
 {
     let scores = match read::<ScoreRow, S>(alloc, conn, Table::Scores) {
@@ -94,29 +97,78 @@ fn before_scores(wrong: Option<Table>) -> Option<Table>
     }
 }
 
-/// Tests that the tables are those of a club, and changes nothing. Of wrong tables the first is named, in the order
-/// members, events, challenges, moves, games, positions, scores, `meta`.
+/// Tests that the tables are those of a club of schema 2, and changes nothing. Of wrong tables the first is named, in the
+/// order members, events, rules of events, challenges, moves, games, positions, scores, `meta`. Schema 1 is refused by
+/// its number.
 pub fn examine<S: Alter>(alloc: Global, conn: &mut Connection<S>) -> Result<(), OpenFault>
     ensures reads { OnlyReads (state S.Store conn.old) (state S.Store conn.new) }
     ensures found { HasCleanDisk (state S.Store conn.new) → OnOk result (IsOpened (state S.Store conn.old) → (s : _) ×
         IsClub s × IsExactly (tables s) (state S.Store conn.new)) }
-    ensures same { HasCleanDisk (state S.Store conn.new) →
-        OnOk result ((state S.Store conn.old).now.schema ≡ club_schema → IsUnchanged (state S.Store conn.old)
-        (state S.Store conn.new)) }
+    ensures same { HasCleanDisk (state S.Store conn.new) → OnOk result (
+        IsClubSchema (state S.Store conn.old).now.schema →
+        ((state S.Store conn.old).now.schema ≡ club_schema) ×
+        IsUnchanged (state S.Store conn.old) (state S.Store conn.new)) }
     ensures blames { HasCleanDisk (state S.Store conn.new) → IfErr result (λ e.
-        (state S.Store conn.old).now.schema ≡ club_schema → NamesTable (state S.Store conn.old).now e ⊎ (NamesSchema
-        (state S.Store conn.old).now e ⊎ NamesRows (state S.Store conn.old).now e)) }
+        IsClubSchema (state S.Store conn.old).now.schema → Names Current (state S.Store conn.old).now e) }
 {
-    let rows = match read_rows(alloc, conn) {
-        Ok(rows) => rows,
+    let _register = match examine_from(alloc, conn, Version::Current) {
+        Ok(register) => register,
         Err(fault) => return Err(fault),
     };
-    let known = match audit(alloc, &rows) {
+    Ok(())
+}
+
+/// Tests that the tables are those of a club of a version from the oldest on, and changes nothing: which version, and
+/// its rows. Of wrong tables the first is named, as by `examine`; a version before the oldest is refused by its number.
+pub fn examine_from<S: Alter>(
+    alloc: Global,
+    conn: &mut Connection<S>,
+    oldest: Version,
+) -> Result<Register, OpenFault>
+    ensures reads { OnlyReads (state S.Store conn.old) (state S.Store conn.new) }
+    ensures taken { IfOk result (λ found. oldest ≡ Current → found.version ≡ Current) }
+    ensures found { HasCleanDisk (state S.Store conn.new) → IfOk result (λ found.
+        (version : _) → IsOpenedAt version (state S.Store conn.old) → (found.version ≡ version) × ((s : _) ×
+        IsClubOf version s × IsRegisterOf s found.rows × IsExactlyClub version s (state S.Store conn.new))) }
+    ensures rows { HasCleanDisk (state S.Store conn.new) → IfOk result (λ found. (version : _) (s : ClubState) →
+        IsClubOf version s → HoldsClub version (state S.Store conn.old).now s → IsRegisterOf s found.rows) }
+    ensures same { HasCleanDisk (state S.Store conn.new) → IfOk result (λ found.
+        IsClubSchema (state S.Store conn.old).now.schema →
+        ((state S.Store conn.old).now.schema ≡ schema_of found.version) ×
+        IsUnchanged (state S.Store conn.old) (state S.Store conn.new)) }
+    ensures blames { HasCleanDisk (state S.Store conn.new) → IfErr result (λ e.
+        IsClubSchema (state S.Store conn.old).now.schema → Names oldest (state S.Store conn.old).now e) }
+{
+    let found = match read_rows(alloc, conn, oldest) {
+        Ok(found) => found,
+        Err(fault) => return Err(fault),
+    };
+    match examine_rows(alloc, conn, &found.rows) {
+        Ok(()) => Ok(found),
+        Err(fault) => Err(fault),
+    }
+}
+
+/// Tests that these rows, which were read, and those of moves, positions and scores are those of a club.
+fn examine_rows<S: Alter>(
+    alloc: Global,
+    conn: &mut Connection<S>,
+    rows: &Rows,
+) -> Result<(), OpenFault>
+    ensures reads { OnlyReads (state S.Store conn.old) (state S.Store conn.new) }
+    ensures found { HasCleanDisk (state S.Store conn.new) → OnOk result (
+        IsClubSchema (state S.Store conn.old).now.schema →
+        AreExamined rows.now (state S.Store conn.old) (state S.Store conn.new)) }
+    ensures blames { HasCleanDisk (state S.Store conn.new) → IfErr result (λ e.
+        IsClubSchema (state S.Store conn.old).now.schema →
+        NamesTable (state S.Store conn.old).now e ⊎ NamesPlay rows.now (state S.Store conn.old).now e) }
+{
+    let known = match audit(alloc, rows) {
         Ok(known) => known,
         Err(fault) => return Err(fault),
     };
     let last = moment(rows.meta.last);
-    let wrong = match examine_play(alloc, conn, &rows, last, known) {
+    let wrong = match examine_play(alloc, conn, rows, last, known) {
         Ok(wrong) => wrong,
         Err(fault) => return Err(fault),
     };
@@ -124,7 +176,7 @@ pub fn examine<S: Alter>(alloc: Global, conn: &mut Connection<S>) -> Result<(), 
         Some(table) => return Err(OpenFault::Damaged(table)),
         None => {}
     }
-    match examine_scores(alloc, conn, &rows) {
+    match examine_scores(alloc, conn, rows) {
         Ok(()) => {}
         Err(fault) => return Err(fault),
     }

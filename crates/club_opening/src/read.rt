@@ -1,28 +1,33 @@
 //! All rows of each table, as rows of its type.
 
-ghost use Rattle.std.specs.Prelude.{◌≡◌, ◌≢◌, ◌⊎◌, ℕ, pos, None, IfSome, IfOk, IfErr, OnOk, List, [], ◌∷◌, map};
+ghost use Rattle.std.specs.Prelude.{◌≡◌, ◌≢◌, ◌⊎◌, ℕ, pos, None, Some, IfSome, IfOk, IfErr, OnOk, IsTrue, List};
+ghost use Rattle.std.specs.Prelude.{[], ◌∷◌, length, map};
 ghost use Rattle.sqlite.specs.State.{HasCleanDisk, IsUnchanged};
 ghost use Rattle.sqlite.specs.Held.{state};
-ghost use Rattle.club_audit.specs.Audit.{AreEvents, AreMembers};
+ghost use Rattle.club_audit.specs.Audit.{AreEvents, AreMembers, AreRules};
 ghost use Rattle.club_core.specs.Events.{Event};
 ghost use Rattle.club_core.specs.Members.{Member};
-ghost use Rattle.store_tables.specs.Cells.{meta_cells, member_cells, event_cells};
+ghost use Rattle.store_tables.specs.Cells.{meta_cells, member_cells, event_cells, event_rule_cells};
 ghost use Rattle.store_tables.specs.Reading.{IsNoInput, OnlyReads};
-ghost use Rattle.store_tables.specs.Tables.{club_schema, meta, members, events};
-ghost use Rattle.store_tables.specs.Club.{Holds};
-ghost use Rattle.club_opening.specs.Blames.{IsMetaRead, IsOneMeta, HasTypes, Blames, NamesTable, NamesSchema, AreRead};
+ghost use Rattle.store_tables.specs.Tables.{IsClubSchema, schema_of, schema_number, meta, members, events};
+ghost use Rattle.store_tables.specs.declared.names.Version.TheVariants.{First, Current};
+ghost use Rattle.club_opening.specs.Blames.{IsMetaRead, IsOneMeta, HasTypes, HoldsNone, Blames, Names, NamesTable};
+ghost use Rattle.club_opening.specs.Blames.{AreRead, AreRulesRead, IsNumberFrom, NamesSchema, undeclared_row};
 ghost use Rattle.club_opening.specs.Places.{NamesRows};
+ghost use Rattle.club_opening.specs.Versions.{HasEvents};
 ghost use Rattle.club_opening.specs.Faults.{told};
 ghost use Rattle.store_sql.specs.Read.{IsReadAs};
 
 use crate::fault::OpenFault;
-use club_audit::{are_events, are_members};
+use club_audit::{are_events, are_members, are_rules};
 use sqlite::{Alter, Connection, Error, Row};
 use std::alloc::Global;
-use store_sql::{ReadFault, Select, check_columns, is_refused, read_all, show_all};
+use store_sql::{
+    ReadFault, Select, check_columns, has_event_rules, is_refused, read_all, show_all,
+};
 use store_tables::{
-    ChallengeRow, EventRow, GameRecord, MemberRow, MetaRow, MoveRow, Rows, ScoreRow, SeenRow,
-    Table, TableRow, Unread,
+    ChallengeRow, EventRow, EventRuleRow, GameRecord, MemberRow, MetaRow, MoveRow, Rows, ScoreRow,
+    SeenRow, Table, TableRow, Unread, Version,
 };
 
 /// A text that is not understood names a table or a column that is missing, or makes a table that stands.
@@ -58,10 +63,10 @@ pub(crate) fn read<T: Select, S: Alter>(
 ) -> Result<Vec<T>, OpenFault>
     ensures reads { OnlyReads (state S.Store conn.old) (state S.Store conn.new) }
     ensures rows { HasCleanDisk (state S.Store conn.new) → IfOk result (λ found.
-        (state S.Store conn.old).now.schema ≡ club_schema → IsReadAs T.table T.width (map T.cells found.items)
+        T.stands (state S.Store conn.old).now.schema → IsReadAs T.table T.width (map T.cells found.items)
         (state S.Store conn.old) (state S.Store conn.new)) }
     ensures blames { HasCleanDisk (state S.Store conn.new) → IfErr result (λ e.
-        (state S.Store conn.old).now.schema ≡ club_schema → Blames table T.table T.IsTyped
+        T.stands (state S.Store conn.old).now.schema → Blames table T.table T.IsTyped
         (state S.Store conn.old) e) }
 {
     match read_all(alloc, conn) {
@@ -96,16 +101,15 @@ fn one_meta(shown: &[Row]) -> Result<Option<MetaRow>, OpenFault>
 fn read_meta<S: Alter>(conn: &mut Connection<S>) -> Result<Option<MetaRow>, OpenFault>
     ensures reads { OnlyReads (state S.Store conn.old) (state S.Store conn.new) }
     ensures some { HasCleanDisk (state S.Store conn.new) → IfOk result (λ o. IfSome o (λ found.
-        (state S.Store conn.old).now.schema ≡ club_schema → IsReadAs (meta 0) 1 (meta_cells found ∷ [])
+        IsClubSchema (state S.Store conn.old).now.schema → IsReadAs (meta 0) 1 (meta_cells found ∷ [])
         (state S.Store conn.old) (state S.Store conn.new) × (found.id ≡ pos 1))) }
     ensures none { HasCleanDisk (state S.Store conn.new) → IfOk result (λ o. o ≡ None →
-        (state S.Store conn.old).now.schema ≡ club_schema → (content : _) → Holds
-        (state S.Store conn.old).now content → ¬ HasTypes Table.Meta content) }
+        HoldsNone (state S.Store conn.old).now (λ _ content. HasTypes Table.Meta content)) }
     ensures same { HasCleanDisk (state S.Store conn.new) →
-        OnOk result ((state S.Store conn.old).now.schema ≡ club_schema → IsUnchanged (state S.Store conn.old)
+        OnOk result (IsClubSchema (state S.Store conn.old).now.schema → IsUnchanged (state S.Store conn.old)
         (state S.Store conn.new)) }
     ensures blames { HasCleanDisk (state S.Store conn.new) → IfErr result (λ e.
-        (state S.Store conn.old).now.schema ≡ club_schema → (e ≡ OpenFault.Store) ⊎ (e ≡ OpenFault.Memory)) }
+        IsClubSchema (state S.Store conn.old).now.schema → (e ≡ OpenFault.Store) ⊎ (e ≡ OpenFault.Memory)) }
 {
     let shown = match show_all::<MetaRow, S>(conn) {
         Ok(shown) => shown,
@@ -121,11 +125,11 @@ fn read_members<S: Alter>(
 ) -> Result<Vec<MemberRow>, OpenFault>
     ensures reads { OnlyReads (state S.Store conn.old) (state S.Store conn.new) }
     ensures rows { HasCleanDisk (state S.Store conn.new) → IfOk result (λ found.
-        (state S.Store conn.old).now.schema ≡ club_schema → IsReadAs (members 1) 1 (map member_cells found.items)
+        IsClubSchema (state S.Store conn.old).now.schema → IsReadAs (members 1) 1 (map member_cells found.items)
         (state S.Store conn.old) (state S.Store conn.new)) }
     ensures are { IfOk result (λ found. (ms : List Member) × AreMembers ms found.items) }
     ensures blames { HasCleanDisk (state S.Store conn.new) → IfErr result (λ e.
-        (state S.Store conn.old).now.schema ≡ club_schema → NamesTable (state S.Store conn.old).now e ⊎ NamesRows
+        IsClubSchema (state S.Store conn.old).now.schema → NamesTable (state S.Store conn.old).now e ⊎ NamesRows
         (state S.Store conn.old).now e) }
 {
     let members = match read::<MemberRow, S>(alloc, conn, Table::Members) {
@@ -145,11 +149,11 @@ fn read_events<S: Alter>(
 ) -> Result<Vec<EventRow>, OpenFault>
     ensures reads { OnlyReads (state S.Store conn.old) (state S.Store conn.new) }
     ensures rows { HasCleanDisk (state S.Store conn.new) → IfOk result (λ found.
-        (state S.Store conn.old).now.schema ≡ club_schema → IsReadAs (events 4) 1 (map event_cells found.items)
+        IsClubSchema (state S.Store conn.old).now.schema → IsReadAs (events 4) 1 (map event_cells found.items)
         (state S.Store conn.old) (state S.Store conn.new)) }
     ensures are { IfOk result (λ found. (es : List Event) × AreEvents es found.items) }
     ensures blames { HasCleanDisk (state S.Store conn.new) → IfErr result (λ e.
-        (state S.Store conn.old).now.schema ≡ club_schema → NamesTable (state S.Store conn.old).now e ⊎ NamesRows
+        IsClubSchema (state S.Store conn.old).now.schema → NamesTable (state S.Store conn.old).now e ⊎ NamesRows
         (state S.Store conn.old).now e) }
 {
     let events = match read::<EventRow, S>(alloc, conn, Table::Events) {
@@ -168,32 +172,66 @@ fn other_schema(found: &MetaRow) -> OpenFault
     OpenFault::Schema(found.schema)
 }
 
-/// The row of `meta` of a club with schema 1, or None where there is not one row, with the id 1.
-fn read_current<S: Alter>(conn: &mut Connection<S>) -> Result<Option<MetaRow>, OpenFault>
+/// What the row of `meta` tells, or what stands for it where there is not one row, with the id 1.
+#[derive(Drop)]
+pub(crate) struct Told {
+    version: Version,
+    meta: MetaRow,
+}
+
+/// What the row of `meta` tells of the version of the tables and of the last moment.
+fn read_told<S: Alter>(conn: &mut Connection<S>) -> Result<Told, OpenFault>
     ensures reads { OnlyReads (state S.Store conn.old) (state S.Store conn.new) }
-    ensures some { HasCleanDisk (state S.Store conn.new) → IfOk result (λ o. IfSome o (λ found.
-        (state S.Store conn.old).now.schema ≡ club_schema → IsReadAs (meta 0) 1 (meta_cells found ∷ [])
-        (state S.Store conn.old) (state S.Store conn.new) × (found.id ≡ pos 1) × (found.schema ≡ pos 1))) }
-    ensures none { HasCleanDisk (state S.Store conn.new) → IfOk result (λ o. o ≡ None →
-        (state S.Store conn.old).now.schema ≡ club_schema → (content : _) → Holds
-        (state S.Store conn.old).now content → ¬ HasTypes Table.Meta content) }
-    ensures same { HasCleanDisk (state S.Store conn.new) →
-        OnOk result ((state S.Store conn.old).now.schema ≡ club_schema → IsUnchanged (state S.Store conn.old)
-        (state S.Store conn.new)) }
+    ensures found { HasCleanDisk (state S.Store conn.new) → IfOk result (λ told.
+        IsClubSchema (state S.Store conn.old).now.schema →
+        IsMetaRead told.version told.meta (state S.Store conn.old) (state S.Store conn.new)) }
+    ensures same { HasCleanDisk (state S.Store conn.new) → OnOk result (
+        IsClubSchema (state S.Store conn.old).now.schema →
+        IsUnchanged (state S.Store conn.old) (state S.Store conn.new)) }
     ensures blames { HasCleanDisk (state S.Store conn.new) → IfErr result (λ e.
-        (state S.Store conn.old).now.schema ≡ club_schema →
-        (e ≡ OpenFault.Store) ⊎ ((e ≡ OpenFault.Memory) ⊎ NamesSchema (state S.Store conn.old).now e)) }
+        IsClubSchema (state S.Store conn.old).now.schema →
+        (e ≡ OpenFault.Store) ⊎ ((e ≡ OpenFault.Memory) ⊎ NamesSchema First (state S.Store conn.old).now e)) }
 {
-    match read_meta(conn) {
-        Ok(Some(found)) => {
-            if found.schema == 1 {
-                Ok(Some(found))
-            } else {
-                Err(other_schema(&found))
-            }
+    let found = match read_meta(conn) {
+        Ok(Some(found)) => found,
+        Ok(None) => {
+            return Ok(Told {
+                version: Version::Current,
+                meta: no_meta(),
+            });
         }
-        Ok(None) => Ok(None),
-        Err(fault) => Err(fault),
+        Err(fault) => return Err(fault),
+    };
+    match version_of(found.schema) {
+        Some(version) => Ok(Told {
+            version,
+            meta: found,
+        }),
+        None => Err(other_schema(&found)),
+    }
+}
+
+/// The version of a schema's number, if there is one.
+fn version_of(number: i64) -> Option<Version>
+    ensures some { IfSome result (λ version. number ≡ pos (schema_number version)) }
+    ensures none { result ≡ None → ¬ IsNumberFrom First number }
+{
+    match number {
+        1 => Some(Version::First),
+        2 => Some(Version::Current),
+        _ => None,
+    }
+}
+
+/// Why tables of this version are refused, where versions are taken from the oldest on.
+fn refused(oldest: Version, version: Version) -> Option<OpenFault>
+    ensures none { result ≡ None → (oldest ≡ Current) → version ≡ Current }
+    ensures some { IfSome result (λ e.
+        (e ≡ OpenFault.Schema (pos 1)) × (oldest ≡ Current) × (version ≡ First)) }
+{
+    match (oldest, version) {
+        (Version::Current, Version::First) => Some(OpenFault::Schema(1)),
+        _ => None,
     }
 }
 
@@ -201,10 +239,10 @@ fn read_current<S: Alter>(conn: &mut Connection<S>) -> Result<Option<MetaRow>, O
 fn check_table<T: Select, S: Alter>(conn: &mut Connection<S>, table: Table) -> Result<(), OpenFault>
     ensures reads { OnlyReads (state S.Store conn.old) (state S.Store conn.new) }
     ensures same { HasCleanDisk (state S.Store conn.new) →
-        OnOk result ((state S.Store conn.old).now.schema ≡ club_schema → IsUnchanged (state S.Store conn.old)
+        OnOk result (T.stands (state S.Store conn.old).now.schema → IsUnchanged (state S.Store conn.old)
         (state S.Store conn.new)) }
     ensures blames { HasCleanDisk (state S.Store conn.new) → IfErr result (λ e.
-        (state S.Store conn.old).now.schema ≡ club_schema → e ≡ OpenFault.Store) }
+        T.stands (state S.Store conn.old).now.schema → e ≡ OpenFault.Store) }
 {
     match check_columns::<T, S>(conn) {
         Ok(()) => Ok(()),
@@ -212,14 +250,14 @@ fn check_table<T: Select, S: Alter>(conn: &mut Connection<S>, table: Table) -> R
     }
 }
 
-/// Tests that the tables stand but `meta`, before any row of them is read.
+/// Tests that the tables stand that each version has but `meta`, before any row of them is read.
 fn check_tables<S: Alter>(conn: &mut Connection<S>) -> Result<(), OpenFault>
     ensures reads { OnlyReads (state S.Store conn.old) (state S.Store conn.new) }
     ensures same { HasCleanDisk (state S.Store conn.new) →
-        OnOk result ((state S.Store conn.old).now.schema ≡ club_schema → IsUnchanged (state S.Store conn.old)
+        OnOk result (IsClubSchema (state S.Store conn.old).now.schema → IsUnchanged (state S.Store conn.old)
         (state S.Store conn.new)) }
     ensures blames { HasCleanDisk (state S.Store conn.new) → IfErr result (λ e.
-        (state S.Store conn.old).now.schema ≡ club_schema → e ≡ OpenFault.Store) }
+        IsClubSchema (state S.Store conn.old).now.schema → e ≡ OpenFault.Store) }
 {
     match check_people::<S>(conn) {
         Ok(()) => {}
@@ -231,14 +269,40 @@ fn check_tables<S: Alter>(conn: &mut Connection<S>) -> Result<(), OpenFault>
     }
 }
 
+/// Tests that the table of the rules of events stands exactly where the version has it.
+fn check_rules<S: Alter>(conn: &mut Connection<S>, version: Version) -> Result<(), OpenFault>
+    ensures reads { OnlyReads (state S.Store conn.old) (state S.Store conn.new) }
+    ensures same { HasCleanDisk (state S.Store conn.new) → OnOk result (
+        IsClubSchema (state S.Store conn.old).now.schema →
+        IsUnchanged (state S.Store conn.old) (state S.Store conn.new)) }
+    ensures version { HasCleanDisk (state S.Store conn.new) → OnOk result (
+        IsClubSchema (state S.Store conn.old).now.schema →
+        (state S.Store conn.old).now.schema ≡ schema_of version) }
+    ensures blames { HasCleanDisk (state S.Store conn.new) → IfErr result (λ e. (e ≡ OpenFault.Store)
+        ⊎ ((e ≡ OpenFault.Foreign) × ((state S.Store conn.old).now.schema ≢ schema_of version))) }
+{
+    let there = match has_event_rules(conn) {
+        Ok(there) => there,
+        Err(_) => return Err(OpenFault::Store),
+    };
+    let fits = match version {
+        Version::First => !there,
+        Version::Current => there,
+    };
+    if !fits {
+        return Err(OpenFault::Foreign);
+    }
+    Ok(())
+}
+
 /// Tests that the tables of members, events, challenges and games stand.
 fn check_people<S: Alter>(conn: &mut Connection<S>) -> Result<(), OpenFault>
     ensures reads { OnlyReads (state S.Store conn.old) (state S.Store conn.new) }
     ensures same { HasCleanDisk (state S.Store conn.new) →
-        OnOk result ((state S.Store conn.old).now.schema ≡ club_schema → IsUnchanged (state S.Store conn.old)
+        OnOk result (IsClubSchema (state S.Store conn.old).now.schema → IsUnchanged (state S.Store conn.old)
         (state S.Store conn.new)) }
     ensures blames { HasCleanDisk (state S.Store conn.new) → IfErr result (λ e.
-        (state S.Store conn.old).now.schema ≡ club_schema → e ≡ OpenFault.Store) }
+        IsClubSchema (state S.Store conn.old).now.schema → e ≡ OpenFault.Store) }
 {
     match check_table::<MemberRow, S>(conn, Table::Members) {
         Ok(()) => {}
@@ -262,10 +326,10 @@ fn check_people<S: Alter>(conn: &mut Connection<S>) -> Result<(), OpenFault>
 fn check_play<S: Alter>(conn: &mut Connection<S>) -> Result<(), OpenFault>
     ensures reads { OnlyReads (state S.Store conn.old) (state S.Store conn.new) }
     ensures same { HasCleanDisk (state S.Store conn.new) →
-        OnOk result ((state S.Store conn.old).now.schema ≡ club_schema → IsUnchanged (state S.Store conn.old)
+        OnOk result (IsClubSchema (state S.Store conn.old).now.schema → IsUnchanged (state S.Store conn.old)
         (state S.Store conn.new)) }
     ensures blames { HasCleanDisk (state S.Store conn.new) → IfErr result (λ e.
-        (state S.Store conn.old).now.schema ≡ club_schema → e ≡ OpenFault.Store) }
+        IsClubSchema (state S.Store conn.old).now.schema → e ≡ OpenFault.Store) }
 {
     match check_table::<MoveRow, S>(conn, Table::Moves) {
         Ok(()) => {}
@@ -287,61 +351,137 @@ fn no_meta() -> MetaRow
 {
     MetaRow {
         id: 1,
-        schema: 1,
+        schema: 2,
         last: -1,
     }
 }
 
-/// The row of `meta` of a club with schema 1, or what stands for it where there is not one row, with the id 1.
-fn read_moment<S: Alter>(conn: &mut Connection<S>) -> Result<MetaRow, OpenFault>
-    ensures reads { OnlyReads (state S.Store conn.old) (state S.Store conn.new) }
-    ensures found { HasCleanDisk (state S.Store conn.new) → IfOk result (λ found.
-        (state S.Store conn.old).now.schema ≡ club_schema → IsMetaRead found (state S.Store conn.old)
-        (state S.Store conn.new)) }
-    ensures same { HasCleanDisk (state S.Store conn.new) →
-        OnOk result ((state S.Store conn.old).now.schema ≡ club_schema → IsUnchanged (state S.Store conn.old)
-        (state S.Store conn.new)) }
-    ensures blames { HasCleanDisk (state S.Store conn.new) → IfErr result (λ e.
-        (state S.Store conn.old).now.schema ≡ club_schema →
-        (e ≡ OpenFault.Store) ⊎ ((e ≡ OpenFault.Memory) ⊎ NamesSchema (state S.Store conn.old).now e)) }
+/// The rules of events of schema 1, by the rows of these: none has declarations.
+fn undeclared(alloc: Global, events: &[EventRow]) -> Result<Vec<EventRuleRow>, OpenFault>
+    ensures rules { IfOk result (λ rules. map event_rule_cells rules.items ≡ map undeclared_row events.now) }
+    ensures memory { IfErr result (λ e. e ≡ OpenFault.Memory) }
 {
-    match read_current(conn) {
-        Ok(Some(found)) => Ok(found),
-        Ok(None) => Ok(no_meta()),
+    let mut rules = Vec::new(alloc);
+    'events: for event in events {
+        let rule = EventRuleRow {
+            event: event.id,
+            declares: 0,
+        };
+        if rules.push(rule).is_err() {
+            return Err(OpenFault::Memory);
+        }
+    }
+    Ok(rules)
+}
+
+/// The rules of the events, tested to be those of a legal club: those of their table, or none of schema 1.
+fn read_rules<S: Alter>(
+    alloc: Global,
+    conn: &mut Connection<S>,
+    version: Version,
+    events: &[EventRow],
+) -> Result<Vec<EventRuleRow>, OpenFault>
+    ensures reads { OnlyReads (state S.Store conn.old) (state S.Store conn.new) }
+    ensures rules { HasCleanDisk (state S.Store conn.new) → IfOk result (λ rules.
+        (state S.Store conn.old).now.schema ≡ schema_of version → IsTrue (state S.Store conn.old).is_open →
+        AreRulesRead version events.now rules.items (state S.Store conn.old) (state S.Store conn.new)) }
+    ensures are { IfOk result (λ rules. (es : List Event) → AreEvents es events.now →
+        AreRules rules.items (length events.now)) }
+    ensures blames { HasCleanDisk (state S.Store conn.new) → IfErr result (λ e.
+        (state S.Store conn.old).now.schema ≡ schema_of version →
+        (es : List Event) → AreEvents es events.now → HasEvents events.now (state S.Store conn.old).now →
+        NamesTable (state S.Store conn.old).now e ⊎ NamesRows (state S.Store conn.old).now e) }
+{
+    let rules = match version {
+        Version::First => return undeclared(alloc, events),
+        Version::Current => match read::<EventRuleRow, S>(alloc, conn, Table::EventRules) {
+            Ok(rules) => rules,
+            Err(fault) => return Err(fault),
+        },
+    };
+    if !are_rules(&rules, events.len()) {
+        return Err(OpenFault::Damaged(Table::EventRules));
+    }
+    Ok(rules)
+}
+
+/// The rows of a club that are read whole, and the version of its tables.
+#[derive(Drop)]
+pub struct Register {
+    /// The version of the tables.
+    pub version: Version,
+    /// All rows but those of moves, positions and scores. In schema 1 the rules of events are those that schema 2 has
+    /// for them.
+    pub rows: Rows,
+}
+
+/// What the row of `meta` tells, where the version is taken, from the oldest on, and all its tables stand.
+fn read_head<S: Alter>(conn: &mut Connection<S>, oldest: Version) -> Result<Told, OpenFault>
+    ensures reads { OnlyReads (state S.Store conn.old) (state S.Store conn.new) }
+    ensures found { HasCleanDisk (state S.Store conn.new) → IfOk result (λ told.
+        IsClubSchema (state S.Store conn.old).now.schema →
+        ((state S.Store conn.old).now.schema ≡ schema_of told.version) ×
+        IsMetaRead told.version told.meta (state S.Store conn.old) (state S.Store conn.new)) }
+    ensures same { HasCleanDisk (state S.Store conn.new) → OnOk result (
+        IsClubSchema (state S.Store conn.old).now.schema →
+        IsUnchanged (state S.Store conn.old) (state S.Store conn.new)) }
+    ensures taken { IfOk result (λ told. oldest ≡ Current → told.version ≡ Current) }
+    ensures blames { HasCleanDisk (state S.Store conn.new) → IfErr result (λ e.
+        IsClubSchema (state S.Store conn.old).now.schema → Names oldest (state S.Store conn.old).now e) }
+{
+    let told = match read_told(conn) {
+        Ok(told) => told,
+        Err(fault) => return Err(fault),
+    };
+    match check_rules(conn, told.version) {
+        Ok(()) => {}
+        Err(fault) => return Err(fault),
+    }
+    match refused(oldest, told.version) {
+        Some(fault) => return Err(fault),
+        None => {}
+    }
+    match check_tables(conn) {
+        Ok(()) => Ok(told),
         Err(fault) => Err(fault),
     }
 }
 
-/// All rows of a club with schema 1 but those of moves, positions and scores, and nothing changed. The members and the
-/// events are tested as they are read, so that of tables with wrong rows the first is named.
+/// All rows of a club but those of moves, positions and scores, and nothing changed, where its version is taken: from
+/// the oldest on. The members, the events and their rules are tested as they are read, so that of tables with wrong rows
+/// the first is named.
 pub(crate) fn read_rows<S: Alter>(
     alloc: Global,
     conn: &mut Connection<S>,
-) -> Result<Rows, OpenFault>
+    oldest: Version,
+) -> Result<Register, OpenFault>
     ensures reads { OnlyReads (state S.Store conn.old) (state S.Store conn.new) }
-    ensures rows { HasCleanDisk (state S.Store conn.new) → IfOk result (λ rows.
-        (state S.Store conn.old).now.schema ≡ club_schema → AreRead rows (state S.Store conn.old)
-        (state S.Store conn.new)) }
-    ensures members { IfOk result (λ rows. (ms : List Member) × AreMembers ms rows.members.items) }
-    ensures events { IfOk result (λ rows. (es : List Event) × AreEvents es rows.events.items) }
+    ensures rows { HasCleanDisk (state S.Store conn.new) → IfOk result (λ found.
+        IsClubSchema (state S.Store conn.old).now.schema →
+        ((state S.Store conn.old).now.schema ≡ schema_of found.version) ×
+        AreRead found.version found.rows (state S.Store conn.old) (state S.Store conn.new)) }
+    ensures taken { IfOk result (λ found. oldest ≡ Current → found.version ≡ Current) }
+    ensures members { IfOk result (λ found. (ms : List Member) × AreMembers ms found.rows.members.items) }
+    ensures events { IfOk result (λ found. (es : List Event) × AreEvents es found.rows.events.items) }
+    ensures rules { IfOk result (λ found. AreRules found.rows.event_rules.items
+        (length found.rows.events.items)) }
     ensures blames { HasCleanDisk (state S.Store conn.new) → IfErr result (λ e.
-        (state S.Store conn.old).now.schema ≡ club_schema → NamesTable (state S.Store conn.old).now e ⊎ (NamesSchema
-        (state S.Store conn.old).now e ⊎ NamesRows (state S.Store conn.old).now e)) }
+        IsClubSchema (state S.Store conn.old).now.schema → Names oldest (state S.Store conn.old).now e) }
 {
-    let meta = match read_moment(conn) {
-        Ok(meta) => meta,
+    let Told { version, meta } = match read_head(conn, oldest) {
+        Ok(told) => told,
         Err(fault) => return Err(fault),
     };
-    match check_tables(conn) {
-        Ok(()) => {}
-        Err(fault) => return Err(fault),
-    }
     let members = match read_members(alloc, conn) {
         Ok(members) => members,
         Err(fault) => return Err(fault),
     };
     let events = match read_events(alloc, conn) {
         Ok(events) => events,
+        Err(fault) => return Err(fault),
+    };
+    let event_rules = match read_rules(alloc, conn, version, &events) {
+        Ok(rules) => rules,
         Err(fault) => return Err(fault),
     };
     let challenges = match read::<ChallengeRow, S>(alloc, conn, Table::Challenges) {
@@ -352,11 +492,15 @@ pub(crate) fn read_rows<S: Alter>(
         Ok(games) => games,
         Err(fault) => return Err(fault),
     };
-    Ok(Rows {
-        meta,
-        members,
-        events,
-        challenges,
-        games,
+    Ok(Register {
+        version,
+        rows: Rows {
+            meta,
+            members,
+            events,
+            event_rules,
+            challenges,
+            games,
+        },
     })
 }

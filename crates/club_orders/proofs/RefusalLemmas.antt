@@ -9,13 +9,16 @@ use Rattle.club_opening.specs.declared.fault.OpenFault.{OpenFault}
 use Rattle.club_orders.specs.declared.report.Report.{Report}
 use Rattle.club_orders.specs.declared.report.Report.TheVariants.{Ready, Sound, Answered, Listed, Exported, Unwritten}
 use Rattle.club_orders.specs.declared.report.Report.TheVariants.{Unopened, Stopped, InUse, NotOpened, NoMoment, Unread}
-use Rattle.club_orders.specs.declared.report.Report.TheVariants.{Listening, Unbound, NoMemory}
+use Rattle.club_orders.specs.declared.report.Report.TheVariants.{Listening, Unbound, NoMemory, Upgraded}
+use Rattle.club_orders.specs.declared.report.Report.TheVariants.{AlreadyUpgraded}
 use Rattle.club_orders.specs.Report.{IfUnopened}
 
 -- no tables were refused
 pub taken_over : (P : OpenFault → Type 0) (report : Report) → IfUnopened report (λ fault. ⊥) → IfUnopened report P
 taken_over P Ready taken = tt
 taken_over P Sound taken = tt
+taken_over P Upgraded taken = tt
+taken_over P AlreadyUpgraded taken = tt
 taken_over P (Answered outcome) taken = tt
 taken_over P (Listed texts) taken = tt
 taken_over P Exported taken = tt

@@ -1,9 +1,34 @@
--- Which orders take a club over.
-use Rattle.std.specs.Prelude.{⊤}
+-- Which orders take a club over, and what is said of tables that are not upgraded.
+use Rattle.std.specs.Prelude.{◌≡◌, ◌≢◌, ◌⊎◌, pos, ⊤}
+use Rattle.sqlite.specs.Tree.{Trees}
+use Rattle.sqlite.specs.State.{State, Opens}
+use Rattle.store_tables.specs.Contents as of_schema
+use Rattle.store_tables.specs.Tables.{first_schema, IsClubSchema}
+use Rattle.store_tables.specs.declared.names.Version.TheVariants.{First}
+use Rattle.club_rows.specs.Club.{ClubState}
+use Rattle.club_rows.specs.FirstSchema.{IsFirstClub, first_tables}
+use Rattle.club_opening.specs.Blames.{Names}
+use Rattle.club_opening.specs.Refused.{IsKept}
+use Rattle.club_opening.specs.declared.fault.OpenFault.{OpenFault}
+use Rattle.club_opening.specs.declared.fault.OpenFault.TheVariants.{Schema, Store, Memory}
 use Rattle.club_words.specs.declared.words.Task.{Task}
 use Rattle.club_words.specs.declared.words.Task.TheVariants as task
 
--- every task but the making of a club takes one over
+-- The tables were not upgraded. An upgrade takes either version, and may have begun to write where a call of the database
+-- failed.
+pub record IsUpgradeRefusal (old new : State) (fault : OpenFault) : Type 0 where
+  pub blames : IsClubSchema old.now.schema → Names First old.now fault
+  pub kept : fault ≢ Store → Opens old → IsKept old new
+
+-- tables of schema 1 are refused by their number; or a call of the database failed, or memory was refused
+abbrev pub IsOlder : OpenFault → Type 0
+IsOlder fault = (fault ≡ Schema (pos 1)) ⊎ ((fault ≡ Store) ⊎ (fault ≡ Memory))
+
+-- a legal state of schema 1 has the tables that stand there
+abbrev pub HasFirst : ClubState → Trees → Type 0
+HasFirst s trees = IsFirstClub s × of_schema.Leaves first_schema (first_tables s) trees
+
+-- every task but the making of a club and its upgrade takes one over
 abbrev pub IfTakesOver : Task → Type 0 → Type 0
 IfTakesOver task.Init Holds = ⊤
 IfTakesOver (task.Request command) Holds = Holds
@@ -11,3 +36,13 @@ IfTakesOver (task.Legal game) Holds = Holds
 IfTakesOver (task.Table name) Holds = Holds
 IfTakesOver (task.Export game) Holds = Holds
 IfTakesOver task.Verify Holds = Holds
+IfTakesOver task.Upgrade Holds = ⊤
+
+abbrev pub IfUpgrade : Task → Type 0 → Type 0
+IfUpgrade task.Init Holds = ⊤
+IfUpgrade (task.Request command) Holds = ⊤
+IfUpgrade (task.Legal game) Holds = ⊤
+IfUpgrade (task.Table name) Holds = ⊤
+IfUpgrade (task.Export game) Holds = ⊤
+IfUpgrade task.Verify Holds = ⊤
+IfUpgrade task.Upgrade Holds = Holds

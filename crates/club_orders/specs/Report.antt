@@ -5,7 +5,11 @@ use Rattle.std.specs.Io.KnownBytes.{Appends}
 use Rattle.std.specs.declared.alloc.Global.{Global}
 use Rattle.std.specs.declared.vec.Vec.{Vec}
 use Rattle.sqlite.specs.Tree.{Trees}
+use Rattle.sqlite.specs.State.{State}
+use Rattle.store_tables.specs.Contents as of_schema
 use Rattle.store_tables.specs.Contents.{IsEmpty}
+use Rattle.store_tables.specs.Club.{Leaves}
+use Rattle.store_tables.specs.Tables.{first_schema}
 use Rattle.club_requests.specs.declared.requests.Who.TheVariants.{Officer}
 use Rattle.club_requests.specs.declared.requests.Command.{Command}
 use Rattle.club_requests.specs.declared.requests.Command.TheVariants as command
@@ -14,7 +18,8 @@ use Rattle.club_requests.specs.declared.answers.Outcome.TheVariants as outcome
 use Rattle.club_requests.specs.declared.refusals.Refusal.TheVariants.{UnknownEvent, UnknownGame}
 use Rattle.club_requests.specs.AnswerText.{outcome_text}
 use Rattle.club_core.specs.State.{Request}
-use Rattle.club_rows.specs.Club.{ClubState}
+use Rattle.club_rows.specs.Club.{ClubState, tables}
+use Rattle.club_rows.specs.FirstSchema.{first_tables}
 use Rattle.store.specs.declared.fault.ExportFault.{ExportFault}
 use Rattle.store.specs.declared.fault.ExportFault.TheVariants as export_fault
 use Rattle.club_opening.specs.declared.fault.OpenFault.{OpenFault}
@@ -22,7 +27,7 @@ use Rattle.club_opening.specs.declared.fault.OpenFault.TheVariants as open_fault
 use Rattle.store.specs.declared.fault.StoreFault.TheVariants as store_fault
 use Rattle.club_opening.specs.FaultText.{open_fault_text}
 use Rattle.store.specs.FaultText.{store_fault_text}
-use Rattle.store.specs.Histories.{Session, IsReachable, answered_session, cut_session}
+use Rattle.store.specs.Histories.{Chapter, IsReachable, answered_session, cut_session, upgraded}
 use Rattle.club_changes.specs.Steps.{request}
 use Rattle.club_views.specs.CrossTable.{AreTableRows}
 use Rattle.club_views.specs.Exported.{IsExported, IsWrittenSome}
@@ -30,7 +35,8 @@ use Rattle.club_changes.specs.Stored.{AreLegalRows}
 use Rattle.club_orders.specs.declared.report.Report.{Report}
 use Rattle.club_orders.specs.declared.report.Report.TheVariants.{Ready, Sound, Answered, Listed, Exported, Unwritten}
 use Rattle.club_orders.specs.declared.report.Report.TheVariants.{Unopened, Stopped, InUse, NotOpened, NoMoment, Unread}
-use Rattle.club_orders.specs.declared.report.Report.TheVariants.{Listening, Unbound, NoMemory}
+use Rattle.club_orders.specs.declared.report.Report.TheVariants.{Listening, Unbound, NoMemory, Upgraded}
+use Rattle.club_orders.specs.declared.report.Report.TheVariants.{AlreadyUpgraded}
 use Rattle.club_words.specs.declared.words.Task.{Task}
 use Rattle.club_words.specs.declared.words.Task.TheVariants as task
 
@@ -43,6 +49,8 @@ lines (text ∷ texts) = text ++ codes "\n" ++ lines texts
 abbrev pub report_text : Report → List ℕ
 report_text Ready = codes "ready\n"
 report_text Sound = codes "sound\n"
+report_text Upgraded = codes "upgraded\n"
+report_text AlreadyUpgraded = codes "repeated upgrade\n"
 report_text (Answered outcome) = outcome_text outcome ++ codes "\n"
 report_text (Listed texts) = lines (map (λ t. string_bytes t) texts.items)
 report_text Exported = []
@@ -66,6 +74,8 @@ outcome_status (outcome.Refused refusal) = 1
 abbrev pub report_status : Report → ℕ
 report_status Ready = 0
 report_status Sound = 0
+report_status Upgraded = 0
+report_status AlreadyUpgraded = 0
 report_status (Answered outcome) = outcome_status outcome
 report_status (Listed texts) = 0
 report_status Exported = 0
@@ -101,18 +111,25 @@ abbrev pub given : Command → ℕ → Request
 given command moment = request Officer command moment
 
 -- the session of one request that the report tells of: answered, or cut off by a fault
-abbrev pub request_sessions : Request → Report → List Session
+abbrev pub request_sessions : Request → Report → List Chapter
 request_sessions asked (Answered outcome) = answered_session asked outcome ∷ []
 request_sessions asked (Stopped fault) = cut_session asked ∷ []
 request_sessions asked _ = []
 
--- making a club adds no session, nor does reading
-abbrev pub task_sessions : Task → ℕ → Report → List Session
+-- the upgrade that the report tells of: answered, or cut off
+abbrev pub upgrade_of : Report → Chapter
+upgrade_of Upgraded = upgraded true
+upgrade_of AlreadyUpgraded = upgraded true
+upgrade_of _ = upgraded false
+
+-- making a club adds nothing, nor does reading
+abbrev pub task_sessions : Task → ℕ → Report → List Chapter
 task_sessions task.Init moment report = []
 task_sessions (task.Legal game) moment report = []
 task_sessions (task.Table name) moment report = []
 task_sessions (task.Export game) moment report = []
 task_sessions task.Verify moment report = []
+task_sessions task.Upgrade moment report = upgrade_of report ∷ []
 task_sessions (task.Request command) moment report = request_sessions (given command moment) report
 
 -- the command was answered so, or a call of the database failed or memory was refused
@@ -129,6 +146,7 @@ IfRequest (task.Legal game) Holds = ⊤
 IfRequest (task.Table name) Holds = ⊤
 IfRequest (task.Export game) Holds = ⊤
 IfRequest task.Verify Holds = ⊤
+IfRequest task.Upgrade Holds = ⊤
 
 abbrev pub IfLegal : Task → (ℕ → Type 0) → Type 0
 IfLegal task.Init Holds = ⊤
@@ -137,6 +155,7 @@ IfLegal (task.Legal game) Holds = Holds game
 IfLegal (task.Table name) Holds = ⊤
 IfLegal (task.Export game) Holds = ⊤
 IfLegal task.Verify Holds = ⊤
+IfLegal task.Upgrade Holds = ⊤
 
 abbrev pub IfTable : Task → (List ℕ → Type 0) → Type 0
 IfTable task.Init Holds = ⊤
@@ -145,6 +164,7 @@ IfTable (task.Legal game) Holds = ⊤
 IfTable (task.Table name) Holds = Holds (string_bytes name)
 IfTable (task.Export game) Holds = ⊤
 IfTable task.Verify Holds = ⊤
+IfTable task.Upgrade Holds = ⊤
 
 abbrev pub IfVerify : Task → Type 0 → Type 0
 IfVerify task.Init Holds = ⊤
@@ -153,6 +173,7 @@ IfVerify (task.Legal game) Holds = ⊤
 IfVerify (task.Table name) Holds = ⊤
 IfVerify (task.Export game) Holds = ⊤
 IfVerify task.Verify Holds = Holds
+IfVerify task.Upgrade Holds = ⊤
 
 abbrev pub IfExport : Task → (ℕ → Type 0) → Type 0
 IfExport task.Init Holds = ⊤
@@ -161,6 +182,7 @@ IfExport (task.Legal game) Holds = ⊤
 IfExport (task.Table name) Holds = ⊤
 IfExport (task.Export game) Holds = Holds game
 IfExport task.Verify Holds = ⊤
+IfExport task.Upgrade Holds = ⊤
 
 -- the legal moves of the game are listed, or there is no such game; or a call of the database failed, or memory was
 -- refused
@@ -206,10 +228,39 @@ IsPassed Sound = ⊤
 IsPassed (Unopened fault) = (fault ≡ open_fault.Store) ⊎ (fault ≡ open_fault.Memory)
 IsPassed _ = ⊥
 
+-- ---- an upgrade
+
+-- the file was carried over; or a call of the database failed, or memory was refused
+abbrev pub IsUpgraded : Report → Type 0
+IsUpgraded Upgraded = ⊤
+IsUpgraded (Unopened fault) = (fault ≡ open_fault.Store) ⊎ (fault ≡ open_fault.Memory)
+IsUpgraded _ = ⊥
+
+-- the tables of the state in schema 2; or, where the file was not carried over, in schema 1
+abbrev pub AreCarried : ClubState → Report → Trees → Type 0
+AreCarried s Upgraded trees = Leaves (tables s) trees
+AreCarried s _ trees = of_schema.Leaves first_schema (first_tables s) trees ⊎ Leaves (tables s) trees
+
+-- what an upgrade of a club of schema 1 came to
+pub record IsCarriedOver (s : ClubState) (report : Report) (new : State) : Type 0 where
+  pub answer : IsUpgraded report
+  pub leaves : (db : Trees) → new.may_leave db → AreCarried s report db
+
+-- the file was of schema 2; or a call of the database failed, or memory was refused
+abbrev pub IsRepeated : Report → Type 0
+IsRepeated AlreadyUpgraded = ⊤
+IsRepeated (Unopened fault) = (fault ≡ open_fault.Store) ⊎ (fault ≡ open_fault.Memory)
+IsRepeated _ = ⊥
+
 -- the fault of a report that the file was not taken as a club's
 abbrev pub IfUnopened : Report → (OpenFault → Type 0) → Type 0
 IfUnopened (Unopened fault) Holds = Holds fault
 IfUnopened _ Holds = ⊤
+
+-- the report is that the file was not taken as a club's, by such a fault
+abbrev pub OnlyUnopened : Report → (OpenFault → Type 0) → Type 0
+OnlyUnopened (Unopened fault) Holds = Holds fault
+OnlyUnopened _ Holds = ⊥
 
 -- only an export writes to what is handed to it
 abbrev pub writes : Task → Bool
@@ -219,6 +270,7 @@ writes (task.Legal game) = false
 writes (task.Table name) = false
 writes (task.Export game) = true
 writes task.Verify = false
+writes task.Upgrade = false
 
 -- The club with nothing in it stands; or none was made, and there is still no table, or it stands nevertheless.
 abbrev pub IsBegun : Report → Trees → Type 0

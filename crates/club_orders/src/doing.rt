@@ -1,26 +1,26 @@
 //! What an order does over a connection.
 
-ghost use Rattle.std.specs.Prelude.{◌≡◌, ◌≤◌, ◌⊎◌, ◌++◌, ℕ, List, map, false, string_bytes};
+ghost use Rattle.std.specs.Prelude.{◌≡◌, ◌≤◌, ◌⊎◌, ◌++◌, ◌∷◌, [], ℕ, List, map, false, true, string_bytes};
 ghost use Rattle.sqlite.specs.State.{HasCleanDisk, Opens, IsLive};
 ghost use Rattle.sqlite.specs.Held.{state};
 ghost use Rattle.sqlite_trees.specs.View.{doubt};
 ghost use Rattle.store_tables.specs.Contents.{IsEmpty};
 ghost use Rattle.store_tables.specs.Club.{Leaves, IsExactly, IsOpened};
-ghost use Rattle.store_tables.specs.Tables.{club_schema};
+ghost use Rattle.store_tables.specs.Tables.{IsClubSchema};
 ghost use Rattle.club_core.specs.Answer.{answered, outcome_of};
 ghost use Rattle.club_rows.specs.Club.{ClubState, IsClub, tables};
 ghost use Rattle.club_changes.specs.Steps.{club_step};
 ghost use Rattle.std.specs.Option.{option_map};
 ghost use Rattle.club_views.specs.CrossTable.{AreTableRows};
-ghost use Rattle.store.specs.Histories.{IsReachable};
+ghost use Rattle.store.specs.Histories.{IsReachable, upgraded};
 ghost use Rattle.club_changes.specs.Stored.{AreLegalRows};
 ghost use Rattle.club_words.specs.declared.words.Task.TheVariants.{Init};
 ghost use Rattle.club_orders.specs.Report.{given, Answers, export_report, IfRequest, IfLegal, IfTable, IfExport};
-ghost use Rattle.club_orders.specs.Report.{IfVerify, IfUnopened};
+ghost use Rattle.club_orders.specs.Report.{IfVerify, IfUnopened, IsCarriedOver, IsRepeated, OnlyUnopened, upgrade_of};
 ghost use Rattle.club_orders.specs.Report.{ListsMoves, ListsTable, WritesRecord, IsPassed, IsBegun, request_sessions};
 ghost use Rattle.club_orders.specs.Report.{task_sessions, writes};
 ghost use Rattle.club_opening.specs.Refused.{HoldClub, IsKept, IsRefusal};
-ghost use Rattle.club_orders.specs.Refused.{IfTakesOver};
+ghost use Rattle.club_orders.specs.Refused.{HasFirst, IfTakesOver, IfUpgrade, IsOlder, IsUpgradeRefusal};
 
 use crate::report::Report;
 use clocks::Moment;
@@ -30,8 +30,8 @@ use sqlite::{Alter, Connection};
 use std::alloc::Global;
 use std::io::Write;
 use store::{
-    ExportFault, OpenFault, adopt, create, holds_exactly, holds_nothing, holds_what_sessions_left,
-    leaves_what_sessions_left,
+    ExportFault, OpenFault, Upgrade, adopt, create, holds_exactly, holds_nothing,
+    holds_what_sessions_left, leaves_what_sessions_left, upgrade,
 };
 
 // Makes the tables of a club.
@@ -78,6 +78,8 @@ fn request<S: Alter>(
         Answers result.0 (λ outcome. outcome_of outcome ≡ answered (club_step s (given command.now moment))) }
     ensures refuses { HasCleanDisk (state S.Store result.1) →
         IfUnopened result.0 (IsRefusal (state S.Store conn) (state S.Store result.1)) }
+    ensures older { HasCleanDisk (state S.Store result.1) → Opens (state S.Store conn) → IsLive (state S.Store conn) →
+        (s : ClubState) → HasFirst s (state S.Store conn).committed.trees → OnlyUnopened result.0 IsOlder }
     ensures led { HasCleanDisk (state S.Store result.1) → Opens (state S.Store conn) → IsLive (state S.Store conn) →
         (sessions : _) → IsReachable sessions (state S.Store conn).committed.trees →
         (db : _) → (state S.Store result.1).may_leave db →
@@ -123,6 +125,8 @@ fn legal<S: Alter>(alloc: Global, conn: Connection<S>, game: u64) -> (Report, Co
         ListsMoves s game result.0 }
     ensures refuses { HasCleanDisk (state S.Store result.1) →
         IfUnopened result.0 (IsRefusal (state S.Store conn) (state S.Store result.1)) }
+    ensures older { HasCleanDisk (state S.Store result.1) → Opens (state S.Store conn) → IsLive (state S.Store conn) →
+        (s : ClubState) → HasFirst s (state S.Store conn).committed.trees → OnlyUnopened result.0 IsOlder }
     ensures led { HasCleanDisk (state S.Store result.1) → Opens (state S.Store conn) → IsLive (state S.Store conn) →
         (sessions : _) → IsReachable sessions (state S.Store conn).committed.trees →
         (db : _) → (state S.Store result.1).may_leave db → IsReachable sessions db }
@@ -167,6 +171,8 @@ fn table<S: Alter>(alloc: Global, conn: Connection<S>, event: &str) -> (Report, 
         ListsTable s event.now result.0 }
     ensures refuses { HasCleanDisk (state S.Store result.1) →
         IfUnopened result.0 (IsRefusal (state S.Store conn) (state S.Store result.1)) }
+    ensures older { HasCleanDisk (state S.Store result.1) → Opens (state S.Store conn) → IsLive (state S.Store conn) →
+        (s : ClubState) → HasFirst s (state S.Store conn).committed.trees → OnlyUnopened result.0 IsOlder }
     ensures led { HasCleanDisk (state S.Store result.1) → Opens (state S.Store conn) → IsLive (state S.Store conn) →
         (sessions : _) → IsReachable sessions (state S.Store conn).committed.trees →
         (db : _) → (state S.Store result.1).may_leave db → IsReachable sessions db }
@@ -217,6 +223,8 @@ fn export<S: Alter, W: Write>(
         WritesRecord s game (W.contents out.old) (W.contents out.new) result.0 }
     ensures refuses { HasCleanDisk (state S.Store result.1) →
         IfUnopened result.0 (IsRefusal (state S.Store conn) (state S.Store result.1)) }
+    ensures older { HasCleanDisk (state S.Store result.1) → Opens (state S.Store conn) → IsLive (state S.Store conn) →
+        (s : ClubState) → HasFirst s (state S.Store conn).committed.trees → OnlyUnopened result.0 IsOlder }
     ensures led { HasCleanDisk (state S.Store result.1) → Opens (state S.Store conn) → IsLive (state S.Store conn) →
         (sessions : _) → IsReachable sessions (state S.Store conn).committed.trees →
         (db : _) → (state S.Store result.1).may_leave db → IsReachable sessions db }
@@ -234,6 +242,47 @@ fn export<S: Alter, W: Write>(
     (exported(written), conn)
 }
 
+// Carries a club of schema 1 over to schema 2.
+fn carry<S: Alter>(alloc: Global, conn: Connection<S>) -> (Report, Connection<S>)
+    requires { conn.in_transaction ≡ false }
+    ensures idle { result.1.in_transaction ≡ false }
+    ensures clean { doubt (state S.Store conn).is_clean ≤ doubt (state S.Store result.1).is_clean }
+    ensures carries { HasCleanDisk (state S.Store result.1) → Opens (state S.Store conn) → IsLive (state S.Store conn) →
+        (s : ClubState) → HasFirst s (state S.Store conn).committed.trees →
+        IsCarriedOver s result.0 (state S.Store result.1) }
+    ensures repeats { HasCleanDisk (state S.Store result.1) → Opens (state S.Store conn) → IsLive (state S.Store conn) →
+        (s : ClubState) → IsClub s → Leaves (tables s) (state S.Store conn).committed.trees →
+        IsRepeated result.0 × IsKept (state S.Store conn) (state S.Store result.1) }
+    ensures refuses { HasCleanDisk (state S.Store result.1) →
+        IfUnopened result.0 (IsUpgradeRefusal (state S.Store conn) (state S.Store result.1)) }
+    ensures led { HasCleanDisk (state S.Store result.1) → Opens (state S.Store conn) → IsLive (state S.Store conn) →
+        (chapters : _) → IsReachable chapters (state S.Store conn).committed.trees →
+        (db : _) → (state S.Store result.1).may_leave db → IsReachable (chapters ++ upgrade_of result.0 ∷ []) db }
+{
+    holds_exactly(&conn);
+    leaves_what_sessions_left(&conn);
+    match upgrade(alloc, conn) {
+        Ok((conn, done)) => {
+            leaves_what_sessions_left(&conn);
+            (carried(done), conn)
+        }
+        Err(unopened) => (Report::Unopened(unopened.fault), unopened.conn),
+    }
+}
+
+// What is reported of an upgrade.
+fn carried(done: Upgrade) -> Report
+    ensures done { done ≡ Upgrade.Done → result ≡ Report.Upgraded }
+    ensures already { done ≡ Upgrade.Already → result ≡ Report.AlreadyUpgraded }
+    ensures either { upgrade_of result ≡ upgraded true }
+    ensures taken { IfUnopened result (λ fault. ⊥) }
+{
+    match done {
+        Upgrade::Done => Report::Upgraded,
+        Upgrade::Already => Report::AlreadyUpgraded,
+    }
+}
+
 // Tests that the rows are those of a club.
 fn verify<S: Alter>(alloc: Global, conn: Connection<S>) -> (Report, Connection<S>)
     requires { conn.in_transaction ≡ false }
@@ -244,10 +293,12 @@ fn verify<S: Alter>(alloc: Global, conn: Connection<S>) -> (Report, Connection<S
     ensures sound { HasCleanDisk (state S.Store result.1) → IsOpened (state S.Store conn) → result.0 ≡ Report.Sound →
         (s : ClubState) × IsClub s × IsExactly (tables s) (state S.Store result.1) }
     ensures legal { HasCleanDisk (state S.Store result.1) → Opens (state S.Store conn) → IsLive (state S.Store conn) →
-        (state S.Store conn).now.schema ≡ club_schema → result.0 ≡ Report.Sound →
+        IsClubSchema (state S.Store conn).now.schema → result.0 ≡ Report.Sound →
         HoldClub (state S.Store conn).committed.trees }
     ensures refuses { HasCleanDisk (state S.Store result.1) →
         IfUnopened result.0 (IsRefusal (state S.Store conn) (state S.Store result.1)) }
+    ensures older { HasCleanDisk (state S.Store result.1) → Opens (state S.Store conn) → IsLive (state S.Store conn) →
+        (s : ClubState) → HasFirst s (state S.Store conn).committed.trees → OnlyUnopened result.0 IsOlder }
     ensures led { HasCleanDisk (state S.Store result.1) → Opens (state S.Store conn) → IsLive (state S.Store conn) →
         (sessions : _) → IsReachable sessions (state S.Store conn).committed.trees →
         (db : _) → (state S.Store result.1).may_leave db → IsReachable sessions db }
@@ -267,7 +318,8 @@ fn verify<S: Alter>(alloc: Global, conn: Connection<S>) -> (Report, Connection<S
 
 /// Does what is asked for over a connection that was just opened, at that moment, and gives the connection back:
 /// makes a club, gives the club that stands there a command of the officer's, lists the legal moves of a game, shows
-/// the cross table of an event, writes the record of a game to `out`, or tests that the rows are those of a club. The
+/// the cross table of an event, writes the record of a game to `out`, tests that the rows are those of a club, or
+/// carries a club of schema 1 over to schema 2; every other word refuses schema 1 by its number. The
 /// answer is the machine's. Sessions that led to what the opening found lead, with this request as one more, to
 /// whatever a stop leaves; where there was no table, and a club was to be made, none led to it, or there is no table
 /// still. Tables that are not taken as a club's are blamed for it, and stay as they were found; those that are found
@@ -310,10 +362,21 @@ pub fn act<S: Alter, W: Write>(
         IfVerify task.now (result.0 ≡ Report.Sound →
         (s : ClubState) × IsClub s × IsExactly (tables s) (state S.Store result.1)) }
     ensures legal { HasCleanDisk (state S.Store result.1) → Opens (state S.Store conn) → IsLive (state S.Store conn) →
-        (state S.Store conn).now.schema ≡ club_schema → IfVerify task.now (result.0 ≡ Report.Sound →
+        IsClubSchema (state S.Store conn).now.schema → IfVerify task.now (result.0 ≡ Report.Sound →
         HoldClub (state S.Store conn).committed.trees) }
     ensures refuses { HasCleanDisk (state S.Store result.1) → IfTakesOver task.now (IfUnopened result.0
         (IsRefusal (state S.Store conn) (state S.Store result.1))) }
+    ensures older { HasCleanDisk (state S.Store result.1) → Opens (state S.Store conn) → IsLive (state S.Store conn) →
+        (s : ClubState) → HasFirst s (state S.Store conn).committed.trees →
+        IfTakesOver task.now (OnlyUnopened result.0 IsOlder) }
+    ensures carries { HasCleanDisk (state S.Store result.1) → Opens (state S.Store conn) → IsLive (state S.Store conn) →
+        (s : ClubState) → HasFirst s (state S.Store conn).committed.trees →
+        IfUpgrade task.now (IsCarriedOver s result.0 (state S.Store result.1)) }
+    ensures repeats { HasCleanDisk (state S.Store result.1) → Opens (state S.Store conn) → IsLive (state S.Store conn) →
+        (s : ClubState) → IsClub s → Leaves (tables s) (state S.Store conn).committed.trees →
+        IfUpgrade task.now (IsRepeated result.0 × IsKept (state S.Store conn) (state S.Store result.1)) }
+    ensures withheld { HasCleanDisk (state S.Store result.1) → IfUpgrade task.now (IfUnopened result.0
+        (IsUpgradeRefusal (state S.Store conn) (state S.Store result.1))) }
     ensures spares { HasCleanDisk (state S.Store result.1) → Opens (state S.Store conn) → task.now ≡ Init →
         result.0 ≡ Report.Unopened OpenFault.Foreign → IsKept (state S.Store conn) (state S.Store result.1) }
     ensures silent { writes task.now ≡ false → out.new ≡ out.old }
@@ -329,5 +392,6 @@ pub fn act<S: Alter, W: Write>(
         Task::Table(event) => table(alloc, conn, event.as_str()),
         Task::Export(game) => export(alloc, conn, *game, out),
         Task::Verify => verify(alloc, conn),
+        Task::Upgrade => carry(alloc, conn),
     }
 }

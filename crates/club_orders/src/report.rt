@@ -31,6 +31,10 @@ pub enum Report {
     Answered(Outcome),
     /// The rows of the file are those of a club.
     Sound,
+    /// The file was of schema 1, and is now of schema 2.
+    Upgraded,
+    /// The file was of schema 2, and stays as it is.
+    AlreadyUpgraded,
     /// Lines that were asked for: the legal moves of a game, as they are written, or the cross table of an event.
     Listed(Vec<String>),
     /// The record of a game was written.
@@ -65,6 +69,8 @@ impl Report {
         match self {
             Report::Ready => DONE,
             Report::Sound => DONE,
+            Report::Upgraded => DONE,
+            Report::AlreadyUpgraded => DONE,
             Report::Answered(Outcome::Accepted(_)) => DONE,
             Report::Answered(Outcome::Repeated(_)) => DONE,
             Report::Answered(Outcome::Refused(_)) => REFUSED,
@@ -102,6 +108,8 @@ fn write_report(text: &mut String, report: &Report) -> Result<(), AllocError>
     match report {
         Report::Ready => writeln!(text, "ready"),
         Report::Sound => writeln!(text, "sound"),
+        Report::Upgraded => writeln!(text, "upgraded"),
+        Report::AlreadyUpgraded => writeln!(text, "repeated upgrade"),
         Report::Answered(outcome) => writeln!(text, "{outcome}"),
         Report::Listed(listed) => write_lines(text, listed.as_slice()),
         Report::Exported => Ok(()),

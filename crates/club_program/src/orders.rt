@@ -18,8 +18,8 @@ pub(crate) fn done(rt: &HostRuntime, order: &Order) -> Report {
     }
 }
 
-// Does what is ordered, and prints what it came to, with an explanation where one is asked for. The room for the line is
-// set aside before.
+// Does what is ordered, and prints what it came to, with an explanation where one is asked for. The room for the line
+// is set aside before.
 #[tactic(auto, using(crate::proofs::StatusLemmas::printed_small))]
 fn run_order(rt: &HostRuntime, order: &Order, explains: bool) -> u8
     ensures { result ≤ 3 }

@@ -20,8 +20,8 @@ const GIVEN_UP_MILLISECONDS: u64 = 200;
 // How long is waited before files that another program has are asked for again.
 const AGAIN_MILLISECONDS: u64 = 100;
 
-// How often they are asked for before those who come are told that they cannot be had: for five seconds, in which a word
-// is done. From then on each is told at once.
+// How often they are asked for before those who come are told that they cannot be had: for five seconds, in which a
+// word is done. From then on each is told at once.
 const PATIENCE: u32 = 50;
 
 // A stretch over the files, unless another program has them.
@@ -40,8 +40,8 @@ fn tell(rt: &HostRuntime, callers: &mut Callers<'_>, fault: ClubFault) {
     serve_closed(rt.alloc(), callers, fault);
 }
 
-// Hears those who come until there is something to do, another program having the files since so many tries: false where
-// no one more is to be served.
+// Hears those who come until there is something to do, another program having the files since so many tries: false
+// where no one more is to be served.
 fn hear(callers: &mut Callers<'_>, tries: u32) -> bool {
     if tries > PATIENCE {
         return callers.await_for(Duration::from_millis(AGAIN_MILLISECONDS));

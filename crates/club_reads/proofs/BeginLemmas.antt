@@ -4,7 +4,7 @@ use Rattle.std.proofs.Common.{refl, ap, ◌∙◌, arith}
 use Rattle.sqlite.specs.Order.{Row, column}
 use Rattle.club_core.specs.Members.{Member}
 use Rattle.club_core.specs.Events.{Event}
-use Rattle.club_rows.specs.Tables.{number, numbered_from, member_row, event_row}
+use Rattle.club_rows.specs.Tables.{number, numbered_from, member_row, event_row, rule_row}
 use Rattle.store_sql.specs.Read.{BeginWithPlaces}
 use Rattle.club_rows.specs.Club.{both_games, ClubState, tables}
 use Rattle.club_changes.specs.Steps.{game_in}
@@ -21,6 +21,9 @@ members_begin xs = begins member_row (λ id x. refl) xs
 
 pub events_begin : (xs : List Event) → BeginWithPlaces (numbered_from event_row 1 xs)
 events_begin xs = begins event_row (λ id x. refl) xs
+
+pub rules_begin : (xs : List Event) → BeginWithPlaces (numbered_from rule_row 1 xs)
+rules_begin xs = begins rule_row (λ id x. refl) xs
 
 pub games_begin : (s : ClubState) → BeginWithPlaces (tables s 10)
 games_begin s = begins (game_in s) (first_of_game both_games s.events) s.games

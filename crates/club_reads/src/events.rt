@@ -1,6 +1,6 @@
 //! The events of the club.
 
-ghost use Rattle.std.specs.Prelude.{◌≡◌, ◌≤◌, ◌<◌, ℕ, List, map, Some, None, false, IfOk, OnOk};
+ghost use Rattle.std.specs.Prelude.{◌≡◌, ◌≤◌, ◌<◌, ℕ, List, map, Some, None, IfOk, OnOk};
 ghost use Rattle.std.specs.Prelude.{length};
 ghost use Rattle.sqlite.specs.State.{HasCleanDisk};
 ghost use Rattle.sqlite.specs.Held.{state};
@@ -8,32 +8,35 @@ ghost use Rattle.club_core.specs.Answer.{event_of, events_of};
 ghost use Rattle.club_core.specs.Events as core;
 ghost use Rattle.club_core.specs.State as club;
 ghost use Rattle.club_core.specs.State.{place};
-ghost use Rattle.club_rows.specs.Tables.{number, numbered_from, event_row};
-ghost use Rattle.store_tables.specs.Cells.{event_cells};
+ghost use Rattle.club_rows.specs.Tables.{number, numbered_from, event_row, rule_row};
+ghost use Rattle.store_tables.specs.Cells.{event_cells, event_rule_cells};
 ghost use Rattle.store_tables.specs.Club.{IsExactly};
 ghost use Rattle.store_tables.specs.Reading.{OnlyReads};
 ghost use Rattle.store_sql.specs.Read.{KeepsContent};
 ghost use Rattle.club_rows.specs.Club.{ClubState, IsClub, tables};
-ghost use Rattle.club_core.specs.LegalState.{Each, IsLegalEvent};
 
 use crate::fault::CallFault;
 use crate::found::first;
 use club_core::Event;
 use club_requests::values::MOST_EVENTS;
 use club_rows::kind_of;
-use club_rows::numbers::counted;
+use club_rows::numbers::{counted, declares_of};
 use sqlite::{Alter, Connection};
 use std::alloc::Global;
 use store_sql::{find_by_first, list};
-use store_tables::EventRow;
+use store_tables::{EventRow, EventRuleRow};
 
-// The event of which this is the row. No event of these tables has declarations.
-pub(crate) fn event_of(row: &EventRow) -> Result<Event, CallFault>
-    ensures { IfOk result (λ e. (id : ℕ) (event : core.Event) → event.terms.declares ≡ false →
-        event_cells row.now ≡ event_row id event → event_of e ≡ event) }
+// The event of which these are the row and that of its rules.
+pub(crate) fn event_of(row: &EventRow, rule: &EventRuleRow) -> Result<Event, CallFault>
+    ensures { IfOk result (λ e. (id : ℕ) (event : core.Event) → event_cells row.now ≡ event_row id event →
+        event_rule_cells rule.now ≡ rule_row id event → event_of e ≡ event) }
 {
     let game = match kind_of(row.game) {
         Some(game) => game,
+        None => return Err(CallFault::Store),
+    };
+    let declares = match declares_of(rule.declares) {
+        Some(declares) => declares,
         None => return Err(CallFault::Store),
     };
     let (Some(budget), Some(increment)) = (counted(row.budget), counted(row.increment)) else {
@@ -44,22 +47,30 @@ pub(crate) fn event_of(row: &EventRow) -> Result<Event, CallFault>
         game,
         budget,
         increment,
-        declares: false,
+        declares,
     })
 }
 
-// The events of which these are the rows, by id.
-fn events_of(alloc: Global, rows: &[EventRow]) -> Result<Vec<Event>, CallFault>
+// The events of which these are the rows and those of their rules, by id.
+fn events_of(
+    alloc: Global,
+    rows: &[EventRow],
+    rules: &[EventRuleRow],
+) -> Result<Vec<Event>, CallFault>
     ensures room { IfOk result (λ events. length events.items ≤ 50) }
-    ensures values { IfOk result (λ events. (all : List core.Event) → Each IsLegalEvent all →
-        map event_cells rows.now ≡ numbered_from event_row 1 all → events_of events.items ≡ all) }
+    ensures values { IfOk result (λ events. (all : List core.Event) →
+        map event_cells rows.now ≡ numbered_from event_row 1 all →
+        map event_rule_cells rules.now ≡ numbered_from rule_row 1 all → events_of events.items ≡ all) }
 {
     if rows.len() > MOST_EVENTS {
         return Err(CallFault::Store);
     }
+    if rules.len() != rows.len() {
+        return Err(CallFault::Store);
+    }
     let mut events = Vec::new(alloc);
-    for row in rows {
-        events.push(event_of(row)?)?;
+    for i in 0..rows.len() {
+        events.push(event_of(&rows[i], &rules[i])?)?;
     }
     Ok(events)
 }
@@ -76,7 +87,9 @@ pub fn all_events<S: Alter>(
     ensures values { HasCleanDisk (state S.Store conn.new) → IfOk result (λ events. (s : ClubState) → IsClub s →
         IsExactly (tables s) (state S.Store conn.old) → events_of events.items ≡ s.events) }
 {
-    let events = events_of(alloc, &list::<EventRow, S>(alloc, conn)?)?;
+    let rows = list::<EventRow, S>(alloc, conn)?;
+    let rules = list::<EventRuleRow, S>(alloc, conn)?;
+    let events = events_of(alloc, &rows, &rules)?;
     Ok(events)
 }
 
@@ -94,8 +107,12 @@ pub fn event_with<S: Alter>(
         event_of e ≡ known) }
 {
     let number = i64::from(event);
-    match first(find_by_first::<EventRow, S>(alloc, conn, &number)?) {
-        Some(row) => Ok(event_of(&row)?),
+    let row = match first(find_by_first::<EventRow, S>(alloc, conn, &number)?) {
+        Some(row) => row,
+        None => return Err(CallFault::Store),
+    };
+    match first(find_by_first::<EventRuleRow, S>(alloc, conn, &number)?) {
+        Some(rule) => Ok(event_of(&row, &rule)?),
         None => Err(CallFault::Store),
     }
 }

@@ -3,7 +3,7 @@
 ghost use Rattle.std.specs.Prelude.{◌≡◌, ◌<◌, ℕ, [], ◌∷◌, Some, None, IfOk, OnOk};
 ghost use Rattle.sqlite.specs.State.{HasCleanDisk};
 ghost use Rattle.sqlite.specs.Held.{state};
-ghost use Rattle.club_rows.specs.Tables.{number};
+ghost use Rattle.club_rows.specs.Tables.{meta_row};
 ghost use Rattle.store_tables.specs.Cells.{meta_cells};
 ghost use Rattle.store_tables.specs.Club.{IsExactly};
 ghost use Rattle.store_tables.specs.Reading.{OnlyReads};
@@ -21,7 +21,7 @@ use store_tables::MetaRow;
 
 // The moment that the row of `meta` has.
 fn last_in(row: &MetaRow) -> Result<Moment, CallFault>
-    ensures { IfOk result (λ last. (n : ℕ) → meta_cells row.now ≡ number 1 ∷ number 1 ∷ number n ∷ [] → last ≡ n) }
+    ensures { IfOk result (λ last. (n : ℕ) → meta_cells row.now ≡ meta_row 2 n → last ≡ n) }
 {
     match moment_of(row.last) {
         Some(last) => Ok(last),

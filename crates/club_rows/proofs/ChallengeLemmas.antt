@@ -268,6 +268,7 @@ module _ {DP DM DE DT SP SM SE ST : Type 0} (kinds : ClubRules DP DM DE DT SP SM
   pub record LeavesOtherTables (s new : State DM SM) : Type 0 where
     pub members_stay : tables_of kinds new 1 ≡ tables_of kinds s 1
     pub events_stay : tables_of kinds new 4 ≡ tables_of kinds s 4
+    pub rules_stay : tables_of kinds new 16 ≡ tables_of kinds s 16
     pub moves_stay : tables_of kinds new 8 ≡ tables_of kinds s 8
     pub games_stay : tables_of kinds new 10 ≡ tables_of kinds s 10
     pub seen_stays : tables_of kinds new 12 ≡ tables_of kinds s 12
@@ -279,6 +280,7 @@ module _ {DP DM DE DT SP SM SE ST : Type 0} (kinds : ClubRules DP DM DE DT SP SM
       record {
         members_stay = refl;
         events_stay = refl;
+        rules_stay = refl;
         moves_stay = refl;
         games_stay = refl;
         seen_stays =

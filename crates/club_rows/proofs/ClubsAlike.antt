@@ -1,5 +1,6 @@
 -- Legal clubs with the same tables are one.
-use Rattle.std.proofs.Common.{◌≡◌, ℕ, zero, suc, List, [], ◌∷◌, ◌++◌, length, refl, ap, sym, ◌∙◌, subst}
+use Rattle.std.proofs.Common.{◌≡◌, ℕ, Bool, true, false, zero, suc, List, [], ◌∷◌, ◌++◌, length, refl, ap, sym, ◌∙◌}
+use Rattle.std.proofs.Common.{subst}
 use Rattle.sqlite_value.specs.declared.value.Value.{Value}
 use Rattle.sqlite.specs.Order.{Row}
 use Rattle.club_rules.specs.declared.names.GameKind.{GameKind}
@@ -10,10 +11,10 @@ use Rattle.club_core.specs.Members.{Member}
 use Rattle.club_core.specs.Events.{Event}
 use Rattle.club_core.specs.Game.{Game}
 use Rattle.club_core.specs.Legal.{IsLegalGame}
-use Rattle.club_core.specs.LegalState.{Each, IsLegalEvent, IsGameOf, IsLegalState}
+use Rattle.club_core.specs.LegalState.{Each, IsGameOf, IsLegalState}
 use Rattle.club_core.specs.State.{AnyGame, draughts, shogi, State, place, terms_at, kind_at}
 use Rattle.club_rows.specs.Tables.{number, member_row, event_row, game_row, move_rows, at_start, row_of_game}
-use Rattle.club_rows.specs.Tables.{rows_of_moves, numbered_from, gathered_from, tables_of}
+use Rattle.club_rows.specs.Tables.{declares_number, rule_row, rows_of_moves, numbered_from, gathered_from, tables_of}
 use Rattle.club_rows.proofs.SameLemmas.{seventeen-parts, same-bytes}
 use Rattle.club_rows.proofs.WholeLemmas.{rows-count}
 use Rattle.club_rows.proofs.KindLemmas.{kinds-alike}
@@ -30,20 +31,6 @@ numbered-alike row alike id (x ∷ xs) [] is = cc
 numbered-alike row alike id (x ∷ xs) (y ∷ ys) is =
     let head : x ≡ y = alike id x y (heads-alike (row id x) (row id y) _ _ is) in
     let tail : xs ≡ ys = numbered-alike row alike (suc id) xs ys (tails-alike (row id x) (row id y) _ _ is) in
-    λ i. head i ∷ tail i
-
--- the same, of those that pass
-each-alike : {A : Type 0} (row : ℕ → A → Row) (P : A → Type 0)
-    → ((id : ℕ) (x y : A) → P x → P y → row id x ≡ row id y → x ≡ y) → (id : ℕ) (xs ys : List A) → Each P xs → Each P ys
-    → numbered_from row id xs ≡ numbered_from row id ys → xs ≡ ys
-each-alike row P alike id [] [] these those is = refl
-each-alike row P alike id [] (y ∷ ys) these those is = cc
-each-alike row P alike id (x ∷ xs) [] these those is = cc
-each-alike row P alike id (x ∷ xs) (y ∷ ys) these those is =
-    let head : x ≡ y = alike id x y (these zero x refl) (those zero y refl)
-    (heads-alike (row id x) (row id y) _ _ is) in
-    let tail : xs ≡ ys = each-alike row P alike (suc id) xs ys (λ n z at. these (suc n) z at)
-    (λ n z at. those (suc n) z at) (tails-alike (row id x) (row id y) _ _ is) in
     λ i. head i ∷ tail i
 
 -- lists in two parts that are one, where the first parts are as long
@@ -74,9 +61,15 @@ members-alike id m n is =
     let key = same-bytes m.key n.key (heads-alike _ _ _ _ (tails-alike _ _ _ _ rest)) in
     λ i. record { name = name i; key = key i }
 
--- no event has declarations, which its row does not show
-events-alike : (id : ℕ) (d e : Event) → IsLegalEvent d → IsLegalEvent e → event_row id d ≡ event_row id e → d ≡ e
-events-alike id d e this that is =
+pub declares-alike : (a b : Bool) → declares_number a ≡ declares_number b → a ≡ b
+declares-alike true true is = refl
+declares-alike false false is = refl
+declares-alike true false is = cc
+declares-alike false true is = cc
+
+-- an event is told by its row and by that of its rules
+events-alike : (id : ℕ) (d e : Event) → event_row id d ≡ event_row id e → rule_row id d ≡ rule_row id e → d ≡ e
+events-alike id d e is ruled =
     let one = tails-alike _ _ _ _ is in
     let two = tails-alike _ _ _ _ one in
     let three = tails-alike _ _ _ _ two in
@@ -84,12 +77,27 @@ events-alike id d e this that is =
     let game = kinds-alike d.game e.game (numbers-alike _ _ (heads-alike _ _ _ _ two)) in
     let budget = numbers-alike _ _ (heads-alike _ _ _ _ three) in
     let increment = numbers-alike _ _ (heads-alike _ _ _ _ (tails-alike _ _ _ _ three)) in
-    let declares : d.terms.declares ≡ e.terms.declares = this.declares ∙ sym that.declares in
+    let declares : d.terms.declares ≡ e.terms.declares =
+    declares-alike d.terms.declares e.terms.declares
+    (numbers-alike _ _ (heads-alike _ _ _ _ (tails-alike _ _ _ _ ruled)))
+    in
     λ i. record {
       name = name i;
       game = game i;
       terms = record { budget = budget i; increment = increment i; declares = declares i };
     }
+
+all-events-alike : (id : ℕ) (ds es : List Event) → numbered_from event_row id ds ≡ numbered_from event_row id es
+    → numbered_from rule_row id ds ≡ numbered_from rule_row id es → ds ≡ es
+all-events-alike id [] [] is ruled = refl
+all-events-alike id [] (e ∷ es) is ruled = cc
+all-events-alike id (d ∷ ds) [] is ruled = cc
+all-events-alike id (d ∷ ds) (e ∷ es) is ruled =
+    let head : d ≡ e = events-alike id d e (heads-alike (event_row id d) (event_row id e) _ _ is)
+    (heads-alike (rule_row id d) (rule_row id e) _ _ ruled) in
+    let tail : ds ≡ es = all-events-alike (suc id) ds es (tails-alike (event_row id d) (event_row id e) _ _ is)
+    (tails-alike (rule_row id d) (rule_row id e) _ _ ruled) in
+    λ i. head i ∷ tail i
 
 -- ---- games
 
@@ -205,7 +213,7 @@ module _ {DP DM DE DT SP SM SE ST : Type 0} (kinds : ClubRules DP DM DE DT SP SM
       (heads-alike _ _ _ _ (tails-alike _ _ _ _ (tails-alike _ _ _ _ (heads-alike _ _ _ _ (same 0))))) in
       let members : s.members ≡ t.members = numbered-alike member_row members-alike 1 s.members t.members (same 1) in
       let events : s.events ≡ t.events =
-      each-alike event_row IsLegalEvent events-alike 1 s.events t.events this.events that.events (same 4) in
+      all-events-alike 1 s.events t.events (same 4) (same 16) in
       let games : s.games ≡ t.games =
       all-alike s.events 1 s.games t.games (all-stand s this)
       (subst (λ es. Each (Stands es) t.games) (sym events) (all-stand t that))

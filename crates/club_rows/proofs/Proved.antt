@@ -2,6 +2,7 @@
 pub use Rattle.club_rows.proofs.ChallengeLemmas.{challenge-had, challenge-not-shown, challenge-put, challenge-shown}
 pub use Rattle.club_rows.proofs.ChallengeLemmas.{challenge-told, challenges-alike, challenges-unaltered}
 pub use Rattle.club_rows.proofs.ChallengeLemmas.{no-challenge-told, seated-added}
+pub use Rattle.club_rows.proofs.ClubsAlike.{declares-alike}
 pub use Rattle.club_rows.proofs.GatheredLemmas.{gathered-added, gathered-had, gathered-has}
 pub use Rattle.club_rows.proofs.KindLemmas.{Kind, draughts_laws, event_in, in_draughts, in_shogi, kinds-alike, plies_in}
 pub use Rattle.club_rows.proofs.KindLemmas.{shogi_laws}
@@ -22,6 +23,6 @@ pub use Rattle.club_rows.proofs.SeenLemmas.{seen-start, seen-stay, seen-table-ad
 pub use Rattle.club_rows.proofs.SeenTexts.{Texts, first-more, first-new, one-first, one-row, row-had, row-has}
 pub use Rattle.club_rows.proofs.SeenTexts.{times-new, times-other}
 pub use Rattle.club_rows.proofs.TallyLemmas.{positions-append}
-pub use Rattle.club_rows.proofs.TextLemmas.{events-typed, games-typed, members-typed, moves-typed}
+pub use Rattle.club_rows.proofs.TextLemmas.{events-typed, games-typed, members-typed, moves-typed, rules-typed}
 pub use Rattle.club_rows.proofs.ToldLemmas.{IsToldBy, columns-told, is_some-none, same-pos, since-rises, spend-since}
 pub use Rattle.club_rows.proofs.WholeLemmas.{played-count, rows-alike, rows-append, rows-count, rows-from, take-got}

@@ -26,9 +26,10 @@ use Rattle.club_core.specs.Events.{Event, Terms}
 use Rattle.club_core.specs.Game.{Entry, Game, moves_of, last_position}
 use Rattle.club_core.specs.LegalState.{Each, IsLegalMember, IsLegalEvent, IsLegalIn}
 use Rattle.club_core.specs.State.{draughts, shogi, place, terms_at}
-use Rattle.store_tables.specs.Cells.{IsText, OrNull, IsMember, IsEvent, IsMove, IsGame}
+use Rattle.store_tables.specs.Cells.{IsText, OrNull, IsMember, IsEvent, IsEventRule, IsMove, IsGame}
 use Rattle.club_rows.specs.Club.{ClubGame, ClubState, IsClub, both_games}
 use Rattle.club_requests.specs.OutsideEnd.{outside_text}
+use Rattle.club_rows.specs.Tables.{rule_row}
 use Rattle.club_rows.specs.Tables.{member_row, event_row, game_row, entry_rows, with_entry, end_name_text}
 use Rattle.club_rows.specs.Tables.{numbered_from, gathered_from, row_of_game, rows_of_moves, tables_of}
 use Rattle.club_rows.proofs.PlainTexts.{is-text, name-plain, key-plain, written, ArePlain}
@@ -127,6 +128,9 @@ event-typed id e legal =
       increment = int e.terms.increment;
     }
 
+rule-typed : (id : ℕ) (e : Event) → IsLegalEvent e → IsEventRule (rule_row id e)
+rule-typed id e legal = record { width = refl; event = int id; declares = (_, refl) }
+
 made-append : {M : Type 0} (es : List (Entry M)) (e : Entry M)
     → map (λ x. x.made) (es ++ e ∷ []) ≡ map (λ x. x.made) es ++ e.made ∷ []
 made-append [] e = refl
@@ -183,6 +187,9 @@ module _ (s : ClubState) (club : IsClub s) where
 
   pub events-typed : AllByRecursion IsEvent (tables_of both_games s 4)
   events-typed = numbered-all event_row IsLegalEvent IsEvent event-typed 1 s.events club.events
+
+  pub rules-typed : AllByRecursion IsEventRule (tables_of both_games s 16)
+  rules-typed = numbered-all rule_row IsLegalEvent IsEventRule rule-typed 1 s.events club.events
 
   any-game : (id : ℕ) (any : ClubGame) → IsLegalIn both_games s any → IsGame (row_of_game both_games s.events id any)
   any-game id (draughts g) legal = game-typed both_games.draughts draughts-plain (terms_at (place s.events g.event)) id

@@ -1,6 +1,7 @@
 pub mod ChallengeRows
 pub mod Club
 pub mod EachOnce
+pub mod FirstSchema
 pub mod Listed
 pub mod Made
 pub mod NextScores

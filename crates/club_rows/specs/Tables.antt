@@ -119,6 +119,18 @@ abbrev pub event_row : ℕ → Event → Row
 event_row id e = number id ∷ Text e.name ∷ number (kind_number e.game) ∷ number e.terms.budget
     ∷ number e.terms.increment ∷ []
 
+-- 1 where the event's players may declare that they have won
+abbrev pub declares_number : Bool → ℕ
+declares_number true = 1
+declares_number false = 0
+
+abbrev pub rule_row : ℕ → Event → Row
+rule_row id e = number id ∷ number (declares_number e.terms.declares) ∷ []
+
+-- the one row of `meta`: the number of the schema, and the moment of the last accepted request
+abbrev pub meta_row : ℕ → ℕ → Row
+meta_row schema last = number 1 ∷ number schema ∷ number last ∷ []
+
 -- the game that a challenge has started, if it was accepted
 abbrev pub game_started : Standing → Option ℕ
 game_started Open = None
@@ -162,10 +174,10 @@ module _ {DP DM DE DT SP SM SE ST : Type 0} (rules : ClubRules DP DM DE DT SP SM
     rows_of_moves id (shogi g) = move_rows rules.shogi (terms_at (place events g.event)) id g
 
   -- The rows of each table by its number: 0 meta, 1 members, 4 events, 6 challenges, 8 moves, 10 games, 12 seen, 14
-  -- scores. Ids count from 1.
+  -- scores, 16 the rules of events. Ids count from 1.
   abbrev pub tables_of : State DM SM → Content
   tables_of s t =
-      if t == 0 then (number 1 ∷ number 1 ∷ number s.last ∷ []) ∷ []
+      if t == 0 then meta_row 2 s.last ∷ []
       else (if t == 1 then numbered_from member_row 1 s.members
       else (if t == 4 then numbered_from event_row 1 s.events
       else (if t == 6 then map challenge_row s.challenges
@@ -173,4 +185,5 @@ module _ {DP DM DE DT SP SM SE ST : Type 0} (rules : ClubRules DP DM DE DT SP SM
       else (if t == 10 then numbered_from (row_of_game s.events) 1 s.games
       else (if t == 12 then gathered_from rows_of_seen 1 s.games
       else (if t == 14 then scores_in rules s.games
-      else [])))))))
+      else (if t == 16 then numbered_from rule_row 1 s.events
+      else []))))))))

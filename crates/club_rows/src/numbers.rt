@@ -1,6 +1,7 @@
 //! Numbers of the machine as numbers of the tables, and back.
 
-ghost use Rattle.std.specs.Prelude.{◌≡◌, ◌≢◌, ◌<◌, ◌≤◌, ◌^◌, ℕ, None, pos, IfSome};
+ghost use Rattle.std.specs.Prelude.{◌≡◌, ◌≢◌, ◌<◌, ◌≤◌, ◌^◌, ℕ, Bool, None, pos, IfSome};
+ghost use Rattle.club_rows.specs.Tables.{declares_number};
 
 use clocks::Moment;
 
@@ -47,5 +48,24 @@ pub fn moment(seconds: i64) -> Option<Moment>
     match counted(seconds) {
         Some(seconds) => Moment::new(seconds),
         None => None,
+    }
+}
+
+/// The number that says whether an event's players may declare that they have won.
+pub fn declares_number(declares: bool) -> i64
+    ensures { result ≡ pos (declares_number declares) }
+{
+    if declares { 1 } else { 0 }
+}
+
+/// What a number of a table says of that, unless it says nothing.
+pub fn declares_of(number: i64) -> Option<bool>
+    ensures some { IfSome result (λ declares. number ≡ pos (declares_number declares)) }
+    ensures none { result ≡ None → (declares : Bool) → number ≢ pos (declares_number declares) }
+{
+    match number {
+        0 => Some(false),
+        1 => Some(true),
+        _ => None,
     }
 }

@@ -13,6 +13,8 @@ const MEMBERS: &str = "id INTEGER, name TEXT, key TEXT";
 
 const EVENTS: &str = "id INTEGER, name TEXT, game INTEGER, budget INTEGER, increment INTEGER";
 
+const EVENT_RULES: &str = "event INTEGER, declares INTEGER";
+
 const GAME_COLUMNS: &str =
     "id INTEGER, key TEXT, event INTEGER, first INTEGER, second INTEGER, start INTEGER, since INTEGER, \
     plies INTEGER, left1 INTEGER, left2 INTEGER, offer_side INTEGER, offer_ply INTEGER, end TEXT, result TEXT, \
@@ -80,18 +82,20 @@ const OPENING: &str = "1, 1, 2, 1000, 1000, 0, 60, 60, NULL, NULL, NULL, NULL,
     'W:W31,32,33,34,35,36,37,38,39,40,41,42,43,44,45,46,47,48,49,50:B1,2,3,4,5,6,7,8,9,10,11,12,13,14,15,16,17,18,19,20',
     0, 0";
 
-/// The wrong table of a club whose second member has that name, and whose second game that key.
-fn wrong(alloc: Global, name: &str, key: &str) -> Result<Option<Table>, Fail> {
+/// The wrong table of a club whose second member has that name, whose event has these rules, and whose second game has
+/// that key.
+fn wrong(alloc: Global, name: &str, rules: &str, key: &str) -> Result<Option<Table>, Fail> {
     let members = format!(in alloc; "(1, 'anna', 'keyanna1'), (2, '{name}', 'keybert2')")?;
     let games = format!(in alloc; "(1, 'g1', {MOVED}), (2, {key}, {OPENING})")?;
     let rows = Rows {
         members: rows(alloc, MEMBERS, members.as_str())?,
         events: rows(alloc, EVENTS, "(1, 'autumn', 0, 60, 5)")?,
+        event_rules: rows(alloc, EVENT_RULES, rules)?,
         challenges: Vec::new(alloc),
         games: rows(alloc, GAME_COLUMNS, games.as_str())?,
         meta: MetaRow {
             id: 1,
-            schema: 1,
+            schema: 2,
             last: 1060,
         },
     };
@@ -101,9 +105,19 @@ fn wrong(alloc: Global, name: &str, key: &str) -> Result<Option<Table>, Fail> {
 #[test]
 fn two_of_one_name_or_key_are_seen(rt: HostRuntime) -> Result<(), Fail> {
     let alloc = rt.alloc();
-    assert!(rt; wrong(alloc, "bert", "NULL")? == None);
-    assert!(rt; wrong(alloc, "anna", "NULL")? == Some(Table::Members));
-    assert!(rt; wrong(alloc, "bert", "'g1'")? == Some(Table::Games));
+    assert!(rt; wrong(alloc, "bert", "(1, 1)", "NULL")? == None);
+    assert!(rt; wrong(alloc, "anna", "(1, 1)", "NULL")? == Some(Table::Members));
+    assert!(rt; wrong(alloc, "bert", "(1, 1)", "'g1'")? == Some(Table::Games));
+    Ok(())
+}
+
+#[test]
+fn rules_of_events_are_one_for_each(rt: HostRuntime) -> Result<(), Fail> {
+    let alloc = rt.alloc();
+    assert!(rt; wrong(alloc, "bert", "(1, 0)", "NULL")? == None);
+    assert!(rt; wrong(alloc, "bert", "(1, 2)", "NULL")? == Some(Table::EventRules));
+    assert!(rt; wrong(alloc, "bert", "(2, 1)", "NULL")? == Some(Table::EventRules));
+    assert!(rt; wrong(alloc, "bert", "(1, 1), (2, 1)", "'g1'")? == Some(Table::EventRules));
     Ok(())
 }
 

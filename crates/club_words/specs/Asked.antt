@@ -15,7 +15,7 @@ use Rattle.club_requests.specs.declared.requests.Command.{Command}
 use Rattle.club_requests.specs.declared.requests.Command.TheVariants.{AddMember, AddEvent, Seat, OnGame, Sweep}
 use Rattle.club_requests.specs.declared.requests.Command.TheVariants.{Import as ImportOf}
 use Rattle.club_words.specs.declared.words.Task.{Task}
-use Rattle.club_words.specs.declared.words.Task.TheVariants.{Init, Request, Legal, Table, Export, Verify}
+use Rattle.club_words.specs.declared.words.Task.TheVariants.{Init, Request, Legal, Table, Export, Upgrade, Verify}
 use Rattle.club_words.specs.declared.words.Order.{Order}
 use Rattle.club_words.specs.declared.words.Service.{Service}
 use Rattle.club_words.specs.declared.words.Words.{Words}
@@ -99,6 +99,7 @@ AsksTask name found (Legal game) = (name ≡ codes "legal") × IsNumberIn found 
 AsksTask name found (Export game) = (name ≡ codes "export") × IsNumberIn found (codes "GAME") 0 game
 AsksTask name found (Table event) = (name ≡ codes "table") × (string_bytes event ≡ text_in found (codes "EVENT"))
 AsksTask name found Verify = name ≡ codes "verify"
+AsksTask name found Upgrade = name ≡ codes "upgrade"
 AsksTask name found (Request command) = AsksCommand name found command
 
 -- where the record of an import is read from

@@ -26,3 +26,4 @@ task_with text (task.Legal game) = task.Legal game
 task_with text (task.Table name) = task.Table name
 task_with text (task.Export game) = task.Export game
 task_with text task.Verify = task.Verify
+task_with text task.Upgrade = task.Upgrade

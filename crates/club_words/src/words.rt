@@ -28,6 +28,8 @@ pub enum Task {
     Export(u64),
     /// Test that the rows of the file are those of a club.
     Verify,
+    /// Carry the file over from schema 1 to schema 2.
+    Upgrade,
 }
 
 /// A file, the moment that is to count if the words give one, and what to do.
@@ -348,8 +350,12 @@ fn with_views<'a>(
     let verify = clap::Command::new(alloc, "verify").about(
         "Reads and replays the whole file, and says that it is sound, or which table is damaged",
     );
+    let upgrade = clap::Command::new(alloc, "upgrade").about(
+        "Carries a file of schema 1 over to schema 2, which has the rules of events; copy both files first",
+    );
     let program = with(program, table_words(alloc))?;
     let program = with(program, Ok(verify))?;
+    let program = with(program, Ok(upgrade))?;
     with(program, serve_words(alloc))
 }
 
@@ -528,6 +534,7 @@ fn task_of(alloc: Global, name: &str, words: &ArgMatches<'_>) -> Result<Task, Ba
         "export" => Ok(Task::Export(number_of(words, "GAME"))),
         "table" => Ok(Task::Table(text(alloc, words, "EVENT")?)),
         "verify" => Ok(Task::Verify),
+        "upgrade" => Ok(Task::Upgrade),
         _ => Ok(Task::Request(command_of(alloc, name, words)?)),
     }
 }

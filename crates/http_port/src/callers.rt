@@ -22,8 +22,8 @@ use std::os::fd::AsRawFd;
 use std::thread::sleep;
 use std::time::{Duration, Instant};
 
-// How many are heard side by side, those included who are to be served: others wait before the door. With the bytes that
-// a request may have, they take 42 MB at most.
+// How many are heard side by side, those included who are to be served: others wait before the door. With the bytes
+// that a request may have, they take 42 MB at most.
 const MOST_CALLERS: usize = 512;
 
 // The name of the listener among those whom the desk listens to. Callers have greater ones.

@@ -1,5 +1,5 @@
 -- What sessions of a club lead to, counted by the requests that are accepted.
-use Rattle.store_tables.specs.Tables.{club_schema, schema_after}
+use Rattle.store_tables.specs.Tables.{club_schema, IsClubSchema, schema_after, schema_of}
 use Rattle.std.proofs.Common.{◌≡◌, ◌⊎◌, ℕ, zero, suc, ◌+◌, ◌≤◌, Bool, true, false, List, [], ◌∷◌, ◌++◌, map, length}
 use Rattle.std.proofs.Common.{take, Option, Some, None, IsSome, IsTrue, is_none, refl, sym, ap, subst, ◌∙◌, inl, inr}
 use Rattle.std.proofs.Common.{arith}
@@ -24,8 +24,13 @@ use Rattle.store.specs.declared.fault.StoreFault.{StoreFault}
 use Rattle.club_changes.specs.Steps.{club_step, club_next}
 use Rattle.store.specs.Runs.{club_fold, club_outcomes, club_accepted}
 use Rattle.store_sql.proofs.Proved.{opens_exactly, schema_once}
-use Rattle.store.specs.Histories.{Session, SessionReaches, Reaches, IsReachable, IsHistory, IsAfter, is_taken}
-use Rattle.store.specs.Histories.{session_of, answered_session, cut_session}
+use Rattle.store.specs.Histories.{Chapter, Leads, Place, SessionReaches, Reaches, IsReachable, IsHistory, IsHistoryAt}
+use Rattle.store.specs.Histories.{IsAfter, is_taken, opens_as, run_session, served, session_of, answered_session}
+use Rattle.store.specs.Histories.{cut_session}
+use Rattle.club_rows.specs.FirstSchema.{tables_at}
+use Rattle.club_opening.proofs.Proved.{one_version, schema_known}
+use Rattle.store_tables.specs.declared.names.Version.{Version}
+use Rattle.store_tables.specs.declared.names.Version.TheVariants.{Current}
 
 -- those of the first requests are the first of those
 first_accepted : (s : ClubState) (rs : List Request) (j : ℕ)
@@ -64,11 +69,8 @@ leads_on : (s : ClubState) (rs : List Request) (j a : ℕ) (whole : Bool) → a 
 leads_on s rs j a whole is =
     record {
       k = a;
-      least = omega arith;
-      most = omega arith;
-      whole = λ _. refl;
-      is = after s rs j
-          ∙ ap (λ n. club_fold s (take n (club_accepted s rs))) (sym is);
+      effect = record { least = omega arith; most = omega arith; whole = λ _. refl };
+      is = after s rs j ∙ ap (λ n. club_fold s (take n (club_accepted s rs))) (sym is);
     }
 
 leads_further : (s : ClubState) (rs : List Request) (j a : ℕ) (whole : Bool) → whole ≡ false → a ≡ Counted s rs j
@@ -78,15 +80,21 @@ leads_further s rs j a false stopped is =
     let more = one_more s rs j (j + 1) refl in
     record {
       k = Counted s rs (j + 1);
-      least = omega (arith, more.0, is);
-      most = omega (arith, more.1, is);
-      whole = λ e. absurd (let x = e in cc);
+      effect = record {
+        least = omega (arith, more.0, is);
+        most = omega (arith, more.1, is);
+        whole = λ e. absurd (let x = e in cc);
+      };
       is = after s rs (j + 1);
     }
 
-leads_then : (s t u : ClubState) (xs : List Session) (x : Session) → Reaches s xs t → SessionReaches t x u
+-- in the last version
+abbrev pub at_state : ClubState → Place
+at_state s = record { version = Current; state = s }
+
+pub leads_then : (s t u : Place) (xs : List Chapter) (x : Chapter) → Reaches s xs t → Leads t x u
     → Reaches s (xs ++ x ∷ []) u
-leads_then s t u [] x led one = (u, subst (λ v. SessionReaches v x u) led one, refl)
+leads_then s t u [] x led one = (u, subst (λ v. Leads v x u) led one, refl)
 leads_then s t u (y ∷ xs) x led one = (led.0, led.1, leads_then led.0 t u xs x led.2 one)
 
 -- ---- what was answered
@@ -168,50 +176,58 @@ told_up_to s rs run told =
     (sym (take-take (length run.outcomes.items) (length run.outcomes.items + 1) rs (omega arith))) told
 
 run_leads : (s : ClubState) (rs : List given_request.Request) (run : Run) → Told s rs run
-    → SessionReaches s (session_of rs run) (club_fold s (map request_of (take (length run.outcomes.items) rs)))
+    → SessionReaches s (run_session rs run) (club_fold s (map request_of (take (length run.outcomes.items) rs)))
 run_leads s rs run told =
-    subst (λ xs. SessionReaches s (session_of rs run) (club_fold s (map request_of xs)))
+    subst (λ xs. SessionReaches s (run_session rs run) (club_fold s (map request_of xs)))
     (take-take (length run.outcomes.items) (length run.outcomes.items + 1) rs (omega arith))
     (answered_leads s (take (length run.outcomes.items + 1) rs) run (told_up_to s rs run told))
 
 run_leads_further : (s : ClubState) (rs : List given_request.Request) (run : Run) → IsSome run.fault → Told s rs run
-    → SessionReaches s (session_of rs run) (club_fold s (map request_of (take (length run.outcomes.items + 1) rs)))
+    → SessionReaches s (run_session rs run) (club_fold s (map request_of (take (length run.outcomes.items + 1) rs)))
 run_leads_further s rs run failed told =
-    subst (λ xs. SessionReaches s (session_of rs run) (club_fold s (map request_of xs)))
+    subst (λ xs. SessionReaches s (run_session rs run) (club_fold s (map request_of xs)))
     (take-take (length run.outcomes.items + 1) (length run.outcomes.items + 1) rs (omega arith))
     (further_leads s (take (length run.outcomes.items + 1) rs) run failed (told_up_to s rs run told))
 
 -- what a stop leaves is led to with this session added
-pub session_leads : (s : ClubState) (sessions : List Session) (rs : List given_request.Request) (run : Run) (db : Trees)
-    → Reaches opening_state sessions s → Told s rs run →
+pub session_leads : (from : Version) (s : ClubState) (sessions : List Chapter) (rs : List given_request.Request)
+    (run : Run) (db : Trees) → Reaches (opens_as from) sessions (at_state s) → Told s rs run →
     IsAfter s rs (length run.outcomes.items) db ⊎ (IsSome run.fault × IsAfter s rs (length run.outcomes.items + 1) db)
     → IsReachable (sessions ++ session_of rs run ∷ []) db
-session_leads s sessions rs run db led told left = elim left [
+session_leads from s sessions rs run db led told left = elim left [
   | inl here ↦ record {
-    after = club_fold s (map request_of (take (length run.outcomes.items) rs));
+    from = from;
+    after = at_state (club_fold s (map request_of (take (length run.outcomes.items) rs)));
     legal = here.legal;
-    leads = leads_then opening_state s _ sessions (session_of rs run) led (run_leads s rs run told);
+    leads = leads_then (opens_as from) (at_state s) _ sessions (session_of rs run) led
+        (refl, run_leads s rs run told);
     leaves = here.leaves;
   }
   | inr later ↦ record {
-    after = club_fold s (map request_of (take (length run.outcomes.items + 1) rs));
+    from = from;
+    after = at_state (club_fold s (map request_of (take (length run.outcomes.items + 1) rs)));
     legal = later.1.legal;
-    leads = leads_then opening_state s _ sessions (session_of rs run) led (run_leads_further s rs run later.0 told);
+    leads = leads_then (opens_as from) (at_state s) _ sessions (session_of rs run) led
+        (refl, run_leads_further s rs run later.0 told);
     leaves = later.1.leaves;
   }
 ]
 
 -- without a fault, the tables are led to with this session added
-pub session_stands : (s : ClubState) (sessions : List Session) (rs : List given_request.Request) (run : Run)
-    (now : State) → Reaches opening_state sessions s → Told s rs run → length run.outcomes.items ≡ length rs →
+pub session_stands : (from : Version) (s : ClubState) (sessions : List Chapter) (rs : List given_request.Request)
+    (run : Run) (now : State) → Reaches (opens_as from) sessions (at_state s) → Told s rs run
+    → length run.outcomes.items ≡ length rs →
     IsClub (club_fold s (map request_of rs)) → IsExactly (tables (club_fold s (map request_of rs))) now
     → IsHistory (sessions ++ session_of rs run ∷ []) now
-session_stands s sessions rs run now led told whole legal exactly = record {
+session_stands from s sessions rs run now led told whole legal exactly = record {
+  from = from;
   after = club_fold s (map request_of rs);
   legal = legal;
-  leads = leads_then opening_state s _ sessions (session_of rs run) led
-      (subst (λ xs. SessionReaches s (session_of rs run) (club_fold s (map request_of xs)))
-      (take_all (length run.outcomes.items) rs (omega (arith, whole))) (run_leads s rs run told));
+  leads = leads_then (opens_as from) (at_state s) _ sessions (session_of rs run) led (
+    refl,
+    subst (λ xs. SessionReaches s (run_session rs run) (club_fold s (map request_of xs)))
+        (take_all (length run.outcomes.items) rs (omega (arith, whole))) (run_leads s rs run told),
+  );
   exactly = exactly;
 }
 
@@ -225,43 +241,54 @@ one_counted : (s : ClubState) (r : Request) → (if is_accepted (club_step s r) 
 one_counted s r = elim (cases_Bool (is_accepted (club_step s r))) [ inl took ↦ rw took refl | inr left ↦ rw left refl ]
 
 -- a request that was answered leads, as a session of its own, to the state after it
-pub one_stands : (s : ClubState) (sessions : List Session) (r : Request) (o : given_outcome.Outcome) (now : State)
-    → Reaches opening_state sessions s → outcome_of o ≡ answered (club_step s r)
+pub one_stands : (from : Version) (s : ClubState) (sessions : List Chapter) (r : Request)
+    (o : given_outcome.Outcome) (now : State) → Reaches (opens_as from) sessions (at_state s)
+    → outcome_of o ≡ answered (club_step s r)
     → IsClub (club_next s r) → IsExactly (tables (club_next s r)) now
     → IsHistory (sessions ++ answered_session r o ∷ []) now
-one_stands s sessions r o now led told legal exactly = record {
+one_stands from s sessions r o now led told legal exactly = record {
+  from = from;
   after = club_next s r;
   legal = legal;
-  leads = leads_then opening_state s _ sessions (answered_session r o) led
-      (leads_on s (r ∷ []) 1 _ true (ap (λ b. if b then 1 else 0) (taken_told s r o told) ∙ one_counted s r));
+  leads = leads_then (opens_as from) (at_state s) _ sessions (answered_session r o) led (
+    refl,
+    leads_on s (r ∷ []) 1 _ true (ap (λ b. if b then 1 else 0) (taken_told s r o told) ∙ one_counted s r),
+  );
   exactly = exactly;
 }
 
 -- the session of one request, as the machine takes it
-abbrev pub taken_session : ClubState → Request → Session
+abbrev pub taken_session : ClubState → Request → Chapter
 taken_session s r =
-    record { requests = r ∷ []; returned = if is_accepted (club_step s r) then 1 else 0; is_whole = true }
+    served (record { requests = r ∷ []; returned = if is_accepted (club_step s r) then 1 else 0; is_whole = true })
 
 -- a request leads, as a session of its own, to the state after it
-pub one_leads : (s : ClubState) (sessions : List Session) (r : Request) → Reaches opening_state sessions s
-    → Reaches opening_state (sessions ++ taken_session s r ∷ []) (club_next s r)
-one_leads s sessions r led =
-    leads_then opening_state s _ sessions (taken_session s r) led (leads_on s (r ∷ []) 1 _ true (one_counted s r))
+pub one_leads : (from : Version) (s : ClubState) (sessions : List Chapter) (r : Request)
+    → Reaches (opens_as from) sessions (at_state s)
+    → Reaches (opens_as from) (sessions ++ taken_session s r ∷ []) (at_state (club_next s r))
+one_leads from s sessions r led =
+    leads_then (opens_as from) (at_state s) _ sessions (taken_session s r) led
+    (refl, leads_on s (r ∷ []) 1 _ true (one_counted s r))
 
 -- a request that a fault cut off leads to the state before it or to the one after
-pub one_cut : (s : ClubState) (sessions : List Session) (r : Request) (db : Trees) → Reaches opening_state sessions s
+pub one_cut : (from : Version) (s : ClubState) (sessions : List Chapter) (r : Request) (db : Trees)
+    → Reaches (opens_as from) sessions (at_state s)
     → IsClub s → IsClub (club_next s r)
     → Leaves (tables s) db ⊎ Leaves (tables (club_next s r)) db → IsReachable (sessions ++ cut_session r ∷ []) db
-one_cut s sessions r db led before after (inl kept) = record {
-  after = s;
+one_cut from s sessions r db led before after (inl kept) = record {
+  from = from;
+  after = at_state s;
   legal = before;
-  leads = leads_then opening_state s _ sessions (cut_session r) led (leads_on s (r ∷ []) 0 0 false refl);
+  leads = leads_then (opens_as from) (at_state s) _ sessions (cut_session r) led
+      (refl, leads_on s (r ∷ []) 0 0 false refl);
   leaves = kept;
 }
-one_cut s sessions r db led before after (inr changed) = record {
-  after = club_next s r;
+one_cut from s sessions r db led before after (inr changed) = record {
+  from = from;
+  after = at_state (club_next s r);
   legal = after;
-  leads = leads_then opening_state s _ sessions (cut_session r) led (leads_further s (r ∷ []) 0 0 false refl refl);
+  leads = leads_then (opens_as from) (at_state s) _ sessions (cut_session r) led
+      (refl, leads_further s (r ∷ []) 0 0 false refl refl);
   leaves = changed;
 }
 
@@ -285,27 +312,50 @@ opening_legal = record {
 }
 
 pub opening_led : (trees : Trees) → Leaves (tables opening_state) trees → IsReachable [] trees
-opening_led trees left = record { after = opening_state; legal = opening_legal; leads = refl; leaves = left }
+opening_led trees left =
+    record { from = Current; after = at_state opening_state; legal = opening_legal; leads = refl; leaves = left }
 
 pub opening_stands : (now : State) → IsExactly (tables opening_state) now → IsHistory [] now
-opening_stands now exactly = record { after = opening_state; legal = opening_legal; leads = refl; exactly = exactly }
+opening_stands now exactly =
+    record { from = Current; after = opening_state; legal = opening_legal; leads = refl; exactly = exactly }
 
-pub stops_led : (sessions : List Session) (now : State) → IsHistory sessions now → (trees : Trees) → now.may_leave trees
-    → IsReachable sessions trees
-stops_led sessions now at trees left =
-    record { after = at.after; legal = at.legal; leads = at.leads; leaves = at.exactly.may_leave trees left }
+pub stops_led : (version : Version) (chapters : List Chapter) (now : State) → IsHistoryAt version chapters now
+    → (trees : Trees) → now.may_leave trees → IsReachable chapters trees
+stops_led version chapters now at trees left = record {
+  from = at.from;
+  after = record { version = version; state = at.after };
+  legal = at.legal;
+  leads = at.leads;
+  leaves = at.exactly.may_leave trees left;
+}
 
-pub opens_led : (sessions : List Session) (s : State) → Opens s → IsLive s
+pub opens_led : (chapters : List Chapter) (s : State) → Opens s → IsLive s
     → ((db : Trees) → IsTrue s.is_open → s.may_leave db → db ≡ s.committed.trees)
-    → IsReachable sessions s.committed.trees → IsHistory sessions s
-opens_led sessions s opens live settled led =
-    record {
-      after = led.after;
-      legal = led.legal;
-      leads = led.leads;
-      exactly =
-          opens_exactly club_schema (tables led.after) s opens live settled led.leaves;
-    }
+    → IsReachable chapters s.committed.trees → (version : Version) × IsHistoryAt version chapters s
+opens_led chapters s opens live settled led = (
+  led.after.version,
+  record {
+    from = led.from;
+    after = led.after.state;
+    legal = led.legal;
+    leads = led.leads;
+    exactly = opens_exactly (schema_of led.after.version) (tables_at led.after.version led.after.state) s opens live
+        settled led.leaves;
+  },
+)
+
+-- a history by tables of the last schema is one of the last version
+pub current_history : (version : Version) (chapters : List Chapter) (s : State) → IsHistoryAt version chapters s
+    → s.now.schema ≡ club_schema → IsHistory chapters s
+current_history version chapters s at has =
+    subst (λ v. IsHistoryAt v chapters s) (one_version version Current s.now.schema at.exactly.now.schema has) at
+
+-- and so is one by tables that were taken
+pub current_taken : {Rest : Type 0} (chapters : List Chapter) (s : State)
+    → (IsClubSchema s.now.schema → (s.now.schema ≡ club_schema) × Rest)
+    → (version : Version) × IsHistoryAt version chapters s → IsHistory chapters s
+current_taken chapters s taken (version, at) =
+    current_history version chapters s at (taken (schema_known version s.now.schema at.exactly.now.schema)).0
 
 -- a connection that opens on trees with no table is empty
 pub opens_empty : (s : State) → Opens s → IsLive s
@@ -327,8 +377,13 @@ opens_empty s opens live settled empty =
     }
 
 -- what keeps the tables keeps where they stand
-pub still_stands : (sessions : List Session) (old new : State)
-    → ((content : Content) → IsExactly content old → IsExactly content new) → IsHistory sessions old
-    → IsHistory sessions new
-still_stands sessions old new same at =
-    record { after = at.after; legal = at.legal; leads = at.leads; exactly = same (tables at.after) at.exactly }
+pub still_stands : (chapters : List Chapter) (old new : State)
+    → ((content : Content) → IsExactly content old → IsExactly content new) → IsHistory chapters old
+    → IsHistory chapters new
+still_stands chapters old new same at = record {
+  from = at.from;
+  after = at.after;
+  legal = at.legal;
+  leads = at.leads;
+  exactly = same (tables at.after) at.exactly;
+}

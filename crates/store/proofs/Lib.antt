@@ -3,3 +3,4 @@ pub mod LegalLemmas
 pub mod OpeningLemmas
 pub mod Proved
 pub mod RunLemmas
+pub mod UpgradeLemmas

@@ -9,25 +9,27 @@ use Rattle.club_rows.specs.Club.{tables}
 use Rattle.store_tables.specs.Contents.{Content, opening}
 use Rattle.store_tables.specs.Club.{IsExactly, Leaves}
 
-nothing-else : (z a b c d e f g : Bool) (rows : List Row)
+nothing-else : (z a b c d e f g h : Bool) (rows : List Row)
     → ◌≡◌ {A = List Row} (if z then rows else [])
     (if
     z then rows else (if
     a then [] else (if
     b then [] else (if
-    c then [] else (if d then [] else (if e then [] else (if f then [] else (if g then [] else []))))))))
-nothing-else true a b c d e f g rows = refl
-nothing-else false true b c d e f g rows = refl
-nothing-else false false true c d e f g rows = refl
-nothing-else false false false true d e f g rows = refl
-nothing-else false false false false true e f g rows = refl
-nothing-else false false false false false true f g rows = refl
-nothing-else false false false false false false true g rows = refl
-nothing-else false false false false false false false true rows = refl
-nothing-else false false false false false false false false rows = refl
+    c then [] else (if d then [] else (if e then [] else (if f then [] else (if g then [] else
+    (if h then [] else [])))))))))
+nothing-else true a b c d e f g h rows = refl
+nothing-else false true b c d e f g h rows = refl
+nothing-else false false true c d e f g h rows = refl
+nothing-else false false false true d e f g h rows = refl
+nothing-else false false false false true e f g h rows = refl
+nothing-else false false false false false true f g h rows = refl
+nothing-else false false false false false false true g h rows = refl
+nothing-else false false false false false false false true h rows = refl
+nothing-else false false false false false false false false true rows = refl
+nothing-else false false false false false false false false false rows = refl
 
 opening-at : (t : ℕ) → opening t ≡ tables opening_state t
-opening-at t = nothing-else (t == 0) (t == 1) (t == 4) (t == 6) (t == 8) (t == 10) (t == 12) (t == 14) _
+opening-at t = nothing-else (t == 0) (t == 1) (t == 4) (t == 6) (t == 8) (t == 10) (t == 12) (t == 14) (t == 16) _
 
 pub opening-is : ◌≡◌ {A = Content} opening (tables opening_state)
 opening-is = λ i t. opening-at t i

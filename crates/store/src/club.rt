@@ -1,18 +1,20 @@
 //! An open club.
 
-ghost use Rattle.std.specs.Prelude.{◌≡◌, ◌≢◌, ◌≤◌, ◌⊎◌, ◌++◌, ◌∷◌, [], false, true, Err, IfOk, IfErr, OnOk, OnErr};
+ghost use Rattle.std.specs.Prelude.{◌≡◌, ◌≢◌, ◌≤◌, ◌⊎◌, ◌++◌, ◌∷◌, [], false, true, pos, Err, IfOk, IfErr, OnOk, OnErr};
 ghost use Rattle.sqlite.specs.State.{HasCleanDisk, IsUnchanged};
 ghost use Rattle.sqlite.specs.Held.{state};
 ghost use Rattle.sqlite_trees.specs.View.{doubt};
 ghost use Rattle.store_tables.specs.Contents.{IsExactlyEmpty, IsEmpty};
 ghost use Rattle.store_tables.specs.Club.{IsExactly, IsOpened, Leaves};
 ghost use Rattle.store_tables.specs.Reading.{KeepsMay, OnlyReads};
-ghost use Rattle.store_tables.specs.Tables.{club_schema};
-ghost use Rattle.club_opening.specs.Blames.{NamesTable, NamesSchema};
+ghost use Rattle.store_tables.specs.Tables.{club_schema, IsClubSchema};
+ghost use Rattle.store_tables.specs.declared.names.Version.TheVariants.{First, Current};
+ghost use Rattle.club_opening.specs.Blames.{Names};
+ghost use Rattle.club_opening.specs.Versions.{IsExactlyClub};
+ghost use Rattle.club_rows.specs.FirstSchema.{IsFirstClub};
 ghost use Rattle.store.specs.Histories.{IsReachable, IsHistory, answered_session, cut_session};
 ghost use Rattle.store_tables.specs.Changed.{changed};
 ghost use Rattle.club_changes.specs.Whole.{IsAccepted};
-ghost use Rattle.club_opening.specs.Places.{NamesRows};
 ghost use Rattle.club_core.specs.Answer.{answered, outcome_of};
 ghost use Rattle.club_core.specs.State.{opening_state};
 ghost use Rattle.club_rows.specs.Club.{ClubState, IsClub, tables};
@@ -76,7 +78,7 @@ pub fn create<S: Alter>(_alloc: Global, conn: Connection<S>) -> Result<Club<S>, 
     ensures stored { IfOk result (λ club. HasCleanDisk (state S.Store club.connection) → IsExactlyEmpty
         (state S.Store conn) → IsExactly (tables opening_state) (state S.Store club.connection)) }
     ensures fresh { IfOk result (λ club. HasCleanDisk (state S.Store club.connection) →
-        (state S.Store conn).now.schema ≢ club_schema) }
+        ¬ IsClubSchema (state S.Store conn).now.schema) }
     ensures clean { IfOk result (λ club. doubt (state S.Store conn).is_clean ≤ doubt
         (state S.Store club.connection).is_clean) }
     ensures idle { IfErr result (λ u. u.conn.in_transaction ≡ false) }
@@ -90,7 +92,7 @@ pub fn create<S: Alter>(_alloc: Global, conn: Connection<S>) -> Result<Club<S>, 
     ensures cut_off { IfErr result (λ u. HasCleanDisk (state S.Store u.conn) → IsExactlyEmpty (state S.Store conn) →
         (db : _) → (state S.Store u.conn).may_leave db → IsEmpty db ⊎ IsReachable [] db) }
     ensures stays { IfErr result (λ u. HasCleanDisk (state S.Store u.conn) →
-        (state S.Store conn).now.schema ≡ club_schema → KeepsMay (state S.Store conn) (state S.Store u.conn)) }
+        IsClubSchema (state S.Store conn).now.schema → KeepsMay (state S.Store conn) (state S.Store u.conn)) }
     ensures refused { IfErr result (λ u. HasCleanDisk (state S.Store u.conn) → u.fault ≡ OpenFault.Foreign → KeepsMay
         (state S.Store conn) (state S.Store u.conn)) }
     ensures known { IfErr result (λ u. doubt (state S.Store conn).is_clean ≤ doubt (state S.Store u.conn).is_clean) }
@@ -108,7 +110,7 @@ pub fn create<S: Alter>(_alloc: Global, conn: Connection<S>) -> Result<Club<S>, 
     }
 }
 
-/// Takes a connection over the tables of a club. It changes nothing.
+/// Takes a connection over the tables of a club of schema 2. It changes nothing. Schema 1 is refused by its number.
 pub fn adopt<S: Alter>(alloc: Global, conn: Connection<S>) -> Result<Club<S>, Unopened<S>>
     requires { conn.in_transaction ≡ false }
     ensures ready { IfOk result (λ club. club.needs_reopening ≡ false) }
@@ -117,7 +119,8 @@ pub fn adopt<S: Alter>(alloc: Global, conn: Connection<S>) -> Result<Club<S>, Un
     ensures same { IfOk result (λ club. HasCleanDisk (state S.Store club.connection) → (content : _) →
         IsExactly content (state S.Store conn) → IsExactly content (state S.Store club.connection)) }
     ensures unchanged { IfOk result (λ club. HasCleanDisk (state S.Store club.connection) →
-        (state S.Store conn).now.schema ≡ club_schema → IsUnchanged (state S.Store conn)
+        IsClubSchema (state S.Store conn).now.schema →
+        ((state S.Store conn).now.schema ≡ club_schema) × IsUnchanged (state S.Store conn)
         (state S.Store club.connection) × KeepsMay (state S.Store conn) (state S.Store club.connection)) }
     ensures clean { IfOk result (λ club. doubt (state S.Store conn).is_clean ≤ doubt
         (state S.Store club.connection).is_clean) }
@@ -125,8 +128,12 @@ pub fn adopt<S: Alter>(alloc: Global, conn: Connection<S>) -> Result<Club<S>, Un
     ensures kept { IfOk result (λ club. OnlyReads (state S.Store conn) (state S.Store club.connection)) }
     ensures idle { IfErr result (λ u. u.conn.in_transaction ≡ false) }
     ensures blames { IfErr result (λ u. HasCleanDisk (state S.Store u.conn) →
-        (state S.Store conn).now.schema ≡ club_schema → NamesTable (state S.Store conn).now u.fault ⊎ (NamesSchema
-        (state S.Store conn).now u.fault ⊎ NamesRows (state S.Store conn).now u.fault)) }
+        IsClubSchema (state S.Store conn).now.schema → Names Current (state S.Store conn).now u.fault) }
+    ensures older { IfOk result (λ club. HasCleanDisk (state S.Store club.connection) → (s : _) → IsFirstClub s →
+        ¬ IsExactlyClub First s (state S.Store conn)) }
+    ensures first { IfErr result (λ u. HasCleanDisk (state S.Store u.conn) → (s : _) → IsFirstClub s →
+        IsExactlyClub First s (state S.Store conn) → (u.fault ≡ OpenFault.Schema (pos 1))
+        ⊎ ((u.fault ≡ OpenFault.Store) ⊎ (u.fault ≡ OpenFault.Memory))) }
     ensures good { IfErr result (λ u. HasCleanDisk (state S.Store u.conn) → (s : _) → IsClub s → IsExactly (tables s)
         (state S.Store conn) → (u.fault ≡ OpenFault.Store) ⊎ (u.fault ≡ OpenFault.Memory)) }
     ensures reads { IfErr result (λ u. OnlyReads (state S.Store conn) (state S.Store u.conn)) }

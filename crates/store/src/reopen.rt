@@ -3,22 +3,24 @@
 ghost use Rattle.sqlite.specs.State.{Opens, IsLive};
 ghost use Rattle.sqlite.specs.Held.{state};
 ghost use Rattle.store_tables.specs.Contents.{IsEmpty, IsExactlyEmpty};
-ghost use Rattle.store.specs.Histories.{IsReachable, IsHistory};
+ghost use Rattle.store.specs.Histories.{IsReachable, IsHistoryAt};
 
 use sqlite::{Alter, Connection};
 
-/// A law. Where a connection was just opened over the tables that sessions lead to, it stands where they lead.
+/// A law. Where a connection was just opened over the tables that sessions and upgrades lead to, it stands where they
+/// lead, by the tables of some version.
 pub fn holds_what_sessions_left<S: Alter>(conn: &Connection<S>)
-    ensures { Opens (state S.Store conn.now) → IsLive (state S.Store conn.now) → (sessions : _) → IsReachable sessions
-        (state S.Store conn.now).committed.trees → IsHistory sessions (state S.Store conn.now) }
+    ensures { Opens (state S.Store conn.now) → IsLive (state S.Store conn.now) → (chapters : _) → IsReachable chapters
+        (state S.Store conn.now).committed.trees →
+        (version : _) × IsHistoryAt version chapters (state S.Store conn.now) }
 {
     let _conn = conn;
 }
 
-/// A law. A stop between two sessions leaves tables that the sessions so far lead to.
+/// A law. A stop between two chapters leaves tables that those so far lead to.
 pub fn leaves_what_sessions_left<S: Alter>(conn: &Connection<S>)
-    ensures { (sessions : _) → IsHistory sessions (state S.Store conn.now) → (db : _) →
-        (state S.Store conn.now).may_leave db → IsReachable sessions db }
+    ensures { (version : _) (chapters : _) → IsHistoryAt version chapters (state S.Store conn.now) → (db : _) →
+        (state S.Store conn.now).may_leave db → IsReachable chapters db }
 {
     let _conn = conn;
 }

@@ -19,7 +19,7 @@ use Rattle.sqlite.proofs.Callers.{IsPlain, command_of, statement_of}
 use Rattle.store_tables.specs.Put.{on_key}
 use Rattle.store_tables.specs.Reading.{IsNoInput}
 use Rattle.store_tables.specs.Tables.{schema_after, club_schema, meta, members, events, challenges, moves, games, seen}
-use Rattle.store_tables.specs.Tables.{scores}
+use Rattle.store_tables.specs.Tables.{scores, event_rules}
 use Rattle.store_tables.specs.Texts as t
 use Rattle.store_sql.proofs.RefusedLemmas.{IsQuiet, quiet_create, quiet_upsert, refused_known}
 
@@ -65,6 +65,10 @@ seen_creates = (seen 0, refl, refl, refl, (refl, refl))
 pub scores_creates : Creates 7 t.scores_create
 unfolding understood everything
 scores_creates = (scores 0, refl, refl, refl, (refl, refl))
+
+pub event_rules_creates : Creates 8 t.event_rules_create
+unfolding understood everything
+event_rules_creates = (event_rules 0, refl, refl, refl, (refl, refl))
 
 meta_put_is : command_of (understood club_schema t.meta_put)
     ≡ InsertOr 0 Abort (Values (col 0 0 ∷ lit Null ∷ col 0 1 ∷ col 0 2 ∷ []) 4)

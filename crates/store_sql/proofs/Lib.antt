@@ -5,3 +5,4 @@ pub mod OpenLemmas
 pub mod Proved
 pub mod RefusedLemmas
 pub mod SelectLemmas
+pub mod WiderLemmas

@@ -11,7 +11,7 @@ use crate::upsert::{Put, put_all};
 use sqlite::{Alter, Connection, Error, Transaction};
 use store_tables::Changes;
 
-/// Puts the members, the events and the challenges.
+/// Puts the members, the events with their rules, and the challenges.
 fn put_people<S: Alter>(tx: &mut Transaction<'_, S>, changes: &Changes) -> Result<(), Error>
     ensures same_reference { tx.new.conn.ghost_name ≡ tx.old.conn.ghost_name }
     ensures put { HasCleanDisk (state S.Store tx.new.conn.now) → IsTrue
@@ -21,6 +21,7 @@ fn put_people<S: Alter>(tx: &mut Transaction<'_, S>, changes: &Changes) -> Resul
 {
     put_all(tx, &changes.members)?;
     put_all(tx, &changes.events)?;
+    put_all(tx, &changes.event_rules)?;
     put_all(tx, &changes.challenges)?;
     Ok(())
 }

@@ -9,6 +9,7 @@ mod read;
 mod reopen;
 mod texts;
 mod upsert;
+mod wider;
 
 pub use commit::commit_changes;
 pub use fault::{CallFault, ReadFault, is_refused};
@@ -23,3 +24,4 @@ pub use read::{
 pub use reopen::holds_exactly;
 pub use texts::Select;
 pub use upsert::{Put, put_all};
+pub use wider::{has_event_rules, widen};

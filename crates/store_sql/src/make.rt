@@ -5,7 +5,7 @@ ghost use Rattle.sqlite.specs.State.{ExecutesInside, HasCleanDisk, Survives};
 ghost use Rattle.sqlite.specs.Held.{state};
 ghost use Rattle.sqlite_trees.specs.View.{doubt};
 ghost use Rattle.store_tables.specs.Reading.{IsNoInput, KeepsMay};
-ghost use Rattle.store_tables.specs.Tables.{club_schema, schema_after};
+ghost use Rattle.store_tables.specs.Tables.{IsClubSchema, schema_after};
 ghost use Rattle.store_tables.specs.Contents.{AreMade, Ran, Makes, Fills, IsExactlyEmpty, IsEmpty, opening};
 ghost use Rattle.store_tables.specs.Club.{IsExactly, Leaves};
 
@@ -37,8 +37,11 @@ const CREATE_SEEN: &str =
 const CREATE_SCORES: &str =
     "CREATE TABLE scores (event INTEGER NOT NULL, member INTEGER NOT NULL, opponent INTEGER NOT NULL, points INTEGER NOT NULL, wins INTEGER NOT NULL, draws INTEGER NOT NULL, losses INTEGER NOT NULL, PRIMARY KEY (event, member, opponent)) STRICT";
 
+pub(crate) const CREATE_EVENT_RULES: &str =
+    "CREATE TABLE event_rules (event INTEGER PRIMARY KEY, declares INTEGER NOT NULL) STRICT";
+
 /// Runs one text that makes a table.
-fn make<S: Alter>(tx: &mut Transaction<'_, S>, sql: &str) -> Result<(), Error>
+pub(crate) fn make<S: Alter>(tx: &mut Transaction<'_, S>, sql: &str) -> Result<(), Error>
     ensures same_reference { tx.new.conn.ghost_name ≡ tx.old.conn.ghost_name }
     ensures ran { HasCleanDisk (state S.Store tx.new.conn.now) → IsTrue
         (state S.Store tx.old.conn.now).in_transaction → OnOk result (Ran sql.now (state S.Store tx.old.conn.now)
@@ -61,7 +64,7 @@ fn make_first<S: Alter>(tx: &mut Transaction<'_, S>) -> Result<(), Error>
         (state S.Store tx.old.conn.now).in_transaction → OnOk result (Makes 0 4 (state S.Store tx.old.conn.now)
         (state S.Store tx.new.conn.now)) }
     ensures refuses { HasCleanDisk (state S.Store tx.new.conn.now) → IsTrue
-        (state S.Store tx.old.conn.now).in_transaction → (state S.Store tx.old.conn.now).now.schema ≡ club_schema →
+        (state S.Store tx.old.conn.now).in_transaction → IsClubSchema (state S.Store tx.old.conn.now).now.schema →
         IfOk result (λ _. ⊥) }
     // In an empty database.
     ensures known { HasCleanDisk (state S.Store tx.new.conn.now) → IsTrue
@@ -76,11 +79,11 @@ fn make_first<S: Alter>(tx: &mut Transaction<'_, S>) -> Result<(), Error>
     Ok(())
 }
 
-/// Makes the tables of games.
+/// Makes the tables of games, and at last that of the rules of events.
 fn make_last<S: Alter>(tx: &mut Transaction<'_, S>) -> Result<(), Error>
     ensures same_reference { tx.new.conn.ghost_name ≡ tx.old.conn.ghost_name }
     ensures made { HasCleanDisk (state S.Store tx.new.conn.now) → IsTrue
-        (state S.Store tx.old.conn.now).in_transaction → OnOk result (Makes 4 8 (state S.Store tx.old.conn.now)
+        (state S.Store tx.old.conn.now).in_transaction → OnOk result (Makes 4 9 (state S.Store tx.old.conn.now)
         (state S.Store tx.new.conn.now)) }
     // Where the tables before them were made, and are empty.
     ensures known { HasCleanDisk (state S.Store tx.new.conn.now) → IsTrue
@@ -92,6 +95,7 @@ fn make_last<S: Alter>(tx: &mut Transaction<'_, S>) -> Result<(), Error>
     make(tx, CREATE_GAMES)?;
     make(tx, CREATE_SEEN)?;
     make(tx, CREATE_SCORES)?;
+    make(tx, CREATE_EVENT_RULES)?;
     Ok(())
 }
 
@@ -102,7 +106,7 @@ fn create_inside<S: Alter>(tx: &mut Transaction<'_, S>) -> Result<(), Error>
         (state S.Store tx.old.conn.now).in_transaction → OnOk result (Fills (state S.Store tx.old.conn.now)
         (state S.Store tx.new.conn.now)) }
     ensures refuses { HasCleanDisk (state S.Store tx.new.conn.now) → IsTrue
-        (state S.Store tx.old.conn.now).in_transaction → (state S.Store tx.old.conn.now).now.schema ≡ club_schema →
+        (state S.Store tx.old.conn.now).in_transaction → IsClubSchema (state S.Store tx.old.conn.now).now.schema →
         IfOk result (λ _. ⊥) }
     // In an empty database.
     ensures known { HasCleanDisk (state S.Store tx.new.conn.now) → IsTrue
@@ -114,7 +118,7 @@ fn create_inside<S: Alter>(tx: &mut Transaction<'_, S>) -> Result<(), Error>
     make_last(tx)?;
     let meta = MetaRow {
         id: 1,
-        schema: 1,
+        schema: 2,
         last: 0,
     };
     put_meta(&meta, tx)?;
@@ -130,7 +134,7 @@ pub fn create_tables<S: Alter>(conn: &mut Connection<S>) -> Result<(), Error>
         IsExactly opening (state S.Store conn.new)) }
     ensures fault { HasCleanDisk (state S.Store conn.new) → OnErr result (IsExactlyEmpty (state S.Store conn.old) →
         (db : _) → (state S.Store conn.new).may_leave db → IsEmpty db ⊎ Leaves opening db) }
-    ensures stands { HasCleanDisk (state S.Store conn.new) → (state S.Store conn.old).now.schema ≡ club_schema →
+    ensures stands { HasCleanDisk (state S.Store conn.new) → IsClubSchema (state S.Store conn.old).now.schema →
         IfOk result (λ _. ⊥) × KeepsMay (state S.Store conn.old) (state S.Store conn.new) }
     ensures refused { HasCleanDisk (state S.Store conn.new) → IfErr result (λ e. IsNoInput e ⊎ KeepsMay
         (state S.Store conn.old) (state S.Store conn.new)) }
@@ -138,7 +142,7 @@ pub fn create_tables<S: Alter>(conn: &mut Connection<S>) -> Result<(), Error>
     ensures known { HasCleanDisk (state S.Store conn.new) → IsExactlyEmpty (state S.Store conn.old) →
         IfErr result IsNoInput }
     ensures survives { Survives (state S.Store conn.old) (state S.Store conn.new) (λ db. (IsExactlyEmpty
-        (state S.Store conn.old) → Leaves opening db) × ((state S.Store conn.old).now.schema ≡ club_schema → ⊥)) }
+        (state S.Store conn.old) → Leaves opening db) × (IsClubSchema (state S.Store conn.old).now.schema → ⊥)) }
 {
     let mut tx = conn.transaction();
     create_inside(&mut tx)?;

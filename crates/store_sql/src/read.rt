@@ -10,7 +10,6 @@ ghost use Rattle.store_tables.specs.Contents.{AreThose};
 ghost use Rattle.store_tables.specs.Club.{IsExactly};
 ghost use Rattle.store_tables.specs.Queries.{by_others};
 ghost use Rattle.store_tables.specs.Reading.{AreIds, by_columns, IsNoInput, OnlyReads, Tells, TellsIds};
-ghost use Rattle.store_tables.specs.Tables.{club_schema};
 ghost use Rattle.store_sql.specs.Read.{AreCounted, AreReadOf, IsReadAs, Blames, BeginWithPlaces, KeepsContent};
 
 use crate::fault::{CallFault, ReadFault, is_refused};
@@ -23,10 +22,10 @@ use store_tables::{TableRow, Unread, check_ids, parse_all};
 pub fn show_all<T: Select, S: Alter>(conn: &mut Connection<S>) -> Result<Vec<Row>, Error>
     ensures reads { OnlyReads (state S.Store conn.old) (state S.Store conn.new) }
     ensures rows { HasCleanDisk (state S.Store conn.new) → IfOk result (λ rows.
-        (state S.Store conn.old).now.schema ≡ club_schema →
+        T.stands (state S.Store conn.old).now.schema →
         Tells T.table T.width rows.items (state S.Store conn.old) (state S.Store conn.new)) }
     ensures known { HasCleanDisk (state S.Store conn.new) → IfErr result (λ e.
-        (state S.Store conn.old).now.schema ≡ club_schema → IsNoInput e) }
+        T.stands (state S.Store conn.old).now.schema → IsNoInput e) }
     ensures kept { HasCleanDisk (state S.Store conn.new) → OnOk result (KeepsContent (state S.Store conn.old)
         (state S.Store conn.new)) }
 {
@@ -37,12 +36,12 @@ pub fn show_all<T: Select, S: Alter>(conn: &mut Connection<S>) -> Result<Vec<Row
 fn show_ids<T: Select, S: Alter>(conn: &mut Connection<S>) -> Result<Vec<Row>, Error>
     ensures reads { OnlyReads (state S.Store conn.old) (state S.Store conn.new) }
     ensures ids { HasCleanDisk (state S.Store conn.new) → IfOk result (λ rows.
-        (state S.Store conn.old).now.schema ≡ club_schema →
+        T.stands (state S.Store conn.old).now.schema →
         TellsIds T.table.tree rows.items (state S.Store conn.old) (state S.Store conn.new)) }
     ensures known { HasCleanDisk (state S.Store conn.new) → IfErr result (λ e.
-        (state S.Store conn.old).now.schema ≡ club_schema → IsNoInput e) }
+        T.stands (state S.Store conn.old).now.schema → IsNoInput e) }
     ensures number { HasCleanDisk (state S.Store conn.new) → IfOk result (λ rows.
-        (state S.Store conn.old).now.schema ≡ club_schema →
+        T.stands (state S.Store conn.old).now.schema →
         length rows.items ≡ length ((state S.Store conn.old).now.trees T.table.tree)) }
     ensures count { HasCleanDisk (state S.Store conn.new) → IfOk result (λ rows. IsTrue T.has_id → (content : _) →
         IsExactly content (state S.Store conn.old) →
@@ -64,10 +63,10 @@ fn show_by_first<T: Select, S: Alter>(
         AreThose (0 ∷ []) (Int first.now ∷ []) (content T.table.tree) rows.items ×
         IsSorted (by_others T.width) rows.items) }
     ensures told { HasCleanDisk (state S.Store conn.new) → IfOk result (λ rows.
-        (state S.Store conn.old).now.schema ≡ club_schema →
+        T.stands (state S.Store conn.old).now.schema →
         AreReadOf T.table T.width first.now rows.items (state S.Store conn.old) (state S.Store conn.new)) }
     ensures known { HasCleanDisk (state S.Store conn.new) → IfErr result (λ e.
-        (state S.Store conn.old).now.schema ≡ club_schema → IsNoInput e) }
+        T.stands (state S.Store conn.old).now.schema → IsNoInput e) }
     ensures kept { HasCleanDisk (state S.Store conn.new) → OnOk result (KeepsContent (state S.Store conn.old)
         (state S.Store conn.new)) }
 {
@@ -137,10 +136,10 @@ pub fn check_rowids<T: Select, S: Alter>(
 ) -> Result<usize, ReadFault>
     ensures reads { OnlyReads (state S.Store conn.old) (state S.Store conn.new) }
     ensures counted { HasCleanDisk (state S.Store conn.new) → IfOk result (λ count.
-        (state S.Store conn.old).now.schema ≡ club_schema →
+        T.stands (state S.Store conn.old).now.schema →
         AreCounted T.table.tree count (state S.Store conn.old) (state S.Store conn.new)) }
     ensures blames { HasCleanDisk (state S.Store conn.new) → IfErr result (λ e.
-        (state S.Store conn.old).now.schema ≡ club_schema →
+        T.stands (state S.Store conn.old).now.schema →
         Blames T.table T.IsTyped (state S.Store conn.old) e) }
 {
     let ids = match show_ids::<T, S>(conn) {
@@ -158,10 +157,10 @@ pub fn check_rowids<T: Select, S: Alter>(
 pub fn check_columns<T: Select, S: Alter>(conn: &mut Connection<S>) -> Result<(), ReadFault>
     ensures reads { OnlyReads (state S.Store conn.old) (state S.Store conn.new) }
     ensures same { HasCleanDisk (state S.Store conn.new) → OnOk result (
-        (state S.Store conn.old).now.schema ≡ club_schema →
+        T.stands (state S.Store conn.old).now.schema →
         IsUnchanged (state S.Store conn.old) (state S.Store conn.new)) }
     ensures blames { HasCleanDisk (state S.Store conn.new) → IfErr result (λ e.
-        (state S.Store conn.old).now.schema ≡ club_schema → e ≡ ReadFault.Store) }
+        T.stands (state S.Store conn.old).now.schema → e ≡ ReadFault.Store) }
 {
     match show_by_first::<T, S>(conn, &0) {
         Ok(_) => Ok(()),
@@ -177,10 +176,10 @@ pub fn read_all<T: Select, S: Alter>(
 ) -> Result<Vec<T>, ReadFault>
     ensures reads { OnlyReads (state S.Store conn.old) (state S.Store conn.new) }
     ensures rows { HasCleanDisk (state S.Store conn.new) → IfOk result (λ found.
-        (state S.Store conn.old).now.schema ≡ club_schema →
+        T.stands (state S.Store conn.old).now.schema →
         IsReadAs T.table T.width (map T.cells found.items) (state S.Store conn.old) (state S.Store conn.new)) }
     ensures blames { HasCleanDisk (state S.Store conn.new) → IfErr result (λ e.
-        (state S.Store conn.old).now.schema ≡ club_schema →
+        T.stands (state S.Store conn.old).now.schema →
         Blames T.table T.IsTyped (state S.Store conn.old) e) }
 {
     match check_rowids::<T, S>(alloc, conn) {
@@ -203,11 +202,11 @@ pub fn read_by_first<T: Select, S: Alter>(
 ) -> Result<Vec<T>, ReadFault>
     ensures reads { OnlyReads (state S.Store conn.old) (state S.Store conn.new) }
     ensures rows { HasCleanDisk (state S.Store conn.new) → IfOk result (λ found.
-        (state S.Store conn.old).now.schema ≡ club_schema →
+        T.stands (state S.Store conn.old).now.schema →
         AreReadOf T.table T.width first.now (map T.cells found.items) (state S.Store conn.old)
         (state S.Store conn.new)) }
     ensures blames { HasCleanDisk (state S.Store conn.new) → IfErr result (λ e.
-        (state S.Store conn.old).now.schema ≡ club_schema →
+        T.stands (state S.Store conn.old).now.schema →
         Blames T.table T.IsTyped (state S.Store conn.old) e) }
 {
     let shown = match show_by_first::<T, S>(conn, first) {

@@ -6,14 +6,17 @@ ghost use Rattle.sqlite.specs.Table.{Table};
 ghost use Rattle.sqlite_trees.specs.Tree.{rowid};
 ghost use Rattle.store_tables.specs.Content.{cells as shown};
 ghost use Rattle.store_tables.specs.Queries.{AreShownBy};
-ghost use Rattle.store_tables.specs.Tables.{club_schema, meta, members, events, challenges, moves, games, seen, scores};
+ghost use Rattle.sqlite.specs.Schema.{Schema};
+ghost use Rattle.store_tables.specs.Tables.{club_schema, IsClubSchema, meta, members, events, event_rules, challenges};
+ghost use Rattle.store_tables.specs.Tables.{moves, games, seen, scores};
 ghost use Rattle.store_tables.specs.Texts as texts;
-ghost use Rattle.std.proofs.Common.{true≢false, sym};
+ghost use Rattle.std.proofs.Common.{true≢false, sym, subst, inr};
 ghost use Rattle.store_tables.proofs.Proved.{meta_read, members_read, events_read, challenges_read, moves_read};
-ghost use Rattle.store_tables.proofs.Proved.{games_read, seen_read, scores_read};
+ghost use Rattle.store_tables.proofs.Proved.{games_read, seen_read, scores_read, event_rules_read, either_schema};
 
 use store_tables::{
-    ChallengeRow, EventRow, GameRecord, MemberRow, MetaRow, MoveRow, ScoreRow, SeenRow, TableRow,
+    ChallengeRow, EventRow, EventRuleRow, GameRecord, MemberRow, MetaRow, MoveRow, ScoreRow,
+    SeenRow, TableRow,
 };
 
 const META_ALL: &str = "SELECT id, schema, last FROM meta ORDER BY id";
@@ -33,6 +36,12 @@ const EVENTS_ALL: &str = "SELECT id, name, game, budget, increment FROM events O
 const EVENTS_IDS: &str = "SELECT id FROM events ORDER BY id";
 
 const EVENTS_BY_FIRST: &str = "SELECT id, name, game, budget, increment FROM events WHERE id = ?1";
+
+const EVENT_RULES_ALL: &str = "SELECT event, declares FROM event_rules ORDER BY event";
+
+const EVENT_RULES_IDS: &str = "SELECT event FROM event_rules ORDER BY event";
+
+const EVENT_RULES_BY_FIRST: &str = "SELECT event, declares FROM event_rules WHERE event = ?1";
 
 const CHALLENGES_ALL: &str =
     "SELECT member, number, event, other, first, state, game FROM challenges ORDER BY member, number";
@@ -80,6 +89,9 @@ pub trait Select: TableRow {
 
     ghost width: { ℕ };
 
+    // the schemas that have the table
+    ghost stands: { Schema → Type 0 };
+
     ghost has_id: { Bool };
 
     ghost all_text: { List ℕ };
@@ -100,13 +112,18 @@ pub trait Select: TableRow {
     fn by_first() -> &'static str
         ensures { result.now ≡ by_first_text };
 
-    ghost read: { AreShownBy club_schema table width all_text ids_text by_first_text };
+    ghost current: { stands club_schema };
+
+    ghost read: { (schema : Schema) → stands schema →
+        AreShownBy schema table width all_text ids_text by_first_text };
 
     ghost numbered: { IsTrue has_id → (width ≡ 1) × ((r : Row) → column (shown table r) 0 ≡ rowid r) };
 }
 
 impl Select for MetaRow {
     ghost table = { meta 0 };
+
+    ghost stands = { IsClubSchema };
 
     ghost width = { 1 };
 
@@ -118,7 +135,11 @@ impl Select for MetaRow {
 
     ghost by_first_text = { texts.meta_by_first };
 
-    ghost read = { meta_read };
+    ghost current = { inr refl };
+
+    ghost read = { either_schema (λ s. AreShownBy s (meta 0) 1 texts.meta_all
+        texts.meta_ids texts.meta_by_first)
+        meta_read };
 
     ghost numbered = { λ it. (refl, λ r. refl) };
 
@@ -138,6 +159,8 @@ impl Select for MetaRow {
 impl Select for MemberRow {
     ghost table = { members 1 };
 
+    ghost stands = { IsClubSchema };
+
     ghost width = { 1 };
 
     ghost has_id = { true };
@@ -148,7 +171,11 @@ impl Select for MemberRow {
 
     ghost by_first_text = { texts.members_by_first };
 
-    ghost read = { members_read };
+    ghost current = { inr refl };
+
+    ghost read = { either_schema (λ s. AreShownBy s (members 1) 1 texts.members_all
+        texts.members_ids texts.members_by_first)
+        members_read };
 
     ghost numbered = { λ it. (refl, λ r. refl) };
 
@@ -168,6 +195,8 @@ impl Select for MemberRow {
 impl Select for EventRow {
     ghost table = { events 4 };
 
+    ghost stands = { IsClubSchema };
+
     ghost width = { 1 };
 
     ghost has_id = { true };
@@ -178,7 +207,11 @@ impl Select for EventRow {
 
     ghost by_first_text = { texts.events_by_first };
 
-    ghost read = { events_read };
+    ghost current = { inr refl };
+
+    ghost read = { either_schema (λ s. AreShownBy s (events 4) 1 texts.events_all
+        texts.events_ids texts.events_by_first)
+        events_read };
 
     ghost numbered = { λ it. (refl, λ r. refl) };
 
@@ -195,8 +228,46 @@ impl Select for EventRow {
     }
 }
 
+impl Select for EventRuleRow {
+    ghost table = { event_rules 16 };
+
+    ghost stands = { λ schema. schema ≡ club_schema };
+
+    ghost width = { 1 };
+
+    ghost has_id = { true };
+
+    ghost all_text = { texts.event_rules_all };
+
+    ghost ids_text = { texts.event_rules_ids };
+
+    ghost by_first_text = { texts.event_rules_by_first };
+
+    ghost current = { refl };
+
+    ghost read = { λ schema is. subst (λ s. AreShownBy s (event_rules 16) 1 texts.event_rules_all
+        texts.event_rules_ids
+        texts.event_rules_by_first) (sym is) event_rules_read };
+
+    ghost numbered = { λ it. (refl, λ r. refl) };
+
+    fn all() -> &'static str {
+        EVENT_RULES_ALL
+    }
+
+    fn ids() -> &'static str {
+        EVENT_RULES_IDS
+    }
+
+    fn by_first() -> &'static str {
+        EVENT_RULES_BY_FIRST
+    }
+}
+
 impl Select for ChallengeRow {
     ghost table = { challenges 6 };
+
+    ghost stands = { IsClubSchema };
 
     ghost width = { 2 };
 
@@ -208,7 +279,11 @@ impl Select for ChallengeRow {
 
     ghost by_first_text = { texts.challenges_by_first };
 
-    ghost read = { challenges_read };
+    ghost current = { inr refl };
+
+    ghost read = { either_schema (λ s. AreShownBy s (challenges 6) 2 texts.challenges_all
+        texts.challenges_ids texts.challenges_by_first)
+        challenges_read };
 
     ghost numbered = { λ it. absurd (true≢false (sym it)) };
 
@@ -228,6 +303,8 @@ impl Select for ChallengeRow {
 impl Select for MoveRow {
     ghost table = { moves 8 };
 
+    ghost stands = { IsClubSchema };
+
     ghost width = { 2 };
 
     ghost has_id = { false };
@@ -238,7 +315,11 @@ impl Select for MoveRow {
 
     ghost by_first_text = { texts.moves_by_first };
 
-    ghost read = { moves_read };
+    ghost current = { inr refl };
+
+    ghost read = { either_schema (λ s. AreShownBy s (moves 8) 2 texts.moves_all
+        texts.moves_ids texts.moves_by_first)
+        moves_read };
 
     ghost numbered = { λ it. absurd (true≢false (sym it)) };
 
@@ -258,6 +339,8 @@ impl Select for MoveRow {
 impl Select for GameRecord {
     ghost table = { games 10 };
 
+    ghost stands = { IsClubSchema };
+
     ghost width = { 1 };
 
     ghost has_id = { true };
@@ -268,7 +351,11 @@ impl Select for GameRecord {
 
     ghost by_first_text = { texts.games_by_first };
 
-    ghost read = { games_read };
+    ghost current = { inr refl };
+
+    ghost read = { either_schema (λ s. AreShownBy s (games 10) 1 texts.games_all
+        texts.games_ids texts.games_by_first)
+        games_read };
 
     ghost numbered = { λ it. (refl, λ r. refl) };
 
@@ -288,6 +375,8 @@ impl Select for GameRecord {
 impl Select for SeenRow {
     ghost table = { seen 12 };
 
+    ghost stands = { IsClubSchema };
+
     ghost width = { 2 };
 
     ghost has_id = { false };
@@ -298,7 +387,11 @@ impl Select for SeenRow {
 
     ghost by_first_text = { texts.seen_by_first };
 
-    ghost read = { seen_read };
+    ghost current = { inr refl };
+
+    ghost read = { either_schema (λ s. AreShownBy s (seen 12) 2 texts.seen_all
+        texts.seen_ids texts.seen_by_first)
+        seen_read };
 
     ghost numbered = { λ it. absurd (true≢false (sym it)) };
 
@@ -318,6 +411,8 @@ impl Select for SeenRow {
 impl Select for ScoreRow {
     ghost table = { scores 14 };
 
+    ghost stands = { IsClubSchema };
+
     ghost width = { 3 };
 
     ghost has_id = { false };
@@ -328,7 +423,11 @@ impl Select for ScoreRow {
 
     ghost by_first_text = { texts.scores_by_first };
 
-    ghost read = { scores_read };
+    ghost current = { inr refl };
+
+    ghost read = { either_schema (λ s. AreShownBy s (scores 14) 3 texts.scores_all
+        texts.scores_ids texts.scores_by_first)
+        scores_read };
 
     ghost numbered = { λ it. absurd (true≢false (sym it)) };
 

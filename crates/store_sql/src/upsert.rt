@@ -11,7 +11,8 @@ ghost use Rattle.store_tables.specs.Tables.{club_schema};
 
 use sqlite::{Alter, Error, Transaction, params};
 use store_tables::{
-    ChallengeRow, EventRow, GameRecord, MemberRow, MetaRow, MoveRow, ScoreRow, SeenRow, TableRow,
+    ChallengeRow, EventRow, EventRuleRow, GameRecord, MemberRow, MetaRow, MoveRow, ScoreRow,
+    SeenRow, TableRow,
 };
 
 const PUT_META: &str =
@@ -22,6 +23,9 @@ const PUT_MEMBER: &str =
 
 const PUT_EVENT: &str =
     "INSERT INTO events (id, name, game, budget, increment) VALUES (?1, ?2, ?3, ?4, ?5) ON CONFLICT (id) DO UPDATE SET id = excluded.id, name = excluded.name, game = excluded.game, budget = excluded.budget, increment = excluded.increment";
+
+const PUT_EVENT_RULE: &str =
+    "INSERT INTO event_rules (event, declares) VALUES (?1, ?2) ON CONFLICT (event) DO UPDATE SET event = excluded.event, declares = excluded.declares";
 
 const PUT_MOVE: &str =
     "INSERT INTO moves (game, ply, text, moment, left, position) VALUES (?1, ?2, ?3, ?4, ?5, ?6) ON CONFLICT (game, ply) DO UPDATE SET game = excluded.game, ply = excluded.ply, text = excluded.text, moment = excluded.moment, left = excluded.left, position = excluded.position";
@@ -113,6 +117,17 @@ impl Put for EventRow {
                 self.increment
             ],
         )?;
+        Ok(())
+    }
+}
+
+impl Put for EventRuleRow {
+    ghost tree = { 16 };
+
+    ghost key = { 0 ∷ [] };
+
+    fn put<S: Alter>(&self, tx: &mut Transaction<'_, S>) -> Result<(), Error> {
+        tx.execute(PUT_EVENT_RULE, params![self.event, self.declares])?;
         Ok(())
     }
 }

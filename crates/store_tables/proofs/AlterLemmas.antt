@@ -12,7 +12,7 @@ use Rattle.store_tables.specs.Changes.{HaveSame, AreSame, Alters, put_rows}
 use Rattle.store_tables.specs.Changed.{put_maybe, changed, maybe_row, AltersTables}
 use Rattle.store_tables.specs.Tables.{club_schema}
 use Rattle.store_tables.specs.Cells.{meta_cells, member_cells, event_cells, challenge_cells, move_cells, game_cells}
-use Rattle.store_tables.specs.Cells.{seen_cells, score_cells}
+use Rattle.store_tables.specs.Cells.{event_rule_cells, seen_cells, score_cells}
 use Rattle.store_tables.specs.declared.rows.MetaRow.{MetaRow}
 use Rattle.store_tables.specs.declared.rows.Changes.{Changes}
 
@@ -129,41 +129,54 @@ module _ (c : Changes) (old : Content) where
   s2 = put_each 4 (0 ∷ []) (map event_cells c.events.items) s1
 
   abbrev s3 : Content
-  s3 = put_each 6 (0 ∷ 1 ∷ []) (map challenge_cells c.challenges.items) s2
+  s3 = put_each 16 (0 ∷ []) (map event_rule_cells c.event_rules.items) s2
 
   abbrev s4 : Content
-  s4 = put_each 10 (0 ∷ []) (map game_cells c.games.items) s3
+  s4 = put_each 6 (0 ∷ 1 ∷ []) (map challenge_cells c.challenges.items) s3
 
   abbrev s5 : Content
-  s5 = put_each 8 (0 ∷ 1 ∷ []) (map move_cells c.moves.items) s4
+  s5 = put_each 10 (0 ∷ []) (map game_cells c.games.items) s4
 
   abbrev s6 : Content
-  s6 = put_each 12 (0 ∷ 1 ∷ []) (map seen_cells c.seen.items) s5
+  s6 = put_each 8 (0 ∷ 1 ∷ []) (map move_cells c.moves.items) s5
 
   abbrev s7 : Content
-  s7 = put_each 14 (0 ∷ 1 ∷ 2 ∷ []) (map score_cells c.scores.items) s6
+  s7 = put_each 12 (0 ∷ 1 ∷ []) (map seen_cells c.seen.items) s6
 
-  at_1 : (t : ℕ) → s1 t ≡ (if t == 1 then put_rows (0 ∷ []) (map member_cells c.members.items) (old t) else old t)
+  abbrev s8 : Content
+  s8 = put_each 14 (0 ∷ 1 ∷ 2 ∷ []) (map score_cells c.scores.items) s7
+
+  at_1 : (t : ℕ)
+      → s1 t ≡ (if t == 1 then put_rows (0 ∷ []) (map member_cells c.members.items) (old t) else old t)
   at_1 t = each_at (0 ∷ []) 1 (map member_cells c.members.items) old t
 
-  at_2 : (t : ℕ) → s2 t ≡ (if t == 4 then put_rows (0 ∷ []) (map event_cells c.events.items) (s1 t) else s1 t)
+  at_2 : (t : ℕ)
+      → s2 t ≡ (if t == 4 then put_rows (0 ∷ []) (map event_cells c.events.items) (s1 t) else s1 t)
   at_2 t = each_at (0 ∷ []) 4 (map event_cells c.events.items) s1 t
 
   at_3 : (t : ℕ)
-      → s3 t ≡ (if t == 6 then put_rows (0 ∷ 1 ∷ []) (map challenge_cells c.challenges.items) (s2 t) else s2 t)
-  at_3 t = each_at (0 ∷ 1 ∷ []) 6 (map challenge_cells c.challenges.items) s2 t
+      → s3 t ≡ (if t == 16 then put_rows (0 ∷ []) (map event_rule_cells c.event_rules.items) (s2 t) else s2 t)
+  at_3 t = each_at (0 ∷ []) 16 (map event_rule_cells c.event_rules.items) s2 t
 
-  at_4 : (t : ℕ) → s4 t ≡ (if t == 10 then put_rows (0 ∷ []) (map game_cells c.games.items) (s3 t) else s3 t)
-  at_4 t = each_at (0 ∷ []) 10 (map game_cells c.games.items) s3 t
+  at_4 : (t : ℕ)
+      → s4 t ≡ (if t == 6 then put_rows (0 ∷ 1 ∷ []) (map challenge_cells c.challenges.items) (s3 t) else s3 t)
+  at_4 t = each_at (0 ∷ 1 ∷ []) 6 (map challenge_cells c.challenges.items) s3 t
 
-  at_5 : (t : ℕ) → s5 t ≡ (if t == 8 then put_rows (0 ∷ 1 ∷ []) (map move_cells c.moves.items) (s4 t) else s4 t)
-  at_5 t = each_at (0 ∷ 1 ∷ []) 8 (map move_cells c.moves.items) s4 t
+  at_5 : (t : ℕ)
+      → s5 t ≡ (if t == 10 then put_rows (0 ∷ []) (map game_cells c.games.items) (s4 t) else s4 t)
+  at_5 t = each_at (0 ∷ []) 10 (map game_cells c.games.items) s4 t
 
-  at_6 : (t : ℕ) → s6 t ≡ (if t == 12 then put_rows (0 ∷ 1 ∷ []) (map seen_cells c.seen.items) (s5 t) else s5 t)
-  at_6 t = each_at (0 ∷ 1 ∷ []) 12 (map seen_cells c.seen.items) s5 t
+  at_6 : (t : ℕ)
+      → s6 t ≡ (if t == 8 then put_rows (0 ∷ 1 ∷ []) (map move_cells c.moves.items) (s5 t) else s5 t)
+  at_6 t = each_at (0 ∷ 1 ∷ []) 8 (map move_cells c.moves.items) s5 t
 
-  at_7 : (t : ℕ) → s7 t ≡ (if t == 14 then put_rows (0 ∷ 1 ∷ 2 ∷ []) (map score_cells c.scores.items) (s6 t) else s6 t)
-  at_7 t = each_at (0 ∷ 1 ∷ 2 ∷ []) 14 (map score_cells c.scores.items) s6 t
+  at_7 : (t : ℕ)
+      → s7 t ≡ (if t == 12 then put_rows (0 ∷ 1 ∷ []) (map seen_cells c.seen.items) (s6 t) else s6 t)
+  at_7 t = each_at (0 ∷ 1 ∷ []) 12 (map seen_cells c.seen.items) s6 t
+
+  at_8 : (t : ℕ)
+      → s8 t ≡ (if t == 14 then put_rows (0 ∷ 1 ∷ 2 ∷ []) (map score_cells c.scores.items) (s7 t) else s7 t)
+  at_8 t = each_at (0 ∷ 1 ∷ 2 ∷ []) 14 (map score_cells c.scores.items) s7 t
 
   by : (key : List ℕ) (changed rows was now new : List Row) → rows ≡ put_rows key changed was → was ≡ now
       → Alters key changed now new → HaveSame rows new
@@ -172,30 +185,34 @@ module _ (c : Changes) (old : Content) where
 
   pub tables_altered : (new : Content) → AltersTables c old new → AreSame club_schema (changed c old) new
   tables_altered new it = (
-    by (0 ∷ []) _ _ _ _ (new 0) (maybe_at c.meta s7 0)
-        (at_7 0 ∙ (at_6 0 ∙ (at_5 0 ∙ (at_4 0 ∙ (at_3 0 ∙ (at_2 0 ∙ at_1 0)))))) it.meta,
+    by (0 ∷ []) _ _ _ _ (new 0) (maybe_at c.meta s8 0) (at_8 0 ∙ at_7 0 ∙ at_6 0 ∙ at_5 0 ∙ at_4 0 ∙ at_3 0
+        ∙ at_2 0 ∙ at_1 0) it.meta,
     (
-      by (0 ∷ []) _ _ _ _ (new 1) (maybe_at c.meta s7 1
-          ∙ (at_7 1 ∙ (at_6 1 ∙ (at_5 1 ∙ (at_4 1 ∙ (at_3 1 ∙ (at_2 1 ∙ at_1 1))))))) refl it.members,
+      by (0 ∷ []) _ _ _ _ (new 1) (maybe_at c.meta s8 1 ∙ at_8 1 ∙ at_7 1 ∙ at_6 1 ∙ at_5 1 ∙ at_4 1 ∙ at_3 1
+          ∙ at_2 1 ∙ at_1 1) refl it.members,
       (
-        by (0 ∷ []) _ _ _ _ (new 4) (maybe_at c.meta s7 4
-            ∙ (at_7 4 ∙ (at_6 4 ∙ (at_5 4 ∙ (at_4 4 ∙ (at_3 4 ∙ at_2 4)))))) (at_1 4) it.events,
+        by (0 ∷ []) _ _ _ _ (new 4) (maybe_at c.meta s8 4 ∙ at_8 4 ∙ at_7 4 ∙ at_6 4 ∙ at_5 4 ∙ at_4 4 ∙ at_3 4
+            ∙ at_2 4) (at_1 4) it.events,
         (
-          by (0 ∷ 1 ∷ []) _ _ _ _ (new 6) (maybe_at c.meta s7 6 ∙ (at_7 6 ∙ (at_6 6 ∙ (at_5 6 ∙ (at_4 6 ∙ at_3 6)))))
-              (at_2 6 ∙ at_1 6) it.challenges,
+          by (0 ∷ 1 ∷ []) _ _ _ _ (new 6) (maybe_at c.meta s8 6 ∙ at_8 6 ∙ at_7 6 ∙ at_6 6 ∙ at_5 6
+              ∙ at_4 6) (at_3 6 ∙ at_2 6 ∙ at_1 6) it.challenges,
           (
-            by (0 ∷ 1 ∷ []) _ _ _ _ (new 8) (maybe_at c.meta s7 8 ∙ (at_7 8 ∙ (at_6 8 ∙ at_5 8)))
-                (at_4 8 ∙ (at_3 8 ∙ (at_2 8 ∙ at_1 8))) it.moves,
+            by (0 ∷ 1 ∷ []) _ _ _ _ (new 8) (maybe_at c.meta s8 8 ∙ at_8 8 ∙ at_7 8 ∙ at_6 8) (at_5 8 ∙ at_4 8
+                ∙ at_3 8 ∙ at_2 8 ∙ at_1 8) it.moves,
             (
-              by (0 ∷ []) _ _ _ _ (new 10) (maybe_at c.meta s7 10 ∙ (at_7 10 ∙ (at_6 10 ∙ (at_5 10 ∙ at_4 10))))
-                  (at_3 10 ∙ (at_2 10 ∙ at_1 10)) it.games,
+              by (0 ∷ []) _ _ _ _ (new 10) (maybe_at c.meta s8 10 ∙ at_8 10 ∙ at_7 10 ∙ at_6 10 ∙ at_5 10) (at_4 10
+                  ∙ at_3 10 ∙ at_2 10 ∙ at_1 10) it.games,
               (
-                by (0 ∷ 1 ∷ []) _ _ _ _ (new 12) (maybe_at c.meta s7 12 ∙ (at_7 12 ∙ at_6 12))
-                    (at_5 12 ∙ (at_4 12 ∙ (at_3 12 ∙ (at_2 12 ∙ at_1 12)))) it.seen,
+                by (0 ∷ 1 ∷ []) _ _ _ _ (new 12) (maybe_at c.meta s8 12 ∙ at_8 12 ∙ at_7 12) (at_6 12 ∙ at_5 12
+                    ∙ at_4 12 ∙ at_3 12 ∙ at_2 12 ∙ at_1 12) it.seen,
                 (
-                  by (0 ∷ 1 ∷ 2 ∷ []) _ _ _ _ (new 14) (maybe_at c.meta s7 14 ∙ at_7 14)
-                      (at_6 14 ∙ (at_5 14 ∙ (at_4 14 ∙ (at_3 14 ∙ (at_2 14 ∙ at_1 14))))) it.scores,
-                  tt,
+                  by (0 ∷ 1 ∷ 2 ∷ []) _ _ _ _ (new 14) (maybe_at c.meta s8 14 ∙ at_8 14) (at_7 14 ∙ at_6 14
+                      ∙ at_5 14 ∙ at_4 14 ∙ at_3 14 ∙ at_2 14 ∙ at_1 14) it.scores,
+                  (
+                    by (0 ∷ []) _ _ _ _ (new 16) (maybe_at c.meta s8 16 ∙ at_8 16 ∙ at_7 16 ∙ at_6 16 ∙ at_5 16
+                        ∙ at_4 16 ∙ at_3 16) (at_2 16 ∙ at_1 16) it.event_rules,
+                    tt,
+                  ),
                 ),
               ),
             ),

@@ -3,6 +3,7 @@ use Rattle.std.proofs.Common.{◌≡◌, ℕ, Bool, true, false, true≢false, L
 use Rattle.std.proofs.Common.{subst, ◌∙◌, inl, inr}
 use Rattle.sqlite.specs.Table.{Table}
 use Rattle.sqlite.specs.Schema.{Schema}
+use Rattle.sqlite.specs.Tree.{Trees}
 use Rattle.sqlite.specs.Command.TheVariants.{CreateTable}
 use Rattle.sqlite.specs.Compile.{table_defined_by}
 use Rattle.sqlite.specs.Change.{created, next_tree}
@@ -18,12 +19,12 @@ use Rattle.sqlite_rules.specs.Lists.{Has}
 use Rattle.sqlite_rules.proofs.ListLemmas.{all_has, all_from, has_either}
 use Rattle.sqlite.proofs.Callers.{IsPlain, command_of, statement_of, runs_as}
 use Rattle.store_tables.specs.Content.{AreApart}
-use Rattle.store_tables.specs.Contents.{AreMade, Ran, Makes, Holds, Stores, nothing}
+use Rattle.store_tables.specs.Contents.{Content, AreMade, Ran, Makes, Widens, Holds, Stores, nothing}
 use Rattle.store_tables.specs.Tables.{meta, members, events, challenges, moves, games, seen, scores, schema_after}
-use Rattle.store_tables.specs.Tables.{club_schema}
+use Rattle.store_tables.specs.Tables.{event_rules, club_schema, first_schema, IsClubSchema}
 use Rattle.store_tables.specs.Texts as t
 use Rattle.store_tables.proofs.Meanings.{meta_make, members_make, events_make, challenges_make, moves_make, games_make}
-use Rattle.store_tables.proofs.Meanings.{seen_make, scores_make}
+use Rattle.store_tables.proofs.Meanings.{seen_make, scores_make, event_rules_make}
 use Rattle.store_tables.proofs.UpsertLemmas.{went, same_value}
 
 module _ (schema : Schema) (sql : List ℕ) (made : Table) (command : command_of (understood schema sql) ≡ CreateTable)
@@ -194,6 +195,23 @@ makes_scores old new sql text h =
       inside = h.runs.1.mode;
     }
 
+rules_made : (old new : State) → AreMade (schema_after 8) old.now → Ran t.event_rules_create old new
+    → AreMade (schema_after 9) new.now
+rules_made old new k h =
+    subst (λ s. AreMade s new.now) event_rules_make.4
+    (makes (schema_after 8) t.event_rules_create (event_rules 0) event_rules_make.0 event_rules_make.1
+    event_rules_make.2 event_rules_make.3 refl old new h.count k h.runs.0)
+
+pub makes_event_rules : (old new : State) (sql : List ℕ) → sql ≡ t.event_rules_create → Ran sql old new
+    → Makes 8 9 old new
+makes_event_rules old new sql text h =
+    record {
+      made = λ k. rules_made old new k (subst (λ s. Ran s old new) text h);
+      committed =
+          h.runs.1.committed_is;
+      inside = h.runs.1.mode;
+    }
+
 pub makes_then : (from mid to : ℕ) (a b c : State) → Makes from mid a b → Makes mid to b c → Makes from to a c
 makes_then from mid to a b c one two =
     record { made = λ k. two.made (one.made k); committed = two.committed ∙ one.committed; inside = two.inside }
@@ -211,6 +229,81 @@ holds_nothing db k = record {
       });
 }
 
+-- ---- a table that is made beside rows
+
+stores_by : (t : Table) (a b : Trees) (content : Content) → b t.tree ≡ a t.tree → Stores t a content
+    → Stores t b content
+stores_by t a b content e s = record {
+  rows = record {
+    stored = λ row h. let (r, there, is) = s.rows.stored row h in (r, subst (λ l. Has l r) (sym e) there, is);
+    only = λ r h. s.rows.only r (subst (λ l. Has l r) e h);
+  };
+  apart = subst AreApart (sym e) s.apart;
+}
+
+stores_none : (t : Table) (db : Trees) (content : Content) → db t.tree ≡ [] → content t.tree ≡ [] → Stores t db content
+stores_none t db content none nothing = record {
+  rows = record {
+    stored = λ row h. absurd (subst (λ l. Has l row) nothing h);
+    only = λ r h. absurd (subst (λ l. Has l r) none h);
+  };
+  apart = subst AreApart (sym none) (record { apart = tt; ints = tt });
+}
+
+module _ (schema : Schema) (sql : List ℕ) (made : Table) (command : command_of (understood schema sql) ≡ CreateTable)
+    (text : statement_of sql (understood schema sql) ≡ sql) (defined : table_defined_by sql ≡ Ok made)
+    (plain : IsPlain (understood schema sql)) (uncounted : lacks_sequence (created schema made) ≡ false) where
+  makes_beside : (old new : State) (count : ℕ) (content : Content) → Holds schema old.now content
+      → content (next_tree schema) ≡ [] → Executes sql [] old new (Ok count)
+      → Holds (created schema made) new.now content
+  makes_beside old new count content k free h =
+      let w = subst (λ t. Writes old new None CreateTable t [] count) text
+      (runs_as sql [] old new schema k.schema CreateTable command plain count h) in
+      let all = went w.changed in
+      let first = went all.1 in
+      let it = first.1 in
+      let both : Ok it.table ≡ Ok made = sym it.defined ∙ defined in
+      let same : it.table ≡ made = same_value both in
+      let is : first.0.schema ≡ created schema made = it.is ∙ ap (λ s. created s it.table) k.schema
+      ∙ ap (created schema) same in
+      let none : lacks_sequence first.0.schema ≡ false = ap lacks_sequence is ∙ uncounted in
+      let now : new.now ≡ first.0 = ap (λ (p : Tally × Database). p.1) (same_value all.2)
+      ∙ same_value (rw none at first.2) in
+      let empty : first.0.trees (next_tree schema) ≡ [] =
+      subst (λ s. first.0.trees (next_tree s) ≡ []) k.schema it.empty in
+      let kept : KeepsRows schema.tables old.now.trees first.0.trees =
+      subst (λ s. KeepsRows s.tables old.now.trees first.0.trees) k.schema it.others in
+      record {
+        schema = ap (λ (d : Database). d.schema) now ∙ is;
+        sound = w.sound;
+        tables = all_from (λ t. Stores t new.now.trees content) (created schema made).tables
+            (λ t known. elim (has_either schema.tables _ t known) [
+              | inl was ↦ stores_by t old.now.trees new.now.trees content
+                  (ap (λ (d : Database). d.trees t.tree) now
+                  ∙ all_has (λ t. first.0.trees t.tree ≡ old.now.trees t.tree) schema.tables t kept was)
+                  (all_has (λ t. Stores t old.now.trees content) schema.tables t k.tables was)
+              | inr new_one ↦
+                  elim new_one [
+                    | inl e ↦ stores_none t new.now.trees content
+                        (ap (λ (d : Database). d.trees t.tree) now
+                        ∙ ap (λ (u : Table). first.0.trees u.tree) e ∙ empty)
+                        (ap (λ (u : Table). content u.tree) e ∙ free)
+                    | inr nothing ↦ absurd nothing
+                  ]
+            ]);
+      }
+
+pub widens : (old new : State) (sql : List ℕ) → sql ≡ t.event_rules_create → Ran sql old new → Widens old new
+widens old new sql text h =
+    let ran : Ran t.event_rules_create old new = subst (λ s. Ran s old new) text h in
+    record {
+      holds = λ content free k. subst (λ s. Holds s new.now content) event_rules_make.4
+          (makes_beside first_schema t.event_rules_create (event_rules 0) event_rules_make.0 event_rules_make.1
+          event_rules_make.2 event_rules_make.3 refl old new ran.count content k free ran.runs.0);
+      committed = ran.runs.1.committed_is;
+      inside = ran.runs.1.mode;
+    }
+
 -- ---- where the tables of a club stand
 
 abbrev is_understood : Result Compiled CompileError → Bool
@@ -221,13 +314,20 @@ meta_stands : is_understood (understood club_schema t.meta_create) ≡ false
 unfolding understood everything
 meta_stands = refl
 
+meta_stood : is_understood (understood first_schema t.meta_create) ≡ false
+unfolding understood everything
+meta_stood = refl
+
 -- there the first table is not made again
-pub never_made : (sql : List ℕ) (old new : State) → sql ≡ t.meta_create → old.now.schema ≡ club_schema
+pub never_made : (sql : List ℕ) (old new : State) → sql ≡ t.meta_create → IsClubSchema old.now.schema
     → ¬ Ran sql old new
 unfolding ExecutesIn
 never_made sql old new text has h =
     let ran : Ran t.meta_create old new = subst (λ s. Ran s old new) text h in
     let one : is_understood (understood old.now.schema t.meta_create) ≡ false =
-    ap (λ s. is_understood (understood s t.meta_create)) has ∙ meta_stands in
+    elim has [
+      | inl first ↦ ap (λ s. is_understood (understood s t.meta_create)) first ∙ meta_stood
+      | inr current ↦ ap (λ s. is_understood (understood s t.meta_create)) current ∙ meta_stands
+    ] in
     let some = ap is_understood ran.runs.0.1.is in
     absurd (true≢false (sym some ∙ one))

@@ -13,7 +13,7 @@ use Rattle.sqlite.proofs.Callers.{IsPlain, command_of, statement_of}
 use Rattle.store_tables.specs.Put.{on_key}
 use Rattle.store_tables.specs.Texts as t
 use Rattle.store_tables.specs.Tables.{schema_after, club_schema, meta, members, events, challenges, moves, games, seen}
-use Rattle.store_tables.specs.Tables.{scores}
+use Rattle.store_tables.specs.Tables.{scores, event_rules}
 
 pub meta_make : (command_of (understood (schema_after 0) t.meta_create) ≡ CreateTable)
     × (statement_of t.meta_create (understood (schema_after 0) t.meta_create) ≡ t.meta_create)
@@ -72,6 +72,14 @@ pub scores_make : (command_of (understood (schema_after 7) t.scores_create) ≡ 
 unfolding understood everything
 scores_make = (refl, refl, refl, (refl, refl), refl)
 
+pub event_rules_make : (command_of (understood (schema_after 8) t.event_rules_create) ≡ CreateTable)
+    × (statement_of t.event_rules_create (understood (schema_after 8) t.event_rules_create) ≡ t.event_rules_create)
+    × (table_defined_by t.event_rules_create ≡ Ok (event_rules 0))
+    × IsPlain (understood (schema_after 8) t.event_rules_create)
+    × (created (schema_after 8) (event_rules 0) ≡ schema_after 9)
+unfolding understood everything
+event_rules_make = (refl, refl, refl, (refl, refl), refl)
+
 pub meta_put_is : command_of (understood club_schema t.meta_put)
     ≡ InsertOr 0 Abort (Values (col 0 0 ∷ lit Null ∷ col 0 1 ∷ col 0 2 ∷ []) 4)
     (on_key (0 ∷ []) 0 3 (col 1 0 ∷ col 0 5 ∷ lit Null ∷ col 0 6 ∷ col 0 7 ∷ []))
@@ -101,6 +109,16 @@ events_put_is = refl
 pub events_put_plain : IsPlain (understood club_schema t.events_put)
 unfolding understood everything
 events_put_plain = (refl, refl)
+
+pub event_rules_put_is : command_of (understood club_schema t.event_rules_put)
+    ≡ InsertOr 8 Abort (Values (col 0 0 ∷ lit Null ∷ col 0 1 ∷ []) 3)
+    (on_key (0 ∷ []) 16 2 (col 1 0 ∷ col 0 4 ∷ lit Null ∷ col 0 5 ∷ []))
+unfolding understood everything
+event_rules_put_is = refl
+
+pub event_rules_put_plain : IsPlain (understood club_schema t.event_rules_put)
+unfolding understood everything
+event_rules_put_plain = (refl, refl)
 
 pub moves_put_is : command_of (understood club_schema t.moves_put)
     ≡ InsertOr 4 Abort (Values (lit Null ∷ col 0 0 ∷ col 0 1 ∷ col 0 2 ∷ col 0 3 ∷ col 0 4 ∷ col 0 5 ∷ []) 7)

@@ -5,8 +5,9 @@ pub use Rattle.store_tables.proofs.QueryLemmas.{reads_then}
 pub use Rattle.store_tables.proofs.ReadLemmas.{survives_given, shown_given, unchanged_exactly, may_as_before}
 pub use Rattle.store_tables.proofs.TellLemmas.{tells, tells_ids, tells_first, finds, no_input, all_alike, one_shown}
 pub use Rattle.store_tables.proofs.TellLemmas.{ids_of, apart_of, stored_at}
+pub use Rattle.store_tables.proofs.SchemaLemmas.{wider, either_schema}
 pub use Rattle.store_tables.proofs.SelectMeanings.{meta_read, members_read, events_read, challenges_read, moves_read}
-pub use Rattle.store_tables.proofs.SelectMeanings.{games_read, seen_read, scores_read}
+pub use Rattle.store_tables.proofs.SelectMeanings.{games_read, seen_read, scores_read, event_rules_read}
 pub use Rattle.store_tables.proofs.SelectMeanings.{members_by_name_finds, members_by_key_finds, events_by_name_finds}
 pub use Rattle.store_tables.proofs.SelectMeanings.{games_by_key_finds}
 pub use Rattle.store_tables.proofs.SelectMeanings.{challenges_by_number_finds, moves_by_ply_finds}
@@ -23,13 +24,14 @@ pub use Rattle.store_tables.proofs.ApartLemmas.{pairs_turned}
 pub use Rattle.store_tables.proofs.KeyLemmas.{equal_cmp, equal_ints, equal_from, differ_ints}
 -- Rows that are put, in a transaction that is committed.
 pub use Rattle.store_tables.proofs.StepLemmas.{meta_put_of, member_put_of, event_put_of, challenge_put_of, move_put_of}
-pub use Rattle.store_tables.proofs.StepLemmas.{game_put_of, seen_put_of, score_put_of}
+pub use Rattle.store_tables.proofs.StepLemmas.{event_rule_put_of, game_put_of, seen_put_of, score_put_of}
 pub use Rattle.store_tables.proofs.StepLemmas.{steps_then, one_more, leaves_of, commits, fills}
 pub use Rattle.store_tables.proofs.AlterLemmas.{same_itself, same_by, same_then, put_had, put_kept, altered, unaltered}
 pub use Rattle.store_tables.proofs.AlterLemmas.{each_at, tables_altered}
 -- Tables that are made.
 pub use Rattle.store_tables.proofs.MakeLemmas.{makes_meta, makes_members, makes_events, makes_challenges, makes_moves}
-pub use Rattle.store_tables.proofs.MakeLemmas.{makes_games, makes_seen, makes_scores, makes_then, never_made}
+pub use Rattle.store_tables.proofs.MakeLemmas.{makes_games, makes_seen, makes_scores, makes_event_rules, makes_then}
+pub use Rattle.store_tables.proofs.MakeLemmas.{never_made, widens}
 pub use Rattle.store_tables.proofs.ApartLemmas.{each_shown}
 pub use Rattle.store_tables.proofs.OrderLemmas.{has_index, sorted_rows}
 pub use Rattle.store_tables.proofs.ReadLemmas.{has_map, has_mapped, has_turned}

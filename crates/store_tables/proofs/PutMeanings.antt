@@ -25,13 +25,15 @@ use Rattle.sqlite_catalog.specs.Listing.{automatic}
 use Rattle.sqlite_value.specs.Keys.{first_key}
 use Rattle.sqlite_sql.specs.Ops.{unary}
 use Rattle.store_tables.specs.Cells.{meta_cells, member_cells, event_cells, challenge_cells, move_cells, game_cells}
-use Rattle.store_tables.specs.Cells.{seen_cells, score_cells}
+use Rattle.store_tables.specs.Cells.{event_rule_cells, seen_cells, score_cells}
 use Rattle.store_tables.specs.Content.{same_key}
 use Rattle.store_tables.specs.Put.{IsPut}
-use Rattle.store_tables.specs.Tables.{meta, members, events, challenges, moves, games, seen, scores, club_schema}
+use Rattle.store_tables.specs.Tables.{meta, members, events, event_rules, challenges, moves, games, seen, scores}
+use Rattle.store_tables.specs.Tables.{club_schema}
 use Rattle.store_tables.specs.declared.rows.MetaRow.{MetaRow}
 use Rattle.store_tables.specs.declared.rows.MemberRow.{MemberRow}
 use Rattle.store_tables.specs.declared.rows.EventRow.{EventRow}
+use Rattle.store_tables.specs.declared.rows.EventRuleRow.{EventRuleRow}
 use Rattle.store_tables.specs.declared.rows.ChallengeRow.{ChallengeRow}
 use Rattle.store_tables.specs.declared.rows.MoveRow.{MoveRow}
 use Rattle.store_tables.specs.declared.rows.GameRecord.{GameRecord}
@@ -242,6 +244,28 @@ event_puts r =
       updated = λ there was n m is. ap (λ v. v ∷ Int r.id ∷ Null ∷ rest) is;
       named = λ was m is same. ap Int (sym (by_id was m r.id is same));
       distinct = λ next s n m keeps is there here same. ap Int (sym (by_id s m r.id is same)) ∙ sym is;
+    }
+
+pub event_rule_puts : (r : EventRuleRow)
+    → IsPut club_schema (event_rules 16) (0 ∷ []) (event_rule_cells r) (event_rule_cells r)
+    (Values (col 0 0 ∷ lit Null ∷ col 0 1 ∷ []) 3) (0 ∷ []) 2 (col 1 0 ∷ col 0 4 ∷ lit Null ∷ col 0 5 ∷ [])
+event_rule_puts r =
+    let rest = Int r.declares ∷ [] in
+    record {
+      source = Int r.event ∷ Null ∷ rest;
+      stored = λ n. Int r.event ∷ Null ∷ rest;
+      sourced = λ db rows h. h.1;
+      uncounted = refl;
+      idle = λ olds news. refl;
+      overlaid = λ db. refl;
+      placed = λ rows. (r.event, simp (cast_null, cast_int));
+      recast = λ n. simp (cast_null, cast_int);
+      shows = λ n. refl;
+      meets = λ s n. or_false _;
+      based = λ there n. refl;
+      updated = λ there was n m is. ap (λ v. v ∷ Int r.event ∷ Null ∷ rest) is;
+      named = λ was m is same. ap Int (sym (by_id was m r.event is same));
+      distinct = λ next s n m keeps is there here same. ap Int (sym (by_id s m r.event is same)) ∙ sym is;
     }
 
 pub game_puts : (r : GameRecord) → IsPut club_schema (games 10) (0 ∷ []) (game_cells r) (game_cells r)

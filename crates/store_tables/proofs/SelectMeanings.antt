@@ -1,5 +1,7 @@
--- What each SELECT means under the schema of a club, by computing.
+-- What each SELECT means under the schemas of a club, by computing.
 use Rattle.std.proofs.Common.{ℕ, ℤ, List, [], ◌∷◌, Equal, refl, codes}
+use Rattle.sqlite.specs.Table.{Table}
+use Rattle.sqlite_schema.specs.declared.schema.Index.{Index}
 use Rattle.sqlite.specs.Listing.{understood}
 use Rattle.sqlite.specs.Term.{Term, col, op2}
 use Rattle.sqlite.specs.declared.types.Value.TheVariants.{Null, Int, Text}
@@ -9,17 +11,19 @@ use Rattle.sqlite.specs.Collation.TheVariants.{Binary}
 use Rattle.sqlite_tied.specs.Compute.{everything}
 use Rattle.sqlite_value.specs.Keys.{ascending, first_key}
 use Rattle.store_tables.specs.Queries.{Selects, Finds, AreShownBy, by_others, IsSelect}
-use Rattle.store_tables.specs.Tables.{club_schema, meta, members, events, challenges, moves, games, seen, scores}
+use Rattle.store_tables.specs.Tables.{club_schema, meta, members, events, event_rules, challenges, moves}
+use Rattle.store_tables.specs.Tables.{games, seen, scores}
 use Rattle.store_tables.specs.Texts as t
+use Rattle.store_tables.proofs.SchemaLemmas.{wider}
 
 -- ---- meta
 
 abbrev meta_columns : List Term
 meta_columns = col 1 0 ∷ col 1 2 ∷ col 1 3 ∷ []
 
-meta_all_is : Selects club_schema 0 1 t.meta_all meta_columns
+meta_all_is : (more : List Table) (others : List Index) → Selects (wider more others) 0 1 t.meta_all meta_columns
 unfolding understood everything
-meta_all_is = record {
+meta_all_is more others = record {
   order = (col 1 0, ascending Binary) ∷ [];
   names = codes "id" ∷ codes "schema" ∷ codes "last" ∷ [];
   command = refl;
@@ -29,9 +33,9 @@ meta_all_is = record {
   by = λ r s. refl;
 }
 
-meta_ids_is : Selects club_schema 0 1 t.meta_ids (col 1 0 ∷ [])
+meta_ids_is : (more : List Table) (others : List Index) → Selects (wider more others) 0 1 t.meta_ids (col 1 0 ∷ [])
 unfolding understood everything
-meta_ids_is = record {
+meta_ids_is more others = record {
   order = (col 1 0, ascending Binary) ∷ [];
   names = codes "id" ∷ [];
   command = refl;
@@ -41,9 +45,10 @@ meta_ids_is = record {
   by = λ r s. refl;
 }
 
-meta_some : (n : ℤ) → Finds club_schema (meta 0) 0 (0 ∷ []) (Int n ∷ []) (Int n ∷ []) t.meta_by_first (by_others 1)
+meta_some : (more : List Table) (others : List Index) (n : ℤ)
+    → Finds (wider more others) (meta 0) 0 (0 ∷ []) (Int n ∷ []) (Int n ∷ []) t.meta_by_first (by_others 1)
 unfolding understood everything first_key
-meta_some n = record {
+meta_some more others n = record {
   at = refl;
   filter = op2 (Compare Eq Binary) (col 1 0) (col 0 0) ∷ [];
   project = meta_columns;
@@ -62,17 +67,18 @@ meta_selects : IsSelect t.meta_all × IsSelect t.meta_ids × IsSelect t.meta_by_
 unfolding understood everything
 meta_selects = (refl, refl, refl)
 
-pub meta_read : AreShownBy club_schema (meta 0) 1 t.meta_all t.meta_ids t.meta_by_first
-meta_read = record {
+pub meta_read : (more : List Table) (others : List Index)
+    → AreShownBy (wider more others) (meta 0) 1 t.meta_all t.meta_ids t.meta_by_first
+meta_read more others = record {
   place = 0;
   at = refl;
   columns = meta_columns;
-  rows = meta_all_is;
+  rows = meta_all_is more others;
   whole = λ r. refl;
   firsts = col 1 0 ∷ [];
-  numbers = meta_ids_is;
+  numbers = meta_ids_is more others;
   first = λ r. refl;
-  some = meta_some;
+  some = meta_some more others;
   all_is = meta_selects.0;
   ids_is = meta_selects.1;
   group_is = meta_selects.2;
@@ -83,9 +89,10 @@ meta_read = record {
 abbrev members_columns : List Term
 members_columns = col 1 0 ∷ col 1 2 ∷ col 1 3 ∷ []
 
-members_all_is : Selects club_schema 1 1 t.members_all members_columns
+members_all_is : (more : List Table) (others : List Index)
+    → Selects (wider more others) 1 1 t.members_all members_columns
 unfolding understood everything
-members_all_is = record {
+members_all_is more others = record {
   order = (col 1 0, ascending Binary) ∷ [];
   names = codes "id" ∷ codes "name" ∷ codes "key" ∷ [];
   command = refl;
@@ -95,9 +102,10 @@ members_all_is = record {
   by = λ r s. refl;
 }
 
-members_ids_is : Selects club_schema 1 1 t.members_ids (col 1 0 ∷ [])
+members_ids_is : (more : List Table) (others : List Index)
+    → Selects (wider more others) 1 1 t.members_ids (col 1 0 ∷ [])
 unfolding understood everything
-members_ids_is = record {
+members_ids_is more others = record {
   order = (col 1 0, ascending Binary) ∷ [];
   names = codes "id" ∷ [];
   command = refl;
@@ -107,10 +115,11 @@ members_ids_is = record {
   by = λ r s. refl;
 }
 
-members_some : (n : ℤ) → Finds club_schema (members 1) 1 (0 ∷ []) (Int n ∷ []) (Int n ∷ []) t.members_by_first
+members_some : (more : List Table) (others : List Index) (n : ℤ)
+    → Finds (wider more others) (members 1) 1 (0 ∷ []) (Int n ∷ []) (Int n ∷ []) t.members_by_first
     (by_others 1)
 unfolding understood everything first_key
-members_some n = record {
+members_some more others n = record {
   at = refl;
   filter = op2 (Compare Eq Binary) (col 1 0) (col 0 0) ∷ [];
   project = members_columns;
@@ -129,17 +138,18 @@ members_selects : IsSelect t.members_all × IsSelect t.members_ids × IsSelect t
 unfolding understood everything
 members_selects = (refl, refl, refl)
 
-pub members_read : AreShownBy club_schema (members 1) 1 t.members_all t.members_ids t.members_by_first
-members_read = record {
+pub members_read : (more : List Table) (others : List Index)
+    → AreShownBy (wider more others) (members 1) 1 t.members_all t.members_ids t.members_by_first
+members_read more others = record {
   place = 1;
   at = refl;
   columns = members_columns;
-  rows = members_all_is;
+  rows = members_all_is more others;
   whole = λ r. refl;
   firsts = col 1 0 ∷ [];
-  numbers = members_ids_is;
+  numbers = members_ids_is more others;
   first = λ r. refl;
-  some = members_some;
+  some = members_some more others;
   all_is = members_selects.0;
   ids_is = members_selects.1;
   group_is = members_selects.2;
@@ -150,9 +160,9 @@ members_read = record {
 abbrev events_columns : List Term
 events_columns = col 1 0 ∷ col 1 2 ∷ col 1 3 ∷ col 1 4 ∷ col 1 5 ∷ []
 
-events_all_is : Selects club_schema 4 1 t.events_all events_columns
+events_all_is : (more : List Table) (others : List Index) → Selects (wider more others) 4 1 t.events_all events_columns
 unfolding understood everything
-events_all_is = record {
+events_all_is more others = record {
   order = (col 1 0, ascending Binary) ∷ [];
   names = codes "id" ∷ codes "name" ∷ codes "game" ∷ codes "budget" ∷ codes "increment" ∷ [];
   command = refl;
@@ -162,9 +172,9 @@ events_all_is = record {
   by = λ r s. refl;
 }
 
-events_ids_is : Selects club_schema 4 1 t.events_ids (col 1 0 ∷ [])
+events_ids_is : (more : List Table) (others : List Index) → Selects (wider more others) 4 1 t.events_ids (col 1 0 ∷ [])
 unfolding understood everything
-events_ids_is = record {
+events_ids_is more others = record {
   order = (col 1 0, ascending Binary) ∷ [];
   names = codes "id" ∷ [];
   command = refl;
@@ -174,10 +184,11 @@ events_ids_is = record {
   by = λ r s. refl;
 }
 
-events_some : (n : ℤ) → Finds club_schema (events 4) 2 (0 ∷ []) (Int n ∷ []) (Int n ∷ []) t.events_by_first
+events_some : (more : List Table) (others : List Index) (n : ℤ)
+    → Finds (wider more others) (events 4) 2 (0 ∷ []) (Int n ∷ []) (Int n ∷ []) t.events_by_first
     (by_others 1)
 unfolding understood everything first_key
-events_some n = record {
+events_some more others n = record {
   at = refl;
   filter = op2 (Compare Eq Binary) (col 1 0) (col 0 0) ∷ [];
   project = events_columns;
@@ -196,17 +207,18 @@ events_selects : IsSelect t.events_all × IsSelect t.events_ids × IsSelect t.ev
 unfolding understood everything
 events_selects = (refl, refl, refl)
 
-pub events_read : AreShownBy club_schema (events 4) 1 t.events_all t.events_ids t.events_by_first
-events_read = record {
+pub events_read : (more : List Table) (others : List Index)
+    → AreShownBy (wider more others) (events 4) 1 t.events_all t.events_ids t.events_by_first
+events_read more others = record {
   place = 2;
   at = refl;
   columns = events_columns;
-  rows = events_all_is;
+  rows = events_all_is more others;
   whole = λ r. refl;
   firsts = col 1 0 ∷ [];
-  numbers = events_ids_is;
+  numbers = events_ids_is more others;
   first = λ r. refl;
-  some = events_some;
+  some = events_some more others;
   all_is = events_selects.0;
   ids_is = events_selects.1;
   group_is = events_selects.2;
@@ -217,9 +229,10 @@ events_read = record {
 abbrev challenges_columns : List Term
 challenges_columns = col 1 1 ∷ col 1 2 ∷ col 1 3 ∷ col 1 4 ∷ col 1 5 ∷ col 1 6 ∷ col 1 7 ∷ []
 
-challenges_all_is : Selects club_schema 6 2 t.challenges_all challenges_columns
+challenges_all_is : (more : List Table) (others : List Index)
+    → Selects (wider more others) 6 2 t.challenges_all challenges_columns
 unfolding understood everything
-challenges_all_is = record {
+challenges_all_is more others = record {
   order = (col 1 1, ascending Binary) ∷ (col 1 2, ascending Binary) ∷ [];
   names = codes "member" ∷ codes "number" ∷ codes "event" ∷ codes "other" ∷ codes "first" ∷ codes "state" ∷ codes "game"
       ∷ [];
@@ -230,9 +243,10 @@ challenges_all_is = record {
   by = λ r s. refl;
 }
 
-challenges_ids_is : Selects club_schema 6 1 t.challenges_ids (col 1 0 ∷ [])
+challenges_ids_is : (more : List Table) (others : List Index)
+    → Selects (wider more others) 6 1 t.challenges_ids (col 1 0 ∷ [])
 unfolding understood everything
-challenges_ids_is = record {
+challenges_ids_is more others = record {
   order = (col 1 0, ascending Binary) ∷ [];
   names = codes "rowid" ∷ [];
   command = refl;
@@ -242,10 +256,11 @@ challenges_ids_is = record {
   by = λ r s. refl;
 }
 
-challenges_some : (n : ℤ) → Finds club_schema (challenges 6) 3 (0 ∷ []) (Int n ∷ []) (Int n ∷ []) t.challenges_by_first
+challenges_some : (more : List Table) (others : List Index) (n : ℤ)
+    → Finds (wider more others) (challenges 6) 3 (0 ∷ []) (Int n ∷ []) (Int n ∷ []) t.challenges_by_first
     (by_others 2)
 unfolding understood everything first_key
-challenges_some n = record {
+challenges_some more others n = record {
   at = refl;
   filter = op2 (Compare Eq Binary) (col 1 1) (col 0 0) ∷ [];
   project = challenges_columns;
@@ -265,17 +280,18 @@ challenges_selects : IsSelect t.challenges_all × IsSelect t.challenges_ids × I
 unfolding understood everything
 challenges_selects = (refl, refl, refl)
 
-pub challenges_read : AreShownBy club_schema (challenges 6) 2 t.challenges_all t.challenges_ids t.challenges_by_first
-challenges_read = record {
+pub challenges_read : (more : List Table) (others : List Index)
+    → AreShownBy (wider more others) (challenges 6) 2 t.challenges_all t.challenges_ids t.challenges_by_first
+challenges_read more others = record {
   place = 3;
   at = refl;
   columns = challenges_columns;
-  rows = challenges_all_is;
+  rows = challenges_all_is more others;
   whole = λ r. refl;
   firsts = col 1 0 ∷ [];
-  numbers = challenges_ids_is;
+  numbers = challenges_ids_is more others;
   first = λ r. refl;
-  some = challenges_some;
+  some = challenges_some more others;
   all_is = challenges_selects.0;
   ids_is = challenges_selects.1;
   group_is = challenges_selects.2;
@@ -286,9 +302,9 @@ challenges_read = record {
 abbrev moves_columns : List Term
 moves_columns = col 1 1 ∷ col 1 2 ∷ col 1 3 ∷ col 1 4 ∷ col 1 5 ∷ col 1 6 ∷ []
 
-moves_all_is : Selects club_schema 8 2 t.moves_all moves_columns
+moves_all_is : (more : List Table) (others : List Index) → Selects (wider more others) 8 2 t.moves_all moves_columns
 unfolding understood everything
-moves_all_is = record {
+moves_all_is more others = record {
   order = (col 1 1, ascending Binary) ∷ (col 1 2, ascending Binary) ∷ [];
   names = codes "game" ∷ codes "ply" ∷ codes "text" ∷ codes "moment" ∷ codes "left" ∷ codes "position" ∷ [];
   command = refl;
@@ -298,9 +314,9 @@ moves_all_is = record {
   by = λ r s. refl;
 }
 
-moves_ids_is : Selects club_schema 8 1 t.moves_ids (col 1 0 ∷ [])
+moves_ids_is : (more : List Table) (others : List Index) → Selects (wider more others) 8 1 t.moves_ids (col 1 0 ∷ [])
 unfolding understood everything
-moves_ids_is = record {
+moves_ids_is more others = record {
   order = (col 1 0, ascending Binary) ∷ [];
   names = codes "rowid" ∷ [];
   command = refl;
@@ -310,9 +326,10 @@ moves_ids_is = record {
   by = λ r s. refl;
 }
 
-moves_some : (n : ℤ) → Finds club_schema (moves 8) 4 (0 ∷ []) (Int n ∷ []) (Int n ∷ []) t.moves_by_first (by_others 2)
+moves_some : (more : List Table) (others : List Index) (n : ℤ)
+    → Finds (wider more others) (moves 8) 4 (0 ∷ []) (Int n ∷ []) (Int n ∷ []) t.moves_by_first (by_others 2)
 unfolding understood everything first_key
-moves_some n = record {
+moves_some more others n = record {
   at = refl;
   filter = op2 (Compare Eq Binary) (col 1 1) (col 0 0) ∷ [];
   project = moves_columns;
@@ -331,17 +348,18 @@ moves_selects : IsSelect t.moves_all × IsSelect t.moves_ids × IsSelect t.moves
 unfolding understood everything
 moves_selects = (refl, refl, refl)
 
-pub moves_read : AreShownBy club_schema (moves 8) 2 t.moves_all t.moves_ids t.moves_by_first
-moves_read = record {
+pub moves_read : (more : List Table) (others : List Index)
+    → AreShownBy (wider more others) (moves 8) 2 t.moves_all t.moves_ids t.moves_by_first
+moves_read more others = record {
   place = 4;
   at = refl;
   columns = moves_columns;
-  rows = moves_all_is;
+  rows = moves_all_is more others;
   whole = λ r. refl;
   firsts = col 1 0 ∷ [];
-  numbers = moves_ids_is;
+  numbers = moves_ids_is more others;
   first = λ r. refl;
-  some = moves_some;
+  some = moves_some more others;
   all_is = moves_selects.0;
   ids_is = moves_selects.1;
   group_is = moves_selects.2;
@@ -353,9 +371,9 @@ abbrev games_columns : List Term
 games_columns = col 1 0 ∷ col 1 2 ∷ col 1 3 ∷ col 1 4 ∷ col 1 5 ∷ col 1 6 ∷ col 1 7 ∷ col 1 8 ∷ col 1 9 ∷ col 1 10
     ∷ col 1 11 ∷ col 1 12 ∷ col 1 13 ∷ col 1 14 ∷ col 1 15 ∷ col 1 16 ∷ col 1 17 ∷ []
 
-games_all_is : Selects club_schema 10 1 t.games_all games_columns
+games_all_is : (more : List Table) (others : List Index) → Selects (wider more others) 10 1 t.games_all games_columns
 unfolding understood everything
-games_all_is = record {
+games_all_is more others = record {
   order = (col 1 0, ascending Binary) ∷ [];
   names = codes "id" ∷ codes "key" ∷ codes "event" ∷ codes "first" ∷ codes "second" ∷ codes "start" ∷ codes "since"
       ∷ codes "plies" ∷ codes "left1" ∷ codes "left2" ∷ codes "offer_side" ∷ codes "offer_ply" ∷ codes "end"
@@ -367,9 +385,9 @@ games_all_is = record {
   by = λ r s. refl;
 }
 
-games_ids_is : Selects club_schema 10 1 t.games_ids (col 1 0 ∷ [])
+games_ids_is : (more : List Table) (others : List Index) → Selects (wider more others) 10 1 t.games_ids (col 1 0 ∷ [])
 unfolding understood everything
-games_ids_is = record {
+games_ids_is more others = record {
   order = (col 1 0, ascending Binary) ∷ [];
   names = codes "id" ∷ [];
   command = refl;
@@ -379,9 +397,10 @@ games_ids_is = record {
   by = λ r s. refl;
 }
 
-games_some : (n : ℤ) → Finds club_schema (games 10) 5 (0 ∷ []) (Int n ∷ []) (Int n ∷ []) t.games_by_first (by_others 1)
+games_some : (more : List Table) (others : List Index) (n : ℤ)
+    → Finds (wider more others) (games 10) 5 (0 ∷ []) (Int n ∷ []) (Int n ∷ []) t.games_by_first (by_others 1)
 unfolding understood everything first_key
-games_some n = record {
+games_some more others n = record {
   at = refl;
   filter = op2 (Compare Eq Binary) (col 1 0) (col 0 0) ∷ [];
   project = games_columns;
@@ -402,17 +421,18 @@ games_selects : IsSelect t.games_all × IsSelect t.games_ids × IsSelect t.games
 unfolding understood everything
 games_selects = (refl, refl, refl)
 
-pub games_read : AreShownBy club_schema (games 10) 1 t.games_all t.games_ids t.games_by_first
-games_read = record {
+pub games_read : (more : List Table) (others : List Index)
+    → AreShownBy (wider more others) (games 10) 1 t.games_all t.games_ids t.games_by_first
+games_read more others = record {
   place = 5;
   at = refl;
   columns = games_columns;
-  rows = games_all_is;
+  rows = games_all_is more others;
   whole = λ r. refl;
   firsts = col 1 0 ∷ [];
-  numbers = games_ids_is;
+  numbers = games_ids_is more others;
   first = λ r. refl;
-  some = games_some;
+  some = games_some more others;
   all_is = games_selects.0;
   ids_is = games_selects.1;
   group_is = games_selects.2;
@@ -423,9 +443,9 @@ games_read = record {
 abbrev seen_columns : List Term
 seen_columns = col 1 1 ∷ col 1 2 ∷ col 1 3 ∷ col 1 4 ∷ []
 
-seen_all_is : Selects club_schema 12 2 t.seen_all seen_columns
+seen_all_is : (more : List Table) (others : List Index) → Selects (wider more others) 12 2 t.seen_all seen_columns
 unfolding understood everything
-seen_all_is = record {
+seen_all_is more others = record {
   order = (col 1 1, ascending Binary) ∷ (col 1 2, ascending Binary) ∷ [];
   names = codes "game" ∷ codes "position" ∷ codes "count" ∷ codes "first_ply" ∷ [];
   command = refl;
@@ -435,9 +455,9 @@ seen_all_is = record {
   by = λ r s. refl;
 }
 
-seen_ids_is : Selects club_schema 12 1 t.seen_ids (col 1 0 ∷ [])
+seen_ids_is : (more : List Table) (others : List Index) → Selects (wider more others) 12 1 t.seen_ids (col 1 0 ∷ [])
 unfolding understood everything
-seen_ids_is = record {
+seen_ids_is more others = record {
   order = (col 1 0, ascending Binary) ∷ [];
   names = codes "rowid" ∷ [];
   command = refl;
@@ -447,9 +467,10 @@ seen_ids_is = record {
   by = λ r s. refl;
 }
 
-seen_some : (n : ℤ) → Finds club_schema (seen 12) 6 (0 ∷ []) (Int n ∷ []) (Int n ∷ []) t.seen_by_first (by_others 2)
+seen_some : (more : List Table) (others : List Index) (n : ℤ)
+    → Finds (wider more others) (seen 12) 6 (0 ∷ []) (Int n ∷ []) (Int n ∷ []) t.seen_by_first (by_others 2)
 unfolding understood everything first_key
-seen_some n = record {
+seen_some more others n = record {
   at = refl;
   filter = op2 (Compare Eq Binary) (col 1 1) (col 0 0) ∷ [];
   project = seen_columns;
@@ -468,17 +489,18 @@ seen_selects : IsSelect t.seen_all × IsSelect t.seen_ids × IsSelect t.seen_by_
 unfolding understood everything
 seen_selects = (refl, refl, refl)
 
-pub seen_read : AreShownBy club_schema (seen 12) 2 t.seen_all t.seen_ids t.seen_by_first
-seen_read = record {
+pub seen_read : (more : List Table) (others : List Index)
+    → AreShownBy (wider more others) (seen 12) 2 t.seen_all t.seen_ids t.seen_by_first
+seen_read more others = record {
   place = 6;
   at = refl;
   columns = seen_columns;
-  rows = seen_all_is;
+  rows = seen_all_is more others;
   whole = λ r. refl;
   firsts = col 1 0 ∷ [];
-  numbers = seen_ids_is;
+  numbers = seen_ids_is more others;
   first = λ r. refl;
-  some = seen_some;
+  some = seen_some more others;
   all_is = seen_selects.0;
   ids_is = seen_selects.1;
   group_is = seen_selects.2;
@@ -489,9 +511,9 @@ seen_read = record {
 abbrev scores_columns : List Term
 scores_columns = col 1 1 ∷ col 1 2 ∷ col 1 3 ∷ col 1 4 ∷ col 1 5 ∷ col 1 6 ∷ col 1 7 ∷ []
 
-scores_all_is : Selects club_schema 14 3 t.scores_all scores_columns
+scores_all_is : (more : List Table) (others : List Index) → Selects (wider more others) 14 3 t.scores_all scores_columns
 unfolding understood everything
-scores_all_is = record {
+scores_all_is more others = record {
   order = (col 1 1, ascending Binary) ∷ (col 1 2, ascending Binary) ∷ (col 1 3, ascending Binary) ∷ [];
   names = codes "event" ∷ codes "member" ∷ codes "opponent" ∷ codes "points" ∷ codes "wins" ∷ codes "draws"
       ∷ codes "losses" ∷ [];
@@ -502,9 +524,9 @@ scores_all_is = record {
   by = λ r s. refl;
 }
 
-scores_ids_is : Selects club_schema 14 1 t.scores_ids (col 1 0 ∷ [])
+scores_ids_is : (more : List Table) (others : List Index) → Selects (wider more others) 14 1 t.scores_ids (col 1 0 ∷ [])
 unfolding understood everything
-scores_ids_is = record {
+scores_ids_is more others = record {
   order = (col 1 0, ascending Binary) ∷ [];
   names = codes "rowid" ∷ [];
   command = refl;
@@ -514,10 +536,11 @@ scores_ids_is = record {
   by = λ r s. refl;
 }
 
-scores_some : (n : ℤ) → Finds club_schema (scores 14) 7 (0 ∷ []) (Int n ∷ []) (Int n ∷ []) t.scores_by_first
+scores_some : (more : List Table) (others : List Index) (n : ℤ)
+    → Finds (wider more others) (scores 14) 7 (0 ∷ []) (Int n ∷ []) (Int n ∷ []) t.scores_by_first
     (by_others 3)
 unfolding understood everything first_key
-scores_some n = record {
+scores_some more others n = record {
   at = refl;
   filter = op2 (Compare Eq Binary) (col 1 1) (col 0 0) ∷ [];
   project = scores_columns;
@@ -537,20 +560,89 @@ scores_selects : IsSelect t.scores_all × IsSelect t.scores_ids × IsSelect t.sc
 unfolding understood everything
 scores_selects = (refl, refl, refl)
 
-pub scores_read : AreShownBy club_schema (scores 14) 3 t.scores_all t.scores_ids t.scores_by_first
-scores_read = record {
+pub scores_read : (more : List Table) (others : List Index)
+    → AreShownBy (wider more others) (scores 14) 3 t.scores_all t.scores_ids t.scores_by_first
+scores_read more others = record {
   place = 7;
   at = refl;
   columns = scores_columns;
-  rows = scores_all_is;
+  rows = scores_all_is more others;
   whole = λ r. refl;
   firsts = col 1 0 ∷ [];
-  numbers = scores_ids_is;
+  numbers = scores_ids_is more others;
   first = λ r. refl;
-  some = scores_some;
+  some = scores_some more others;
   all_is = scores_selects.0;
   ids_is = scores_selects.1;
   group_is = scores_selects.2;
+}
+
+-- ---- event_rules
+
+abbrev event_rules_columns : List Term
+event_rules_columns = col 1 0 ∷ col 1 2 ∷ []
+
+event_rules_all_is : Selects club_schema 16 1 t.event_rules_all event_rules_columns
+unfolding understood everything
+event_rules_all_is = record {
+  order = (col 1 0, ascending Binary) ∷ [];
+  names = codes "event" ∷ codes "declares" ∷ [];
+  command = refl;
+  plain = (refl, refl);
+  unlisted = refl;
+  overlaid = λ d. refl;
+  by = λ r s. refl;
+}
+
+event_rules_ids_is : Selects club_schema 16 1 t.event_rules_ids (col 1 0 ∷ [])
+unfolding understood everything
+event_rules_ids_is = record {
+  order = (col 1 0, ascending Binary) ∷ [];
+  names = codes "event" ∷ [];
+  command = refl;
+  plain = (refl, refl);
+  unlisted = refl;
+  overlaid = λ d. refl;
+  by = λ r s. refl;
+}
+
+event_rules_some : (n : ℤ)
+    → Finds club_schema (event_rules 16) 8 (0 ∷ []) (Int n ∷ []) (Int n ∷ []) t.event_rules_by_first (by_others 1)
+unfolding understood everything first_key
+event_rules_some n = record {
+  at = refl;
+  filter = op2 (Compare Eq Binary) (col 1 0) (col 0 0) ∷ [];
+  project = event_rules_columns;
+  order = [];
+  names = codes "event" ∷ codes "declares" ∷ [];
+  command = refl;
+  plain = (refl, refl);
+  unlisted = refl;
+  overlaid = λ d. refl;
+  shows = λ r. refl;
+  picks = λ r. refl;
+  by = λ r s. refl;
+}
+
+event_rules_selects : IsSelect t.event_rules_all × IsSelect t.event_rules_ids × IsSelect t.event_rules_by_first
+unfolding understood everything
+event_rules_selects = (refl, refl, refl)
+
+pub event_rules_read :
+    AreShownBy club_schema (event_rules 16) 1 t.event_rules_all t.event_rules_ids t.event_rules_by_first
+event_rules_read = record {
+  place = 8;
+  at = refl;
+  columns = event_rules_columns;
+  rows = event_rules_all_is;
+  whole = λ r. refl;
+  firsts = col 1 0 ∷ [];
+  numbers = event_rules_ids_is;
+  first = λ r. refl;
+  some = event_rules_some;
+  all_is = event_rules_selects.0;
+  ids_is = event_rules_selects.1;
+  group_is = event_rules_selects.2;
 }
 
 -- ---- by a whole key, or by a column that is UNIQUE

@@ -16,15 +16,17 @@ use Rattle.sqlite_schema.specs.declared.command.Conflict.TheVariants.{Abort}
 use Rattle.sqlite_sql.specs.Term.{Term}
 use Rattle.sqlite_rules.proofs.ListLemmas.{all_has, has_got}
 use Rattle.store_tables.specs.Cells.{meta_cells, member_cells, event_cells, challenge_cells, move_cells, game_cells}
-use Rattle.store_tables.specs.Cells.{seen_cells, score_cells}
-use Rattle.store_tables.specs.Contents.{Content, put_in, put_each, nothing, first_meta, Stores, Holds, Steps, Leaves}
+use Rattle.store_tables.specs.Cells.{event_rule_cells, seen_cells, score_cells}
+use Rattle.store_tables.specs.Contents.{Content, put_in, put_each, nothing, opening_meta, Stores, Holds, Steps, Leaves}
 use Rattle.store_tables.specs.Contents.{IsExactly, Makes, Fills}
 use Rattle.store_tables.specs.Put.{IsPut, on_key}
-use Rattle.store_tables.specs.Tables.{meta, members, events, challenges, moves, games, seen, scores, club_schema}
+use Rattle.store_tables.specs.Tables.{meta, members, events, event_rules, challenges, moves, games, seen, scores}
+use Rattle.store_tables.specs.Tables.{club_schema}
 use Rattle.store_tables.specs.Texts as t
 use Rattle.store_tables.specs.declared.rows.MetaRow.{MetaRow}
 use Rattle.store_tables.specs.declared.rows.MemberRow.{MemberRow}
 use Rattle.store_tables.specs.declared.rows.EventRow.{EventRow}
+use Rattle.store_tables.specs.declared.rows.EventRuleRow.{EventRuleRow}
 use Rattle.store_tables.specs.declared.rows.ChallengeRow.{ChallengeRow}
 use Rattle.store_tables.specs.declared.rows.MoveRow.{MoveRow}
 use Rattle.store_tables.specs.declared.rows.GameRecord.{GameRecord}
@@ -35,9 +37,9 @@ use Rattle.store_tables.proofs.MakeLemmas.{holds_nothing}
 use Rattle.store_tables.proofs.Meanings.{meta_put_is, meta_put_plain, members_put_is, members_put_plain, events_put_is}
 use Rattle.store_tables.proofs.Meanings.{events_put_plain, challenges_put_is, challenges_put_plain, moves_put_is}
 use Rattle.store_tables.proofs.Meanings.{moves_put_plain, games_put_is, games_put_plain, seen_put_is, seen_put_plain}
-use Rattle.store_tables.proofs.Meanings.{scores_put_is, scores_put_plain}
+use Rattle.store_tables.proofs.Meanings.{scores_put_is, scores_put_plain, event_rules_put_is, event_rules_put_plain}
 use Rattle.store_tables.proofs.PutMeanings.{meta_puts, member_puts, event_puts, challenge_puts, move_puts, game_puts}
-use Rattle.store_tables.proofs.PutMeanings.{seen_puts, score_puts}
+use Rattle.store_tables.proofs.PutMeanings.{event_rule_puts, seen_puts, score_puts}
 
 module _ (table : Table) (params row : Row) (key : List ℕ) (from : Source) (places : List ℕ) (base : ℕ)
     (project : List Term) (is : IsPut club_schema table key params row from places base project)
@@ -85,6 +87,14 @@ pub event_put_of : (r : EventRow) (sql : List ℕ) (params : Row) (old new : Sta
 event_put_of r sql params old new count text given h =
     put_inside (events 4) (event_cells r) (event_cells r) (0 ∷ []) _ (0 ∷ []) 5 _ (event_puts r) t.events_put 2
     events_put_is events_put_plain refl old new count
+    (subst₂ (λ s p. ExecutesInside 0 s p old new (Ok count)) text given h)
+
+pub event_rule_put_of : (r : EventRuleRow) (sql : List ℕ) (params : Row) (old new : State) (count : ℕ)
+    → sql ≡ t.event_rules_put → params ≡ event_rule_cells r → ExecutesInside 0 sql params old new (Ok count)
+    → Steps club_schema (put_in 16 (0 ∷ []) (event_rule_cells r)) old new
+event_rule_put_of r sql params old new count text given h =
+    put_inside (event_rules 16) (event_rule_cells r) (event_rule_cells r) (0 ∷ []) _ (0 ∷ []) 2 _ (event_rule_puts r)
+    t.event_rules_put 8 event_rules_put_is event_rules_put_plain refl old new count
     (subst₂ (λ s p. ExecutesInside 0 s p old new (Ok count)) text given h)
 
 pub move_put_of : (r : MoveRow) (sql : List ℕ) (params : Row) (old new : State) (count : ℕ) → sql ≡ t.moves_put
@@ -172,7 +182,7 @@ commits schema content last new h shown settled =
           (leaves_of schema new.now content now);
     }
 
-pub fills : (a b c : State) → Makes 0 8 a b → Steps club_schema (put_in 0 (0 ∷ []) first_meta) b c → Fills a c
+pub fills : (a b c : State) → Makes 0 9 a b → Steps club_schema (put_in 0 (0 ∷ []) opening_meta) b c → Fills a c
 fills a b c one two = record {
   holds = λ k. two.holds nothing (holds_nothing b.now (one.made k));
   committed = two.committed ∙ one.committed;

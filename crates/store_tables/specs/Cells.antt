@@ -9,6 +9,7 @@ use Rattle.sqlite_trees.specs.View.{is_int}
 use Rattle.store_tables.specs.declared.rows.MetaRow.{MetaRow}
 use Rattle.store_tables.specs.declared.rows.MemberRow.{MemberRow}
 use Rattle.store_tables.specs.declared.rows.EventRow.{EventRow}
+use Rattle.store_tables.specs.declared.rows.EventRuleRow.{EventRuleRow}
 use Rattle.store_tables.specs.declared.rows.ChallengeRow.{ChallengeRow}
 use Rattle.store_tables.specs.declared.rows.MoveRow.{MoveRow}
 use Rattle.store_tables.specs.declared.rows.GameRecord.{GameRecord}
@@ -23,6 +24,9 @@ member_cells r = Int r.id ∷ Text (string_bytes r.name) ∷ Text (string_bytes 
 
 abbrev pub event_cells : EventRow → Row
 event_cells r = Int r.id ∷ Text (string_bytes r.name) ∷ Int r.game ∷ Int r.budget ∷ Int r.increment ∷ []
+
+abbrev pub event_rule_cells : EventRuleRow → Row
+event_rule_cells r = Int r.event ∷ Int r.declares ∷ []
 
 abbrev pub challenge_cells : ChallengeRow → Row
 challenge_cells r = Int r.member ∷ Int r.number ∷ Int r.event ∷ Int r.other ∷ Int r.first ∷ Int r.state
@@ -75,6 +79,11 @@ pub record IsEvent (row : Row) : Type 0 where
   pub game : IsInt (column row 2)
   pub budget : IsInt (column row 3)
   pub increment : IsInt (column row 4)
+
+pub record IsEventRule (row : Row) : Type 0 where
+  pub width : length row ≡ 2
+  pub event : IsInt (column row 0)
+  pub declares : IsInt (column row 1)
 
 pub record IsChallenge (row : Row) : Type 0 where
   pub width : length row ≡ 7

@@ -3,16 +3,18 @@ use Rattle.std.specs.Prelude.{List, [], ◌∷◌, map, Option, Some, None}
 use Rattle.sqlite.specs.Order.{Row}
 use Rattle.store_tables.specs.Changes.{Alters}
 use Rattle.store_tables.specs.Cells.{meta_cells, member_cells, event_cells, challenge_cells, move_cells, game_cells}
-use Rattle.store_tables.specs.Cells.{seen_cells, score_cells}
+use Rattle.store_tables.specs.Cells.{event_rule_cells, seen_cells, score_cells}
 use Rattle.store_tables.specs.Contents.{Content, put_in, put_each}
+use Rattle.store_tables.specs.declared.rows.EventRuleRow.{EventRuleRow}
 use Rattle.store_tables.specs.declared.rows.MetaRow.{MetaRow}
 use Rattle.store_tables.specs.declared.rows.Changes.{Changes}
 
 abbrev pub people_put : Changes → Content → Content
 people_put c content =
     put_each 6 (0 ∷ 1 ∷ []) (map challenge_cells c.challenges.items)
+    (put_each 16 (0 ∷ []) (map event_rule_cells c.event_rules.items)
     (put_each 4 (0 ∷ []) (map event_cells c.events.items)
-    (put_each 1 (0 ∷ []) (map member_cells c.members.items) content))
+    (put_each 1 (0 ∷ []) (map member_cells c.members.items) content)))
 
 abbrev pub play_put : Changes → Content → Content
 play_put c content = put_each 8 (0 ∷ 1 ∷ []) (map move_cells c.moves.items)
@@ -33,6 +35,11 @@ meta_put c content = put_maybe c.meta content
 abbrev pub changed : Changes → Content → Content
 changed c content = meta_put c (counts_put c (play_put c (people_put c content)))
 
+-- the rows of schema 1 with these rules of events and this row of `meta`
+abbrev pub widened : List EventRuleRow → MetaRow → Content → Content
+widened rules meta content = put_in 0 (0 ∷ []) (meta_cells meta)
+    (put_each 16 (0 ∷ []) (map event_rule_cells rules) content)
+
 abbrev pub maybe_row : Option MetaRow → List Row
 maybe_row None = []
 maybe_row (Some meta) = meta_cells meta ∷ []
@@ -42,6 +49,7 @@ pub record AltersTables (changes : Changes) (old new : Content) : Type 0 where
   pub meta : Alters (0 ∷ []) (maybe_row changes.meta) (old 0) (new 0)
   pub members : Alters (0 ∷ []) (map member_cells changes.members.items) (old 1) (new 1)
   pub events : Alters (0 ∷ []) (map event_cells changes.events.items) (old 4) (new 4)
+  pub event_rules : Alters (0 ∷ []) (map event_rule_cells changes.event_rules.items) (old 16) (new 16)
   pub challenges : Alters (0 ∷ 1 ∷ []) (map challenge_cells changes.challenges.items) (old 6) (new 6)
   pub moves : Alters (0 ∷ 1 ∷ []) (map move_cells changes.moves.items) (old 8) (new 8)
   pub games : Alters (0 ∷ []) (map game_cells changes.games.items) (old 10) (new 10)

@@ -11,7 +11,7 @@ use Rattle.sqlite.specs.State.{State, ExecutesInside}
 use Rattle.sqlite_catalog.specs.Listing.{IsSound}
 use Rattle.sqlite_rules.specs.Lists.{Has}
 use Rattle.store_tables.specs.Content.{same_key, AreApart, Keeps, put}
-use Rattle.store_tables.specs.Tables.{club_schema, schema_after}
+use Rattle.store_tables.specs.Tables.{club_schema, first_schema, schema_after}
 
 -- the rows of each table, by the number of its tree
 abbrev pub Content : Type 0
@@ -30,12 +30,12 @@ put_each tree key (row ∷ rows) content = put_each tree key rows (put_in tree k
 abbrev pub nothing : Content
 nothing t = []
 
-abbrev pub first_meta : Row
-first_meta = Int (pos 1) ∷ Int (pos 1) ∷ Int (pos 0) ∷ []
+abbrev pub opening_meta : Row
+opening_meta = Int (pos 1) ∷ Int (pos 2) ∷ Int (pos 0) ∷ []
 
--- the tables of a club with nothing in it: schema 1, and no command accepted
+-- the tables of a club with nothing in it: schema 2, and no command accepted
 abbrev pub opening : Content
-opening = put_in 0 (0 ∷ []) first_meta nothing
+opening = put_in 0 (0 ∷ []) opening_meta nothing
 
 pub record Stores (table : Table) (trees : Trees) (content : Content) : Type 0 where
   pub rows : Keeps table trees (content table.tree)
@@ -100,6 +100,13 @@ pub record Makes (from to : ℕ) (old new : State) : Type 0 where
 -- Inside a transaction, an empty database came to hold the opening content.
 pub record Fills (old new : State) : Type 0 where
   pub holds : AreMade (schema_after 0) old.now → Holds club_schema new.now opening
+  pub committed : new.committed ≡ old.committed
+  pub inside : new.in_transaction ≡ true
+
+-- Inside a transaction the table of rules of events was made beside the rows of schema 1, and nothing was committed.
+pub record Widens (old new : State) : Type 0 where
+  pub holds : (content : Content) → content 16 ≡ [] → Holds first_schema old.now content
+      → Holds club_schema new.now content
   pub committed : new.committed ≡ old.committed
   pub inside : new.in_transaction ≡ true
 

@@ -1,6 +1,6 @@
--- The eight tables of schema 1, as SQL understands their CREATE texts. Each UNIQUE key, and each key of several
--- columns, has a tree of its own after that of its table.
-use Rattle.std.specs.Prelude.{ℕ, ◌+◌, Bool, true, false, List, [], ◌∷◌, ◌++◌, map, codes, Option, Some, None, take}
+-- The tables of a club, as SQL understands their CREATE texts. Each UNIQUE key, and each key of several columns, has a
+-- tree of its own after that of its table. Schema 1 has the first eight of them, schema 2 also the last.
+use Rattle.std.specs.Prelude.{◌≡◌, ◌⊎◌, ℕ, ◌+◌, Bool, true, false, List, [], ◌∷◌, ◌++◌, map, codes, Option, Some, None, take}
 use Rattle.sqlite.specs.Collation.TheVariants.{Binary}
 use Rattle.sqlite.specs.declared.types.Value.TheVariants.{Null}
 use Rattle.sqlite.specs.Table.{Table}
@@ -11,6 +11,8 @@ use Rattle.sqlite_value.specs.Keys.{plain}
 use Rattle.sqlite.specs.Schema.{Schema}
 use Rattle.sqlite.specs.Kind.TheVariants.{Integer, Text}
 use Rattle.sqlite_catalog.specs.Change.{automatics}
+use Rattle.store_tables.specs.declared.names.Version.{Version}
+use Rattle.store_tables.specs.declared.names.Version.TheVariants.{First, Current}
 
 abbrev pub column_of : List ℕ → Kind → Bool → Column
 column_of name kind required =
@@ -90,8 +92,12 @@ scores tree = table_of (codes "scores") tree
     ∷ column_of (codes "losses") Integer true ∷ [])
     None (1 ∷ 2 ∷ 3 ∷ []) ((1 ∷ 2 ∷ 3 ∷ []) ∷ [])
 
+abbrev pub event_rules : ℕ → Table
+event_rules tree = table_of (codes "event_rules") tree
+    (column_of (codes "event") Integer false ∷ column_of (codes "declares") Integer true ∷ []) (Some 0) (0 ∷ []) []
+
 abbrev pub tables : List Table
-tables = meta 0 ∷ members 1 ∷ events 4 ∷ challenges 6 ∷ moves 8 ∷ games 10 ∷ seen 12 ∷ scores 14 ∷ []
+tables = meta 0 ∷ members 1 ∷ events 4 ∷ challenges 6 ∷ moves 8 ∷ games 10 ∷ seen 12 ∷ scores 14 ∷ event_rules 16 ∷ []
 
 abbrev pub indexes_of : Table → List Index
 indexes_of table = automatics table 0 (table.tree + 1) table.uniques
@@ -100,9 +106,27 @@ abbrev pub flat_indexes : List Table → List Index
 flat_indexes [] = []
 flat_indexes (t ∷ ts) = indexes_of t ++ flat_indexes ts
 
+-- schema 2
 abbrev pub club_schema : Schema
 club_schema = record { tables = tables; indexes = flat_indexes tables; views = [] }
 
 -- the schema with so many of the tables
 abbrev pub schema_after : ℕ → Schema
 schema_after n = record { tables = take n tables; indexes = flat_indexes (take n tables); views = [] }
+
+-- schema 1: all but the last of the tables
+abbrev pub first_schema : Schema
+first_schema = schema_after 8
+
+abbrev pub schema_of : Version → Schema
+schema_of First = first_schema
+schema_of Current = club_schema
+
+-- the number of the schema, which `meta` tells
+abbrev pub schema_number : Version → ℕ
+schema_number First = 1
+schema_number Current = 2
+
+-- the schema of a club, of either version
+abbrev pub IsClubSchema : Schema → Type 0
+IsClubSchema schema = (schema ≡ first_schema) ⊎ (schema ≡ club_schema)

@@ -38,6 +38,18 @@ events_put =
 abbrev pub events_all : List ℕ
 events_all = codes "SELECT id, name, game, budget, increment FROM events ORDER BY id"
 
+abbrev pub event_rules_create : List ℕ
+event_rules_create =
+    codes "CREATE TABLE event_rules (event INTEGER PRIMARY KEY, declares INTEGER NOT NULL) STRICT"
+
+abbrev pub event_rules_put : List ℕ
+event_rules_put =
+    codes
+    "INSERT INTO event_rules (event, declares) VALUES (?1, ?2) ON CONFLICT (event) DO UPDATE SET event = excluded.event, declares = excluded.declares"
+
+abbrev pub event_rules_all : List ℕ
+event_rules_all = codes "SELECT event, declares FROM event_rules ORDER BY event"
+
 abbrev pub challenges_create : List ℕ
 challenges_create =
     codes
@@ -117,6 +129,9 @@ members_ids = codes "SELECT id FROM members ORDER BY id"
 abbrev pub events_ids : List ℕ
 events_ids = codes "SELECT id FROM events ORDER BY id"
 
+abbrev pub event_rules_ids : List ℕ
+event_rules_ids = codes "SELECT event FROM event_rules ORDER BY event"
+
 abbrev pub challenges_ids : List ℕ
 challenges_ids = codes "SELECT rowid FROM challenges ORDER BY rowid"
 
@@ -142,6 +157,9 @@ members_by_first = codes "SELECT id, name, key FROM members WHERE id = ?1"
 
 abbrev pub events_by_first : List ℕ
 events_by_first = codes "SELECT id, name, game, budget, increment FROM events WHERE id = ?1"
+
+abbrev pub event_rules_by_first : List ℕ
+event_rules_by_first = codes "SELECT event, declares FROM event_rules WHERE event = ?1"
 
 abbrev pub challenges_by_first : List ℕ
 challenges_by_first =

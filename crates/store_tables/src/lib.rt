@@ -1,4 +1,4 @@
-//! The eight tables of a club: their rows as types, and what their texts of SQL mean.
+//! The tables of a club: their rows as types, and what their texts of SQL mean.
 #![tactic(auto)]
 
 mod ids;
@@ -7,9 +7,9 @@ mod parse;
 mod rows;
 
 pub use ids::check_ids;
-pub use names::Table;
+pub use names::{Table, Version};
 pub use parse::{TableRow, Unread, parse_all};
 pub use rows::{
-    ChallengeRow, Changes, EventRow, GameRecord, MemberRow, MetaRow, MoveRow, Rows, ScoreRow,
-    SeenRow,
+    ChallengeRow, Changes, EventRow, EventRuleRow, GameRecord, MemberRow, MetaRow, MoveRow, Rows,
+    ScoreRow, SeenRow,
 };

@@ -2,11 +2,21 @@
 
 use std::fmt;
 
+/// The schemas of a club: the first has no rules of events.
+#[derive(Debug, Clone, Copy, PartialEq, Eq)]
+pub enum Version {
+    /// Schema 1.
+    First,
+    /// Schema 2.
+    Current,
+}
+
 /// The tables of a club.
 #[derive(Debug, Clone, Copy, PartialEq, Eq)]
 pub enum Table {
     Members,
     Events,
+    EventRules,
     Challenges,
     Moves,
     Games,
@@ -26,6 +36,7 @@ impl Table {
         match self {
             Table::Members => "members",
             Table::Events => "events",
+            Table::EventRules => "event_rules",
             Table::Challenges => "challenges",
             Table::Moves => "moves",
             Table::Games => "games",

@@ -6,12 +6,13 @@ ghost use Rattle.sqlite.specs.Values.{IsInt, or_null};
 ghost use Rattle.sqlite.specs.Order.{Row as Cells, column};
 ghost use Rattle.store_tables.specs.declared.parse.Unread.TheVariants.{Mistyped};
 ghost use Rattle.store_tables.specs.Cells.{meta_cells, member_cells, event_cells, challenge_cells, move_cells};
-ghost use Rattle.store_tables.specs.Cells.{game_cells, seen_cells, score_cells};
+ghost use Rattle.store_tables.specs.Cells.{event_rule_cells, game_cells, seen_cells, score_cells};
 ghost use Rattle.store_tables.specs.Cells.{IsText, OrNull, IsMeta, IsMember, IsEvent, IsChallenge, IsMove, IsGame};
-ghost use Rattle.store_tables.specs.Cells.{IsSeen, IsScore};
+ghost use Rattle.store_tables.specs.Cells.{IsEventRule, IsSeen, IsScore};
 
 use crate::rows::{
-    ChallengeRow, EventRow, GameRecord, MemberRow, MetaRow, MoveRow, ScoreRow, SeenRow,
+    ChallengeRow, EventRow, EventRuleRow, GameRecord, MemberRow, MetaRow, MoveRow, ScoreRow,
+    SeenRow,
 };
 use sqlite::types::FromSql;
 use sqlite::{Error, ErrorCode, Row};
@@ -135,6 +136,22 @@ impl TableRow for EventRow {
             game: read(row, 2)?,
             budget: read(row, 3)?,
             increment: read(row, 4)?,
+        })
+    }
+}
+
+impl TableRow for EventRuleRow {
+    ghost cells = { event_rule_cells };
+
+    ghost IsTyped = { IsEventRule };
+
+    fn parse(row: &Row) -> Result<EventRuleRow, Unread> {
+        if row.column_count() != 2 {
+            return Err(Unread::Mistyped);
+        }
+        Ok(EventRuleRow {
+            event: read(row, 0)?,
+            declares: read(row, 1)?,
         })
     }
 }

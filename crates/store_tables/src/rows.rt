@@ -33,6 +33,14 @@ pub struct EventRow {
     pub increment: i64,
 }
 
+/// The rules of an event beside its clock.
+#[derive(Debug, PartialEq, Drop)]
+pub struct EventRuleRow {
+    pub event: i64,
+    /// 1 where a player may declare that the king has entered, else 0.
+    pub declares: i64,
+}
+
 /// A challenge of one member to another.
 #[derive(Debug, PartialEq, Drop)]
 pub struct ChallengeRow {
@@ -130,6 +138,7 @@ pub struct Rows {
     pub meta: MetaRow,
     pub members: Vec<MemberRow>,
     pub events: Vec<EventRow>,
+    pub event_rules: Vec<EventRuleRow>,
     pub challenges: Vec<ChallengeRow>,
     pub games: Vec<GameRecord>,
 }
@@ -139,6 +148,7 @@ pub struct Rows {
 pub struct Changes {
     pub members: Vec<MemberRow>,
     pub events: Vec<EventRow>,
+    pub event_rules: Vec<EventRuleRow>,
     pub challenges: Vec<ChallengeRow>,
     pub games: Vec<GameRecord>,
     pub moves: Vec<MoveRow>,

@@ -244,6 +244,7 @@ pub leaves_others : (s : ClubState) (moment : ℕ) → LeavesOthers s moment
 leaves_others s moment = record {
   members_stay = refl;
   events_stay = refl;
+  rules_stay = refl;
   challenges_stay = refl;
   moves_stay = gathered_stay (rows_of_moves both_games s.events) (swept_any both_games s moment) (swept_moves s moment)
       1 s.games;

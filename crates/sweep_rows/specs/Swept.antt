@@ -19,6 +19,7 @@ pub record IsSwept (s : ClubState) (moment : ℕ) (rows : SweptRows) : Type 0 wh
 pub record LeavesOthers (s : ClubState) (moment : ℕ) : Type 0 where
   pub members_stay : tables (with_swept both_games s moment) 1 ≡ tables s 1
   pub events_stay : tables (with_swept both_games s moment) 4 ≡ tables s 4
+  pub rules_stay : tables (with_swept both_games s moment) 16 ≡ tables s 16
   pub challenges_stay : tables (with_swept both_games s moment) 6 ≡ tables s 6
   pub moves_stay : tables (with_swept both_games s moment) 8 ≡ tables s 8
   pub seen_stays : tables (with_swept both_games s moment) 12 ≡ tables s 12

@@ -1,8 +1,8 @@
 //! What the lines of a script come to.
 
-use crate::clubs::{changed, copy_of, made, new_club, retaken, run, table, taken, told};
+use crate::clubs::{changed, copy_of, made, new_club, retaken, run, table, taken, told, upgraded};
 use crate::courses::whole_at_each_stop;
-use crate::files::{begun, session};
+use crate::files::{begun, session, upgrade_in};
 use crate::held::Held;
 use crate::images::{Stop, empty_files};
 use crate::report::Report;
@@ -10,6 +10,7 @@ use crate::requests::request;
 use crate::rows::found;
 use crate::script::Line;
 use crate::stops::whole_or_none;
+use crate::upgrades::{told_upgrade, whole_or_old};
 use anyhow::{Context, Result, bail};
 use club_requests::Request;
 use sqlite::{Connection, Options};
@@ -141,7 +142,31 @@ fn show_table(alloc: Global, held: Held, event: &str) -> Result<(Held, String)> 
     Ok((Held::Club(club), text?))
 }
 
+// What an upgrade comes to.
+fn upgrades(alloc: Global, held: Held) -> Result<(Held, String)> {
+    match held {
+        Held::Files(files) => {
+            let (done, files) = upgrade_in(alloc, files);
+            Ok((Held::Files(files), told_upgrade(alloc, done)?))
+        }
+        held => {
+            let (done, conn) = upgraded(alloc, held.into_connection()?);
+            Ok((Held::Database(conn), told_upgrade(alloc, done)?))
+        }
+    }
+}
+
+// What an upgrade comes to, which is stopped at each call of the disk.
+fn stop_upgrade(alloc: Global, held: Held) -> Result<(Held, String)> {
+    let files = held.into_files()?;
+    let told = whole_or_old(alloc, &files);
+    Ok((Held::Files(files), told?))
+}
+
 fn stop(alloc: Global, held: Held, text: &str) -> Result<(Held, String)> {
+    if text == "upgrade" {
+        return stop_upgrade(alloc, held);
+    }
     let request = [read_request(alloc, text)?];
     let files = held.into_files()?;
     let outcome = whole_or_none(alloc, &files, &request);
@@ -158,7 +183,8 @@ fn answer(alloc: Global, held: Held, line: &Line<'_>) -> Result<(Held, String)> 
         "club" => done(alloc, new_held(alloc, line.asked)),
         "database" => done(alloc, empty_held(alloc, line.asked)),
         "again" => done(alloc, again(alloc, held)),
-        "sql" => done(alloc, held.changed(line.asked)),
+        "sql" => done(alloc, held.changed(alloc, line.asked)),
+        "upgrades" => upgrades(alloc, held),
         "creates" => told(alloc, made(alloc, held.into_connection()?), "ready"),
         "opens" => opens(alloc, held),
         "damage" => damage(alloc, held, line.asked),

@@ -6,7 +6,7 @@ use anyhow::{Error, Result, bail};
 use club_requests::Request;
 use sqlite::{Connection, MemStore};
 use std::alloc::Global;
-use store::{Club, OpenFault, Run, Unopened, adopt, create};
+use store::{Club, OpenFault, Run, Unopened, Upgrade, adopt, create, upgrade};
 use store_sql::commit_changes;
 
 /// The club that stands in a database, or why none does.
@@ -36,6 +36,20 @@ pub fn made(
             fault: OpenFault::Store,
             conn,
         })
+    }
+}
+
+/// What an upgrade of a database came to, and the database.
+pub fn upgraded(
+    alloc: Global,
+    conn: Connection<MemStore>,
+) -> (Result<Upgrade, OpenFault>, Connection<MemStore>) {
+    if !conn.is_autocommit() {
+        return (Err(OpenFault::Store), conn);
+    }
+    match upgrade(alloc, conn) {
+        Ok((conn, done)) => (Ok(done), conn),
+        Err(unopened) => (Err(unopened.fault), unopened.conn),
     }
 }
 

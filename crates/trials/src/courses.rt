@@ -2,16 +2,13 @@
 
 use crate::files::{begun, rows_in, session, stopped};
 use crate::held::Disks;
-use crate::images::{ClubFile, Image, Stop, empty_files};
+use crate::images::{ClubFile, Image, Stop, Stoppable, empty_files, stop_at_each};
 use anyhow::{Context, Result, bail};
 use club_requests::{Outcome, Request};
 use sqlite::Options;
 use std::alloc::Global;
 use store::OpenFault;
 use store_tables::Changes;
-
-/// How many calls of the disk a course takes at most.
-const MOST_CALLS: u64 = 100_000;
 
 /// What was done before a stop.
 #[derive(Clone, Copy, PartialEq)]
@@ -163,9 +160,9 @@ impl<'a> Course<'a> {
             (Err(fault), _) => bail!("what is found is refused as {fault}"),
         }
     }
+}
 
-    /// Stops the course after so many calls of the file. Whether it came to its end without the stop, if what is found
-    /// is whole, with all that was written and with what was synced alone.
+impl Stoppable for Course<'_> {
     fn tried(&self, alloc: Global, file: ClubFile, calls: u64) -> Result<Option<bool>> {
         let (done, left) = self.stopped(alloc, file.stop(calls))?;
         let mut left = left;
@@ -175,20 +172,6 @@ impl<'a> Course<'a> {
         let is_whole = self.is_found_whole(alloc, done, &written)?
             && (synced == written || self.is_found_whole(alloc, done, &synced)?);
         Ok(is_whole.then_some(is_over))
-    }
-
-    /// Stops the course at each call of the file, until it comes to its end without a stop. How many stops there were.
-    fn stop_at_each(&self, alloc: Global, file: ClubFile) -> Result<u64> {
-        let name = file.name();
-        for calls in 0..MOST_CALLS {
-            match self.tried(alloc, file, calls) {
-                Ok(Some(true)) => return Ok(calls),
-                Ok(Some(false)) => {}
-                Ok(None) => bail!("neither whole nor none after {calls} calls of the {name}"),
-                Err(fault) => bail!("{fault} after {calls} calls of the {name}"),
-            }
-        }
-        bail!("not at an end after any number of calls of the {name}")
     }
 }
 
@@ -201,7 +184,7 @@ pub fn whole_at_each_stop(
 ) -> Result<(Vec<String>, Disks)> {
     let (course, files) = Course::unstopped(alloc, requests, frames)?;
     for file in [ClubFile::Log, ClubFile::Database] {
-        course.stop_at_each(alloc, file)?;
+        stop_at_each(alloc, &course, file)?;
     }
     Ok((course.outcomes, files))
 }

@@ -3,13 +3,13 @@
 ghost use Rattle.std.specs.Prelude.{◌≡◌, false, IfOk};
 
 use crate::rows::rows_of;
-use anyhow::{Result, bail};
+use anyhow::{Error, Result, bail};
 use club_requests::{Outcome, Request};
 use sessions::{close, end, serve};
 use sqlite::{Connection, FileStore, Files, Options};
 use sqlite_disk::Disk;
 use std::alloc::Global;
-use store::{OpenFault, Run, StoreFault, create, resume};
+use store::{OpenFault, Run, StoreFault, Upgrade, create, resume, upgrade};
 use store_tables::Changes;
 
 /// A connection over the files, or the files again where they were not opened.
@@ -100,6 +100,43 @@ pub fn stopped<D: Disk + Drop>(
     let again = if run.fault.is_some() { requests } else { &[] };
     let again = club.run(alloc, again);
     (shut_after(run, &again), end(club).close())
+}
+
+/// Upgrades the club in the files, the log of which every commit copies. What that came to, and the files after it.
+pub fn upgrade_in<D: Disk + Drop>(
+    alloc: Global,
+    files: Files<D>,
+) -> (Result<Upgrade, OpenFault>, Files<D>) {
+    let options = Options {
+        checkpoint_frames: 1,
+        ..Options::new(1)
+    };
+    let conn = match connected(alloc, files, options) {
+        Ok(conn) => conn,
+        Err(files) => return (Err(OpenFault::Store), files),
+    };
+    match upgrade(alloc, conn) {
+        Ok((conn, done)) => (Ok(done), close(conn).close()),
+        Err(unopened) => (Err(unopened.fault), close(unopened.conn).close()),
+    }
+}
+
+/// Changes the database in the files by these statements. Whether they were done, and the files after them.
+pub fn changed_in<D: Disk + Drop>(
+    alloc: Global,
+    files: Files<D>,
+    sql: &str,
+) -> (Result<()>, Files<D>) {
+    let mut conn = match connected(alloc, files, Options::new(1)) {
+        Ok(conn) => conn,
+        Err(files) => return (not_opened(), files),
+    };
+    let done = conn.execute_batch(sql);
+    (done.map_err(Error::from), close(conn).close())
+}
+
+fn not_opened() -> Result<()> {
+    bail!("the files are not opened")
 }
 
 /// The rows that stand in the files, and the files.

@@ -1,6 +1,7 @@
 //! What the lines of a script are about.
 
 use crate::clubs::{adopted, changed};
+use crate::files::changed_in;
 use anyhow::{Result, bail};
 use sqlite::{Connection, Files, MemStore};
 use sqlite_disk::{Fuse, Memory};
@@ -48,9 +49,16 @@ impl Held {
         }
     }
 
-    /// The database after these statements.
-    pub fn changed(self, sql: &str) -> Result<Held> {
-        Ok(Held::Database(changed(self.into_connection()?, sql)?))
+    /// The database, or the files, after these statements.
+    pub fn changed(self, alloc: Global, sql: &str) -> Result<Held> {
+        match self {
+            Held::Files(files) => {
+                let (done, files) = changed_in(alloc, files, sql);
+                done?;
+                Ok(Held::Files(files))
+            }
+            held => Ok(Held::Database(changed(held.into_connection()?, sql)?)),
+        }
     }
 
     /// The files.

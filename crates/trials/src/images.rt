@@ -2,7 +2,7 @@
 
 use crate::files::rows_in;
 use crate::held::Disks;
-use anyhow::Result;
+use anyhow::{Result, bail};
 use sqlite::Files;
 use sqlite_disk::{Crash, Disk, Fuse, Memory};
 use std::alloc::Global;
@@ -77,6 +77,30 @@ impl Stop {
             Stop::Log(_) | Stop::Never => u64::MAX,
         }
     }
+}
+
+/// How many calls of the disk something takes at most.
+const MOST_CALLS: u64 = 100_000;
+
+/// What can be stopped after any number of calls of a file.
+pub trait Stoppable {
+    /// Stops it after so many calls of the file. Whether it came to its end without the stop, if what is found is
+    /// whole, with all that was written and with what was synced alone.
+    fn tried(&self, alloc: Global, file: ClubFile, calls: u64) -> Result<Option<bool>>;
+}
+
+/// Stops it at each call of the file, until it comes to its end without a stop.
+pub fn stop_at_each<T: Stoppable>(alloc: Global, trial: &T, file: ClubFile) -> Result<()> {
+    let name = file.name();
+    for calls in 0..MOST_CALLS {
+        match trial.tried(alloc, file, calls) {
+            Ok(Some(true)) => return Ok(()),
+            Ok(Some(false)) => {}
+            Ok(None) => bail!("neither whole nor none after {calls} calls of the {name}"),
+            Err(fault) => bail!("{fault} after {calls} calls of the {name}"),
+        }
+    }
+    bail!("not at an end after any number of calls of the {name}")
 }
 
 /// Files of which nothing was written yet.

@@ -14,6 +14,7 @@ mod requests;
 mod rows;
 mod script;
 mod stops;
+mod upgrades;
 
 use crate::held::Held;
 use crate::report::Report;

@@ -11,6 +11,7 @@ fn listed<S: Alter>(alloc: Global, conn: &mut Connection<S>) -> Result<Changes, 
     Ok(Changes {
         members: list(alloc, conn)?,
         events: list(alloc, conn)?,
+        event_rules: list(alloc, conn)?,
         challenges: list(alloc, conn)?,
         games: list(alloc, conn)?,
         moves: list(alloc, conn)?,

@@ -1,4 +1,7 @@
-use Rattle.club_audit.proofs.GamePlaces.{no-event, placed-first}
+use Rattle.std.proofs.Common.{sym, subst, ◌∙◌}
+use Rattle.club_rows.proofs.Proved.{same-pos}
+use Rattle.club_audit.specs.Audit.{NamesRule}
+use Rattle.club_audit.proofs.GamePlaces.{no-event, no-rule, placed-first}
 use Rattle.club_audit.proofs.audit.wrong_game.Goals as goal
 
 pub returns-in-None : goal.returns-in-None
@@ -6,10 +9,23 @@ returns-in-None c = λ s people.
     no-event s c.args.rows.now people c.args.place c.args.game.now c.args.moves.now c.args.seen.now c.args.last
     (c.event_of.ensures.none c.in-None.is)
 
+pub returns-in-None-declares_in : goal.returns-in-None-declares_in
+returns-in-None-declares_in c = λ s people.
+    let (id, named) = c.in-Some.ensures.some in
+    absurd
+    (no-rule s c.args.rows.now people c.args.game.now id c.in-Some.event.now named
+    (c.declares_in.ensures.none c.in-None-declares_in.is))
+
 pub returns : goal.returns
 returns c = λ s people.
     let (id, named) = c.in-Some.ensures.some in
+    let (other, told) = c.in-Some-declares_in.ensures.some in
+    let ruled =
+    subst (λ n. NamesRule c.args.rows.now c.args.game.now n c.in-Some-declares_in.declares)
+    (same-pos _ _ (sym told.event_is ∙ named.event_is)) told
+    in
     placed-first s c.args.rows.now people c.args.place c.args.game.now c.args.moves.now c.args.seen.now c.args.last id
-    c.in-Some.event.now named c.in_ok-wrong.wrong c.with_place.result c.stands_at.result c.in_ok-wrong.ensures
+    c.in-Some.event.now c.in-Some-declares_in.declares named ruled c.in_ok-wrong.wrong c.with_place.result
+    c.stands_at.result c.in_ok-wrong.ensures
     c.stands_at.ensures.sound c.stands_at.ensures.complete c.with_place.ensures.stands c.with_place.ensures.moves
     c.with_place.ensures.games

@@ -9,7 +9,8 @@ returns-clause-sound c = λ none.
       c.seconds-within.ensures.value,
       c.seconds-within.ensures.range,
     ) in
-    event-sound c.args.event.now c.args.last low c.args.game.now c.args.moves.now c.args.seen.now c.in_ok-wrong.wrong
+    event-sound c.args.event.now c.args.declares c.args.last low c.args.game.now c.args.moves.now c.args.seen.now
+    c.in_ok-wrong.wrong
     c.in_ok-wrong.ensures none
 
 pub returns-clause-complete : goal.returns-clause-complete
@@ -19,5 +20,5 @@ returns-clause-complete c = λ of.
       c.seconds-within.ensures.value,
       c.seconds-within.ensures.range,
     ) in
-    event-complete c.args.event.now c.args.last low c.args.game.now c.args.moves.now c.args.seen.now
+    event-complete c.args.event.now c.args.declares c.args.last low c.args.game.now c.args.moves.now c.args.seen.now
     c.in_ok-wrong.wrong c.in_ok-wrong.ensures of

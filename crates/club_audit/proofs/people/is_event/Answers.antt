@@ -25,6 +25,6 @@ returns-in-Some-terms_of-clause-sound c = λ free.
       event = event_told row kind given.budget given.increment;
       cells = event-cells (c.args.place + 1) given.budget given.increment kind row id game terms.budget_is
           terms.increment_is;
-      legal = record { name = name; budget = terms.has_budget; increment = terms.has_increment; declares = refl };
+      legal = record { name = name; budget = terms.has_budget; increment = terms.has_increment };
       others = c.is_used.ensures.free (not-true c.is_used.result free);
     }

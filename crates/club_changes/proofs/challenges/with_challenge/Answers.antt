@@ -8,6 +8,7 @@ returns c moment games seen puts =
       meta = puts.meta;
       members_are = puts.members_are;
       events_are = puts.events_are;
+      rules_are = puts.rules_are;
       challenges_are = one_pushed challenge_cells c.args.changes.challenges.items c.push.new.self.items
           c.challenge_row.result _ puts.challenges_are c.in_ok-push.ensures.items c.challenge_row.ensures;
       games_are = puts.games_are;

@@ -7,6 +7,7 @@ returns g c terms new first second left is = record {
   meta = c.at-changes.ensures.meta;
   members_are = c.at-changes.ensures.members_are;
   events_are = c.at-changes.ensures.events_are;
+  rules_are = c.at-changes.ensures.rules_are;
   challenges_are = c.at-changes.ensures.challenges_are;
   games_are = one_pushed game_cells c.at-changes.result.games.items c.push.new.self.items c.in_ok-record_of.field-0 _
       c.at-changes.ensures.games_are c.in_ok-push.ensures.items (c.in_ok-record_of.ensures first second terms new is);

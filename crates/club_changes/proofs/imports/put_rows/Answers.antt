@@ -8,6 +8,7 @@ returns c = record {
   meta = c.at-changes.ensures.meta;
   members_are = c.at-changes.ensures.members_are;
   events_are = c.at-changes.ensures.events_are;
+  rules_are = c.at-changes.ensures.rules_are;
   challenges_are = c.at-changes.ensures.challenges_are;
   games_are = one_pushed game_cells c.at-changes.result.games.items c.push.new.self.items c.args.rows.game _
       c.at-changes.ensures.games_are c.in_ok-push.ensures.items refl;

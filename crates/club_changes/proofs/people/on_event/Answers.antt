@@ -1,11 +1,11 @@
 use Rattle.std.proofs.Common.{◌≡◌, ◌+◌, ◌≤◌, length, sym, ap, ◌∙◌, arith}
 use Rattle.std.proofs.lemmas.List.{length-map}
 use Rattle.club_requests.specs.Outcome.{by_officer}
-use Rattle.club_core.specs.Events.{Event, event_step}
+use Rattle.club_core.specs.Events.{Event, declaring, event_step}
 use Rattle.club_core.specs.Answer.{answered, events_of, added_event}
 use Rattle.club_core.specs.State.{with_events}
-use Rattle.club_rows.specs.Tables.{event_row}
-use Rattle.store_tables.specs.Cells.{event_cells}
+use Rattle.club_rows.specs.Tables.{event_row, rule_row}
+use Rattle.store_tables.specs.Cells.{event_cells, event_rule_cells}
 use Rattle.club_changes.proofs.OutcomeLemmas.{officer_none, event_decided, event_limits}
 use Rattle.club_changes.proofs.PlayedLemmas.{budget_most, increment_most}
 use Rattle.club_changes.proofs.ReadRows.{one_pushed}
@@ -39,6 +39,10 @@ returns-clause-step c s is_club same =
       events_are = one_pushed event_cells c.at-changes.result.events.items c.push.new.self.items
           c.in_ok-event_row.field-0 (event_row (1 + length s.events) e) c.at-changes.ensures.events_are
           c.in_ok-push.ensures.items row;
+      rules_are = one_pushed event_rule_cells c.at-changes.result.event_rules.items c.push-2.new.self.items
+          c.rule_row.result (rule_row (1 + length s.events) (declaring e)) c.at-changes.ensures.rules_are
+          c.in_ok-push-2.ensures.items
+          (c.rule_row.ensures e ∙ ap (λ k. rule_row k (declaring e)) next);
       challenges_are = c.at-changes.ensures.challenges_are;
       games_are = c.at-changes.ensures.games_are;
       moves_are = c.at-changes.ensures.moves_are;

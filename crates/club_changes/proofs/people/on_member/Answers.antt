@@ -36,6 +36,7 @@ returns-clause-step c s same =
           c.in_ok-member_row.field-0 (member_row (1 + length s.members) m) c.at-changes.ensures.members_are
           c.in_ok-push.ensures.items row;
       events_are = c.at-changes.ensures.events_are;
+      rules_are = c.at-changes.ensures.rules_are;
       challenges_are = c.at-changes.ensures.challenges_are;
       games_are = c.at-changes.ensures.games_are;
       moves_are = c.at-changes.ensures.moves_are;

@@ -8,6 +8,7 @@ returns-clause-step c s swept =
       meta = c.at-changes.ensures.meta;
       members_are = c.at-changes.ensures.members_are;
       events_are = c.at-changes.ensures.events_are;
+      rules_are = c.at-changes.ensures.rules_are;
       challenges_are = c.at-changes.ensures.challenges_are;
       games_are = refl;
       moves_are = c.at-changes.ensures.moves_are;

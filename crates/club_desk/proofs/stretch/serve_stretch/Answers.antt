@@ -1,7 +1,7 @@
 use Rattle.std.proofs.Common.{sym, subst, inr}
 use Rattle.sqlite.specs.State.{HasCleanDisk}
 use Rattle.sqlite.specs.Held.{state}
-use Rattle.store.proofs.Proved.{still_stands}
+use Rattle.store.proofs.Proved.{current_taken, still_stands}
 use Rattle.store_tables.specs.Club.{IsOpened}
 use Rattle.club_desk.specs.Turns.{IsHistoryOn, IsReachableOn}
 use Rattle.club_desk.proofs.ToldLemmas.{untaken, good_told, served_told, served_taken, served_good, none_failed, stood}
@@ -12,7 +12,8 @@ pub returns-in-Err-clause-led : goal.returns-in-Err-clause-led
 returns-in-Err-clause-led g c clean opens live sessions led =
     reads_led sessions (state g.S.Store c.args.conn) (state g.S.Store c.in-Err.unopened.conn) c.in-Err.ensures.reads
     clean
-    (c.holds_what_sessions_left.ensures opens live sessions led)
+    (let (version, at) = c.holds_what_sessions_left.ensures opens live sessions led in
+    c.leaves_what_sessions_left.ensures version sessions at)
 
 pub returns-clause-led : goal.returns-clause-led
 returns-clause-led g c clean opens live sessions led =
@@ -20,7 +21,8 @@ returns-clause-led g c clean opens live sessions led =
     let after : HasCleanDisk (state g.S.Store c.serve_open-has_failed.new.club.club.connection) =
     subst (λ k. HasCleanDisk (state g.S.Store k)) same clean in
     let before = c.serve_open-has_failed.ensures.clean after in
-    let stood = c.holds_what_sessions_left.ensures opens live sessions led in
+    let stood = current_taken sessions (state g.S.Store c.args.conn) (c.in-Ok.ensures.unchanged before)
+    (c.holds_what_sessions_left.ensures opens live sessions led) in
     let stands = still_stands sessions (state g.S.Store c.args.conn) (state g.S.Store c.in-Ok.club.connection)
     (c.in-Ok.ensures.same before) stood in
     subst (λ k. IsReachableOn sessions (state g.S.Store k)) (sym same)
@@ -32,7 +34,8 @@ returns-clause-stands g c clean opens live none sessions led =
     let after : HasCleanDisk (state g.S.Store c.serve_open-has_failed.new.club.club.connection) =
     subst (λ k. HasCleanDisk (state g.S.Store k)) same clean in
     let before = c.serve_open-has_failed.ensures.clean after in
-    let stood = c.holds_what_sessions_left.ensures opens live sessions led in
+    let stood = current_taken sessions (state g.S.Store c.args.conn) (c.in-Ok.ensures.unchanged before)
+    (c.holds_what_sessions_left.ensures opens live sessions led) in
     let stands = still_stands sessions (state g.S.Store c.args.conn) (state g.S.Store c.in-Ok.club.connection)
     (c.in-Ok.ensures.same before) stood in
     let open_still = none_failed c.serve_open-has_failed.result c.fault_behind.result c.fault_behind.ensures none in
@@ -59,11 +62,12 @@ returns-in-Err-clause-taken g c clean opens live schema =
     untaken _ c.in-Err.unopened.fault c.told_of_opening.result c.told_of_opening.ensures
 
 pub returns-clause-taken : goal.returns-clause-taken
-returns-clause-taken g c clean opens live schema =
+returns-clause-taken g c clean opens live has =
     let same = c.into_connection.ensures.same in
     let after : HasCleanDisk (state g.S.Store c.serve_open-has_failed.new.club.club.connection) =
     subst (λ k. HasCleanDisk (state g.S.Store k)) same clean in
     let before = c.serve_open-has_failed.ensures.clean after in
+    let (schema, unchanged, may) = c.in-Ok.ensures.unchanged before has in
     let opened : IsOpened (state g.S.Store c.args.conn) = record {
       is_open = opens.is_open;
       idle = opens.autocommit;
@@ -73,7 +77,7 @@ returns-clause-taken g c clean opens live schema =
       settled = λ db left. g.met.S.Store.settled c.args.conn.store db opens.is_open left;
     } in
     let (s, is_club, at) = c.in-Ok.ensures.found before opened in
-    let shown = (c.in-Ok.ensures.unchanged before schema).0.0 in
+    let shown = unchanged.0 in
     served_taken _ c.serve_open-has_failed.result c.fault_behind.result c.fault_behind.ensures (record {
       state = s;
       legal = is_club;

@@ -3,9 +3,10 @@ use Rattle.std.proofs.Math.Logic.{∥∥₁_elim, ∥∥₁_map}
 use Rattle.sqlite_wal.specs.Files.{image_at}
 use Rattle.sqlite_store.specs.FileStore.{state as store_state}
 use Rattle.sqlite.specs.Files.{file_state}
-use Rattle.store_tables.specs.Tables.{club_schema}
+use Rattle.store_tables.specs.Tables.{schema_of}
 use Rattle.sessions.proofs.Proved.{was_clean}
 use Rattle.club_files.proofs.FoundLemmas.{taken_files, told_files}
+use Rattle.club_desk.specs.Repeats.{stands_at}
 use Rattle.club_files.proofs.desk.stretch.Goals as goal
 
 pub returns-clause-led : goal.returns-clause-led
@@ -33,7 +34,8 @@ returns-clause-whole g c clean none sessions led left may found finds =
         turns = on.turns;
         are_turns = on.are_turns;
         led = record {
-          after = on.stands.after;
+          from = on.stands.from;
+          after = stands_at on.stands.after;
           legal = on.stands.legal;
           leads = on.stands.leads;
           leaves = on.stands.exactly.may_leave found now;
@@ -51,7 +53,8 @@ returns-clause-told g c clean =
       refl,
       told_files (image_at g.S.Start) (file_state c.in-Ok.conn) (c.in-Ok.ensures.found before)
           (file_state c.serve_stretch-fault.result.1) (store_state c.close.result).may_leave
-          (c.close.ensures.member clean) opened.0 (c.holds_exactly.ensures opened.0 opened.1 club_schema)
+          (c.close.ensures.member clean) opened.0 (λ version. c.holds_exactly.ensures opened.0 opened.1
+          (schema_of version))
           c.serve_stretch-fault.result.0 (c.serve_stretch-fault.ensures.told after),
     )
 
@@ -61,7 +64,7 @@ returns-clause-taken g c clean =
     let before = c.serve_stretch-fault.ensures.clean after in
     let opened = c.in-Ok.ensures.opened before in
     taken_files (image_at g.S.Start) (file_state c.in-Ok.conn) (c.in-Ok.ensures.found before)
-    (c.holds_exactly.ensures opened.0 opened.1 club_schema) c.serve_stretch-fault.result.0
+    (λ version. c.holds_exactly.ensures opened.0 opened.1 (schema_of version)) c.serve_stretch-fault.result.0
     (λ schema. c.serve_stretch-fault.ensures.taken after opened.0 opened.1 schema)
 
 pub returns-clause-good : goal.returns-clause-good

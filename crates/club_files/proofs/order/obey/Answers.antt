@@ -2,10 +2,11 @@ use Rattle.std.proofs.Math.Logic.{∥∥₁_elim, ∥∥₁_map}
 use Rattle.sqlite_wal.specs.Files.{image_at}
 use Rattle.sqlite_store.specs.FileStore.{state as store_state}
 use Rattle.sqlite.specs.Files.{file_state}
-use Rattle.store_tables.specs.Tables.{club_schema}
+use Rattle.store_tables.specs.Tables.{schema_of}
 use Rattle.sessions.proofs.Proved.{was_clean}
 use Rattle.club_files.proofs.FoundLemmas.{if_verify, verify_under, if_takes_over, if_unopened}
-use Rattle.club_files.proofs.FoundLemmas.{kept_files, refused_files, sound_files}
+use Rattle.club_files.proofs.FoundLemmas.{carried_files, if_upgrade, kept_files, not_upgraded, refused_files}
+use Rattle.club_files.proofs.FoundLemmas.{sound_files}
 use Rattle.club_files.proofs.order.obey.Goals as goal
 
 pub returns-clause-begun : goal.returns-clause-begun
@@ -80,7 +81,7 @@ returns-clause-sound g c clean =
     let opened = c.in-Ok.ensures.opened before in
     if_verify c.args.order.now.task (λ legal is.
     sound_files (image_at g.S.Start) (file_state c.in-Ok.conn) (c.in-Ok.ensures.found before)
-    (c.holds_exactly.ensures opened.0 opened.1 club_schema) (λ schema. legal schema is))
+    (λ version. c.holds_exactly.ensures opened.0 opened.1 (schema_of version)) (λ schema. legal schema is))
     (verify_under _ _ c.args.order.now.task (λ schema. c.act-report.ensures.legal after opened.0 opened.1 schema))
 
 pub returns-clause-refuses : goal.returns-clause-refuses
@@ -92,7 +93,7 @@ returns-clause-refuses g c clean =
     if_unopened _ _ c.act-report.result.0 (λ fault refusal.
     refused_files (image_at g.S.Start) (file_state c.in-Ok.conn) (c.in-Ok.ensures.found before)
     (file_state c.act-report.result.1) (store_state c.close.result).may_leave (c.close.ensures.member clean) opened.0
-    (c.holds_exactly.ensures opened.0 opened.1 club_schema) fault refusal)
+    (λ version. c.holds_exactly.ensures opened.0 opened.1 (schema_of version)) fault refusal)
     refused)
     (c.act-report.ensures.refuses after)
 
@@ -104,3 +105,51 @@ returns-clause-spares g c clean is foreign =
     kept_files (image_at g.S.Start) (file_state c.in-Ok.conn) (c.in-Ok.ensures.found before)
     (file_state c.act-report.result.1) (store_state c.close.result).may_leave (c.close.ensures.member clean)
     (c.act-report.ensures.spares after opened.0 is foreign)
+
+pub returns-clause-older : goal.returns-clause-older
+returns-clause-older g c clean s are =
+    let after = was_clean _ _ c.close.ensures.clean clean in
+    let before = was_clean _ _ c.act-report.ensures.clean after in
+    let opened = c.in-Ok.ensures.opened before in
+    let here = c.in-Ok.ensures.found before in
+    c.act-report.ensures.older after opened.0 opened.1 s
+    (are.legal, are.finds _ (record { holds = here.holds; reads = here.reads }))
+
+pub returns-clause-carries : goal.returns-clause-carries
+returns-clause-carries g c clean s are =
+    let after = was_clean _ _ c.close.ensures.clean clean in
+    let before = was_clean _ _ c.act-report.ensures.clean after in
+    let opened = c.in-Ok.ensures.opened before in
+    let here = c.in-Ok.ensures.found before in
+    if_upgrade c.args.order.now.task (λ carried.
+    carried_files (image_at g.S.Start) (file_state c.in-Ok.conn) here (file_state c.act-report.result.1)
+    (store_state c.close.result).may_leave (c.close.ensures.member clean) s c.act-report.result.0 carried)
+    (c.act-report.ensures.carries after opened.0 opened.1 s
+    (are.legal, are.finds _ (record { holds = here.holds; reads = here.reads })))
+
+pub returns-clause-repeats : goal.returns-clause-repeats
+returns-clause-repeats g c clean s are =
+    let after = was_clean _ _ c.close.ensures.clean clean in
+    let before = was_clean _ _ c.act-report.ensures.clean after in
+    let opened = c.in-Ok.ensures.opened before in
+    let here = c.in-Ok.ensures.found before in
+    if_upgrade c.args.order.now.task (λ (told, kept). (
+      told,
+      kept_files (image_at g.S.Start) (file_state c.in-Ok.conn) here (file_state c.act-report.result.1)
+          (store_state c.close.result).may_leave (c.close.ensures.member clean) kept,
+    ))
+    (c.act-report.ensures.repeats after opened.0 opened.1 s are.legal
+    (are.finds _ (record { holds = here.holds; reads = here.reads })))
+
+pub returns-clause-withheld : goal.returns-clause-withheld
+returns-clause-withheld g c clean =
+    let after = was_clean _ _ c.close.ensures.clean clean in
+    let before = was_clean _ _ c.act-report.ensures.clean after in
+    let opened = c.in-Ok.ensures.opened before in
+    let here = c.in-Ok.ensures.found before in
+    if_upgrade c.args.order.now.task (λ refused.
+    if_unopened _ _ c.act-report.result.0 (λ fault refusal.
+    not_upgraded (image_at g.S.Start) (file_state c.in-Ok.conn) here (file_state c.act-report.result.1)
+    (store_state c.close.result).may_leave (c.close.ensures.member clean) opened.0
+    (λ version. c.holds_exactly.ensures opened.0 opened.1 (schema_of version)) fault refusal) refused)
+    (c.act-report.ensures.withheld after)

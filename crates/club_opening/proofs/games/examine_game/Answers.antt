@@ -3,11 +3,10 @@ use Rattle.club_audit.specs.Audit.{HasPeople}
 use Rattle.club_audit.specs.FirstWrong.{IsFirstWrong}
 use Rattle.club_audit.specs.GameAudit.{IsRightAt}
 use Rattle.club_rows.specs.Club.{ClubState}
-use Rattle.sqlite.specs.Effect.{Database}
 use Rattle.sqlite.specs.Held.{state}
 use Rattle.sqlite.specs.State.{HasCleanDisk}
-use Rattle.store_tables.specs.Tables.{club_schema}
 use Rattle.club_opening.specs.Examined.{IsGameFound}
+use Rattle.club_opening.proofs.BlameLemmas.{still}
 use Rattle.club_opening.proofs.ExaminedLemmas.{game_found}
 use Rattle.club_opening.proofs.games.examine_game.Goals as goal
 
@@ -18,8 +17,8 @@ returns-in-Ok-wrong_game-clause-found g c clean has =
     let s2 = state g.S.Store c.read_of-2.new.conn in
     let early : HasCleanDisk s1 = omega (arith, c.read_of-2.ensures.reads.clean) in
     let one = c.in-Ok.ensures.rows early has in
-    let still : s1.now.schema ≡ club_schema = ap (λ (d : Database). d.schema) one.same.0.now_is ∙ has in
-    let two = c.in-Ok-read_of.ensures.rows clean still in
+    let here = still s0 s1 one.same has in
+    let two = c.in-Ok-read_of.ensures.rows clean here in
     let ms = c.in-Ok.moves.items in
     let ss = c.in-Ok-read_of.seen.items in
     let many_moves : c.len.result ≡ length ms = search rules in

@@ -1,13 +1,12 @@
 use Rattle.std.proofs.Common.{◌≡◌, ◌+◌, length, Some, refl, sym, ap, subst₂, ◌∙◌, arith}
 use Rattle.std.specs.Prelude.{slice_get}
 use Rattle.std.proofs.lemmas.Option.{slice_get_read}
-use Rattle.sqlite.specs.Effect.{Database}
 use Rattle.sqlite.specs.Held.{state}
 use Rattle.sqlite.specs.State.{HasCleanDisk}
 use Rattle.sqlite.proofs.StateLemmas.{unchanged}
-use Rattle.store_tables.specs.Tables.{club_schema}
 use Rattle.store_tables.proofs.Proved.{reads_nothing, reads_then}
 use Rattle.club_opening.specs.Examined.{AreLeftAfter}
+use Rattle.club_opening.proofs.BlameLemmas.{still}
 use Rattle.club_opening.proofs.ExaminedLemmas.{IsOneOf, NamesLeft, blamed_before, left_all, left_more, left_start}
 use Rattle.club_opening.proofs.games.examine_games.Goals as goal
 
@@ -45,12 +44,12 @@ loop-place-preserved g c =
       left = λ clean has is_open one two.
           let early : HasCleanDisk mid = omega (arith, c.examine_game.ensures.reads.clean) in
           let was = c.loop-place.invariant.left early has is_open one two in
-          let still : mid.now.schema ≡ club_schema = ap (λ (d : Database). d.schema) was.same.0.now_is ∙ has in
+          let here = still s0 mid was.same has in
           subst₂ (λ a b. AreLeftAfter rows c.args.last (k + 1) a b c.first_of-wrong.result s0 new)
           (sym c.saturating_sub-moves.ensures) (sym c.saturating_sub-seen.ensures)
           (left_more rows c.args.last k game c.loop-place.moves c.loop-place.seen found.own.moves found.own.seen
           c.loop-place.wrong found.wrong c.first_of-wrong.result s0 mid new stands was
-          (c.in-Ok.ensures.found clean still) one_of);
+          (c.in-Ok.ensures.found clean here) one_of);
     }
 
 pub returns-in-Err-clause-blames : goal.returns-in-Err-clause-blames
@@ -59,8 +58,8 @@ returns-in-Err-clause-blames g c clean has is_open one two =
     let mid = state g.S.Store c.loop-place.conn in
     let early : HasCleanDisk mid = omega (arith, c.examine_game.ensures.reads.clean) in
     let was = c.loop-place.invariant.left early has is_open one two in
-    let still : mid.now.schema ≡ club_schema = ap (λ (d : Database). d.schema) was.same.0.now_is ∙ has in
-    blamed_before c.args.rows.now s0 mid c.in-Err.fault was.same (c.in-Err.ensures.blames clean still)
+    let here = still s0 mid was.same has in
+    blamed_before c.args.rows.now s0 mid c.in-Err.fault was.same (c.in-Err.ensures.blames clean here)
 
 pub returns-clause-found : goal.returns-clause-found
 returns-clause-found g c clean has is_open one two =

@@ -2,7 +2,7 @@ use Rattle.std.proofs.Common.{◌≡◌, length, IsTrue}
 use Rattle.sqlite.specs.State.{HasCleanDisk}
 use Rattle.sqlite.specs.Held.{state}
 use Rattle.store_tables.specs.Reading.{OnlyReads}
-use Rattle.store_tables.specs.Tables.{club_schema}
+use Rattle.store_tables.specs.Tables.{IsClubSchema}
 use Rattle.club_opening.specs.Examined.{AreLeftAfter, moves_in, seen_in}
 use Rattle.club_opening.proofs.ExaminedLemmas.{IsKept}
 use Rattle.club_opening.proofs.games.examine_games.Given as goal
@@ -12,7 +12,7 @@ invariant-loop-place g l = record {
   items : l.game-items ≡ l.rows.games.items;
   reads : OnlyReads (state g.S.Store l.fn.conn) (state g.S.Store l.conn);
   kept : IsKept l.fn.known l.wrong;
-  left : HasCleanDisk (state g.S.Store l.conn) → (state g.S.Store l.fn.conn).now.schema ≡ club_schema
+  left : HasCleanDisk (state g.S.Store l.conn) → IsClubSchema (state g.S.Store l.fn.conn).now.schema
       → IsTrue (state g.S.Store l.fn.conn).is_open
       → l.fn.all.moves ≡ length (moves_in (state g.S.Store l.fn.conn).now.trees)
       → l.fn.all.seen ≡ length (seen_in (state g.S.Store l.fn.conn).now.trees)

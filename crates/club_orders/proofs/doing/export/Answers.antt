@@ -6,6 +6,7 @@ use Rattle.club_rows.specs.Club.{tables}
 use Rattle.club_orders.specs.Report.{WritesRecord}
 use Rattle.club_orders.proofs.RecordLemmas.{writes_record}
 use Rattle.club_orders.proofs.RefusalLemmas.{taken_over}
+use Rattle.club_opening.proofs.Proved.{schema_known}
 use Rattle.club_orders.proofs.doing.export.Goals as goal
 
 pub returns-in-Err-clause-record_of : goal.returns-in-Err-clause-record_of
@@ -14,8 +15,8 @@ returns-in-Err-clause-record_of g c clean opens live s is_club left =
 
 pub returns-in-Err-clause-led : goal.returns-in-Err-clause-led
 returns-in-Err-clause-led g c clean opens live sessions led db left =
-    let at = c.holds_what_sessions_left.ensures opens live sessions led in
-    c.leaves_what_sessions_left.ensures sessions at db (c.in-Err.ensures.reads.may clean db left)
+    let (version, at) = c.holds_what_sessions_left.ensures opens live sessions led in
+    c.leaves_what_sessions_left.ensures version sessions at db (c.in-Err.ensures.reads.may clean db left)
 
 pub returns-clause-record_of : goal.returns-clause-record_of
 returns-clause-record_of g c clean opens live s is_club left =
@@ -40,10 +41,10 @@ returns-clause-led g c clean opens live sessions led db left =
     let after = subst (λ h. HasCleanDisk (state g.S.Store h)) same clean in
     let reads = c.export-written.ensures.reads c.in-Ok.ensures.ready in
     let taken : HasCleanDisk (state g.S.Store c.in-Ok.club.connection) = omega (arith, reads.clean, after) in
-    let at = c.holds_what_sessions_left.ensures opens live sessions led in
+    let (version, at) = c.holds_what_sessions_left.ensures opens live sessions led in
     let before = reads.may after db (subst (λ h. (state g.S.Store h).may_leave db) same left) in
-    c.leaves_what_sessions_left.ensures sessions at db
-    ((c.in-Ok.ensures.unchanged taken at.exactly.now.schema).1 db before)
+    c.leaves_what_sessions_left.ensures version sessions at db
+    ((c.in-Ok.ensures.unchanged taken (schema_known version _ at.exactly.now.schema)).2 db before)
 
 pub returns-in-Err-clause-refuses : goal.returns-in-Err-clause-refuses
 returns-in-Err-clause-refuses g c clean =
@@ -56,3 +57,18 @@ returns-in-Err-clause-refuses g c clean =
 pub returns-clause-refuses : goal.returns-clause-refuses
 returns-clause-refuses g c clean =
     taken_over _ c.exported.result c.exported.ensures.taken
+
+pub returns-in-Err-clause-older : goal.returns-in-Err-clause-older
+returns-in-Err-clause-older g c clean opens live s (club, left) =
+    c.in-Err.ensures.first clean s club (c.holds_exactly.ensures opens live _ _ left)
+
+pub returns-clause-older : goal.returns-clause-older
+returns-clause-older g c clean opens live s (club, left) =
+    let same = c.into_connection-conn.ensures.same in
+    let after = subst (λ h. HasCleanDisk (state g.S.Store h)) same clean in
+    let taken : HasCleanDisk (state g.S.Store c.in-Ok.club.connection) = omega (
+      arith,
+      (c.export-written.ensures.reads c.in-Ok.ensures.ready).clean,
+      after,
+    ) in
+    absurd (c.in-Ok.ensures.older taken s club (c.holds_exactly.ensures opens live _ _ left))

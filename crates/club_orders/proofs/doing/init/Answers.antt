@@ -3,6 +3,8 @@ use Rattle.sqlite.specs.State.{HasCleanDisk}
 use Rattle.store.specs.Histories.{IsHistory}
 use Rattle.sqlite.specs.Held.{state}
 use Rattle.club_opening.specs.declared.fault.OpenFault.TheVariants.{Foreign}
+use Rattle.store_tables.specs.declared.names.Version.TheVariants.{Current}
+use Rattle.club_opening.proofs.Proved.{schema_known}
 use Rattle.club_orders.proofs.doing.init.Goals as goal
 
 pub returns-in-Ok-clause-begun : goal.returns-in-Ok-clause-begun
@@ -10,13 +12,15 @@ returns-in-Ok-clause-begun g c clean opens live empty db left =
     let same = c.into_connection-conn.ensures.same in
     let made = c.in-Ok.ensures.begins (subst (λ h. HasCleanDisk (state g.S.Store h)) same clean)
     (c.holds_nothing.ensures opens live empty) in
-    c.leaves_what_sessions_left-in-Ok.ensures [] (subst (λ h. IsHistory [] (state g.S.Store h)) (sym same) made) db left
+    c.leaves_what_sessions_left-in-Ok.ensures Current [] (subst (λ h. IsHistory [] (state g.S.Store h))
+    (sym same) made) db left
 
 pub returns-in-Ok-clause-led : goal.returns-in-Ok-clause-led
 returns-in-Ok-clause-led g c clean opens live sessions led db left =
     let same = c.into_connection-conn.ensures.same in
-    let at = c.holds_what_sessions_left.ensures opens live sessions led in
-    absurd (c.in-Ok.ensures.fresh (subst (λ h. HasCleanDisk (state g.S.Store h)) same clean) at.exactly.now.schema)
+    let (version, at) = c.holds_what_sessions_left.ensures opens live sessions led in
+    absurd (c.in-Ok.ensures.fresh (subst (λ h. HasCleanDisk (state g.S.Store h)) same clean)
+    (schema_known version _ at.exactly.now.schema))
 
 pub returns-in-Err-clause-begun : goal.returns-in-Err-clause-begun
 returns-in-Err-clause-begun g c clean opens live empty db left =
@@ -24,8 +28,9 @@ returns-in-Err-clause-begun g c clean opens live empty db left =
 
 pub returns-in-Err-clause-led : goal.returns-in-Err-clause-led
 returns-in-Err-clause-led g c clean opens live sessions led db left =
-    let at = c.holds_what_sessions_left.ensures opens live sessions led in
-    c.leaves_what_sessions_left.ensures sessions at db (c.in-Err.ensures.stays clean at.exactly.now.schema db left)
+    let (version, at) = c.holds_what_sessions_left.ensures opens live sessions led in
+    c.leaves_what_sessions_left.ensures version sessions at db
+    (c.in-Err.ensures.stays clean (schema_known version _ at.exactly.now.schema) db left)
 
 pub returns-in-Err-clause-spares : goal.returns-in-Err-clause-spares
 returns-in-Err-clause-spares g c clean opens is db left =

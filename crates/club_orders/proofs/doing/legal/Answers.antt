@@ -6,6 +6,9 @@ use Rattle.club_rows.specs.Club.{tables}
 use Rattle.store.specs.Histories.{IsHistory}
 use Rattle.club_orders.proofs.SessionLemmas.{stands_still}
 use Rattle.club_orders.proofs.RefusalLemmas.{taken_over}
+use Rattle.store.proofs.Proved.{current_taken}
+use Rattle.club_opening.proofs.Proved.{schema_known}
+use Rattle.store_tables.specs.declared.names.Version.TheVariants.{Current}
 use Rattle.club_orders.proofs.doing.legal.Goals as goal
 
 pub returns-in-Err-clause-moves : goal.returns-in-Err-clause-moves
@@ -14,8 +17,8 @@ returns-in-Err-clause-moves g c clean opens live s is_club left =
 
 pub returns-in-Err-clause-led : goal.returns-in-Err-clause-led
 returns-in-Err-clause-led g c clean opens live sessions led db left =
-    let at = c.holds_what_sessions_left.ensures opens live sessions led in
-    c.leaves_what_sessions_left.ensures sessions at db (c.in-Err.ensures.reads.may clean db left)
+    let (version, at) = c.holds_what_sessions_left.ensures opens live sessions led in
+    c.leaves_what_sessions_left.ensures version sessions at db (c.in-Err.ensures.reads.may clean db left)
 
 pub returns-in-Ok-legal_rows-clause-moves : goal.returns-in-Ok-legal_rows-clause-moves
 returns-in-Ok-legal_rows-clause-moves g c clean opens live s is_club left =
@@ -34,9 +37,10 @@ returns-in-Ok-legal_rows-clause-led g c clean opens live sessions led db left =
     let taken : HasCleanDisk (state g.S.Store c.in-Ok.club.connection) =
     omega (arith, (c.legal_rows.ensures.reads c.in-Ok.ensures.ready).clean, after) in
     let at = stands_still sessions _ _ (c.in-Ok.ensures.same taken)
-    (c.holds_what_sessions_left.ensures opens live sessions led) in
+    (current_taken sessions (state g.S.Store c.args.conn) (c.in-Ok.ensures.unchanged taken)
+    (c.holds_what_sessions_left.ensures opens live sessions led)) in
     let more = stands_still sessions _ _ (c.in-Ok-legal_rows.ensures.kept after club_schema) at in
-    c.leaves_what_sessions_left-in-Ok-legal_rows.ensures sessions
+    c.leaves_what_sessions_left-in-Ok-legal_rows.ensures Current sessions
     (subst (λ h. IsHistory sessions (state g.S.Store h)) (sym same) more) db left
 
 pub returns-in-Err-legal_rows-clause-led : goal.returns-in-Err-legal_rows-clause-led
@@ -45,10 +49,10 @@ returns-in-Err-legal_rows-clause-led g c clean opens live sessions led db left =
     let after = subst (λ h. HasCleanDisk (state g.S.Store h)) same clean in
     let reads = c.legal_rows.ensures.reads c.in-Ok.ensures.ready in
     let taken : HasCleanDisk (state g.S.Store c.in-Ok.club.connection) = omega (arith, reads.clean, after) in
-    let at = c.holds_what_sessions_left.ensures opens live sessions led in
+    let (version, at) = c.holds_what_sessions_left.ensures opens live sessions led in
     let before = reads.may after db (subst (λ h. (state g.S.Store h).may_leave db) same left) in
-    c.leaves_what_sessions_left.ensures sessions at db
-    ((c.in-Ok.ensures.unchanged taken at.exactly.now.schema).1 db before)
+    c.leaves_what_sessions_left.ensures version sessions at db
+    ((c.in-Ok.ensures.unchanged taken (schema_known version _ at.exactly.now.schema)).2 db before)
 
 pub returns-in-Err-clause-refuses : goal.returns-in-Err-clause-refuses
 returns-in-Err-clause-refuses g c clean =
@@ -61,3 +65,29 @@ returns-in-Err-clause-refuses g c clean =
 pub returns-in-Ok-legal_rows-clause-refuses : goal.returns-in-Ok-legal_rows-clause-refuses
 returns-in-Ok-legal_rows-clause-refuses g c clean =
     taken_over _ c.listed.result c.listed.ensures.taken
+
+pub returns-in-Err-clause-older : goal.returns-in-Err-clause-older
+returns-in-Err-clause-older g c clean opens live s (club, left) =
+    c.in-Err.ensures.first clean s club (c.holds_exactly.ensures opens live _ _ left)
+
+pub returns-in-Ok-legal_rows-clause-older : goal.returns-in-Ok-legal_rows-clause-older
+returns-in-Ok-legal_rows-clause-older g c clean opens live s (club, left) =
+    let same = c.into_connection-conn.ensures.same in
+    let after = subst (λ h. HasCleanDisk (state g.S.Store h)) same clean in
+    let taken : HasCleanDisk (state g.S.Store c.in-Ok.club.connection) = omega (
+      arith,
+      (c.legal_rows.ensures.reads c.in-Ok.ensures.ready).clean,
+      after,
+    ) in
+    absurd (c.in-Ok.ensures.older taken s club (c.holds_exactly.ensures opens live _ _ left))
+
+pub returns-in-Err-legal_rows-clause-older : goal.returns-in-Err-legal_rows-clause-older
+returns-in-Err-legal_rows-clause-older g c clean opens live s (club, left) =
+    let same = c.into_connection.ensures.same in
+    let after = subst (λ h. HasCleanDisk (state g.S.Store h)) same clean in
+    let taken : HasCleanDisk (state g.S.Store c.in-Ok.club.connection) = omega (
+      arith,
+      (c.legal_rows.ensures.reads c.in-Ok.ensures.ready).clean,
+      after,
+    ) in
+    absurd (c.in-Ok.ensures.older taken s club (c.holds_exactly.ensures opens live _ _ left))

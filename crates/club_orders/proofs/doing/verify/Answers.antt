@@ -6,6 +6,8 @@ use Rattle.store_tables.specs.Club.{IsExactly, IsOpened}
 use Rattle.store.specs.Histories.{IsHistory}
 use Rattle.club_orders.proofs.SessionLemmas.{stands_still}
 use Rattle.club_orders.proofs.RefusalLemmas.{stood}
+use Rattle.store.proofs.Proved.{current_taken}
+use Rattle.store_tables.specs.declared.names.Version.TheVariants.{Current}
 use Rattle.club_orders.proofs.doing.verify.Goals as goal
 
 pub returns-in-Ok-clause-sound : goal.returns-in-Ok-clause-sound
@@ -20,8 +22,9 @@ returns-in-Ok-clause-led g c clean opens live sessions led db left =
     let same = c.into_connection-conn.ensures.same in
     let taken = subst (λ h. HasCleanDisk (state g.S.Store h)) same clean in
     let at = stands_still sessions _ _ (c.in-Ok.ensures.same taken)
-    (c.holds_what_sessions_left.ensures opens live sessions led) in
-    c.leaves_what_sessions_left-in-Ok.ensures sessions
+    (current_taken sessions (state g.S.Store c.args.conn) (c.in-Ok.ensures.unchanged taken)
+    (c.holds_what_sessions_left.ensures opens live sessions led)) in
+    c.leaves_what_sessions_left-in-Ok.ensures Current sessions
     (subst (λ h. IsHistory sessions (state g.S.Store h)) (sym same) at) db left
 
 pub returns-in-Err-clause-passes : goal.returns-in-Err-clause-passes
@@ -30,8 +33,8 @@ returns-in-Err-clause-passes g c clean opens live s is_club left =
 
 pub returns-in-Err-clause-led : goal.returns-in-Err-clause-led
 returns-in-Err-clause-led g c clean opens live sessions led db left =
-    let at = c.holds_what_sessions_left.ensures opens live sessions led in
-    c.leaves_what_sessions_left.ensures sessions at db (c.in-Err.ensures.reads.may clean db left)
+    let (version, at) = c.holds_what_sessions_left.ensures opens live sessions led in
+    c.leaves_what_sessions_left.ensures version sessions at db (c.in-Err.ensures.reads.may clean db left)
 
 pub returns-in-Err-clause-refuses : goal.returns-in-Err-clause-refuses
 returns-in-Err-clause-refuses g c clean =
@@ -42,9 +45,10 @@ returns-in-Err-clause-refuses g c clean =
     }
 
 pub returns-in-Ok-clause-legal : goal.returns-in-Ok-clause-legal
-returns-in-Ok-clause-legal g c clean opens live schema is =
+returns-in-Ok-clause-legal g c clean opens live has is =
     let same = c.into_connection-conn.ensures.same in
     let taken = subst (λ h. HasCleanDisk (state g.S.Store h)) same clean in
+    let (schema, unchanged, may) = c.in-Ok.ensures.unchanged taken has in
     let opened : IsOpened (state g.S.Store c.args.conn) = record {
       is_open = opens.is_open;
       idle = opens.autocommit;
@@ -54,10 +58,20 @@ returns-in-Ok-clause-legal g c clean opens live schema is =
       settled = λ db left. g.met.S.Store.settled c.args.conn.store db opens.is_open left;
     } in
     let (s, is_club, at) = c.in-Ok.ensures.found taken opened in
-    let shown = (c.in-Ok.ensures.unchanged taken schema).0.0 in
+    let shown = unchanged.0 in
     record {
       state = s;
       legal = is_club;
       leaves =
           stood s (state g.S.Store c.args.conn) (state g.S.Store c.in-Ok.club.connection) at shown.now_is opens.clean;
     }
+
+pub returns-in-Err-clause-older : goal.returns-in-Err-clause-older
+returns-in-Err-clause-older g c clean opens live s (club, left) =
+    c.in-Err.ensures.first clean s club (c.holds_exactly.ensures opens live _ _ left)
+
+pub returns-in-Ok-clause-older : goal.returns-in-Ok-clause-older
+returns-in-Ok-clause-older g c clean opens live s (club, left) =
+    let same = c.into_connection-conn.ensures.same in
+    let taken = subst (λ h. HasCleanDisk (state g.S.Store h)) same clean in
+    absurd (c.in-Ok.ensures.older taken s club (c.holds_exactly.ensures opens live _ _ left))

@@ -1,25 +1,40 @@
-use Rattle.std.proofs.Common.{◌≡◌, ◌+◌, length, ap, ◌∙◌, arith, length-append}
-use Rattle.store_tables.specs.Cells.{event_cells}
+use Rattle.std.proofs.Common.{◌≡◌, ◌+◌, ◌<◌, ℕ, zero, suc, pos, List, [], ◌∷◌, get_or, length, ap, refl, ◌∙◌, arith}
+use Rattle.std.proofs.Common.{length-append}
+use Rattle.store_tables.specs.declared.rows.EventRuleRow.{EventRuleRow}
+use Rattle.store_tables.specs.Cells.{event_cells, event_rule_cells}
 use Rattle.club_core.specs.Answer.{event_of}
-use Rattle.club_rows.specs.Tables.{event_row}
-use Rattle.club_changes.proofs.Proved.{one_more_of, all_read}
+use Rattle.club_rows.specs.Tables.{event_row, rule_row}
+use Rattle.club_changes.proofs.Proved.{one_more_of, all_read, row_at_place}
 use Rattle.club_reads.proofs.events.events_of.Goals as goal
 
-pub loop-row-preserved : goal.loop-row-preserved
-loop-row-preserved c =
-    let grown : length c.push.new.self.items ≡ length c.loop-row.events.items + 1 = ap length c.in_ok-push.ensures.items
+got_same : {A : Type 0} (rows : List A) (k : ℕ) (any other : A) → k < length rows
+    → get_or rows k any ≡ get_or rows k other
+got_same [] k any other low = absurd (omega (arith, low))
+got_same (x ∷ xs) zero any other low = refl
+got_same (x ∷ xs) (suc k) any other low = got_same xs k any other (omega (arith, low))
+
+none : EventRuleRow
+none = record { event = pos 0; declares = pos 0 }
+
+pub loop-i-preserved : goal.loop-i-preserved
+unfolding none
+loop-i-preserved c =
+    let grown : length c.push.new.self.items ≡ length c.loop-i.events.items + 1 = ap length c.in_ok-push.ensures.items
     ∙ simp length-append in
+    let within : c.loop-i.i < length c.args.rules.now = omega (arith, c.loop-i-test.true, c.if-rules-rows.false) in
     record {
       count = omega (arith, grown);
-      values = λ all legal same.
-          one_more_of event_of event_cells event_row c.args.rows.now all same c.loop-row.row-index c.row-item.result
-          c.loop-row.events.items c.push.new.self.items c.in_ok-event_of.field-0
-          (c.loop-row.invariant.values all legal same) c.loop-row-test.true c.row-item.is c.in_ok-push.ensures.items
-          (λ x at stands. c.in_ok-event_of.ensures (1 + c.loop-row.row-index) x
-          (legal c.loop-row.row-index x at).declares stands);
+      values = λ all same ruled.
+          one_more_of event_of event_cells event_row c.args.rows.now all same c.loop-i.i c.index-rows-i.result
+          c.loop-i.events.items c.push.new.self.items c.in_ok-event_of.field-0
+          (c.loop-i.invariant.values all same ruled) c.loop-i-test.true c.index-rows-i.is c.in_ok-push.ensures.items
+          (λ x at stands. c.in_ok-event_of.ensures (1 + c.loop-i.i) x stands
+          (row_at_place event_rule_cells rule_row c.args.rules.now all ruled c.loop-i.i
+          (get_or c.args.rules.now c.loop-i.i none) within
+          (got_same c.args.rules.now c.loop-i.i none (get_or c.args.rules.now c.loop-i.i none) within) x at));
     }
 
 pub returns-clause-values : goal.returns-clause-values
-returns-clause-values c all legal same =
-    all_read event_of event_cells event_row c.args.rows.now all same c.loop-row.row-index c.loop-row.events.items
-    (c.loop-row.invariant.values all legal same) c.loop-row-test.false c.loop-row.auto.row-index-end
+returns-clause-values c all same ruled =
+    all_read event_of event_cells event_row c.args.rows.now all same c.loop-i.i c.loop-i.events.items
+    (c.loop-i.invariant.values all same ruled) c.loop-i-test.false c.loop-i.auto.i-end

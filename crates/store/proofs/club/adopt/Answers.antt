@@ -1,8 +1,27 @@
+use Rattle.std.proofs.Common.{inl, inr, refl, sym, subst, ◌∙◌}
 use Rattle.sqlite.specs.Held.{state}
-use Rattle.club_opening.proofs.Proved.{good_fault}
+use Rattle.store_tables.specs.declared.names.Version.TheVariants.{First, Current}
+use Rattle.club_opening.proofs.Proved.{good_fault, good_in, schema_known, schemas_differ}
 use Rattle.store.proofs.club.adopt.Goals as goal
 
 pub returns-in-Err-clause-good : goal.returns-in-Err-clause-good
 returns-in-Err-clause-good g c = λ clean s club exactly.
     let old = state g.S.Store c.args.conn in
-    good_fault s club old.now exactly.now c.in-Err.fault (c.in-Err.ensures.blames clean exactly.now.schema)
+    good_fault s club old.now exactly.now c.in-Err.fault
+    (c.in-Err.ensures.blames clean (schema_known Current old.now.schema exactly.now.schema))
+
+pub returns-in-Ok-clause-older : goal.returns-in-Ok-clause-older
+returns-in-Ok-clause-older g c = λ clean s club exactly.
+    let old = state g.S.Store c.args.conn in
+    let (current, same) = c.in-Ok.ensures.same clean (schema_known First old.now.schema exactly.now.schema) in
+    schemas_differ (sym exactly.now.schema ∙ current)
+
+pub returns-in-Err-clause-first : goal.returns-in-Err-clause-first
+returns-in-Err-clause-first g c = λ clean s club exactly.
+    let old = state g.S.Store c.args.conn in
+    elim (good_in Current First s club old.now exactly.now c.in-Err.fault
+    (c.in-Err.ensures.blames clean (schema_known First old.now.schema exactly.now.schema))) [
+      | inl store ↦ inr (inl store)
+      | inr (inl memory) ↦ inr (inr memory)
+      | inr (inr (named, other)) ↦ inl named
+    ]

@@ -1,6 +1,0 @@
-use Rattle.sqlite.specs.Held.{state}
-use Rattle.store.proofs.HistoryLemmas.{stops_led}
-use Rattle.store.proofs.reopen.leaves_what_sessions_left.Goals as goal
-
-pub returns : goal.returns
-returns g c sessions at db left = stops_led sessions (state g.S.Store c.args.conn.now) at db left

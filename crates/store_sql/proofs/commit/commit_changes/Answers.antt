@@ -27,6 +27,7 @@ returns-clause-stored g c clean content k =
 
 pub returns-in_err-commit-clause-survives : goal.returns-in_err-commit-clause-survives
 returns-in_err-commit-clause-survives g c =
+    let same : c.commit.new.self.0 ≡ c.conn-2-1.given.0 = search rules in
     let old = c.args.conn.now in
     let last = c.put_changes.new.tx.conn.now in
     let begun = c.transaction-tx.ensures.begun in
@@ -41,11 +42,11 @@ returns-in_err-commit-clause-survives g c =
     (leaves_of club_schema (state g.S.Store last).now after ((rw begun at steps.holds) content k)))
     (survives_begin g.S.Store old (state g.S.Store last) _ (rw begun at c.put_changes.ensures.survives))
     c.commit.ensures.survives in
-    let same : c.commit.new.self.0 ≡ c.conn-2-1.given.0 = search rules in
     subst (λ h. Survives (state g.S.Store old) (state g.S.Store h) P) same whole
 
 pub returns-clause-survives : goal.returns-clause-survives
 returns-clause-survives g c =
+    let same : c.commit.new.self.0 ≡ c.conn-2-1.given.0 = search rules in
     let old = c.args.conn.now in
     let last = c.put_changes.new.tx.conn.now in
     let begun = c.transaction-tx.ensures.begun in
@@ -60,5 +61,4 @@ returns-clause-survives g c =
     (leaves_of club_schema (state g.S.Store last).now after ((rw begun at steps.holds) content k)))
     (survives_begin g.S.Store old (state g.S.Store last) _ (rw begun at c.put_changes.ensures.survives))
     c.commit.ensures.survives in
-    let same : c.commit.new.self.0 ≡ c.conn-2-1.given.0 = search rules in
     subst (λ h. Survives (state g.S.Store old) (state g.S.Store h) P) same whole

@@ -15,7 +15,7 @@ returns-clause-filled g c clean inside =
     (omega (arith, c.make_last.ensures.survives.clean, c.put_meta.ensures.survives.clean)) inside in
     let two = c.in_ok-make_last.ensures.made (omega (arith, c.put_meta.ensures.survives.clean)) one.inside in
     let three = c.in_ok-put_meta.ensures.put clean two.inside in
-    fills a d e (makes_then 0 4 8 a b d one two) three
+    fills a d e (makes_then 0 4 9 a b d one two) three
 
 pub returns-clause-refuses : goal.returns-clause-refuses
 returns-clause-refuses g c clean inside has =

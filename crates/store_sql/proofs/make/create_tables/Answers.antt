@@ -6,7 +6,7 @@ use Rattle.sqlite.proofs.StateLemmas.{survives_then}
 use Rattle.sqlite.proofs.Callers.{survives_begin}
 use Rattle.store_tables.specs.Contents.{IsExactlyEmpty, opening}
 use Rattle.store_tables.specs.Club.{IsExactly, Leaves}
-use Rattle.store_tables.specs.Tables.{club_schema}
+use Rattle.store_tables.specs.Tables.{club_schema, IsClubSchema}
 use Rattle.store_tables.proofs.Proved.{commits, leaves_of}
 use Rattle.store_sql.proofs.make.create_tables.Goals as goal
 
@@ -29,7 +29,7 @@ returns-in_err-commit-clause-survives g c =
     let last = c.create_inside.new.tx.conn.now in
     let begun = c.transaction-tx.ensures.begun in
     let P = λ (trees : Trees). (IsExactlyEmpty (state g.S.Store old) → Leaves opening trees)
-    × ((state g.S.Store old).now.schema ≡ club_schema → ⊥) in
+    × (IsClubSchema (state g.S.Store old).now.schema → ⊥) in
     let whole = survives_then (state g.S.Store old) (state g.S.Store last) (state g.S.Store c.commit.new.self.0) _ _ P
     (λ _ db none. absurd none)
     (λ clean db is. (
@@ -52,7 +52,7 @@ returns-clause-survives g c =
     let last = c.create_inside.new.tx.conn.now in
     let begun = c.transaction-tx.ensures.begun in
     let P = λ (trees : Trees). (IsExactlyEmpty (state g.S.Store old) → Leaves opening trees)
-    × ((state g.S.Store old).now.schema ≡ club_schema → ⊥) in
+    × (IsClubSchema (state g.S.Store old).now.schema → ⊥) in
     let whole = survives_then (state g.S.Store old) (state g.S.Store last) (state g.S.Store c.commit.new.self.0) _ _ P
     (λ _ db none. absurd none)
     (λ clean db is. (

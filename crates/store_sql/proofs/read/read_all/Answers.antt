@@ -1,9 +1,8 @@
-use Rattle.std.proofs.Common.{◌≡◌, rules, arith, ap, ◌∙◌}
+use Rattle.std.proofs.Common.{◌≡◌, rules, arith, ap, sym, subst}
 use Rattle.std.proofs.lemmas.Result.{IfErr-weaker}
 use Rattle.sqlite.specs.Effect.{Database}
 use Rattle.sqlite.specs.Held.{state}
 use Rattle.sqlite.specs.State.{HasCleanDisk}
-use Rattle.store_tables.specs.Tables.{club_schema}
 use Rattle.store_sql.proofs.SelectLemmas.{blame_types}
 use Rattle.store_sql.proofs.read.read_all.Goals as goal
 
@@ -14,6 +13,7 @@ returns-clause-blames g c clean =
     let early : HasCleanDisk mid = omega (arith, c.show_all.ensures.reads.clean) in
     IfErr-weaker c.typed.result _ _ (λ e faults has.
     let same : mid.now ≡ old.now = (c.in-Ok.ensures.counted early has).same.0.now_is in
-    let still : mid.now.schema ≡ club_schema = ap (λ (d : Database). d.schema) same ∙ has in
+    let still : g.T.Select.stands mid.now.schema =
+    subst g.T.Select.stands (sym (ap (λ (d : Database). d.schema) same)) has in
     blame_types g.T.Select.table g.T.TableRow.IsTyped old mid _ c.in-Ok-show_all.shown.items e (search rules) same
     (c.in-Ok-show_all.ensures.rows clean still).keeps faults) c.typed.ensures.blames

@@ -13,7 +13,7 @@ use Rattle.store_sql.proofs.read.show_by_first.Goals as goal
 
 pub returns-clause-reads : goal.returns-clause-reads
 returns-clause-reads g c =
-    let is = g.met.T.Select.read in
+    let is = g.met.T.Select.read club_schema g.met.T.Select.current in
     let text : c.by_first.result.now ≡ g.T.Select.by_first_text = search rules in
     only_reads c.by_first.result.now (subst IsSelect (sym text) is.group_is) _ (state g.S.Store c.args.conn.now)
     (state g.S.Store c.query_all.new.self) (λ rows. rows.items) c.query_all.result c.query_all.ensures.mode
@@ -21,7 +21,7 @@ returns-clause-reads g c =
 
 pub returns-clause-kept : goal.returns-clause-kept
 returns-clause-kept g c clean =
-    let is = g.met.T.Select.read in
+    let is = g.met.T.Select.read club_schema g.met.T.Select.current in
     let text : c.by_first.result.now ≡ g.T.Select.by_first_text = search rules in
     let select = subst IsSelect (sym text) is.group_is in
     let only : OnlyReads (state g.S.Store c.args.conn.now) (state g.S.Store c.query_all.new.self) =
@@ -36,24 +36,29 @@ returns-clause-rows g c clean =
     let text : c.by_first.result.now ≡ g.T.Select.by_first_text = search rules in
     IfOk-weaker c.query_all.result _ _ (λ rows shown content k.
     some_found club_schema g.T.Select.table g.T.Select.width g.T.Select.all_text g.T.Select.ids_text
-    g.T.Select.by_first_text g.met.T.Select.read c.by_first.result.now _ (state g.S.Store c.args.conn.now)
+    g.T.Select.by_first_text (g.met.T.Select.read club_schema g.met.T.Select.current) c.by_first.result.now _
+    (state g.S.Store c.args.conn.now)
     (state g.S.Store c.query_all.new.self) text c.args.first.now (search rules) c.query_all.ensures.survives clean
     rows.items shown content k) (c.query_all.ensures.ok clean)
 
 pub returns-clause-told : goal.returns-clause-told
 returns-clause-told g c clean =
+    let old = state g.S.Store c.args.conn.now in
     let text : c.by_first.result.now ≡ g.T.Select.by_first_text = search rules in
     IfOk-weaker c.query_all.result _ _ (λ rows shown has.
-    group_told club_schema g.T.Select.table g.T.Select.width g.T.Select.all_text g.T.Select.ids_text
-    g.T.Select.by_first_text g.met.T.Select.read c.by_first.result.now _ (state g.S.Store c.args.conn.now)
-    (state g.S.Store c.query_all.new.self) text c.args.first.now (search rules) rows.items shown has)
+    group_told old.now.schema g.T.Select.table g.T.Select.width g.T.Select.all_text g.T.Select.ids_text
+    g.T.Select.by_first_text (g.met.T.Select.read old.now.schema has) c.by_first.result.now _
+    (state g.S.Store c.args.conn.now)
+    (state g.S.Store c.query_all.new.self) text c.args.first.now (search rules) rows.items shown refl)
     (c.query_all.ensures.ok clean)
 
 pub returns-clause-known : goal.returns-clause-known
 returns-clause-known g c clean =
+    let old = state g.S.Store c.args.conn.now in
     let text : c.by_first.result.now ≡ g.T.Select.by_first_text = search rules in
     IfErr-weaker c.query_all.result _ _ (λ e failed has.
-    group_known club_schema g.T.Select.table g.T.Select.width g.T.Select.all_text g.T.Select.ids_text
-    g.T.Select.by_first_text g.met.T.Select.read c.by_first.result.now _ (state g.S.Store c.args.conn.now)
-    (state g.S.Store c.query_all.new.self) text c.args.first.now (search rules) e failed has)
+    group_known old.now.schema g.T.Select.table g.T.Select.width g.T.Select.all_text g.T.Select.ids_text
+    g.T.Select.by_first_text (g.met.T.Select.read old.now.schema has) c.by_first.result.now _
+    (state g.S.Store c.args.conn.now)
+    (state g.S.Store c.query_all.new.self) text c.args.first.now (search rules) e failed refl)
     (c.query_all.ensures.err clean)

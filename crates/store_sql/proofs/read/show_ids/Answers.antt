@@ -13,7 +13,7 @@ use Rattle.store_sql.proofs.read.show_ids.Goals as goal
 
 pub returns-clause-reads : goal.returns-clause-reads
 returns-clause-reads g c =
-    let is = g.met.T.Select.read in
+    let is = g.met.T.Select.read club_schema g.met.T.Select.current in
     let text : c.ids.result.now ≡ g.T.Select.ids_text = search rules in
     only_reads c.ids.result.now (subst IsSelect (sym text) is.ids_is) _ (state g.S.Store c.args.conn.now)
     (state g.S.Store c.query_all.new.self) (λ rows. rows.items) c.query_all.result c.query_all.ensures.mode
@@ -21,7 +21,7 @@ returns-clause-reads g c =
 
 pub returns-clause-kept : goal.returns-clause-kept
 returns-clause-kept g c clean =
-    let is = g.met.T.Select.read in
+    let is = g.met.T.Select.read club_schema g.met.T.Select.current in
     let text : c.ids.result.now ≡ g.T.Select.ids_text = search rules in
     let select = subst IsSelect (sym text) is.ids_is in
     let only : OnlyReads (state g.S.Store c.args.conn.now) (state g.S.Store c.query_all.new.self) =
@@ -33,33 +33,40 @@ returns-clause-kept g c clean =
 
 pub returns-clause-ids : goal.returns-clause-ids
 returns-clause-ids g c clean =
+    let old = state g.S.Store c.args.conn.now in
     let text : c.ids.result.now ≡ g.T.Select.ids_text = search rules in
     IfOk-weaker c.query_all.result _ _ (λ rows shown has.
-    ids_told club_schema g.T.Select.table g.T.Select.width g.T.Select.all_text g.T.Select.ids_text
-    g.T.Select.by_first_text g.met.T.Select.read c.ids.result.now [] (state g.S.Store c.args.conn.now)
-    (state g.S.Store c.query_all.new.self) text refl rows.items shown has) (c.query_all.ensures.ok clean)
+    ids_told old.now.schema g.T.Select.table g.T.Select.width g.T.Select.all_text g.T.Select.ids_text
+    g.T.Select.by_first_text (g.met.T.Select.read old.now.schema has) c.ids.result.now []
+    (state g.S.Store c.args.conn.now)
+    (state g.S.Store c.query_all.new.self) text refl rows.items shown refl) (c.query_all.ensures.ok clean)
 
 pub returns-clause-known : goal.returns-clause-known
 returns-clause-known g c clean =
+    let old = state g.S.Store c.args.conn.now in
     let text : c.ids.result.now ≡ g.T.Select.ids_text = search rules in
     IfErr-weaker c.query_all.result _ _ (λ e failed has.
-    ids_known club_schema g.T.Select.table g.T.Select.width g.T.Select.all_text g.T.Select.ids_text
-    g.T.Select.by_first_text g.met.T.Select.read c.ids.result.now [] (state g.S.Store c.args.conn.now)
-    (state g.S.Store c.query_all.new.self) text refl e failed has) (c.query_all.ensures.err clean)
+    ids_known old.now.schema g.T.Select.table g.T.Select.width g.T.Select.all_text g.T.Select.ids_text
+    g.T.Select.by_first_text (g.met.T.Select.read old.now.schema has) c.ids.result.now []
+    (state g.S.Store c.args.conn.now)
+    (state g.S.Store c.query_all.new.self) text refl e failed refl) (c.query_all.ensures.err clean)
 
 pub returns-clause-count : goal.returns-clause-count
 returns-clause-count g c clean =
     let text : c.ids.result.now ≡ g.T.Select.ids_text = search rules in
     IfOk-weaker c.query_all.result _ _ (λ rows shown id content k places.
     counted club_schema g.T.Select.table g.T.Select.width g.T.Select.all_text g.T.Select.ids_text
-    g.T.Select.by_first_text g.met.T.Select.read c.ids.result.now [] (state g.S.Store c.args.conn.now)
+    g.T.Select.by_first_text (g.met.T.Select.read club_schema g.met.T.Select.current) c.ids.result.now []
+    (state g.S.Store c.args.conn.now)
     (state g.S.Store c.query_all.new.self) text refl (g.met.T.Select.numbered id).1 rows.items shown content k
     places) (c.query_all.ensures.ok clean)
 
 pub returns-clause-number : goal.returns-clause-number
 returns-clause-number g c clean =
+    let old = state g.S.Store c.args.conn.now in
     let text : c.ids.result.now ≡ g.T.Select.ids_text = search rules in
     IfOk-weaker c.query_all.result _ _ (λ rows shown has.
-    ids_number club_schema g.T.Select.table g.T.Select.width g.T.Select.all_text g.T.Select.ids_text
-    g.T.Select.by_first_text g.met.T.Select.read c.ids.result.now [] (state g.S.Store c.args.conn.now)
-    (state g.S.Store c.query_all.new.self) text refl rows.items shown has) (c.query_all.ensures.ok clean)
+    ids_number old.now.schema g.T.Select.table g.T.Select.width g.T.Select.all_text g.T.Select.ids_text
+    g.T.Select.by_first_text (g.met.T.Select.read old.now.schema has) c.ids.result.now []
+    (state g.S.Store c.args.conn.now)
+    (state g.S.Store c.query_all.new.self) text refl rows.items shown refl) (c.query_all.ensures.ok clean)

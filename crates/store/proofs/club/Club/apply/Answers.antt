@@ -58,7 +58,7 @@ returns-in-None-clause-unchanged g c clean refused content k =
 pub returns-in-Err-clause-cut_off : goal.returns-in-Err-clause-cut_off
 returns-in-Err-clause-cut_off g c clean usable sessions at db left =
     let asked = request c.args.who.now c.args.command.now c.args.moment in
-    one_cut at.after sessions asked db at.leads at.legal
+    one_cut at.from at.after sessions asked db at.leads at.legal
     (club_stays at.after asked (omega (arith, c.seconds-within.ensures.value, c.seconds-within.ensures.range)) at.legal)
     (returns-in-Err-clause-fault g c clean usable at.after at.legal at.exactly db left)
 
@@ -69,7 +69,7 @@ returns-in-Ok-apply_changes-clause-stands g c clean sessions at =
     (let e = at.exactly in search rules) in
     let decided : HasCleanDisk (state g.S.Store c.decide_request.new.conn) =
     omega (arith, c.apply_changes.ensures.clean) in
-    one_stands at.after sessions asked _ (state g.S.Store c.apply_changes.new.self.connection) at.leads
+    one_stands at.from at.after sessions asked _ (state g.S.Store c.apply_changes.new.self.connection) at.leads
     (c.in-Ok.ensures.step decided at.after at.legal inside).answer
     (club_stays at.after asked (omega (arith, c.seconds-within.ensures.value, c.seconds-within.ensures.range)) at.legal)
     (returns-in-Ok-apply_changes-clause-step g c clean at.after at.legal at.exactly)
@@ -77,7 +77,7 @@ returns-in-Ok-apply_changes-clause-stands g c clean sessions at =
 pub returns-in-Err-apply_changes-clause-cut_off : goal.returns-in-Err-apply_changes-clause-cut_off
 returns-in-Err-apply_changes-clause-cut_off g c clean usable sessions at db left =
     let asked = request c.args.who.now c.args.command.now c.args.moment in
-    one_cut at.after sessions asked db at.leads at.legal
+    one_cut at.from at.after sessions asked db at.leads at.legal
     (club_stays at.after asked (omega (arith, c.seconds-within.ensures.value, c.seconds-within.ensures.range)) at.legal)
     (returns-in-Err-apply_changes-clause-fault g c clean usable at.after at.legal at.exactly db left)
 
@@ -86,7 +86,7 @@ returns-in-None-clause-stands g c clean sessions at =
     let asked = request c.args.who.now c.args.command.now c.args.moment in
     let inside : IsExactly (tables at.after) (state g.S.Store c.self.inside.connection) =
     (let e = at.exactly in search rules) in
-    one_stands at.after sessions asked _ (state g.S.Store c.decide_request.new.conn) at.leads
+    one_stands at.from at.after sessions asked _ (state g.S.Store c.decide_request.new.conn) at.leads
     (c.in-Ok.ensures.step clean at.after at.legal inside).answer
     (club_stays at.after asked (omega (arith, c.seconds-within.ensures.value, c.seconds-within.ensures.range)) at.legal)
     (returns-in-None-clause-step g c clean at.after at.legal at.exactly)

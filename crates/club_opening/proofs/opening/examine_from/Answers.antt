@@ -1,0 +1,72 @@
+use Rattle.std.proofs.Common.{arith, refl, subst, sym}
+use Rattle.sqlite.specs.Held.{state}
+use Rattle.sqlite.specs.State.{HasCleanDisk}
+use Rattle.sqlite.proofs.Callers.{unchanged_then}
+use Rattle.store_tables.proofs.Proved.{reads_then}
+use Rattle.club_opening.specs.Places.{IsRegisterOf}
+use Rattle.club_opening.specs.Versions.{IsExactlyClub, IsOpenedAt}
+use Rattle.club_rows.specs.Club.{ClubState}
+use Rattle.club_rows.specs.FirstSchema.{IsClubOf}
+use Rattle.club_audit.proofs.Proved.{ruled-of}
+use Rattle.club_opening.proofs.BlameLemmas.{have_ids, still}
+use Rattle.club_opening.proofs.ClubLemmas.{club_read_as}
+use Rattle.club_opening.proofs.RegisterLemmas.{examined_club, meta_found, play_blamed}
+use Rattle.club_opening.proofs.StoredLemmas.{one_version, schema_known}
+use Rattle.club_opening.proofs.opening.examine_from.Goals as goal
+
+pub returns-in-Ok-examine_rows-clause-found : goal.returns-in-Ok-examine_rows-clause-found
+returns-in-Ok-examine_rows-clause-found g c clean version opened =
+    let s0 = state g.S.Store c.args.conn.now in
+    let s1 = state g.S.Store c.read_rows.new.conn in
+    let s3 = state g.S.Store c.examine_rows.new.conn in
+    let clean1 : HasCleanDisk s1 = omega (arith, c.examine_rows.ensures.reads.clean) in
+    let found = c.in-Ok.found in
+    let has = schema_known version s0.now.schema opened.schema in
+    let (schema, read) = c.in-Ok.ensures.rows clean1 has in
+    let same_version = one_version found.version version s0.now.schema schema opened.schema in
+    let here : IsOpenedAt found.version s0 = subst (λ v. IsOpenedAt v s0) (sym same_version) opened in
+    let all = c.in-Ok-examine_rows.ensures.found clean (still s0 s1 read.same has) in
+    let n = all.moment in
+    let (moment, within) = all.last in
+    let reads = reads_then s0 s1 s3 c.read_rows.ensures.reads c.examine_rows.ensures.reads in
+    let (ms, are_ms) = c.in-Ok.ensures.members in
+    let (es, are_es) = c.in-Ok.ensures.events in
+    let (cs, are_cs) = all.challenges in
+    let made = ruled-of es found.rows.events.items found.rows.event_rules.items are_es c.in-Ok.ensures.rules in
+    let club = examined_club found.version found.rows _ s0 s1 s3 here read
+    (meta_found found.version found.rows s0 s1 n moment read.meta) all.play all.scores
+    (reads.may clean) ms made.ruled cs
+    n are_ms made.events_are made.rules_are are_cs all.games moment within refl in (
+      same_version,
+      subst (λ v. (s : ClubState) × IsClubOf v s × IsRegisterOf s found.rows × IsExactlyClub v s s3) same_version club,
+    )
+
+pub returns-in-Ok-examine_rows-clause-rows : goal.returns-in-Ok-examine_rows-clause-rows
+returns-in-Ok-examine_rows-clause-rows g c clean version s club holds =
+    let s0 = state g.S.Store c.args.conn.now in
+    let s1 = state g.S.Store c.read_rows.new.conn in
+    let clean1 : HasCleanDisk s1 = omega (arith, c.examine_rows.ensures.reads.clean) in
+    let found = c.in-Ok.found in
+    let (schema, read) = c.in-Ok.ensures.rows clean1 (schema_known version s0.now.schema holds.schema) in
+    club_read_as found.version version s club found.rows s0 s1 schema holds read
+    (have_ids found.version found.rows s0 s1 read)
+
+pub returns-in-Ok-examine_rows-clause-same : goal.returns-in-Ok-examine_rows-clause-same
+returns-in-Ok-examine_rows-clause-same g c clean has =
+    let s0 = state g.S.Store c.args.conn.now in
+    let s1 = state g.S.Store c.read_rows.new.conn in
+    let s3 = state g.S.Store c.examine_rows.new.conn in
+    let clean1 : HasCleanDisk s1 = omega (arith, c.examine_rows.ensures.reads.clean) in
+    let (schema, read) = c.in-Ok.ensures.rows clean1 has in
+    let all = c.in-Ok-examine_rows.ensures.found clean (still s0 s1 read.same has) in
+    (schema, unchanged_then s0 s1 s3 read.same all.play.games.same)
+
+pub returns-in-Err-examine_rows-clause-blames : goal.returns-in-Err-examine_rows-clause-blames
+returns-in-Err-examine_rows-clause-blames g c clean has =
+    let s0 = state g.S.Store c.args.conn.now in
+    let s1 = state g.S.Store c.read_rows.new.conn in
+    let clean1 : HasCleanDisk s1 = omega (arith, c.examine_rows.ensures.reads.clean) in
+    let (schema, read) = c.in-Ok.ensures.rows clean1 has in
+    play_blamed c.args.oldest c.in-Ok.found.version c.in-Ok.found.rows s0 s1 s1 c.in-Err-examine_rows.fault schema read
+    read.same
+    (c.in-Err-examine_rows.ensures.blames clean (still s0 s1 read.same has))

@@ -1,0 +1,79 @@
+use Rattle.std.proofs.Common.{None, arith, inl, inr, subst}
+use Rattle.std.proofs.lemmas.Int.{ints}
+use Rattle.std.proofs.lemmas.Option.{IfSome_then}
+use Rattle.sqlite.specs.Held.{state}
+use Rattle.sqlite.specs.State.{HasCleanDisk}
+use Rattle.club_opening.specs.Examined.{IsPlayExamined}
+use Rattle.club_opening.proofs.BlameLemmas.{still}
+use Rattle.club_opening.proofs.ExaminedLemmas.{blamed_before, moment_told, moment_of, play_later, scores_after}
+use Rattle.club_opening.proofs.StoredLemmas.{club_of_version}
+use Rattle.club_opening.proofs.opening.examine_rows.Goals as goal
+
+pub examine_play-requires-clause-last : goal.examine_play-requires-clause-last
+examine_play-requires-clause-last g c =
+    moment_told c.args.rows.now.meta.last c.moment-last.result
+    (IfSome_then c.moment-last.result c.moment-last.ensures.some (λ m is. omega (arith, ints, is)))
+    c.moment-last.ensures.range
+    (λ none n low is. c.moment-last.ensures.none none n low (omega (arith, ints, is)))
+
+pub examine_play-requires-clause-known : goal.examine_play-requires-clause-known
+examine_play-requires-clause-known g c = c.in-Ok.ensures.remembered
+
+pub returns-in-None-wrong-clause-found : goal.returns-in-None-wrong-clause-found
+returns-in-None-wrong-clause-found g c clean has =
+    let s1 = state g.S.Store c.args.conn.now in
+    let s2 = state g.S.Store c.examine_play.new.conn in
+    let s3 = state g.S.Store c.examine_scores.new.conn in
+    let clean2 : HasCleanDisk s2 = omega (arith, c.examine_scores.ensures.reads.clean) in
+    let rows = c.args.rows.now in
+    let none = c.in-None-wrong.is in
+    let play = subst (λ wrong. IsPlayExamined rows c.moment-last.result wrong s1 s2) none
+    (c.in-Ok-examine_play.ensures.found clean2 has) in
+    let free = c.in-Ok-examine_play.ensures.known none in
+    let scores = c.in-Ok-examine_scores.ensures.found clean (still s1 s2 play.games.same has) in
+    let (n, moment, within) = c.in-Ok.ensures.moment free in
+    let told = moment_told rows.meta.last c.moment-last.result
+    (IfSome_then c.moment-last.result c.moment-last.ensures.some (λ m is. omega (arith, ints, is)))
+    c.moment-last.ensures.range
+    (λ none n low is. c.moment-last.ensures.none none n low (omega (arith, ints, is))) in
+    let is_last = moment_of rows.meta.last c.moment-last.result told n moment within in
+    record {
+      moment = n;
+      last = (moment, within);
+      challenges = c.in-Ok.ensures.challenges;
+      games = c.in-Ok.ensures.games free;
+      play = play_later rows _ s1 s2 s3 (subst (λ l. IsPlayExamined rows l None s1 s2) is_last play) scores.read.same;
+      scores = scores_after rows s1 s2 s3 play.games.same scores;
+    }
+
+pub returns-in-Err-clause-blames : goal.returns-in-Err-clause-blames
+returns-in-Err-clause-blames g c clean has = elim c.in-Err.ensures.fault [
+  | inl memory ↦ inl (inr (inl memory))
+  | inr (t, named, none) ↦ inr (
+    t,
+    named,
+    λ version s club register holds.
+        none s (club_of_version version s club) register,
+  )
+]
+
+pub returns-in-Some-clause-blames : goal.returns-in-Some-clause-blames
+returns-in-Some-clause-blames g c clean has =
+    let play = c.in-Ok-examine_play.ensures.found clean has in
+    inr (play.games.blamed c.in-Some.table (c.before_scores.ensures.some c.in-Some.table c.in-Some.is))
+
+pub returns-in-Err-examine_scores-clause-blames : goal.returns-in-Err-examine_scores-clause-blames
+returns-in-Err-examine_scores-clause-blames g c clean has =
+    let s1 = state g.S.Store c.args.conn.now in
+    let s2 = state g.S.Store c.examine_play.new.conn in
+    let clean2 : HasCleanDisk s2 = omega (arith, c.examine_scores.ensures.reads.clean) in
+    let play = c.in-Ok-examine_play.ensures.found clean2 has in
+    blamed_before c.args.rows.now s1 s2 c.in-Err-examine_scores.fault play.games.same
+    (c.in-Err-examine_scores.ensures.blames clean (still s1 s2 play.games.same has))
+
+pub returns-in-Some-wrong-clause-blames : goal.returns-in-Some-wrong-clause-blames
+returns-in-Some-wrong-clause-blames g c clean has =
+    let s2 = state g.S.Store c.examine_play.new.conn in
+    let clean2 : HasCleanDisk s2 = omega (arith, c.examine_scores.ensures.reads.clean) in
+    let play = c.in-Ok-examine_play.ensures.found clean2 has in
+    inr (play.games.blamed c.in-Some-wrong.table c.in-Some-wrong.is)

@@ -1,0 +1,33 @@
+-- The tables of a club in a database, by the schema of a version.
+use Rattle.std.specs.Prelude.{◌≡◌, List, map}
+use Rattle.sqlite.specs.Effect.{Database}
+use Rattle.sqlite.specs.State.{State}
+use Rattle.store_tables.specs.Contents as of_schema
+use Rattle.store_tables.specs.Cells.{event_cells}
+use Rattle.store_tables.specs.Tables.{schema_of}
+use Rattle.store_tables.specs.declared.rows.EventRow.{EventRow}
+use Rattle.store_tables.specs.declared.names.Version.{Version}
+use Rattle.club_rows.specs.Club.{ClubState}
+use Rattle.club_rows.specs.FirstSchema.{IsClubOf, tables_at}
+use Rattle.club_rows.specs.Tables.{event_row, numbered_from}
+
+-- the database has the tables of this club, in this version
+abbrev pub HoldsClub : Version → Database → ClubState → Type 0
+HoldsClub version db s = of_schema.Holds (schema_of version) db (tables_at version s)
+
+-- the connection has them exactly, and leaves them to a stop
+abbrev pub IsExactlyClub : Version → ClubState → State → Type 0
+IsExactlyClub version s = of_schema.IsExactly (schema_of version) (tables_at version s)
+
+-- a connection that was just opened over the tables of this version
+abbrev pub IsOpenedAt : Version → State → Type 0
+IsOpenedAt version = of_schema.IsOpened (schema_of version)
+
+-- no legal club has the tables of the database, in whatever version
+abbrev pub IsNoClub : Database → Type 0
+IsNoClub db = (version : Version) (s : ClubState) → IsClubOf version s → ¬ HoldsClub version db s
+
+-- these are the rows of the events of whatever club has its tables in the database
+abbrev pub HasEvents : List EventRow → Database → Type 0
+HasEvents rows db = (version : Version) (s : ClubState) → IsClubOf version s → HoldsClub version db s
+    → map event_cells rows ≡ numbered_from event_row 1 s.events

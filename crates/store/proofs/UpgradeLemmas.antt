@@ -1,0 +1,171 @@
+-- From the tables of schema 1 to those of schema 2 with the same state.
+use Rattle.std.proofs.Common.{◌≡◌, ◌⊎◌, ◌+◌, ℕ, ℤ, pos, true, false, List, [], ◌∷◌, ◌++◌, map, refl, sym, ap, subst}
+use Rattle.std.proofs.Common.{◌∙◌}
+use Rattle.std.proofs.Common.{arith, inl, inr}
+use Rattle.std.specs.Prelude.{slice_get}
+use Rattle.std.proofs.lemmas.Option.{same_Some}
+use Rattle.sqlite.specs.Order.{Row, column}
+use Rattle.sqlite.specs.State.{State}
+use Rattle.sqlite.specs.Tree.{Trees}
+use Rattle.store_tables.specs.Cells.{event_rule_cells, meta_cells}
+use Rattle.store_tables.specs.Changed.{widened}
+use Rattle.store_tables.specs.Changes.{Alters, HaveSame}
+use Rattle.store_tables.specs.Club.{IsExactly, Leaves}
+use Rattle.store_tables.specs.Content.{put}
+use Rattle.store_tables.specs.Contents as of_schema
+use Rattle.store_tables.specs.Contents.{put_each, put_in}
+use Rattle.store_tables.specs.Tables.{schema_number, schema_of}
+use Rattle.store_tables.specs.declared.names.Version.{Version}
+use Rattle.store_tables.specs.declared.names.Version.TheVariants.{First, Current}
+use Rattle.store_tables.specs.declared.rows.EventRuleRow.{EventRuleRow}
+use Rattle.store_tables.specs.declared.rows.MetaRow.{MetaRow}
+use Rattle.store_tables.specs.declared.rows.Rows.{Rows}
+use Rattle.sqlite.specs.declared.types.Value.TheVariants.{Int}
+use Rattle.club_opening.specs.Blames.{IsNumberFrom}
+use Rattle.club_opening.specs.Places.{IsRegisterOf}
+use Rattle.store_tables.proofs.Proved.{altered, each_at, same_by}
+use Rattle.club_changes.proofs.Proved.{ids_agree, ids_same, numbered_had}
+use Rattle.club_changes.specs.Steps.{AreSame}
+use Rattle.club_core.specs.Events.{Event}
+use Rattle.club_rows.specs.Club.{ClubState, tables}
+use Rattle.club_rows.specs.FirstSchema.{first_tables, tables_at}
+use Rattle.club_rows.specs.Tables.{meta_row, numbered_from, rule_row}
+use Rattle.club_opening.proofs.Proved.{club_of_version}
+use Rattle.store.specs.Histories.{Chapter, IsHistory, IsHistoryAt, IsReachable, opens_as, upgraded}
+use Rattle.store.proofs.HistoryLemmas.{at_state, leads_then}
+
+-- ---- the tables
+
+-- the rules of all events are put into a table that has none
+rules_put : (events : List Event)
+    → Alters (0 ∷ []) (numbered_from rule_row 1 events) [] (numbered_from rule_row 1 events)
+rules_put events = record {
+  among = λ z h. h;
+  from = λ z h. inr h;
+  stays = λ z h. absurd h;
+  one = λ x y has_x has_y same.
+      let (n, a, at_a, x_is) = numbered_had rule_row 1 events x has_x in
+      let (m, b, at_b, y_is) = numbered_had rule_row 1 events y has_y in
+      let alike : 1 + n ≡ 1 + m = ids_same x y (1 + n) (1 + m) (ap (λ w. column w 0) x_is)
+      (ap (λ w. column w 0) y_is) same in
+      let here : n ≡ m = omega (arith, alike) in
+      let event : a ≡ b = same_Some a b (sym at_a ∙ (ap (slice_get events) here ∙ at_b)) in
+      x_is ∙ ((λ i. rule_row (1 + here i) (event i)) ∙ sym y_is);
+}
+
+-- the row of `meta` is put for the one that is there
+meta_put : (last : ℕ) → Alters (0 ∷ []) (meta_row 2 last ∷ []) (meta_row 1 last ∷ []) (meta_row 2 last ∷ [])
+meta_put last = record {
+  among = λ z h. h;
+  from = λ z h. inr h;
+  stays = λ z h. elim h [
+    | inl is ↦ inr (
+      meta_row 2 last,
+      inl refl,
+      ids_agree z (meta_row 2 last) 1 (ap (λ w. column w 0) is) refl,
+    )
+    | inr none ↦ absurd none
+  ];
+  one = λ x y has_x has_y same. elim has_x [
+    | inl x_is ↦ elim has_y [ inl y_is ↦ x_is ∙ sym y_is | inr none ↦ absurd none ]
+    | inr none ↦ absurd none
+  ];
+}
+
+all_put : (s : ClubState) → AreSame
+    (put_in 0 (0 ∷ []) (meta_row 2 s.last) (put_each 16 (0 ∷ []) (numbered_from rule_row 1 s.events) (first_tables s)))
+    (tables s)
+all_put s =
+    let rules : List Row = numbered_from rule_row 1 s.events in
+    let at = each_at (0 ∷ []) 16 rules (first_tables s) in
+    let meta = altered (0 ∷ []) (meta_row 2 s.last ∷ []) (meta_row 1 s.last ∷ []) (meta_row 2 s.last ∷ [])
+    (meta_put s.last) in
+    let ruled = altered (0 ∷ []) rules [] rules (rules_put s.events) in (
+      subst (λ l. HaveSame (put (0 ∷ []) (meta_row 2 s.last) l) (meta_row 2 s.last ∷ [])) (sym (at 0)) meta,
+      (
+        same_by _ _ (at 1),
+        (
+          same_by _ _ (at 4),
+          (
+            same_by _ _ (at 6),
+            (
+              same_by _ _ (at 8),
+              (
+                same_by _ _ (at 10),
+                (
+                  same_by _ _ (at 12),
+                  (
+                    same_by _ _ (at 14),
+                    (
+                      subst (λ l. HaveSame l rules) (sym
+                          (at 16)) ruled,
+                      tt,
+                    ),
+                  ),
+                ),
+              ),
+            ),
+          ),
+        ),
+      ),
+    )
+
+pub first_widened : (s : ClubState) (rules : List EventRuleRow) (meta : MetaRow)
+    → map event_rule_cells rules ≡ numbered_from rule_row 1 s.events → meta_cells meta ≡ meta_row 2 s.last
+    → AreSame (widened rules meta (first_tables s)) (tables s)
+first_widened s rules meta rules_are meta_is =
+    subst (λ l. AreSame (put_in 0 (0 ∷ []) (meta_cells meta) (put_each 16 (0 ∷ []) l (first_tables s))) (tables s))
+    (sym rules_are)
+    (subst (λ r. AreSame (put_in 0 (0 ∷ []) r (put_each 16 (0 ∷ []) (numbered_from rule_row 1 s.events)
+    (first_tables s))) (tables s)) (sym meta_is) (all_put s))
+
+-- so by the rows that were read of it
+pub register_widened : (s : ClubState) (found : Rows) (rules : List EventRuleRow) (meta : MetaRow)
+    → IsRegisterOf s found → rules ≡ found.event_rules.items
+    → meta_cells meta ≡ Int (pos 1) ∷ Int (pos 2) ∷ Int found.meta.last ∷ []
+    → AreSame (widened rules meta (first_tables s)) (tables s)
+register_widened s found rules meta register same cells =
+    first_widened s rules meta (ap (map event_rule_cells) same ∙ register.rules)
+    (cells ∙ ap (λ n. Int (pos 1) ∷ Int (pos 2) ∷ Int n ∷ []) register.last)
+
+-- a number of either version is one from the first on
+pub from_first : (version : Version) → IsNumberFrom First (pos (schema_number version))
+from_first First = inl refl
+from_first Current = inr refl
+
+-- ---- histories
+
+-- an upgrade that was answered leads to the last version
+pub upgraded_stands : (version : Version) (chapters : List Chapter) (old new : State)
+    → (at : IsHistoryAt version chapters old) → IsExactly (tables at.after) new
+    → IsHistory (chapters ++ upgraded true ∷ []) new
+upgraded_stands version chapters old new at exactly = record {
+  from = at.from;
+  after = at.after;
+  legal = club_of_version version at.after at.legal;
+  leads = leads_then (opens_as at.from) (record { version = version; state = at.after }) (at_state at.after) chapters
+      (upgraded true) at.leads (refl, inl refl);
+  exactly = exactly;
+}
+
+-- one that was cut off leads to it, or stays where it was
+pub upgraded_cut : (version : Version) (chapters : List Chapter) (old : State)
+    → (at : IsHistoryAt version chapters old) → (db : Trees)
+    → of_schema.Leaves (schema_of version) (tables_at version at.after) db ⊎ Leaves (tables at.after) db
+    → IsReachable (chapters ++ upgraded false ∷ []) db
+upgraded_cut version chapters old at db (inl before) = record {
+  from = at.from;
+  after = record { version = version; state = at.after };
+  legal = at.legal;
+  leads = leads_then (opens_as at.from) (record { version = version; state = at.after })
+      (record { version = version; state = at.after }) chapters (upgraded false) at.leads (refl, inr (refl, refl));
+  leaves = before;
+}
+upgraded_cut version chapters old at db (inr after) = record {
+  from = at.from;
+  after = at_state at.after;
+  legal = club_of_version version at.after at.legal;
+  leads = leads_then (opens_as at.from) (record { version = version; state = at.after }) (at_state at.after) chapters
+      (upgraded false) at.leads (refl, inl refl);
+  leaves = after;
+}

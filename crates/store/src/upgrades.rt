@@ -1,0 +1,96 @@
+//! The upgrade of a club from schema 1 to schema 2.
+
+ghost use Rattle.std.specs.Prelude.{◌≡◌, ◌≢◌, ◌≤◌, ◌⊎◌, ◌++◌, ◌∷◌, [], false, true, pos, IfOk, IfErr};
+ghost use Rattle.sqlite.specs.State.{HasCleanDisk, IsLive, Opens};
+ghost use Rattle.sqlite.specs.Held.{state};
+ghost use Rattle.sqlite_trees.specs.View.{doubt};
+ghost use Rattle.sqlite.specs.declared.types.Value.TheVariants.{Int};
+ghost use Rattle.store_tables.specs.Cells.{meta_cells};
+ghost use Rattle.store_tables.specs.Contents as of_schema;
+ghost use Rattle.store_tables.specs.Club.{IsExactly, Leaves};
+ghost use Rattle.store_tables.specs.Reading.{KeepsMay, OnlyReads};
+ghost use Rattle.store_tables.specs.Tables.{club_schema, first_schema, IsClubSchema};
+ghost use Rattle.store_tables.specs.declared.names.Version.TheVariants.{First};
+ghost use Rattle.club_opening.specs.Blames.{Names};
+ghost use Rattle.club_opening.specs.Versions.{IsExactlyClub, IsOpenedAt};
+ghost use Rattle.club_rows.specs.Club.{ClubState, IsClub, tables};
+ghost use Rattle.club_rows.specs.FirstSchema.{IsClubOf, IsFirstClub, first_tables};
+ghost use Rattle.store.specs.Histories.{IsHistory, IsReachable, upgraded};
+
+use crate::club::Unopened;
+use crate::found::Upgrade;
+use club_opening::{OpenFault, examine_from};
+use sqlite::{Alter, Connection};
+use std::alloc::Global;
+use store_sql::widen;
+use store_tables::{MetaRow, Version};
+
+/// The row of `meta` with the number of schema 2, and the same moment.
+fn of_current(meta: &MetaRow) -> MetaRow
+    ensures { meta_cells result ≡ Int (pos 1) ∷ Int (pos 2) ∷ Int meta.now.last ∷ [] }
+{
+    MetaRow {
+        id: 1,
+        schema: 2,
+        last: meta.last,
+    }
+}
+
+/// Makes of the tables of schema 1 those of schema 2 with the same state, in one transaction with one commit; those of
+/// schema 2 stay as they are. All rows are tested first, as `adopt` tests them. No event of schema 1 has declarations.
+pub fn upgrade<S: Alter>(
+    alloc: Global,
+    conn: Connection<S>,
+) -> Result<(Connection<S>, Upgrade), Unopened<S>>
+    requires { conn.in_transaction ≡ false }
+    ensures idle { IfOk result (λ done. done.0.in_transaction ≡ false) }
+    ensures given_back { IfErr result (λ u. u.conn.in_transaction ≡ false) }
+    ensures clean { IfOk result (λ done. doubt (state S.Store conn).is_clean ≤ doubt (state S.Store done.0).is_clean) }
+    ensures known { IfErr result (λ u. doubt (state S.Store conn).is_clean ≤ doubt (state S.Store u.conn).is_clean) }
+    ensures done { IfOk result (λ done. HasCleanDisk (state S.Store done.0) → (s : ClubState) → IsFirstClub s →
+        IsExactlyClub First s (state S.Store conn) →
+        (done.1 ≡ Upgrade.Done) × IsExactly (tables s) (state S.Store done.0)) }
+    ensures already { IfOk result (λ done. HasCleanDisk (state S.Store done.0) → (s : ClubState) → IsClub s →
+        IsExactly (tables s) (state S.Store conn) →
+        (done.1 ≡ Upgrade.Already) × IsExactly (tables s) (state S.Store done.0)) }
+    ensures unchanged { IfOk result (λ done. HasCleanDisk (state S.Store done.0) → done.1 ≡ Upgrade.Already →
+        KeepsMay (state S.Store conn) (state S.Store done.0)) }
+    ensures found { IfOk result (λ done. HasCleanDisk (state S.Store done.0) → (version : _) → IsOpenedAt version
+        (state S.Store conn) → (s : _) × IsClubOf version s × IsExactly (tables s) (state S.Store done.0)) }
+    ensures fault { IfErr result (λ u. HasCleanDisk (state S.Store u.conn) → (s : ClubState) → IsFirstClub s →
+        IsExactlyClub First s (state S.Store conn) → (db : _) → (state S.Store u.conn).may_leave db →
+        of_schema.Leaves first_schema (first_tables s) db ⊎ Leaves (tables s) db) }
+    ensures kept { IfErr result (λ u. u.fault ≢ OpenFault.Store →
+        OnlyReads (state S.Store conn) (state S.Store u.conn)) }
+    ensures stays { IfErr result (λ u. HasCleanDisk (state S.Store u.conn) →
+        (state S.Store conn).now.schema ≡ club_schema → OnlyReads (state S.Store conn) (state S.Store u.conn)) }
+    ensures good { IfErr result (λ u. HasCleanDisk (state S.Store u.conn) → (version : _) (s : ClubState) →
+        IsClubOf version s → IsExactlyClub version s (state S.Store conn) →
+        (u.fault ≡ OpenFault.Store) ⊎ (u.fault ≡ OpenFault.Memory)) }
+    ensures blames { IfErr result (λ u. HasCleanDisk (state S.Store u.conn) →
+        IsClubSchema (state S.Store conn).now.schema → Names First (state S.Store conn).now u.fault) }
+    ensures led { IfOk result (λ done. HasCleanDisk (state S.Store done.0) → Opens (state S.Store conn) →
+        IsLive (state S.Store conn) → (chapters : _) → IsReachable chapters (state S.Store conn).committed.trees →
+        IsHistory (chapters ++ upgraded true ∷ []) (state S.Store done.0)) }
+    ensures cut_off { IfErr result (λ u. HasCleanDisk (state S.Store u.conn) → Opens (state S.Store conn) →
+        IsLive (state S.Store conn) → (chapters : _) → IsReachable chapters (state S.Store conn).committed.trees →
+        (db : _) → (state S.Store u.conn).may_leave db → IsReachable (chapters ++ upgraded false ∷ []) db) }
+{
+    let mut conn = conn;
+    let found = match examine_from(alloc, &mut conn, Version::First) {
+        Ok(found) => found,
+        Err(fault) => return Err(Unopened { fault, conn }),
+    };
+    match found.version {
+        Version::Current => return Ok((conn, Upgrade::Already)),
+        Version::First => {}
+    }
+    let meta = of_current(&found.rows.meta);
+    match widen(&mut conn, &found.rows.event_rules, &meta) {
+        Ok(()) => Ok((conn, Upgrade::Done)),
+        Err(_) => Err(Unopened {
+            fault: OpenFault::Store,
+            conn,
+        }),
+    }
+}

@@ -1,0 +1,20 @@
+use Rattle.std.proofs.Common.{arith, refl, ◌∙◌}
+use Rattle.sqlite.specs.Held.{state}
+use Rattle.store_tables.proofs.Proved.{widens}
+use Rattle.store_sql.proofs.wider.widen_inside.Goals as goal
+
+pub returns-clause-widened : goal.returns-clause-widened
+returns-clause-widened g c clean inside =
+    let a = state g.S.Store c.args.tx.now.conn.now in
+    let b = state g.S.Store c.make.new.tx.conn.now in
+    let one =
+    widens a b _ refl
+    (c.in_ok-make.ensures.ran (omega (arith, c.put_all.ensures.survives.clean, c.put.ensures.survives.clean)) inside)
+    in
+    let two = c.in_ok-put_all.ensures.put (omega (arith, c.put.ensures.survives.clean)) one.inside in
+    let three = c.in_ok-put.ensures.put clean two.inside in
+    record {
+      holds = λ content free k. three.holds _ (two.holds content (one.holds content free k));
+      committed = three.committed ∙ two.committed ∙ one.committed;
+      inside = three.inside;
+    }

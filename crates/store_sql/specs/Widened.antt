@@ -1,0 +1,19 @@
+-- What making the table of the rules of events does to the rows of schema 1.
+use Rattle.std.specs.Prelude.{◌≡◌, true, List, []}
+use Rattle.sqlite.specs.State.{State}
+use Rattle.store_tables.specs.Changed.{widened}
+use Rattle.store_tables.specs.Contents as of_schema
+use Rattle.store_tables.specs.Contents.{Content}
+use Rattle.store_tables.specs.Club.{Holds}
+use Rattle.store_tables.specs.Tables.{first_schema}
+use Rattle.store_tables.specs.declared.rows.EventRuleRow.{EventRuleRow}
+use Rattle.store_tables.specs.declared.rows.MetaRow.{MetaRow}
+
+-- Inside a transaction the rows of schema 1 became those of schema 2, with these rules of events and this row of
+-- `meta`,
+-- and nothing was committed.
+pub record WidensTo (rules : List EventRuleRow) (meta : MetaRow) (old new : State) : Type 0 where
+  pub holds : (content : Content) → content 16 ≡ [] → of_schema.Holds first_schema old.now content
+      → Holds new.now (widened rules meta content)
+  pub committed : new.committed ≡ old.committed
+  pub inside : new.in_transaction ≡ true

@@ -1,0 +1,87 @@
+//! Carrying the tables of schema 1 over to schema 2.
+
+ghost use Rattle.std.specs.Prelude.{◌≡◌, ◌≤◌, ◌⊎◌, true, false, [], IsTrue, IfOk, IfErr, OnOk, OnErr};
+ghost use Rattle.sqlite.specs.State.{HasCleanDisk, IsUnchanged, Survives};
+ghost use Rattle.sqlite.specs.Held.{state};
+ghost use Rattle.sqlite_trees.specs.View.{doubt};
+ghost use Rattle.store_tables.specs.Changed.{widened};
+ghost use Rattle.store_tables.specs.Contents as of_schema;
+ghost use Rattle.store_tables.specs.Club.{IsExactly, Leaves};
+ghost use Rattle.store_tables.specs.Reading.{OnlyReads};
+ghost use Rattle.store_tables.specs.Tables.{club_schema, first_schema, IsClubSchema};
+ghost use Rattle.store_sql.specs.Widened.{WidensTo};
+
+use crate::fault::{ReadFault, is_refused};
+use crate::make::{CREATE_EVENT_RULES, make};
+use crate::texts::Select;
+use crate::upsert::{Put, put_all};
+use sqlite::{Alter, Connection, Error, Transaction, params};
+use store_tables::{EventRuleRow, MetaRow};
+
+/// Makes the table of the rules of events and puts all rows, in a transaction that is open.
+fn widen_inside<S: Alter>(
+    tx: &mut Transaction<'_, S>,
+    rules: &[EventRuleRow],
+    meta: &MetaRow,
+) -> Result<(), Error>
+    ensures same_reference { tx.new.conn.ghost_name ≡ tx.old.conn.ghost_name }
+    ensures widened { HasCleanDisk (state S.Store tx.new.conn.now) → IsTrue
+        (state S.Store tx.old.conn.now).in_transaction → OnOk result (WidensTo rules.now meta.now
+        (state S.Store tx.old.conn.now) (state S.Store tx.new.conn.now)) }
+    ensures survives { Survives (state S.Store tx.old.conn.now) (state S.Store tx.new.conn.now) (λ _. ⊥) }
+{
+    make(tx, CREATE_EVENT_RULES)?;
+    put_all(tx, rules)?;
+    meta.put(tx)?;
+    Ok(())
+}
+
+/// Makes of the tables of schema 1 those of schema 2, with these rules of events and this row of `meta`, in one
+/// transaction with one commit.
+pub fn widen<S: Alter>(
+    conn: &mut Connection<S>,
+    rules: &[EventRuleRow],
+    meta: &MetaRow,
+) -> Result<(), Error>
+    requires { conn.old.in_transaction ≡ false }
+    ensures idle { conn.new.in_transaction ≡ false }
+    ensures clean { doubt (state S.Store conn.old).is_clean ≤ doubt (state S.Store conn.new).is_clean }
+    ensures stored { HasCleanDisk (state S.Store conn.new) → OnOk result ((content : _) → content 16 ≡ [] →
+        of_schema.IsExactly first_schema content (state S.Store conn.old) →
+        IsExactly (widened rules.now meta.now content) (state S.Store conn.new)) }
+    ensures fault { HasCleanDisk (state S.Store conn.new) → OnErr result ((content : _) → content 16 ≡ [] →
+        of_schema.IsExactly first_schema content (state S.Store conn.old) → (db : _) →
+        (state S.Store conn.new).may_leave db →
+        of_schema.Leaves first_schema content db ⊎ Leaves (widened rules.now meta.now content) db) }
+    ensures survives { Survives (state S.Store conn.old) (state S.Store conn.new) (λ db. (content : _) →
+        content 16 ≡ [] → of_schema.Holds first_schema (state S.Store conn.old).now content →
+        Leaves (widened rules.now meta.now content) db) }
+{
+    let mut tx = conn.transaction();
+    widen_inside(&mut tx, rules, meta)?;
+    tx.commit()?;
+    Ok(())
+}
+
+/// Whether the table of the rules of events stands with all of its columns, of a database that is looked at for the
+/// first time.
+pub fn has_event_rules<S: Alter>(conn: &mut Connection<S>) -> Result<bool, ReadFault>
+    ensures reads { OnlyReads (state S.Store conn.old) (state S.Store conn.new) }
+    ensures same { HasCleanDisk (state S.Store conn.new) → OnOk result (
+        IsClubSchema (state S.Store conn.old).now.schema →
+        IsUnchanged (state S.Store conn.old) (state S.Store conn.new)) }
+    ensures stands { HasCleanDisk (state S.Store conn.new) → IfOk result (λ there.
+        (state S.Store conn.old).now.schema ≡ club_schema → there ≡ true) }
+    ensures missing { HasCleanDisk (state S.Store conn.new) → IfOk result (λ there.
+        (state S.Store conn.old).now.schema ≡ first_schema → there ≡ false) }
+    ensures store { IfErr result (λ e. e ≡ ReadFault.Store) }
+{
+    let error = match conn.query_all(EventRuleRow::by_first(), params![0_i64]) {
+        Ok(_) => return Ok(true),
+        Err(error) => error,
+    };
+    if is_refused(&error) {
+        return Ok(false);
+    }
+    Err(ReadFault::Store)
+}

@@ -1,0 +1,72 @@
+//! An upgrade that is stopped at each call of the disk, for each of the two files.
+
+use crate::files::{rows_in, upgrade_in};
+use crate::held::Disks;
+use crate::images::{ClubFile, Image, Stop, Stoppable, stop_at_each};
+use anyhow::{Result, bail};
+use std::alloc::Global;
+use store::{OpenFault, Upgrade};
+use store_tables::Changes;
+
+/// An upgrade that is stopped: the files before it, and their rows after it.
+#[derive(Drop)]
+struct Trial {
+    image: Image,
+    after: Changes,
+}
+
+impl Trial {
+    /// Whether files with those bytes are whole, as they were or upgraded: an upgrade makes of them what it makes where
+    /// nothing stops it, and nothing more where it was answered.
+    fn is_found_whole(&self, alloc: Global, answered: bool, image: &Image) -> Result<bool> {
+        let (upgraded, files) = upgrade_in(alloc, image.files(alloc, Stop::Never)?);
+        let (rows, _files) = rows_in(alloc, files);
+        let is_new = upgraded? == Upgrade::Already;
+        Ok(rows? == self.after && (is_new || !answered))
+    }
+}
+
+impl Stoppable for Trial {
+    fn tried(&self, alloc: Global, file: ClubFile, calls: u64) -> Result<Option<bool>> {
+        let (upgraded, left) = upgrade_in(alloc, self.image.files(alloc, file.stop(calls))?);
+        let answered = match upgraded {
+            Ok(Upgrade::Done) => true,
+            Ok(Upgrade::Already) => bail!("upgraded already"),
+            Err(OpenFault::Store) => false,
+            Err(fault) => bail!("a stop is told as {fault}"),
+        };
+        let mut left = left;
+        let is_over = answered && file.goes_on(&mut left);
+        let written = Image::written(alloc, &left)?;
+        let synced = Image::synced(alloc, left)?;
+        let is_whole = self.is_found_whole(alloc, answered, &written)?
+            && (synced == written || self.is_found_whole(alloc, answered, &synced)?);
+        Ok(is_whole.then_some(is_over))
+    }
+}
+
+/// What an upgrade of the files comes to, as the program prints it.
+pub fn told_upgrade(alloc: Global, upgraded: Result<Upgrade, OpenFault>) -> Result<String> {
+    match upgraded {
+        Ok(Upgrade::Done) => Ok(String::from_str(alloc, "upgraded")?),
+        Ok(Upgrade::Already) => Ok(String::from_str(alloc, "repeated upgrade")?),
+        Err(fault) => Ok(format!(in alloc; "{fault}")?),
+    }
+}
+
+/// What an upgrade of the files comes to where nothing stops it, if wherever a call of the log or of the database file
+/// is the last what is found is whole.
+pub fn whole_or_old(alloc: Global, files: &Disks) -> Result<String> {
+    let image = Image::written(alloc, files)?;
+    let (upgraded, left) = upgrade_in(alloc, image.files(alloc, Stop::Never)?);
+    let (after, _files) = rows_in(alloc, left);
+    let told = told_upgrade(alloc, upgraded)?;
+    let trial = Trial {
+        image,
+        after: after?,
+    };
+    for file in [ClubFile::Log, ClubFile::Database] {
+        stop_at_each(alloc, &trial, file)?;
+    }
+    Ok(told)
+}
