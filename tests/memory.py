@@ -6,8 +6,9 @@ script that it is stopped in (`club stopped 1` of crates/trials/stdin), command 
 
 Before a command the club is given up and taken again. Where one request of the command is refused, it is answered as
 where none is, or with 73 or 75, never with another number; and given again, over the club as it was left, it is repeated
-where it stood and else accepted (a sweep that stood ends no game more). Of N requests one is refused: 7, or 1 for all.
-Prints 'ok COMMANDS' or 'not ok COMMANDS' for those that begin with the same word.
+where it stood and else accepted (a sweep that stood ends no game more). The same of the upgrade of the script's first
+database of schema 1. Of N requests one is refused: 7, or 1 for all. Prints 'ok COMMANDS' or 'not ok COMMANDS' for those
+that begin with the same word.
 """
 import concurrent.futures
 import os
@@ -39,8 +40,15 @@ def commands():
         yield asked, outcome
 
 
+def first_schema():
+    """The line of the script that makes a database of schema 1."""
+    return next(it for it in SCRIPT.read_text(encoding="utf-8").splitlines() if it.startswith("sql CREATE TABLE meta"))
+
+
 def again(outcome):
     """What a command is answered that stands already."""
+    if outcome == "upgraded":
+        return "repeated upgrade"
     if outcome.startswith("accepted sweep"):
         return "accepted sweep 0"
     return outcome.replace("accepted", "repeated", 1) if outcome.startswith("accepted") else outcome
@@ -51,9 +59,18 @@ class Command:
 
     def __init__(self, room, before, asked, outcome):
         self.room, self.asked, self.outcome = room, asked, outcome
+        self.kind = asked.split()[2]
         self.start = ["club", *(f"{line} = {told}" for line, told in before), "again"]
         self.given = [f"{asked} = {outcome}"]
         self.rest = ["again", f"{asked} = {again(outcome)}"]
+
+    @classmethod
+    def upgrade(cls, room):
+        """The upgrade of a database in memory."""
+        made = cls(room, [], "memory of upgrade", "upgraded")
+        made.start, made.given = ["database", first_schema()], ["upgrades = upgraded"]
+        made.rest = ["opens = sound", "upgrades = repeated upgrade"]
+        return made
 
     def run(self, lines, number=0):
         """What `trials` says, and how many requests for memory it made."""
@@ -97,11 +114,12 @@ def main():
         subprocess.run(library, check=True)
         script = list(commands())
         tried = [Command(room, script[:at], *script[at]) for at in range(len(script))]
+        tried.append(Command.upgrade(room))
         with concurrent.futures.ProcessPoolExecutor(os.cpu_count()) as lanes:
             told = list(lanes.map(Command.try_each, tried))
     status, kinds = 0, {}
     for command, found in zip(tried, told):
-        kinds.setdefault(command.asked.split()[2], []).append((command, found))
+        kinds.setdefault(command.kind, []).append((command, found))
     for kind, found in kinds.items():
         wrong = [(command.asked, *it) for command, (_, _, told) in found for it in told]
         requests, faults = (sum(it[place] for _, it in found) for place in (0, 1))
