@@ -1,4 +1,4 @@
-"""What a club answers to its members as docs/rules.md and docs/formats.md say it, at one moment that stands still."""
+"""What a club answers to its members as docs/rules.md and docs/http.md say it, at one moment that stands still."""
 import json
 
 import malformed_draughts

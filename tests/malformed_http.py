@@ -1,6 +1,6 @@
 """Requests at the desk, whole, cut, parted and changed by a seed: what is replied is what the documents say.
 
-`reply_to` says for any bytes which reply must come, or that none comes, by docs/formats.md alone.
+`reply_to` says for any bytes which reply must come, or that none comes, by docs/http.md alone.
 """
 import re
 import socket
