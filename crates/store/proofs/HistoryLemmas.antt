@@ -26,7 +26,7 @@ use Rattle.store.specs.Runs.{club_fold, club_outcomes, club_accepted}
 use Rattle.store_sql.proofs.Proved.{opens_exactly, schema_once}
 use Rattle.store.specs.Histories.{Chapter, Leads, Place, SessionReaches, Reaches, IsReachable, IsHistory, IsHistoryAt}
 use Rattle.store.specs.Histories.{IsAfter, is_taken, opens_as, run_session, served, session_of, answered_session}
-use Rattle.store.specs.Histories.{cut_session}
+use Rattle.store.specs.Histories.{Session, cut_session}
 use Rattle.club_rows.specs.FirstSchema.{tables_at}
 use Rattle.club_opening.proofs.Proved.{one_version, schema_known}
 use Rattle.store_tables.specs.declared.names.Version.{Version}
