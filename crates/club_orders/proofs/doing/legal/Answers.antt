@@ -6,7 +6,7 @@ use Rattle.club_rows.specs.Club.{tables}
 use Rattle.store.specs.Histories.{IsHistory}
 use Rattle.club_orders.proofs.SessionLemmas.{stands_still}
 use Rattle.club_orders.proofs.RefusalLemmas.{taken_over}
-use Rattle.store.proofs.Proved.{current_taken}
+use Rattle.store.proofs.Proved.{current_history}
 use Rattle.club_opening.proofs.Proved.{schema_known}
 use Rattle.store_tables.specs.declared.names.Version.TheVariants.{Current}
 use Rattle.club_orders.proofs.doing.legal.Goals as goal
@@ -36,9 +36,11 @@ returns-in-Ok-legal_rows-clause-led g c clean opens live sessions led db left =
     let after = subst (λ h. HasCleanDisk (state g.S.Store h)) same clean in
     let taken : HasCleanDisk (state g.S.Store c.in-Ok.club.connection) =
     omega (arith, (c.legal_rows.ensures.reads c.in-Ok.ensures.ready).clean, after) in
+    let was = state g.S.Store c.args.conn in
+    let (version, stood) = c.holds_what_sessions_left.ensures opens live sessions led in
+    let known = schema_known version was.now.schema stood.exactly.now.schema in
     let at = stands_still sessions _ _ (c.in-Ok.ensures.same taken)
-    (current_taken sessions (state g.S.Store c.args.conn) (c.in-Ok.ensures.unchanged taken)
-    (c.holds_what_sessions_left.ensures opens live sessions led)) in
+    (current_history version sessions was stood (c.in-Ok.ensures.unchanged taken known).0) in
     let more = stands_still sessions _ _ (c.in-Ok-legal_rows.ensures.kept after club_schema) at in
     c.leaves_what_sessions_left-in-Ok-legal_rows.ensures Current sessions
     (subst (λ h. IsHistory sessions (state g.S.Store h)) (sym same) more) db left

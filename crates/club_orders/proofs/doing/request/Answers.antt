@@ -6,7 +6,8 @@ use Rattle.store.specs.Histories.{IsHistory}
 use Rattle.club_orders.specs.declared.report.Report.TheVariants.{Answered}
 use Rattle.club_orders.specs.Report.{given, request_sessions}
 use Rattle.club_orders.proofs.SessionLemmas.{led_still, stands_still}
-use Rattle.store.proofs.Proved.{current_taken}
+use Rattle.store.proofs.Proved.{current_history}
+use Rattle.club_opening.proofs.Proved.{schema_known}
 use Rattle.store_tables.specs.declared.names.Version.TheVariants.{Current}
 use Rattle.club_orders.proofs.doing.request.Goals as goal
 
@@ -33,9 +34,11 @@ returns-in-Ok-apply-clause-led g c clean opens live sessions led db left =
     let same = c.into_connection-conn.ensures.same in
     let after = subst (λ h. HasCleanDisk (state g.S.Store h)) same clean in
     let taken : HasCleanDisk (state g.S.Store c.in-Ok.club.connection) = omega (arith, c.apply.ensures.clean, after) in
+    let was = state g.S.Store c.args.conn in
+    let (version, stood) = c.holds_what_sessions_left.ensures opens live sessions led in
+    let known = schema_known version was.now.schema stood.exactly.now.schema in
     let at = stands_still sessions _ _ (c.in-Ok.ensures.same taken)
-    (current_taken sessions (state g.S.Store c.args.conn) (c.in-Ok.ensures.unchanged taken)
-    (c.holds_what_sessions_left.ensures opens live sessions led)) in
+    (current_history version sessions was stood (c.in-Ok.ensures.unchanged taken known).0) in
     let more = c.in-Ok-apply.ensures.stands after sessions at in
     c.leaves_what_sessions_left-in-Ok-apply.ensures Current _
     (subst
@@ -49,9 +52,11 @@ returns-in-Err-apply-clause-led g c clean opens live sessions led db left =
     let same = c.into_connection.ensures.same in
     let after = subst (λ h. HasCleanDisk (state g.S.Store h)) same clean in
     let taken : HasCleanDisk (state g.S.Store c.in-Ok.club.connection) = omega (arith, c.apply.ensures.clean, after) in
+    let was = state g.S.Store c.args.conn in
+    let (version, stood) = c.holds_what_sessions_left.ensures opens live sessions led in
+    let known = schema_known version was.now.schema stood.exactly.now.schema in
     let at = stands_still sessions _ _ (c.in-Ok.ensures.same taken)
-    (current_taken sessions (state g.S.Store c.args.conn) (c.in-Ok.ensures.unchanged taken)
-    (c.holds_what_sessions_left.ensures opens live sessions led)) in
+    (current_history version sessions was stood (c.in-Ok.ensures.unchanged taken known).0) in
     c.in-Err-apply.ensures.cut_off after c.in-Ok.ensures.ready sessions at db
     (subst (λ h. (state g.S.Store h).may_leave db) same left)
 

@@ -6,7 +6,8 @@ use Rattle.store_tables.specs.Club.{IsExactly, IsOpened}
 use Rattle.store.specs.Histories.{IsHistory}
 use Rattle.club_orders.proofs.SessionLemmas.{stands_still}
 use Rattle.club_orders.proofs.RefusalLemmas.{stood}
-use Rattle.store.proofs.Proved.{current_taken}
+use Rattle.store.proofs.Proved.{current_history}
+use Rattle.club_opening.proofs.Proved.{schema_known}
 use Rattle.store_tables.specs.declared.names.Version.TheVariants.{Current}
 use Rattle.club_orders.proofs.doing.verify.Goals as goal
 
@@ -21,9 +22,11 @@ pub returns-in-Ok-clause-led : goal.returns-in-Ok-clause-led
 returns-in-Ok-clause-led g c clean opens live sessions led db left =
     let same = c.into_connection-conn.ensures.same in
     let taken = subst (λ h. HasCleanDisk (state g.S.Store h)) same clean in
+    let was = state g.S.Store c.args.conn in
+    let (version, found) = c.holds_what_sessions_left.ensures opens live sessions led in
+    let known = schema_known version was.now.schema found.exactly.now.schema in
     let at = stands_still sessions _ _ (c.in-Ok.ensures.same taken)
-    (current_taken sessions (state g.S.Store c.args.conn) (c.in-Ok.ensures.unchanged taken)
-    (c.holds_what_sessions_left.ensures opens live sessions led)) in
+    (current_history version sessions was found (c.in-Ok.ensures.unchanged taken known).0) in
     c.leaves_what_sessions_left-in-Ok.ensures Current sessions
     (subst (λ h. IsHistory sessions (state g.S.Store h)) (sym same) at) db left
 
