@@ -5,7 +5,8 @@ use Rattle.club_requests.specs.declared.answers.Outcome.TheVariants as outcome
 use Rattle.club_orders.specs.declared.report.Report.{Report}
 use Rattle.club_orders.specs.declared.report.Report.TheVariants.{Ready, Sound, Answered, Listed, Exported, Unwritten}
 use Rattle.club_orders.specs.declared.report.Report.TheVariants.{Unopened, Stopped, InUse, NotOpened, NoMoment, Unread}
-use Rattle.club_orders.specs.declared.report.Report.TheVariants.{Listening, Unbound, NoMemory}
+use Rattle.club_orders.specs.declared.report.Report.TheVariants.{Listening, Unbound, NoMemory, Upgraded}
+use Rattle.club_orders.specs.declared.report.Report.TheVariants.{AlreadyUpgraded}
 use Rattle.club_orders.specs.Report.{outcome_status, report_status}
 
 outcome_small : (o : Outcome) → outcome_status o ≤ 3
@@ -16,6 +17,8 @@ outcome_small (outcome.Refused refusal) = omega (arith)
 status_small : (report : Report) → report_status report ≤ 3
 status_small Ready = omega (arith)
 status_small Sound = omega (arith)
+status_small Upgraded = omega (arith)
+status_small AlreadyUpgraded = omega (arith)
 status_small (Answered o) = outcome_small o
 status_small (Listed texts) = omega (arith)
 status_small Exported = omega (arith)
