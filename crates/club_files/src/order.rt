@@ -18,8 +18,8 @@ ghost use Rattle.club_orders.specs.Report.{given, Answers, IfRequest, IfLegal, I
 ghost use Rattle.club_orders.specs.Report.{ListsMoves, ListsTable, WritesRecord, IsPassed, IsBegun, task_sessions};
 ghost use Rattle.club_orders.specs.Report.{IfUnopened, IsRepeated, OnlyUnopened, writes};
 ghost use Rattle.club_orders.specs.Refused.{IfTakesOver, IfUpgrade, IsOlder};
-ghost use Rattle.club_files.specs.Found.{AreCarriedOver, AreFilesOf, AreFirstFilesOf, AreKept, AreNotUpgraded, AreRefused};
-ghost use Rattle.club_files.specs.Found.{AreSound};
+ghost use Rattle.club_files.specs.Found.{AreCarriedOver, AreFilesOf, AreFirstFilesOf, AreKept, AreNotUpgraded};
+ghost use Rattle.club_files.specs.Found.{AreRefused, AreSound};
 
 use crate::opening::{Again, open_in_turn};
 use crate::places::Purpose;
@@ -44,8 +44,8 @@ fn purpose_of(task: &Task) -> Purpose
 /// Does what is ordered, at that moment, over the files of the order's path, which hold at first what `S` stands for:
 /// opens them as soon as no other program uses them, which it waits for up to five seconds; makes a club, gives the
 /// club that stands there a command of the officer's, lists a game's moves, shows the cross table of an event, writes
-/// the record of a game to `out`, tests that the rows are a club's or carries them over to schema 2; and closes. Gives what it came to, and the files
-/// where they were opened.
+/// the record of a game to `out`, tests that the rows are a club's or carries them over to schema 2; and closes. Gives
+/// what it came to, and the files where they were opened.
 ///
 /// Where sessions led to whatever an opening finds in the files, they lead, with this command as one more, to whatever
 /// an opening finds in them after it, of whatever a stop leaves. Where they were new, and a club was to be made, no
