@@ -1,10 +1,8 @@
-use Rattle.std.proofs.Common.{sym, subst, ◌∙◌}
+use Rattle.std.proofs.Common.{sym, subst}
 use Rattle.sqlite.specs.Held.{state}
-use Rattle.club_orders.specs.Report.{IsCarriedOver, IsRepeated, upgrade_of}
-use Rattle.club_orders.specs.declared.report.Report.TheVariants.{Upgraded, AlreadyUpgraded}
+use Rattle.club_orders.specs.Report.{IsCarriedOver, IsRepeated}
 use Rattle.club_orders.proofs.RefusalLemmas.{taken_over}
 use Rattle.store_tables.specs.declared.names.Version.TheVariants.{First, Current}
-use Rattle.store.specs.Histories.{IsReachable}
 use Rattle.club_orders.proofs.doing.carry.Goals as goal
 
 pub returns-in-Ok-clause-carries : goal.returns-in-Ok-clause-carries
