@@ -1,7 +1,8 @@
 use Rattle.std.proofs.Common.{sym, subst, inr}
 use Rattle.sqlite.specs.State.{HasCleanDisk}
 use Rattle.sqlite.specs.Held.{state}
-use Rattle.store.proofs.Proved.{current_taken, still_stands}
+use Rattle.club_opening.proofs.Proved.{schema_known}
+use Rattle.store.proofs.Proved.{current_history, still_stands}
 use Rattle.store_tables.specs.Club.{IsOpened}
 use Rattle.club_desk.specs.Turns.{IsHistoryOn, IsReachableOn}
 use Rattle.club_desk.proofs.ToldLemmas.{untaken, good_told, served_told, served_taken, served_good, none_failed, stood}
@@ -21,8 +22,10 @@ returns-clause-led g c clean opens live sessions led =
     let after : HasCleanDisk (state g.S.Store c.serve_open-has_failed.new.club.club.connection) =
     subst (λ k. HasCleanDisk (state g.S.Store k)) same clean in
     let before = c.serve_open-has_failed.ensures.clean after in
-    let stood = current_taken sessions (state g.S.Store c.args.conn) (c.in-Ok.ensures.unchanged before)
-    (c.holds_what_sessions_left.ensures opens live sessions led) in
+    let (version, at) = c.holds_what_sessions_left.ensures opens live sessions led in
+    let known = schema_known version (state g.S.Store c.args.conn).now.schema at.exactly.now.schema in
+    let stood = current_history version sessions (state g.S.Store c.args.conn) at
+    (c.in-Ok.ensures.unchanged before known).0 in
     let stands = still_stands sessions (state g.S.Store c.args.conn) (state g.S.Store c.in-Ok.club.connection)
     (c.in-Ok.ensures.same before) stood in
     subst (λ k. IsReachableOn sessions (state g.S.Store k)) (sym same)
@@ -34,8 +37,10 @@ returns-clause-stands g c clean opens live none sessions led =
     let after : HasCleanDisk (state g.S.Store c.serve_open-has_failed.new.club.club.connection) =
     subst (λ k. HasCleanDisk (state g.S.Store k)) same clean in
     let before = c.serve_open-has_failed.ensures.clean after in
-    let stood = current_taken sessions (state g.S.Store c.args.conn) (c.in-Ok.ensures.unchanged before)
-    (c.holds_what_sessions_left.ensures opens live sessions led) in
+    let (version, at) = c.holds_what_sessions_left.ensures opens live sessions led in
+    let known = schema_known version (state g.S.Store c.args.conn).now.schema at.exactly.now.schema in
+    let stood = current_history version sessions (state g.S.Store c.args.conn) at
+    (c.in-Ok.ensures.unchanged before known).0 in
     let stands = still_stands sessions (state g.S.Store c.args.conn) (state g.S.Store c.in-Ok.club.connection)
     (c.in-Ok.ensures.same before) stood in
     let open_still = none_failed c.serve_open-has_failed.result c.fault_behind.result c.fault_behind.ensures none in
