@@ -1,5 +1,5 @@
 -- An accepted request that comes again after further sessions is answered alike.
-use Rattle.std.proofs.Common.{◌≡◌, ℕ, List, [], ◌∷◌, ◌++◌, Bool, true, false, Option, Some, None, refl, sym, subst, ap}
+use Rattle.std.proofs.Common.{◌≡◌, ℕ, List, [], ◌∷◌, ◌++◌, true, Option, Some, None, refl, sym, subst, ap}
 use Rattle.std.proofs.Common.{◌∙◌, ap₂, inl, inr}
 use Rattle.std.specs.Prelude.{take, is_some}
 use Rattle.club_requests.specs.declared.requests.Caller.{Caller}
@@ -7,17 +7,16 @@ use Rattle.club_requests.specs.declared.refusals.Refusal.TheVariants.{UnknownKey
 use Rattle.club_requests.specs.Outcome.{Outcome, Reply, accepted, repeated, refused}
 use Rattle.club_core.specs.Answer.{answered}
 use Rattle.club_core.specs.State.{Command, Request, key_holder, caller_of, state_after, step_by}
-use Rattle.club_rows.specs.Club.{both_games, ClubState, IsClub}
+use Rattle.club_rows.specs.Club.{both_games, ClubState}
 use Rattle.club_laws.specs.Laws.{AnswersAgain, StillRepeats}
 use Rattle.club_changes.specs.Steps.{club_next, club_step}
 use Rattle.store.specs.Runs.{club_fold, club_accepted}
 use Rattle.store.specs.Histories as history
 use Rattle.store.specs.Histories.{Chapter, Place, SessionLeads, SessionReaches, Reaches}
 use Rattle.store_tables.specs.declared.names.Version.TheVariants.{Current}
-use Rattle.http_head.specs.Request as head
-use Rattle.http_desk.specs.Desk.{Due, this, outcome_answer, serve, serve_command}
+use Rattle.http_desk.specs.Desk.{this, outcome_answer, serve}
 use Rattle.club_desk.specs.Served.{has_key, served}
-use Rattle.club_desk.specs.Repeats.{AsksFor, AnswersAlike, stands_at}
+use Rattle.club_desk.specs.Repeats.{AnswersAlike, stands_at}
 
 fold_more : (s : ClubState) (first second : List Request) → club_fold (club_fold s first) second
     ≡ club_fold s (first ++ second)
