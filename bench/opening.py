@@ -5,7 +5,8 @@
 
 One game of each kind is played by the program's own words: at each ply a legal move that a fixed sequence of numbers picks. Then
 Python's sqlite3 writes the rows of these two games again, under new ids, until the file has all games. What is timed is
-`club FILE legal 1`, which reads and checks the whole file before it answers; the least of three runs counts.
+`club FILE legal 1`, which reads and checks the whole file before it answers; the least of three runs counts. Then the file is
+made one of schema 1, and `club FILE upgrade` is timed, which checks it likewise before it writes.
 """
 import os
 import resource
@@ -70,6 +71,18 @@ def multiply(path, games, like=lambda game: 2 - game % 2):
     return moves
 
 
+def timed(path, *words):
+    began = time.monotonic()
+    club(path, *words)
+    return time.monotonic() - began
+
+
+def make_first_schema(path):
+    base = sqlite3.connect(path)
+    base.executescript("DROP TABLE event_rules; UPDATE meta SET schema = 1; PRAGMA wal_checkpoint(TRUNCATE)")
+    base.close()
+
+
 def main():
     games, plies = ([int(it) for it in sys.argv[1:]] + [5000, 60][len(sys.argv) - 1:])[:2]
     if not os.path.isfile(PROGRAM):
@@ -78,16 +91,13 @@ def main():
         path = os.path.join(folder, "c.db")
         begin(path, plies)
         moves = multiply(path, games)
-        least = None
-        for _ in range(3):
-            began = time.monotonic()
-            club(path, "legal", "1")
-            took = time.monotonic() - began
-            least = took if least is None else min(least, took)
+        least = min(timed(path, "legal", "1") for _ in range(3))
+        make_first_schema(path)
+        upgraded = timed(path, "upgrade")
         peak = resource.getrusage(resource.RUSAGE_CHILDREN).ru_maxrss
         size = os.path.getsize(path) / 1e6
     print(f"{games} games, {moves} moves, {size:.0f} MB: opened and checked in {least:.2f} s, {moves / least:.0f} plies a second, "
-          f"{peak / 1000:.0f} MB of memory")
+          f"{peak / 1000:.0f} MB of memory; upgraded from schema 1 in {upgraded:.2f} s")
 
 
 if __name__ == "__main__":
