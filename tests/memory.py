@@ -42,7 +42,8 @@ def commands():
 
 def first_schema():
     """The line of the script that makes a database of schema 1."""
-    return next(it for it in SCRIPT.read_text(encoding="utf-8").splitlines() if it.startswith("sql CREATE TABLE meta"))
+    lines = SCRIPT.read_text(encoding="utf-8").splitlines()
+    return next(it for it in lines if it.startswith("sql CREATE TABLE") and "INSERT INTO meta VALUES(1,1," in it)
 
 
 def again(outcome):
