@@ -74,9 +74,15 @@ def old(name):
         yield room
 
 
+def rows_before(name):
+    """The rows of an old file, of which a copy is read."""
+    with old(name) as room:
+        return read(f"{room}/c.db", FIRST_TABLES)
+
+
 def after(name):
     """The rows of an old file as they must be after the upgrade."""
-    wanted = read(FILES / name, FIRST_TABLES)
+    wanted = rows_before(name)
     (number, _, last), = wanted["meta"]
     return wanted | {"meta": [(number, 2, last)], "event_rules": [(event[0], 0) for event in wanted["events"]]}
 
@@ -174,7 +180,7 @@ def declared():
 
 def killed():
     """Kills within the upgrade: the file is of schema 1 with the rows of before, or of schema 2 with those of after."""
-    before, chance, told = read(FILES / "season.db", FIRST_TABLES), random.Random(2), {"upgraded": 0, "repeated upgrade": 0}
+    before, chance, told = rows_before("season.db"), random.Random(2), {"upgraded": 0, "repeated upgrade": 0}
     whole = True
     for _ in range(KILLS):
         with old("season.db") as room:
@@ -185,7 +191,7 @@ def killed():
             status, again = club(room, "upgrade")
             whole &= status == 0 and again in told and not (answered and again == "upgraded")
             told[again] = told.get(again, 0) + 1
-            whole &= read(f"{room}/c.db", TABLES) == after("season.db") and before == read(FILES / "season.db", FIRST_TABLES)
+            whole &= read(f"{room}/c.db", TABLES) == after("season.db") and before == rows_before("season.db")
     verdict("a kill within the upgrade leaves the old content or the new", True, whole)
     print(f"  {KILLS} kills: {told}")
 
