@@ -18,7 +18,7 @@ use Rattle.sessions.specs.Finds.{Finds, IsFoundIn}
 use Rattle.club_words.specs.declared.words.Task.{Task}
 use Rattle.club_words.specs.declared.words.Task.TheVariants as task
 use Rattle.club_orders.specs.declared.report.Report.{Report}
-use Rattle.club_orders.specs.declared.report.Report.TheVariants.{Ready, Sound, Answered, Listed, Exported, Unwritten}
+use Rattle.club_orders.specs.declared.report.Report.TheVariants.{Ready, Sound, Answered, Shown, Unwritten}
 use Rattle.club_orders.specs.declared.report.Report.TheVariants.{Unopened, Stopped, InUse, NotOpened, NoMoment, Unread}
 use Rattle.club_orders.specs.declared.report.Report.TheVariants.{Listening, Unbound, NoMemory, Upgraded}
 use Rattle.club_orders.specs.declared.report.Report.TheVariants.{AlreadyUpgraded}
@@ -36,36 +36,28 @@ use Rattle.club_files.specs.Found.{club_database}
 pub if_verify : {P Q : Type 0} (t : Task) → (P → Q) → IfVerify t P → IfVerify t Q
 if_verify task.Init goes is = tt
 if_verify (task.Request command) goes is = tt
-if_verify (task.Legal game) goes is = tt
-if_verify (task.Table name) goes is = tt
-if_verify (task.Export game) goes is = tt
+if_verify (task.Ask question) goes is = tt
 if_verify task.Verify goes is = goes is
 if_verify task.Upgrade goes is = tt
 
 pub verify_under : (P Q : Type 0) (t : Task) → (P → IfVerify t Q) → IfVerify t (P → Q)
 verify_under P Q task.Init is = tt
 verify_under P Q (task.Request command) is = tt
-verify_under P Q (task.Legal game) is = tt
-verify_under P Q (task.Table name) is = tt
-verify_under P Q (task.Export game) is = tt
+verify_under P Q (task.Ask question) is = tt
 verify_under P Q task.Verify is = is
 verify_under P Q task.Upgrade is = tt
 
 pub if_takes_over : {P Q : Type 0} (t : Task) → (P → Q) → IfTakesOver t P → IfTakesOver t Q
 if_takes_over task.Init goes is = tt
 if_takes_over (task.Request command) goes is = goes is
-if_takes_over (task.Legal game) goes is = goes is
-if_takes_over (task.Table name) goes is = goes is
-if_takes_over (task.Export game) goes is = goes is
+if_takes_over (task.Ask question) goes is = goes is
 if_takes_over task.Verify goes is = goes is
 if_takes_over task.Upgrade goes is = tt
 
 pub if_upgrade : {P Q : Type 0} (t : Task) → (P → Q) → IfUpgrade t P → IfUpgrade t Q
 if_upgrade task.Init goes is = tt
 if_upgrade (task.Request command) goes is = tt
-if_upgrade (task.Legal game) goes is = tt
-if_upgrade (task.Table name) goes is = tt
-if_upgrade (task.Export game) goes is = tt
+if_upgrade (task.Ask question) goes is = tt
 if_upgrade task.Verify goes is = tt
 if_upgrade task.Upgrade goes is = goes is
 
@@ -76,8 +68,7 @@ if_unopened P Q Sound goes is = tt
 if_unopened P Q Upgraded goes is = tt
 if_unopened P Q AlreadyUpgraded goes is = tt
 if_unopened P Q (Answered outcome) goes is = tt
-if_unopened P Q (Listed texts) goes is = tt
-if_unopened P Q Exported goes is = tt
+if_unopened P Q Shown goes is = tt
 if_unopened P Q Unwritten goes is = tt
 if_unopened P Q (Unopened fault) goes is = goes fault is
 if_unopened P Q (Stopped fault) goes is = tt

@@ -14,8 +14,8 @@ ghost use Rattle.club_words.specs.declared.words.Task.TheVariants.{Init};
 ghost use Rattle.club_opening.specs.declared.fault.OpenFault.TheVariants.{Foreign};
 ghost use Rattle.club_orders.specs.declared.report.Report.TheVariants.{InUse, NotOpened, Sound, Unopened};
 ghost use Rattle.club_files.specs.declared.places.Purpose.TheVariants.{Making};
-ghost use Rattle.club_orders.specs.Report.{given, Answers, IfRequest, IfLegal, IfTable, IfExport, IfVerify};
-ghost use Rattle.club_orders.specs.Report.{ListsMoves, ListsTable, WritesRecord, IsPassed, IsBegun, task_sessions};
+ghost use Rattle.club_orders.specs.Report.{given, Answers, IfRequest, IfAsk, IfVerify};
+ghost use Rattle.club_orders.specs.Report.{Shows, IsPassed, IsBegun, task_sessions};
 ghost use Rattle.club_orders.specs.Report.{IfUnopened, IsRepeated, OnlyUnopened, writes};
 ghost use Rattle.club_orders.specs.Refused.{IfTakesOver, IfUpgrade, IsOlder};
 ghost use Rattle.club_files.specs.Found.{AreCarriedOver, AreFilesOf, AreFirstFilesOf, AreKept, AreNotUpgraded};
@@ -43,16 +43,15 @@ fn purpose_of(task: &Task) -> Purpose
 
 /// Does what is ordered, at that moment, over the files of the order's path, which hold at first what `S` stands for:
 /// opens them as soon as no other program uses them, which it waits for up to five seconds; makes a club, gives the
-/// club that stands there a command of the officer's, lists a game's moves, shows the cross table of an event, writes
-/// the record of a game to `out`, tests that the rows are a club's or carries them over to schema 2; and closes. Gives
-/// what it came to, and the files where they were opened.
+/// club that stands there a command of the officer's, asks it a question and writes what that is shown to `out`, tests
+/// that the rows are a club's or carries them over to schema 2; and closes. Gives what it came to, and the files where
+/// they were opened.
 ///
 /// Where sessions led to whatever an opening finds in the files, they lead, with this command as one more, to whatever
 /// an opening finds in them after it, of whatever a stop leaves. Where they were new, and a club was to be made, no
-/// session leads to that, or there is no table still. The answer is the machine's, a listing that of the game's legal
-/// moves or of the event's cross table, and a club's files are found sound. Files that are found sound are a club's;
-/// those that are not taken as a club's are blamed for it, and later openings find in them what this one found. Only
-/// an export writes to `out`.
+/// session leads to that, or there is no table still. The answer is the machine's, what is shown is the club's, and a
+/// club's files are found sound. Files that are found sound are a club's; those that are not taken as a club's are
+/// blamed for it, and later openings find in them what this one found. Only a question writes to `out`.
 pub fn obey<S: Again, W: Write>(
     rt: &HostRuntime,
     order: &Order,
@@ -70,16 +69,10 @@ pub fn obey<S: Again, W: Write>(
         (s : ClubState) → AreFilesOf s (image_at S.Start) →
         IfRequest order.entry.now.task (λ command. Answers result.0 (λ outcome.
         outcome_of outcome ≡ answered (club_step s (given command moment))))) }
-    ensures moves { IfSome result.1 (λ store. IsClean (store_view store) →
+    ensures asked { IfSome result.1 (λ store. IsClean (store_view store) →
         (s : ClubState) → AreFilesOf s (image_at S.Start) →
-        IfLegal order.entry.now.task (λ game. ListsMoves s game result.0)) }
-    ensures table { IfSome result.1 (λ store. IsClean (store_view store) →
-        (s : ClubState) → AreFilesOf s (image_at S.Start) →
-        IfTable order.entry.now.task (λ name. ListsTable s name result.0)) }
-    ensures record_of { IfSome result.1 (λ store. IsClean (store_view store) →
-        (s : ClubState) → AreFilesOf s (image_at S.Start) →
-        IfExport order.entry.now.task (λ game.
-        WritesRecord s game (W.contents out.old) (W.contents out.new) result.0)) }
+        IfAsk order.entry.now.task (λ question.
+        Shows s moment question (W.contents out.old) (W.contents out.new) result.0)) }
     ensures passes { IfSome result.1 (λ store. IsClean (store_view store) →
         (s : ClubState) → AreFilesOf s (image_at S.Start) →
         IfVerify order.entry.now.task (IsPassed result.0)) }

@@ -1,4 +1,4 @@
-pub mod RecordLemmas
+pub mod QuestionLemmas
 pub mod RefusalLemmas
 pub mod SessionLemmas
 pub mod WrittenLemmas

@@ -7,7 +7,7 @@ use Rattle.store_tables.specs.Club.{Holds, IsExactly, Leaves}
 use Rattle.club_rows.specs.Club.{ClubState, tables}
 use Rattle.club_opening.specs.declared.fault.OpenFault.{OpenFault}
 use Rattle.club_orders.specs.declared.report.Report.{Report}
-use Rattle.club_orders.specs.declared.report.Report.TheVariants.{Ready, Sound, Answered, Listed, Exported, Unwritten}
+use Rattle.club_orders.specs.declared.report.Report.TheVariants.{Ready, Sound, Answered, Shown, Unwritten}
 use Rattle.club_orders.specs.declared.report.Report.TheVariants.{Unopened, Stopped, InUse, NotOpened, NoMoment, Unread}
 use Rattle.club_orders.specs.declared.report.Report.TheVariants.{Listening, Unbound, NoMemory, Upgraded}
 use Rattle.club_orders.specs.declared.report.Report.TheVariants.{AlreadyUpgraded}
@@ -20,8 +20,7 @@ taken_over P Sound taken = tt
 taken_over P Upgraded taken = tt
 taken_over P AlreadyUpgraded taken = tt
 taken_over P (Answered outcome) taken = tt
-taken_over P (Listed texts) taken = tt
-taken_over P Exported taken = tt
+taken_over P Shown taken = tt
 taken_over P Unwritten taken = tt
 taken_over P (Unopened fault) taken = absurd taken
 taken_over P (Stopped fault) taken = tt

@@ -31,18 +31,9 @@ HasFirst s trees = IsFirstClub s × of_schema.Leaves first_schema (first_tables 
 -- every task but the making of a club and its upgrade takes one over
 abbrev pub IfTakesOver : Task → Type 0 → Type 0
 IfTakesOver task.Init Holds = ⊤
-IfTakesOver (task.Request command) Holds = Holds
-IfTakesOver (task.Legal game) Holds = Holds
-IfTakesOver (task.Table name) Holds = Holds
-IfTakesOver (task.Export game) Holds = Holds
-IfTakesOver task.Verify Holds = Holds
 IfTakesOver task.Upgrade Holds = ⊤
+IfTakesOver _ Holds = Holds
 
 abbrev pub IfUpgrade : Task → Type 0 → Type 0
-IfUpgrade task.Init Holds = ⊤
-IfUpgrade (task.Request command) Holds = ⊤
-IfUpgrade (task.Legal game) Holds = ⊤
-IfUpgrade (task.Table name) Holds = ⊤
-IfUpgrade (task.Export game) Holds = ⊤
-IfUpgrade task.Verify Holds = ⊤
 IfUpgrade task.Upgrade Holds = Holds
+IfUpgrade _ Holds = ⊤

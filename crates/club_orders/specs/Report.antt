@@ -1,6 +1,6 @@
 -- What an order came to: what is printed, the status of the program, and the sessions that it adds to a club's history.
-use Rattle.std.specs.Prelude.{◌≡◌, ◌≢◌, ◌⊎◌, ℕ, List, [], ◌∷◌, ◌++◌, map, take, Option, Some, None, Result, Ok, Err}
-use Rattle.std.specs.Prelude.{Bool, true, false, codes, decimal, string_bytes, ⊤}
+use Rattle.std.specs.Prelude.{◌≡◌, ◌≢◌, ◌⊎◌, ℕ, List, [], ◌∷◌, ◌++◌, take, Option, Some, None, Result, Ok, Err}
+use Rattle.std.specs.Prelude.{Bool, true, false, codes, decimal, ⊤}
 use Rattle.std.specs.Io.KnownBytes.{Appends}
 use Rattle.sqlite.specs.Tree.{Trees}
 use Rattle.sqlite.specs.State.{State}
@@ -12,13 +12,13 @@ use Rattle.club_requests.specs.declared.requests.Who.TheVariants.{Officer}
 use Rattle.club_requests.specs.declared.requests.Command.{Command}
 use Rattle.club_requests.specs.declared.answers.Outcome.{Outcome}
 use Rattle.club_requests.specs.declared.answers.Outcome.TheVariants as outcome
-use Rattle.club_requests.specs.declared.refusals.Refusal.TheVariants.{UnknownEvent, UnknownGame}
+use Rattle.club_requests.specs.declared.refusals.Refusal.{Refusal}
 use Rattle.club_requests.specs.AnswerText.{outcome_text}
 use Rattle.club_core.specs.State.{Request}
 use Rattle.club_rows.specs.Club.{ClubState, tables}
 use Rattle.club_rows.specs.FirstSchema.{first_tables}
-use Rattle.store.specs.declared.fault.ExportFault.{ExportFault}
-use Rattle.store.specs.declared.fault.ExportFault.TheVariants as export_fault
+use Rattle.store.specs.declared.fault.AskFault.{AskFault}
+use Rattle.store.specs.declared.fault.AskFault.TheVariants as ask_fault
 use Rattle.club_opening.specs.declared.fault.OpenFault.{OpenFault}
 use Rattle.club_opening.specs.declared.fault.OpenFault.TheVariants as open_fault
 use Rattle.store.specs.declared.fault.StoreFault.TheVariants as store_fault
@@ -26,31 +26,24 @@ use Rattle.club_opening.specs.FaultText.{open_fault_text}
 use Rattle.store.specs.FaultText.{store_fault_text}
 use Rattle.store.specs.Histories.{Chapter, IsReachable, answered_session, cut_session, upgraded}
 use Rattle.club_changes.specs.Steps.{request}
-use Rattle.club_views.specs.CrossTable.{AreTableRows}
-use Rattle.club_views.specs.Exported.{IsExported, IsWrittenSome}
-use Rattle.club_changes.specs.Stored.{AreLegalRows}
+use Rattle.club_questions.specs.declared.questions.Question.{Question}
+use Rattle.club_answers.specs.Shown.{HasShown, HasShownSome}
 use Rattle.club_orders.specs.declared.report.Report.{Report}
-use Rattle.club_orders.specs.declared.report.Report.TheVariants.{Ready, Sound, Answered, Listed, Exported, Unwritten}
+use Rattle.club_orders.specs.declared.report.Report.TheVariants.{Ready, Sound, Answered, Shown, Unwritten}
 use Rattle.club_orders.specs.declared.report.Report.TheVariants.{Unopened, Stopped, InUse, NotOpened, NoMoment, Unread}
 use Rattle.club_orders.specs.declared.report.Report.TheVariants.{Listening, Unbound, NoMemory, Upgraded}
 use Rattle.club_orders.specs.declared.report.Report.TheVariants.{AlreadyUpgraded}
 use Rattle.club_words.specs.declared.words.Task.{Task}
 use Rattle.club_words.specs.declared.words.Task.TheVariants as task
 
--- each text, with the end of its line
-abbrev pub lines : List (List ℕ) → List ℕ
-lines [] = []
-lines (text ∷ texts) = text ++ codes "\n" ++ lines texts
-
--- what is printed of an order
+-- what is printed of an order, beside what a question was shown
 abbrev pub report_text : Report → List ℕ
 report_text Ready = codes "ready\n"
 report_text Sound = codes "sound\n"
 report_text Upgraded = codes "upgraded\n"
 report_text AlreadyUpgraded = codes "repeated upgrade\n"
 report_text (Answered outcome) = outcome_text outcome ++ codes "\n"
-report_text (Listed texts) = lines (map (λ t. string_bytes t) texts.items)
-report_text Exported = []
+report_text Shown = []
 report_text Unwritten = codes "store 77 Output\n"
 report_text (Unopened fault) = codes "store " ++ open_fault_text fault ++ codes "\n"
 report_text (Stopped fault) = codes "store " ++ store_fault_text fault ++ codes "\n"
@@ -74,8 +67,7 @@ report_status Sound = 0
 report_status Upgraded = 0
 report_status AlreadyUpgraded = 0
 report_status (Answered outcome) = outcome_status outcome
-report_status (Listed texts) = 0
-report_status Exported = 0
+report_status Shown = 0
 report_status Unwritten = 3
 report_status (Unopened fault) = 3
 report_status (Stopped fault) = 3
@@ -121,13 +113,9 @@ upgrade_of _ = upgraded false
 
 -- making a club adds nothing, nor does reading
 abbrev pub task_sessions : Task → ℕ → Report → List Chapter
-task_sessions task.Init moment report = []
-task_sessions (task.Legal game) moment report = []
-task_sessions (task.Table name) moment report = []
-task_sessions (task.Export game) moment report = []
-task_sessions task.Verify moment report = []
-task_sessions task.Upgrade moment report = upgrade_of report ∷ []
 task_sessions (task.Request command) moment report = request_sessions (given command moment) report
+task_sessions task.Upgrade moment report = upgrade_of report ∷ []
+task_sessions _ moment report = []
 
 -- the command was answered so, or a call of the database failed or memory was refused
 abbrev pub Answers : Report → (Outcome → Type 0) → Type 0
@@ -136,88 +124,48 @@ Answers (Unopened fault) Holds = (fault ≡ open_fault.Store) ⊎ (fault ≡ ope
 Answers (Stopped fault) Holds = (fault ≡ store_fault.Store) ⊎ (fault ≡ store_fault.Memory)
 Answers _ Holds = ⊥
 
+-- ---- what is said of one kind of task
+
 abbrev pub IfRequest : Task → (Command → Type 0) → Type 0
-IfRequest task.Init Holds = ⊤
 IfRequest (task.Request command) Holds = Holds command
-IfRequest (task.Legal game) Holds = ⊤
-IfRequest (task.Table name) Holds = ⊤
-IfRequest (task.Export game) Holds = ⊤
-IfRequest task.Verify Holds = ⊤
-IfRequest task.Upgrade Holds = ⊤
+IfRequest _ Holds = ⊤
 
-abbrev pub IfLegal : Task → (ℕ → Type 0) → Type 0
-IfLegal task.Init Holds = ⊤
-IfLegal (task.Request command) Holds = ⊤
-IfLegal (task.Legal game) Holds = Holds game
-IfLegal (task.Table name) Holds = ⊤
-IfLegal (task.Export game) Holds = ⊤
-IfLegal task.Verify Holds = ⊤
-IfLegal task.Upgrade Holds = ⊤
-
-abbrev pub IfTable : Task → (List ℕ → Type 0) → Type 0
-IfTable task.Init Holds = ⊤
-IfTable (task.Request command) Holds = ⊤
-IfTable (task.Legal game) Holds = ⊤
-IfTable (task.Table name) Holds = Holds (string_bytes name)
-IfTable (task.Export game) Holds = ⊤
-IfTable task.Verify Holds = ⊤
-IfTable task.Upgrade Holds = ⊤
+abbrev pub IfAsk : Task → (Question → Type 0) → Type 0
+IfAsk (task.Ask question) Holds = Holds question
+IfAsk _ Holds = ⊤
 
 abbrev pub IfVerify : Task → Type 0 → Type 0
-IfVerify task.Init Holds = ⊤
-IfVerify (task.Request command) Holds = ⊤
-IfVerify (task.Legal game) Holds = ⊤
-IfVerify (task.Table name) Holds = ⊤
-IfVerify (task.Export game) Holds = ⊤
 IfVerify task.Verify Holds = Holds
-IfVerify task.Upgrade Holds = ⊤
+IfVerify _ Holds = ⊤
 
-abbrev pub IfExport : Task → (ℕ → Type 0) → Type 0
-IfExport task.Init Holds = ⊤
-IfExport (task.Request command) Holds = ⊤
-IfExport (task.Legal game) Holds = ⊤
-IfExport (task.Table name) Holds = ⊤
-IfExport (task.Export game) Holds = Holds game
-IfExport task.Verify Holds = ⊤
-IfExport task.Upgrade Holds = ⊤
+-- only a question writes to what is handed to it
+abbrev pub writes : Task → Bool
+writes (task.Ask question) = true
+writes _ = false
 
--- the legal moves of the game are listed, or there is no such game; or a call of the database failed, or memory was
--- refused
-abbrev pub ListsMoves : ClubState → ℕ → Report → Type 0
-ListsMoves s game (Listed texts) = AreLegalRows s game (Some (map (λ t. string_bytes t) texts.items))
-ListsMoves s game (Answered answer) = (answer ≡ outcome.Refused UnknownGame) × AreLegalRows s game None
-ListsMoves s game (Unopened fault) = (fault ≡ open_fault.Store) ⊎ (fault ≡ open_fault.Memory)
-ListsMoves s game (Stopped fault) = (fault ≡ store_fault.Store) ⊎ (fault ≡ store_fault.Memory)
-ListsMoves s game _ = ⊥
+-- ---- a question
 
--- the lines of the cross table of the event of this name are listed, or there is no such event; or a call of the
--- database failed, or memory was refused
-abbrev pub ListsTable : ClubState → List ℕ → Report → Type 0
-ListsTable s name (Listed texts) = AreTableRows s name (Some (map (λ t. string_bytes t) texts.items))
-ListsTable s name (Answered answer) = (answer ≡ outcome.Refused UnknownEvent) × AreTableRows s name None
-ListsTable s name (Unopened fault) = (fault ≡ open_fault.Store) ⊎ (fault ≡ open_fault.Memory)
-ListsTable s name (Stopped fault) = (fault ≡ store_fault.Store) ⊎ (fault ≡ store_fault.Memory)
-ListsTable s name _ = ⊥
+-- what is reported of one that was answered, or not
+abbrev pub ask_report : Result (Option Refusal) AskFault → Report
+ask_report (Ok None) = Shown
+ask_report (Ok (Some refusal)) = Answered (outcome.Refused refusal)
+ask_report (Err ask_fault.Output) = Unwritten
+ask_report (Err (ask_fault.Club fault)) = Stopped fault
 
--- what is reported of a record that was written, or not
-abbrev pub export_report : Result Bool ExportFault → Report
-export_report (Ok true) = Exported
-export_report (Ok false) = Answered (outcome.Refused UnknownGame)
-export_report (Err export_fault.Output) = Unwritten
-export_report (Err (export_fault.Club fault)) = Stopped fault
-
--- the record of the game was written, or there is no such game and nothing was; or the writer or a call of the database
--- failed, or memory was refused, and a beginning of the record was written
-abbrev pub WritesRecord : ClubState → ℕ → Option (List ℕ) → Option (List ℕ) → Report → Type 0
-WritesRecord s game before now Exported = IsExported s game true before now
-WritesRecord s game before now (Answered answer) = (answer ≡ outcome.Refused UnknownGame)
-    × IsExported s game false before now
-WritesRecord s game before now Unwritten = IsWrittenSome s game before now
-WritesRecord s game before now (Unopened fault) =
+-- The text that the question is shown was written, or there is none and nothing was; or the writer or a call of the
+-- database failed, or memory was refused, and a beginning of it was written.
+abbrev pub Shows : ClubState → (moment : ℕ) → Question → Option (List ℕ) → Option (List ℕ) → Report → Type 0
+Shows s moment question before now Shown = HasShown s moment question None before now
+Shows s moment question before now (Answered (outcome.Refused refusal)) =
+    HasShown s moment question (Some refusal) before now
+Shows s moment question before now Unwritten = HasShownSome s moment question before now
+Shows s moment question before now (Unopened fault) =
     ((fault ≡ open_fault.Store) ⊎ (fault ≡ open_fault.Memory)) × (now ≡ before)
-WritesRecord s game before now (Stopped fault) =
-    ((fault ≡ store_fault.Store) ⊎ (fault ≡ store_fault.Memory)) × IsWrittenSome s game before now
-WritesRecord s game before now _ = ⊥
+Shows s moment question before now (Stopped fault) =
+    ((fault ≡ store_fault.Store) ⊎ (fault ≡ store_fault.Memory)) × HasShownSome s moment question before now
+Shows s moment question before now _ = ⊥
+
+-- ---- a test
 
 -- the file was found sound; or a call of the database failed, or memory was refused
 abbrev pub IsPassed : Report → Type 0
@@ -258,16 +206,6 @@ IfUnopened _ Holds = ⊤
 abbrev pub OnlyUnopened : Report → (OpenFault → Type 0) → Type 0
 OnlyUnopened (Unopened fault) Holds = Holds fault
 OnlyUnopened _ Holds = ⊥
-
--- only an export writes to what is handed to it
-abbrev pub writes : Task → Bool
-writes task.Init = false
-writes (task.Request command) = false
-writes (task.Legal game) = false
-writes (task.Table name) = false
-writes (task.Export game) = true
-writes task.Verify = false
-writes task.Upgrade = false
 
 -- The club with nothing in it stands; or none was made, and there is still no table, or it stands nevertheless.
 abbrev pub IsBegun : Report → Trees → Type 0

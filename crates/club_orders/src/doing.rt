@@ -1,6 +1,6 @@
 //! What an order does over a connection.
 
-ghost use Rattle.std.specs.Prelude.{◌≡◌, ◌≤◌, ◌⊎◌, ◌++◌, ◌∷◌, [], ℕ, List, map, false, true, string_bytes};
+ghost use Rattle.std.specs.Prelude.{◌≡◌, ◌≤◌, ◌⊎◌, ◌++◌, ◌∷◌, [], false, true};
 ghost use Rattle.sqlite.specs.State.{HasCleanDisk, Opens, IsLive};
 ghost use Rattle.sqlite.specs.Held.{state};
 ghost use Rattle.sqlite_trees.specs.View.{doubt};
@@ -10,27 +10,24 @@ ghost use Rattle.store_tables.specs.Tables.{IsClubSchema};
 ghost use Rattle.club_core.specs.Answer.{answered, outcome_of};
 ghost use Rattle.club_rows.specs.Club.{ClubState, IsClub, tables};
 ghost use Rattle.club_changes.specs.Steps.{club_step};
-ghost use Rattle.std.specs.Option.{option_map};
-ghost use Rattle.club_views.specs.CrossTable.{AreTableRows};
 ghost use Rattle.store.specs.Histories.{IsReachable, upgraded};
-ghost use Rattle.club_changes.specs.Stored.{AreLegalRows};
 ghost use Rattle.club_words.specs.declared.words.Task.TheVariants.{Init};
-ghost use Rattle.club_orders.specs.Report.{given, Answers, export_report, IfRequest, IfLegal, IfTable, IfExport};
-ghost use Rattle.club_orders.specs.Report.{IfVerify, IfUnopened, IsCarriedOver, IsRepeated, OnlyUnopened, upgrade_of};
-ghost use Rattle.club_orders.specs.Report.{ListsMoves, ListsTable, WritesRecord, IsPassed, IsBegun, request_sessions};
-ghost use Rattle.club_orders.specs.Report.{task_sessions, writes};
+ghost use Rattle.club_orders.specs.Report.{given, Answers, ask_report, IfRequest, IfAsk, IfVerify, IfUnopened};
+ghost use Rattle.club_orders.specs.Report.{IsCarriedOver, IsRepeated, OnlyUnopened, upgrade_of};
+ghost use Rattle.club_orders.specs.Report.{Shows, IsPassed, IsBegun, request_sessions, task_sessions, writes};
 ghost use Rattle.club_opening.specs.Refused.{HoldClub, IsKept, IsRefusal};
 ghost use Rattle.club_orders.specs.Refused.{HasFirst, IfTakesOver, IfUpgrade, IsOlder, IsUpgradeRefusal};
 
 use crate::report::Report;
 use clocks::Moment;
+use club_questions::Question;
 use club_requests::{Command, Outcome, Refusal, Who};
 use club_words::Task;
 use sqlite::{Alter, Connection};
 use std::alloc::Global;
 use std::io::Write;
 use store::{
-    ExportFault, OpenFault, Upgrade, adopt, create, holds_exactly, holds_nothing,
+    AskFault, OpenFault, Upgrade, adopt, create, holds_exactly, holds_nothing,
     holds_what_sessions_left, leaves_what_sessions_left, upgrade,
 };
 
@@ -102,125 +99,33 @@ fn request<S: Alter>(
     }
 }
 
-// What is reported of the legal moves of a game, where none are those of no game.
-fn listed(found: Option<Vec<String>>) -> Report
+// What is reported of a question that was answered, or not.
+fn asked(answer: Result<Option<Refusal>, AskFault>) -> Report
     ensures taken { IfUnopened result (λ fault. ⊥) }
-    ensures lists { (s : ClubState) (game : ℕ) →
-        AreLegalRows s game (option_map (λ texts. map (λ t. string_bytes t) texts.items) found) →
-        ListsMoves s game result }
+    ensures report { result ≡ ask_report answer }
 {
-    match found {
-        Some(texts) => Report::Listed(texts),
-        None => Report::Answered(Outcome::Refused(Refusal::UnknownGame)),
+    match answer {
+        Ok(None) => Report::Shown,
+        Ok(Some(refusal)) => Report::Answered(Outcome::Refused(refusal)),
+        Err(AskFault::Output) => Report::Unwritten,
+        Err(AskFault::Club(fault)) => Report::Stopped(fault),
     }
 }
 
-// Lists the legal moves of a game.
-fn legal<S: Alter>(alloc: Global, conn: Connection<S>, game: u64) -> (Report, Connection<S>)
-    requires { conn.in_transaction ≡ false }
-    ensures idle { result.1.in_transaction ≡ false }
-    ensures clean { doubt (state S.Store conn).is_clean ≤ doubt (state S.Store result.1).is_clean }
-    ensures moves { HasCleanDisk (state S.Store result.1) → Opens (state S.Store conn) → IsLive (state S.Store conn) →
-        (s : ClubState) → IsClub s → Leaves (tables s) (state S.Store conn).committed.trees →
-        ListsMoves s game result.0 }
-    ensures refuses { HasCleanDisk (state S.Store result.1) →
-        IfUnopened result.0 (IsRefusal (state S.Store conn) (state S.Store result.1)) }
-    ensures older { HasCleanDisk (state S.Store result.1) → Opens (state S.Store conn) → IsLive (state S.Store conn) →
-        (s : ClubState) → HasFirst s (state S.Store conn).committed.trees → OnlyUnopened result.0 IsOlder }
-    ensures led { HasCleanDisk (state S.Store result.1) → Opens (state S.Store conn) → IsLive (state S.Store conn) →
-        (sessions : _) → IsReachable sessions (state S.Store conn).committed.trees →
-        (db : _) → (state S.Store result.1).may_leave db → IsReachable sessions db }
-{
-    holds_exactly(&conn);
-    holds_what_sessions_left(&conn);
-    leaves_what_sessions_left(&conn);
-    let mut club = match adopt(alloc, conn) {
-        Ok(club) => club,
-        Err(unopened) => return (Report::Unopened(unopened.fault), unopened.conn),
-    };
-    match club.legal_rows(alloc, game) {
-        Ok(found) => {
-            let conn = club.into_connection();
-            leaves_what_sessions_left(&conn);
-            (listed(found), conn)
-        }
-        Err(fault) => (Report::Stopped(fault), club.into_connection()),
-    }
-}
-
-// What is reported of the cross table of an event, where none is that of no event.
-fn tabled(found: Option<Vec<String>>) -> Report
-    ensures taken { IfUnopened result (λ fault. ⊥) }
-    ensures lists { (s : ClubState) (name : List ℕ) →
-        AreTableRows s name (option_map (λ lines. map (λ t. string_bytes t) lines.items) found) →
-        ListsTable s name result }
-{
-    match found {
-        Some(lines) => Report::Listed(lines),
-        None => Report::Answered(Outcome::Refused(Refusal::UnknownEvent)),
-    }
-}
-
-// Shows the cross table of an event.
-fn table<S: Alter>(alloc: Global, conn: Connection<S>, event: &str) -> (Report, Connection<S>)
-    requires { conn.in_transaction ≡ false }
-    ensures idle { result.1.in_transaction ≡ false }
-    ensures clean { doubt (state S.Store conn).is_clean ≤ doubt (state S.Store result.1).is_clean }
-    ensures table { HasCleanDisk (state S.Store result.1) → Opens (state S.Store conn) → IsLive (state S.Store conn) →
-        (s : ClubState) → IsClub s → Leaves (tables s) (state S.Store conn).committed.trees →
-        ListsTable s event.now result.0 }
-    ensures refuses { HasCleanDisk (state S.Store result.1) →
-        IfUnopened result.0 (IsRefusal (state S.Store conn) (state S.Store result.1)) }
-    ensures older { HasCleanDisk (state S.Store result.1) → Opens (state S.Store conn) → IsLive (state S.Store conn) →
-        (s : ClubState) → HasFirst s (state S.Store conn).committed.trees → OnlyUnopened result.0 IsOlder }
-    ensures led { HasCleanDisk (state S.Store result.1) → Opens (state S.Store conn) → IsLive (state S.Store conn) →
-        (sessions : _) → IsReachable sessions (state S.Store conn).committed.trees →
-        (db : _) → (state S.Store result.1).may_leave db → IsReachable sessions db }
-{
-    holds_exactly(&conn);
-    holds_what_sessions_left(&conn);
-    leaves_what_sessions_left(&conn);
-    let mut club = match adopt(alloc, conn) {
-        Ok(club) => club,
-        Err(unopened) => return (Report::Unopened(unopened.fault), unopened.conn),
-    };
-    match club.table_rows(alloc, event) {
-        Ok(found) => {
-            let conn = club.into_connection();
-            leaves_what_sessions_left(&conn);
-            (tabled(found), conn)
-        }
-        Err(fault) => (Report::Stopped(fault), club.into_connection()),
-    }
-}
-
-// What is reported of a record that was written, or not.
-fn exported(written: Result<bool, ExportFault>) -> Report
-    ensures taken { IfUnopened result (λ fault. ⊥) }
-    ensures report { result ≡ export_report written }
-{
-    match written {
-        Ok(true) => Report::Exported,
-        Ok(false) => Report::Answered(Outcome::Refused(Refusal::UnknownGame)),
-        Err(ExportFault::Output) => Report::Unwritten,
-        Err(ExportFault::Club(fault)) => Report::Stopped(fault),
-    }
-}
-
-// Writes the record of a game.
-fn export<S: Alter, W: Write>(
+// Asks the club a question, and writes what it is shown.
+fn ask<S: Alter, W: Write>(
     alloc: Global,
     conn: Connection<S>,
-    game: u64,
+    question: &Question,
+    moment: Moment,
     out: &mut W,
 ) -> (Report, Connection<S>)
     requires { conn.in_transaction ≡ false }
     ensures idle { result.1.in_transaction ≡ false }
     ensures clean { doubt (state S.Store conn).is_clean ≤ doubt (state S.Store result.1).is_clean }
-    ensures record_of { HasCleanDisk (state S.Store result.1) → Opens (state S.Store conn) →
-        IsLive (state S.Store conn) →
+    ensures asked { HasCleanDisk (state S.Store result.1) → Opens (state S.Store conn) → IsLive (state S.Store conn) →
         (s : ClubState) → IsClub s → Leaves (tables s) (state S.Store conn).committed.trees →
-        WritesRecord s game (W.contents out.old) (W.contents out.new) result.0 }
+        Shows s moment question.now (W.contents out.old) (W.contents out.new) result.0 }
     ensures refuses { HasCleanDisk (state S.Store result.1) →
         IfUnopened result.0 (IsRefusal (state S.Store conn) (state S.Store result.1)) }
     ensures older { HasCleanDisk (state S.Store result.1) → Opens (state S.Store conn) → IsLive (state S.Store conn) →
@@ -236,10 +141,8 @@ fn export<S: Alter, W: Write>(
         Ok(club) => club,
         Err(unopened) => return (Report::Unopened(unopened.fault), unopened.conn),
     };
-    let written = club.export(alloc, game, out);
-    let conn = club.into_connection();
-    leaves_what_sessions_left(&conn);
-    (exported(written), conn)
+    let answer = club.ask(alloc, question, moment, out);
+    (asked(answer), club.into_connection())
 }
 
 // Carries a club of schema 1 over to schema 2.
@@ -317,10 +220,9 @@ fn verify<S: Alter>(alloc: Global, conn: Connection<S>) -> (Report, Connection<S
 }
 
 /// Does what is asked for over a connection that was just opened, at that moment, and gives the connection back:
-/// makes a club, gives the club that stands there a command of the officer's, lists the legal moves of a game, shows
-/// the cross table of an event, writes the record of a game to `out`, tests that the rows are those of a club, or
-/// carries a club of schema 1 over to schema 2; every other word refuses schema 1 by its number. The
-/// answer is the machine's. Sessions that led to what the opening found lead, with this request as one more, to
+/// makes a club, gives the club that stands there a command of the officer's, asks it a question and writes what that
+/// is shown to `out`, tests that the rows are those of a club, or carries a club of schema 1 over to schema 2; every
+/// other word refuses schema 1 by its number. The answer is the machine's. Sessions that led to what the opening found lead, with this request as one more, to
 /// whatever a stop leaves; where there was no table, and a club was to be made, none led to it, or there is no table
 /// still. Tables that are not taken as a club's are blamed for it, and stay as they were found; those that are found
 /// sound are a club's.
@@ -345,16 +247,9 @@ pub fn act<S: Alter, W: Write>(
         (s : ClubState) → IsClub s → Leaves (tables s) (state S.Store conn).committed.trees →
         IfRequest task.now (λ command. Answers result.0 (λ outcome.
         outcome_of outcome ≡ answered (club_step s (given command moment)))) }
-    ensures moves { HasCleanDisk (state S.Store result.1) → Opens (state S.Store conn) → IsLive (state S.Store conn) →
+    ensures asked { HasCleanDisk (state S.Store result.1) → Opens (state S.Store conn) → IsLive (state S.Store conn) →
         (s : ClubState) → IsClub s → Leaves (tables s) (state S.Store conn).committed.trees →
-        IfLegal task.now (λ game. ListsMoves s game result.0) }
-    ensures table { HasCleanDisk (state S.Store result.1) → Opens (state S.Store conn) → IsLive (state S.Store conn) →
-        (s : ClubState) → IsClub s → Leaves (tables s) (state S.Store conn).committed.trees →
-        IfTable task.now (λ name. ListsTable s name result.0) }
-    ensures record_of { HasCleanDisk (state S.Store result.1) → Opens (state S.Store conn) →
-        IsLive (state S.Store conn) →
-        (s : ClubState) → IsClub s → Leaves (tables s) (state S.Store conn).committed.trees →
-        IfExport task.now (λ game. WritesRecord s game (W.contents out.old) (W.contents out.new) result.0) }
+        IfAsk task.now (λ question. Shows s moment question (W.contents out.old) (W.contents out.new) result.0) }
     ensures passes { HasCleanDisk (state S.Store result.1) → Opens (state S.Store conn) → IsLive (state S.Store conn) →
         (s : ClubState) → IsClub s → Leaves (tables s) (state S.Store conn).committed.trees →
         IfVerify task.now (IsPassed result.0) }
@@ -388,9 +283,7 @@ pub fn act<S: Alter, W: Write>(
     match task {
         Task::Init => init(alloc, conn),
         Task::Request(command) => request(alloc, conn, command, moment),
-        Task::Legal(game) => legal(alloc, conn, *game),
-        Task::Table(event) => table(alloc, conn, event.as_str()),
-        Task::Export(game) => export(alloc, conn, *game, out),
+        Task::Ask(question) => ask(alloc, conn, question, moment, out),
         Task::Verify => verify(alloc, conn),
         Task::Upgrade => carry(alloc, conn),
     }

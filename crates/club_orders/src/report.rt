@@ -1,8 +1,8 @@
 //! What an order came to, and how it is printed.
 
-ghost use Rattle.std.specs.Prelude.{◌≡◌, ◌≢◌, ◌⊎◌, ◌++◌, ◌∷◌, ℕ, [], OnOk, map, take, string_bytes};
+ghost use Rattle.std.specs.Prelude.{◌≡◌, ◌≢◌, ◌⊎◌, ◌++◌, ℕ, [], OnOk, take, string_bytes};
 ghost use Rattle.std.specs.Io.KnownBytes.{Appends};
-ghost use Rattle.club_orders.specs.Report.{report_status, report_text, lines, IsFaultTold};
+ghost use Rattle.club_orders.specs.Report.{report_status, report_text, IsFaultTold};
 
 use crate::written::write_out;
 use club_requests::Outcome;
@@ -35,11 +35,9 @@ pub enum Report {
     Upgraded,
     /// The file was of schema 2, and stays as it is.
     AlreadyUpgraded,
-    /// Lines that were asked for: the legal moves of a game, as they are written, or the cross table of an event.
-    Listed(Vec<String>),
-    /// The record of a game was written.
-    Exported,
-    /// The writer of a record failed.
+    /// What a question is shown was written.
+    Shown,
+    /// The writer of what a question is shown failed.
     Unwritten,
     /// No club was made, or none was found.
     Unopened(OpenFault),
@@ -74,8 +72,7 @@ impl Report {
             Report::Answered(Outcome::Accepted(_)) => DONE,
             Report::Answered(Outcome::Repeated(_)) => DONE,
             Report::Answered(Outcome::Refused(_)) => REFUSED,
-            Report::Listed(_) => DONE,
-            Report::Exported => DONE,
+            Report::Shown => DONE,
             Report::Unwritten => FAULT,
             Report::Unopened(_) => FAULT,
             Report::Stopped(_) => FAULT,
@@ -90,17 +87,6 @@ impl Report {
     }
 }
 
-// Adds each of the lines to a text, and ends it.
-fn write_lines(text: &mut String, listed: &[String]) -> Result<(), AllocError>
-    ensures { OnOk result (string_bytes text.new
-        ≡ string_bytes text.old ++ lines (map (λ t. string_bytes t) listed.now)) }
-{
-    for line in listed {
-        writeln!(text, "{line}")?;
-    }
-    Ok(())
-}
-
 // Adds the report to a text: what was done, why it was refused, or after `store` the number and name of the fault.
 fn write_report(text: &mut String, report: &Report) -> Result<(), AllocError>
     ensures { OnOk result (string_bytes text.new ≡ string_bytes text.old ++ report_text report.now) }
@@ -111,8 +97,7 @@ fn write_report(text: &mut String, report: &Report) -> Result<(), AllocError>
         Report::Upgraded => writeln!(text, "upgraded"),
         Report::AlreadyUpgraded => writeln!(text, "repeated upgrade"),
         Report::Answered(outcome) => writeln!(text, "{outcome}"),
-        Report::Listed(listed) => write_lines(text, listed.as_slice()),
-        Report::Exported => Ok(()),
+        Report::Shown => Ok(()),
         Report::Unwritten => writeln!(text, "store 77 Output"),
         Report::Unopened(fault) => writeln!(text, "store {fault}"),
         Report::Stopped(fault) => writeln!(text, "store {fault}"),
@@ -135,9 +120,9 @@ fn unprinted<E: Write>(err: &mut E, line: &str) -> u8
     FAULT
 }
 
-/// Prints a report: what was done to the standard output, a refusal or a fault to the standard error. Gives the status,
-/// which is that of a fault where the line could not be made or written. `line` is empty, and has the room that was set
-/// aside for it.
+/// Prints a report: what was done to the standard output, a refusal or a fault to the standard error. What a question is
+/// shown stands there before, and nothing more is printed. Gives the status, which is that of a fault where the line
+/// could not be made or written. `line` is empty, and has the room that was set aside for it.
 pub fn print<O: Write, E: Write>(line: String, report: &Report, out: &mut O, err: &mut E) -> u8
     requires { string_bytes line ≡ [] }
     ensures status { (result ≡ report_status report.now) ⊎ (result ≡ 3) }

@@ -3,7 +3,7 @@ use Rattle.std.proofs.Common.{◌≡◌, ◌⊎◌, ◌≤◌, ℕ, inl, inr, sy
 use Rattle.club_requests.specs.declared.answers.Outcome.{Outcome}
 use Rattle.club_requests.specs.declared.answers.Outcome.TheVariants as outcome
 use Rattle.club_orders.specs.declared.report.Report.{Report}
-use Rattle.club_orders.specs.declared.report.Report.TheVariants.{Ready, Sound, Answered, Listed, Exported, Unwritten}
+use Rattle.club_orders.specs.declared.report.Report.TheVariants.{Ready, Sound, Answered, Shown, Unwritten}
 use Rattle.club_orders.specs.declared.report.Report.TheVariants.{Unopened, Stopped, InUse, NotOpened, NoMoment, Unread}
 use Rattle.club_orders.specs.declared.report.Report.TheVariants.{Listening, Unbound, NoMemory, Upgraded}
 use Rattle.club_orders.specs.declared.report.Report.TheVariants.{AlreadyUpgraded}
@@ -20,8 +20,7 @@ status_small Sound = omega (arith)
 status_small Upgraded = omega (arith)
 status_small AlreadyUpgraded = omega (arith)
 status_small (Answered o) = outcome_small o
-status_small (Listed texts) = omega (arith)
-status_small Exported = omega (arith)
+status_small Shown = omega (arith)
 status_small Unwritten = omega (arith)
 status_small (Unopened fault) = omega (arith)
 status_small (Stopped fault) = omega (arith)

@@ -15,7 +15,13 @@ use Rattle.club_requests.specs.declared.requests.Command.{Command}
 use Rattle.club_requests.specs.declared.requests.Command.TheVariants.{AddMember, AddEvent, Seat, OnGame, Sweep}
 use Rattle.club_requests.specs.declared.requests.Command.TheVariants.{Import as ImportOf}
 use Rattle.club_words.specs.declared.words.Task.{Task}
-use Rattle.club_words.specs.declared.words.Task.TheVariants.{Init, Request, Legal, Table, Export, Upgrade, Verify}
+use Rattle.club_questions.specs.declared.questions.Listing.{Listing}
+use Rattle.club_questions.specs.declared.questions.Question.{Question}
+use Rattle.club_questions.specs.declared.questions.Question.TheVariants.{LegalMoves, CrossTable, Record, Members}
+use Rattle.club_questions.specs.declared.questions.Question.TheVariants.{Events, Games}
+use Rattle.club_questions.specs.declared.questions.Which.{Which}
+use Rattle.club_questions.specs.declared.questions.Which.TheVariants.{All, Running, Overdue}
+use Rattle.club_words.specs.declared.words.Task.TheVariants.{Init, Request, Ask, Upgrade, Verify}
 use Rattle.club_words.specs.declared.words.Order.{Order}
 use Rattle.club_words.specs.declared.words.Service.{Service}
 use Rattle.club_words.specs.declared.words.Words.{Words}
@@ -92,12 +98,40 @@ AsksCommand name found (OnGame c) = (name ≡ codes "move") × IsNumberIn found 
 AsksCommand name found Sweep = name ≡ codes "sweep"
 AsksCommand name found _ = ⊥
 
+-- which games are listed, by whether each flag is given
+abbrev pub which_of : (is_running is_overdue : Bool) → Which
+which_of true is_overdue = Running
+which_of false true = Overdue
+which_of false false = All
+
+pub record AreShownOf (found : Found) (which : Which) : Type 0 where
+  pub is_running : Bool
+  pub running : IsFlagIn found (codes "RUNNING") is_running
+  pub is_overdue : Bool
+  pub overdue : IsFlagIn found (codes "OVERDUE") is_overdue
+  pub is : which ≡ which_of is_running is_overdue
+
+-- the games of the event and of the member that are named, where one is
+pub record AreListed (found : Found) (listing : Listing) : Type 0 where
+  pub event : option_map string_bytes listing.event ≡ first_value found (codes "EVENT")
+  pub member : option_map string_bytes listing.member ≡ first_value found (codes "MEMBER")
+  pub which : AreShownOf found listing.which
+
+-- the subcommand of this name asks the club this; no other questions are asked by words
+abbrev pub AsksQuestion : List ℕ → Found → Question → Type 0
+AsksQuestion name found (LegalMoves game) = (name ≡ codes "legal") × IsNumberIn found (codes "GAME") 0 game
+AsksQuestion name found (CrossTable event) = (name ≡ codes "table")
+    × (string_bytes event ≡ text_in found (codes "EVENT"))
+AsksQuestion name found (Record game) = (name ≡ codes "export") × IsNumberIn found (codes "GAME") 0 game
+AsksQuestion name found Members = name ≡ codes "members"
+AsksQuestion name found Events = name ≡ codes "events"
+AsksQuestion name found (Games listing) = (name ≡ codes "games") × AreListed found listing
+AsksQuestion name found _ = ⊥
+
 -- the subcommand of this name asks for this
 abbrev pub AsksTask : List ℕ → Found → Task → Type 0
 AsksTask name found Init = name ≡ codes "init"
-AsksTask name found (Legal game) = (name ≡ codes "legal") × IsNumberIn found (codes "GAME") 0 game
-AsksTask name found (Export game) = (name ≡ codes "export") × IsNumberIn found (codes "GAME") 0 game
-AsksTask name found (Table event) = (name ≡ codes "table") × (string_bytes event ≡ text_in found (codes "EVENT"))
+AsksTask name found (Ask question) = AsksQuestion name found question
 AsksTask name found Verify = name ≡ codes "verify"
 AsksTask name found Upgrade = name ≡ codes "upgrade"
 AsksTask name found (Request command) = AsksCommand name found command

@@ -22,8 +22,6 @@ with_text text (command.Answer c) = command.Answer c
 abbrev pub task_with : Vec ℕ Global → Task → Task
 task_with text task.Init = task.Init
 task_with text (task.Request command) = task.Request (with_text text command)
-task_with text (task.Legal game) = task.Legal game
-task_with text (task.Table name) = task.Table name
-task_with text (task.Export game) = task.Export game
+task_with text (task.Ask question) = task.Ask question
 task_with text task.Verify = task.Verify
 task_with text task.Upgrade = task.Upgrade

@@ -3,12 +3,14 @@
 ghost use Rattle.std.specs.Prelude.{◌≡◌, IfOk, IfSome, Some, codes, map, option_map, string_bytes};
 ghost use Rattle.clap.specs.Words.{first_value, found_of};
 ghost use Rattle.club_words.specs.Asked.{Asks, AsksCommand, AsksImport, AsksService, AsksTask};
-ghost use Rattle.club_words.specs.Asked.{IsMomentIn, IsNumberIn, game_word, record_word, text_in};
+ghost use Rattle.club_words.specs.Asked.{AreListed, AreShownOf, IsMomentIn, IsNumberIn, game_word, record_word};
+ghost use Rattle.club_words.specs.Asked.{text_in, which_of};
 ghost use Rattle.club_words.specs.Imports.{with_text, task_with};
 
 use clap::error::ErrorKind;
 use clap::{Arg, ArgAction, ArgMatches, value_parser};
 use clocks::Moment;
+use club_questions::{Listing, Question, Which};
 use club_requests::{AddEvent, AddMember, Command, GameCommand, Import, OnGame, Seat};
 use club_rules::{GameKind, RecordFormat};
 use std::alloc::{AllocError, Global};
@@ -20,12 +22,8 @@ pub enum Task {
     Init,
     /// Give the club a command of the officer's.
     Request(Command),
-    /// List the legal moves of a game.
-    Legal(u64),
-    /// Show the cross table of the event of a name.
-    Table(String),
-    /// Write the record of a game.
-    Export(u64),
+    /// Ask the club, which changes nothing.
+    Ask(Question),
     /// Test that the rows of the file are those of a club.
     Verify,
     /// Carry the file over from schema 1 to schema 2.
@@ -260,6 +258,35 @@ fn table_words<'a>(alloc: Global) -> Result<clap::Command<'a>, AllocError> {
         .arg(word(alloc, "EVENT", "The event's name"))
 }
 
+// An option that narrows a list by a name.
+fn narrowed<'a>(alloc: Global, id: &'a str, long: &'a str, help: &'a str) -> Arg<'a> {
+    Arg::new(alloc, id)
+        .long(long)
+        .value_name("NAME")
+        .help(help)
+        .action(ArgAction::Set)
+}
+
+fn games_words<'a>(alloc: Global) -> Result<clap::Command<'a>, AllocError> {
+    let running = Arg::new(alloc, "RUNNING")
+        .long("running")
+        .help("Only games that have not ended")
+        .action(ArgAction::SetTrue)
+        .conflicts_with("OVERDUE")?;
+    let overdue = Arg::new(alloc, "OVERDUE")
+        .long("overdue")
+        .help("Only games that 'sweep' would end: the side to move has used up its time")
+        .action(ArgAction::SetTrue);
+    clap::Command::new(alloc, "games")
+        .about(
+            "Lists the games, a line each: who plays whom, and until when a move is due or how it ended",
+        )
+        .arg(narrowed(alloc, "EVENT", "event", "Only games of this event"))?
+        .arg(narrowed(alloc, "MEMBER", "member", "Only games of this member"))?
+        .arg(running)?
+        .arg(overdue)
+}
+
 fn serve_words<'a>(alloc: Global) -> Result<clap::Command<'a>, AllocError> {
     let log = Arg::new(alloc, "LOG")
         .long("log")
@@ -347,6 +374,12 @@ fn with_views<'a>(
     alloc: Global,
     program: clap::Command<'a>,
 ) -> Result<clap::Command<'a>, AllocError> {
+    let members = clap::Command::new(alloc, "members").about(
+        "Lists the members, a line each, without their keys",
+    );
+    let events = clap::Command::new(alloc, "events").about(
+        "Lists the events, a line each, with how many games each has and how many of them run",
+    );
     let verify = clap::Command::new(alloc, "verify").about(
         "Reads and replays the whole file, and says that it is sound, or which table is damaged",
     );
@@ -354,6 +387,9 @@ fn with_views<'a>(
         "Carries a file of schema 1 over to schema 2, which has the rules of events; copy both files first",
     );
     let program = with(program, table_words(alloc))?;
+    let program = with(program, Ok(members))?;
+    let program = with(program, Ok(events))?;
+    let program = with(program, games_words(alloc))?;
     let program = with(program, Ok(verify))?;
     let program = with(program, Ok(upgrade))?;
     with(program, serve_words(alloc))
@@ -370,6 +406,20 @@ fn text(alloc: Global, matches: &ArgMatches<'_>, name: &str) -> Result<String, A
     ensures { IfOk result (λ text. string_bytes text ≡ text_in (found_of matches.now) name.now) }
 {
     String::from_str(alloc, matches.get_str(name).unwrap_or(""))
+}
+
+// A copy of a word that may be left out.
+fn text_given(
+    alloc: Global,
+    matches: &ArgMatches<'_>,
+    name: &str,
+) -> Result<Option<String>, AllocError>
+    ensures { IfOk result (λ text. option_map string_bytes text ≡ first_value (found_of matches.now) name.now) }
+{
+    match matches.get_str(name) {
+        Some(text) => Ok(Some(String::from_str(alloc, text)?)),
+        None => Ok(None),
+    }
 }
 
 // A number, or another where it is not given.
@@ -524,15 +574,51 @@ fn command_of(alloc: Global, name: &str, words: &ArgMatches<'_>) -> Result<Comma
     }
 }
 
+// Which games are listed, by the flags of which the parser passes one at most.
+fn which_of(is_running: bool, is_overdue: bool) -> Which
+    ensures { result ≡ which_of is_running is_overdue }
+{
+    if is_running {
+        return Which::Running;
+    }
+    if is_overdue {
+        return Which::Overdue;
+    }
+    Which::All
+}
+
+// Which games the words list.
+fn which_in(words: &ArgMatches<'_>) -> Which
+    ensures { AreShownOf (found_of words.now) result }
+{
+    let is_running = words.get_flag("RUNNING");
+    let is_overdue = words.get_flag("OVERDUE");
+    which_of(is_running, is_overdue)
+}
+
+// The games that the words list.
+fn listing_of(alloc: Global, words: &ArgMatches<'_>) -> Result<Listing, AllocError>
+    ensures { IfOk result (AreListed (found_of words.now)) }
+{
+    Ok(Listing {
+        event: text_given(alloc, words, "EVENT")?,
+        member: text_given(alloc, words, "MEMBER")?,
+        which: which_in(words),
+    })
+}
+
 // What the words of a subcommand ask for.
 fn task_of(alloc: Global, name: &str, words: &ArgMatches<'_>) -> Result<Task, BadWords>
     ensures { IfOk result (AsksTask name.now (found_of words.now)) }
 {
     match name {
         "init" => Ok(Task::Init),
-        "legal" => Ok(Task::Legal(number_of(words, "GAME"))),
-        "export" => Ok(Task::Export(number_of(words, "GAME"))),
-        "table" => Ok(Task::Table(text(alloc, words, "EVENT")?)),
+        "legal" => Ok(Task::Ask(Question::LegalMoves(number_of(words, "GAME")))),
+        "export" => Ok(Task::Ask(Question::Record(number_of(words, "GAME")))),
+        "table" => Ok(Task::Ask(Question::CrossTable(text(alloc, words, "EVENT")?))),
+        "members" => Ok(Task::Ask(Question::Members)),
+        "events" => Ok(Task::Ask(Question::Events)),
+        "games" => Ok(Task::Ask(Question::Games(listing_of(alloc, words)?))),
         "verify" => Ok(Task::Verify),
         "upgrade" => Ok(Task::Upgrade),
         _ => Ok(Task::Request(command_of(alloc, name, words)?)),

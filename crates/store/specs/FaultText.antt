@@ -1,7 +1,7 @@
 -- How the faults of a club's store are written.
 use Rattle.std.specs.Prelude.{List, ℕ, codes}
-use Rattle.store.specs.declared.fault.ExportFault.{ExportFault}
-use Rattle.store.specs.declared.fault.ExportFault.TheVariants as export_fault
+use Rattle.store.specs.declared.fault.AskFault.{AskFault}
+use Rattle.store.specs.declared.fault.AskFault.TheVariants as ask_fault
 use Rattle.store.specs.declared.fault.StoreFault.{StoreFault}
 use Rattle.store.specs.declared.fault.StoreFault.TheVariants as store_fault
 
@@ -10,6 +10,6 @@ store_fault_text store_fault.Store = codes "73 Store"
 store_fault_text store_fault.Reopen = codes "74 Reopen"
 store_fault_text store_fault.Memory = codes "75 Memory"
 
-abbrev pub export_fault_text : ExportFault → List ℕ
-export_fault_text (export_fault.Club fault) = store_fault_text fault
-export_fault_text export_fault.Output = codes "77 Output"
+abbrev pub ask_fault_text : AskFault → List ℕ
+ask_fault_text (ask_fault.Club fault) = store_fault_text fault
+ask_fault_text ask_fault.Output = codes "77 Output"

@@ -1,5 +1,5 @@
 pub mod Clubs
-pub mod Exporting
+pub mod Asking
 pub mod FaultText
 pub mod FirstRuns
 pub mod Faults

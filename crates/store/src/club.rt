@@ -20,13 +20,12 @@ ghost use Rattle.club_core.specs.State.{opening_state};
 ghost use Rattle.club_rows.specs.Club.{ClubState, IsClub, tables};
 ghost use Rattle.club_changes.specs.Steps.{request, club_step, club_next};
 
-mod exporting;
+mod asking;
 mod keys;
 mod reading;
 mod run;
 mod sessions;
 mod shut;
-mod standings;
 
 use crate::command::decide_request;
 use crate::fault::StoreFault;

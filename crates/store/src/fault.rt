@@ -47,9 +47,9 @@ impl From<CallFault> for StoreFault {
     }
 }
 
-/// Why a record was not written to its end. It shows as the number and name of the fault.
+/// Why a question was not shown to its end. It shows as the number and name of the fault.
 #[derive(Debug, Clone, Copy, PartialEq, Eq, Drop)]
-pub enum ExportFault {
+pub enum AskFault {
     /// A call on the club failed.
     Club(StoreFault),
     /// The writer failed. The club goes on.
@@ -57,18 +57,18 @@ pub enum ExportFault {
 }
 
 /// Writes the number and the name, as `77 Output`.
-impl fmt::Display for ExportFault {
+impl fmt::Display for AskFault {
     ghost use Rattle.std.specs.Prelude.{Some};
-    ghost use Rattle.store.specs.FaultText.{export_fault_text};
+    ghost use Rattle.store.specs.FaultText.{ask_fault_text};
 
-    ghost output = { λ fault. Some (export_fault_text fault) };
+    ghost output = { λ fault. Some (ask_fault_text fault) };
 
     fn fmt<W: fmt::Write>(&self, f: &mut fmt::Formatter<W>) -> fmt::Result {
         match self {
-            ExportFault::Club(fault) => write!(f, "{fault}"),
-            ExportFault::Output => f.write_str("77 Output"),
+            AskFault::Club(fault) => write!(f, "{fault}"),
+            AskFault::Output => f.write_str("77 Output"),
         }
     }
 }
 
-impl Error for ExportFault {}
+impl Error for AskFault {}

@@ -17,7 +17,7 @@ mod upgrades;
 pub use club::{Club, Run, Unopened, adopt, create, resume};
 pub use club_opening::OpenFault;
 pub use club_views::{Played, ViewedGame};
-pub use fault::{ExportFault, StoreFault};
+pub use fault::{AskFault, StoreFault};
 pub use found::Upgrade;
 pub use reopen::{holds_nothing, holds_what_sessions_left, leaves_what_sessions_left};
 pub use store_sql::holds_exactly;

@@ -3,6 +3,8 @@
 use crate::held::Held;
 use crate::rows::rows_of;
 use anyhow::{Error, Result, bail};
+use clocks::Moment;
+use club_questions::Question;
 use club_requests::Request;
 use sqlite::{Connection, MemStore};
 use std::alloc::Global;
@@ -119,24 +121,38 @@ pub fn changed(conn: Connection<MemStore>, sql: &str) -> Result<Connection<MemSt
     Ok(conn)
 }
 
-// The lines of a cross table, with a `;` between them.
-fn joined(alloc: Global, lines: &[String]) -> Result<String> {
+// The lines of a text, with a `;` between them.
+fn joined(alloc: Global, text: &[u8]) -> Result<String> {
     let mut told = String::new(alloc);
-    for line in lines {
+    for line in str::from_utf8(text)?.lines() {
         if !told.is_empty() {
             told.push_str(";")?;
         }
-        told.push_str(line.as_str())?;
+        told.push_str(line)?;
     }
     Ok(told)
 }
 
+// What is asked for the cross table of an event, and the moment at which it is asked.
+fn table_asked(alloc: Global, event: &str) -> Result<(Question, Moment)> {
+    let name = String::from_str(alloc, event)?;
+    match Moment::new(0) {
+        Some(moment) => Ok((Question::CrossTable(name), moment)),
+        None => bail!("there is no such moment"),
+    }
+}
+
 /// The club, and the cross table of an event, or `none` where there is no such event.
 pub fn table(alloc: Global, club: Club<MemStore>, event: &str) -> (Club<MemStore>, Result<String>) {
+    let (question, moment) = match table_asked(alloc, event) {
+        Ok(asked) => asked,
+        Err(error) => return (club, Err(error)),
+    };
     let mut club = club;
-    let told = match club.table_rows(alloc, event) {
-        Ok(Some(lines)) => joined(alloc, &lines),
-        Ok(None) => none(alloc),
+    let mut text = Vec::new(alloc);
+    let told = match club.ask(alloc, &question, moment, &mut text) {
+        Ok(None) => joined(alloc, &text),
+        Ok(Some(_)) => none(alloc),
         Err(fault) => Err(Error::from(fault)),
     };
     (club, told)

@@ -38,24 +38,6 @@ returns-clause-led g c clean sessions led left may found finds =
     ∥∥₁_map (c.close.ensures.member clean left may found finds.holds)
     (λ now. c.act-report.ensures.led after opened.0 opened.1 sessions was found now))
 
-pub returns-clause-moves : goal.returns-clause-moves
-returns-clause-moves g c clean s are =
-    let after = was_clean _ _ c.close.ensures.clean clean in
-    let before = was_clean _ _ c.act-report.ensures.clean after in
-    let opened = c.in-Ok.ensures.opened before in
-    let here = c.in-Ok.ensures.found before in
-    c.act-report.ensures.moves after opened.0 opened.1 s are.legal
-    (are.finds _ (record { holds = here.holds; reads = here.reads }))
-
-pub returns-clause-table : goal.returns-clause-table
-returns-clause-table g c clean s are =
-    let after = was_clean _ _ c.close.ensures.clean clean in
-    let before = was_clean _ _ c.act-report.ensures.clean after in
-    let opened = c.in-Ok.ensures.opened before in
-    let here = c.in-Ok.ensures.found before in
-    c.act-report.ensures.table after opened.0 opened.1 s are.legal
-    (are.finds _ (record { holds = here.holds; reads = here.reads }))
-
 pub returns-clause-passes : goal.returns-clause-passes
 returns-clause-passes g c clean s are =
     let after = was_clean _ _ c.close.ensures.clean clean in
@@ -65,13 +47,13 @@ returns-clause-passes g c clean s are =
     c.act-report.ensures.passes after opened.0 opened.1 s are.legal
     (are.finds _ (record { holds = here.holds; reads = here.reads }))
 
-pub returns-clause-record_of : goal.returns-clause-record_of
-returns-clause-record_of g c clean s are =
+pub returns-clause-asked : goal.returns-clause-asked
+returns-clause-asked g c clean s are =
     let after = was_clean _ _ c.close.ensures.clean clean in
     let before = was_clean _ _ c.act-report.ensures.clean after in
     let opened = c.in-Ok.ensures.opened before in
     let here = c.in-Ok.ensures.found before in
-    c.act-report.ensures.record_of after opened.0 opened.1 s are.legal
+    c.act-report.ensures.asked after opened.0 opened.1 s are.legal
     (are.finds _ (record { holds = here.holds; reads = here.reads }))
 
 pub returns-clause-sound : goal.returns-clause-sound

@@ -1,0 +1,4 @@
+mod ChallengeOrder
+mod OverdueLemmas
+mod ShownLemmas
+mod ToldRows

@@ -1,0 +1,42 @@
+use Rattle.std.proofs.Common.{arith, subst, sym}
+use Rattle.std.proofs.lemmas.Result.{IfOk-weaker}
+use Rattle.sqlite.specs.Held.{state}
+use Rattle.sqlite.specs.State.{HasCleanDisk}
+use Rattle.store_tables.specs.Tables.{club_schema}
+use Rattle.club_rows.specs.Club.{tables}
+use Rattle.club_answers.specs.Found.{IsFound}
+use Rattle.club_answers.specs.Shown.{HasShown, HasShownSome}
+use Rattle.club_answers.proofs.ShownLemmas.{keeps_then}
+use Rattle.club_answers.proofs.answers.answer.Goals as goal
+
+pub returns-in-Record-clause-kept : goal.returns-in-Record-clause-kept
+returns-in-Record-clause-kept g c clean =
+    let found : HasCleanDisk (state g.S.Store c.find_shown.new.conn) =
+    omega (arith, c.write_record.ensures.reads.clean) in
+    keeps_then _ (state g.S.Store c.args.conn.now) (state g.S.Store c.find_shown.new.conn)
+    (state g.S.Store c.write_record.new.conn) (c.in_ok-found.ensures.kept found) (c.write_record.ensures.kept clean)
+
+pub returns-in-Record-clause-shown : goal.returns-in-Record-clause-shown
+returns-in-Record-clause-shown g c clean =
+    let found : HasCleanDisk (state g.S.Store c.find_shown.new.conn) =
+    omega (arith, c.write_record.ensures.reads.clean) in
+    let before = g.W.Write.contents c.args.writer.now in
+    let now = g.W.Write.contents c.write_record.new.writer in
+    IfOk-weaker c.write_record.result _ _ (λ refusal told s is_club k.
+    let kept = c.in_ok-found.ensures.kept found club_schema (tables s) k in
+    let asked = subst (IsFound s c.args.moment c.args.question.now) c.in-Record.is
+    (c.in_ok-found.ensures.found found s is_club k) in
+    subst (λ q. HasShown s c.args.moment q refusal before now) (sym asked) (told s c.args.moment is_club kept))
+    (c.write_record.ensures.shown clean)
+
+pub returns-in-Record-clause-begun : goal.returns-in-Record-clause-begun
+returns-in-Record-clause-begun g c clean s is_club k =
+    let found : HasCleanDisk (state g.S.Store c.find_shown.new.conn) =
+    omega (arith, c.write_record.ensures.reads.clean) in
+    let before = g.W.Write.contents c.args.writer.now in
+    let now = g.W.Write.contents c.write_record.new.writer in
+    let kept = c.in_ok-found.ensures.kept found club_schema (tables s) k in
+    let asked = subst (IsFound s c.args.moment c.args.question.now) c.in-Record.is
+    (c.in_ok-found.ensures.found found s is_club k) in
+    subst (λ q. HasShownSome s c.args.moment q before now) (sym asked)
+    (c.write_record.ensures.begun clean s c.args.moment is_club kept)

@@ -1,0 +1,43 @@
+use Rattle.std.proofs.Common.{ap, arith, ◌∙◌}
+use Rattle.sqlite.specs.Held.{state}
+use Rattle.sqlite.specs.State.{HasCleanDisk}
+use Rattle.store_tables.specs.Tables.{club_schema}
+use Rattle.club_core.specs.Answer.{events_of, members_of}
+use Rattle.club_rows.specs.Club.{tables}
+use Rattle.club_lists.specs.Shows.{mine_text, name_by}
+use Rattle.club_lists.specs.ToldViews.{all_by}
+use Rattle.club_answers.proofs.shows.mine.Goals as goal
+
+pub returns-in_default-clause-kept : goal.returns-in_default-clause-kept
+returns-in_default-clause-kept g c clean schema content k =
+    let first : HasCleanDisk (state g.S.Store c.read_club.new.conn) =
+    omega (arith, c.all_challenges.ensures.reads.clean) in
+    c.in_ok-challenges.ensures.kept clean schema content (c.in_ok-club.ensures.kept first schema content k)
+
+pub returns-clause-kept : goal.returns-clause-kept
+returns-clause-kept g c clean schema content k =
+    let first : HasCleanDisk (state g.S.Store c.read_club.new.conn) =
+    omega (arith, c.all_challenges.ensures.reads.clean) in
+    c.in_ok-challenges.ensures.kept clean schema content (c.in_ok-club.ensures.kept first schema content k)
+
+pub returns-clause-found : goal.returns-clause-found
+returns-clause-found g c clean s is_club k =
+    let first : HasCleanDisk (state g.S.Store c.read_club.new.conn) =
+    omega (arith, c.all_challenges.ensures.reads.clean) in
+    let kept = c.in_ok-club.ensures.kept first club_schema (tables s) k in
+    let read = c.in_ok-club.ensures.read first s is_club k in
+    let key = c.args.key.now in
+    let name = c.in-Some.name.now in
+    let asked = ap members_of c.deref.ensures.value ∙ read.members_are in
+    let members = ap members_of c.deref-2.ensures.value ∙ read.members_are in
+    let events = ap events_of c.deref-3.ensures.value ∙ read.events_are in
+    let challenges = c.deref-4.ensures.value in
+    let games = ap all_by c.deref-5.ensures.value ∙ read.games_are in (
+      name,
+      c.in-Some.ensures.some
+          ∙ ap (name_by key) asked,
+      c.in_ok-challenges.challenges.items,
+      c.in_ok-challenges.ensures.found clean s kept,
+      c.in_ok-text.ensures
+          ∙ (λ i. mine_text (members i) (events i) name (read.moment_is i) (challenges i) (games i)),
+    )

@@ -1,0 +1,32 @@
+-- What was found of what is to be shown.
+use Rattle.std.specs.Prelude.{◌≡◌, ℕ, List, string_bytes}
+use Rattle.club_requests.specs.declared.refusals.Refusal.{Refusal}
+use Rattle.club_core.specs.Answer.{members_of, events_of}
+use Rattle.club_rows.specs.Club.{ClubState}
+use Rattle.club_questions.specs.declared.questions.Question.{Question}
+use Rattle.club_questions.specs.declared.questions.Question.TheVariants as question
+use Rattle.club_lists.specs.ToldViews.{all_by}
+use Rattle.club_answers.specs.Games.{moment_in, told_games}
+use Rattle.club_answers.specs.Shown.{IsRefused, IsText}
+use Rattle.club_answers.specs.declared.found.Found.{Found}
+use Rattle.club_answers.specs.declared.found.Found.TheVariants.{Text, Refused, Record}
+use Rattle.club_answers.specs.declared.read.ClubRead.{ClubRead}
+
+-- a text that is so, or a refusal that is
+abbrev pub IsFoundAs : (List ℕ → Type 0) → (Refusal → Type 0) → Found → Type 0
+IsFoundAs IsThere IsNot (Text text) = IsThere (string_bytes text)
+IsFoundAs IsThere IsNot (Refused refusal) = IsNot refusal
+IsFoundAs IsThere IsNot (Record game) = ⊥
+
+-- what is shown to a question, but for a record, which is written later
+abbrev pub IsFound : ClubState → (moment : ℕ) → Question → Found → Type 0
+IsFound s moment asked (Text text) = IsText s moment asked (string_bytes text)
+IsFound s moment asked (Refused refusal) = IsRefused s asked refusal
+IsFound s moment asked (Record game) = asked ≡ question.Record game
+
+-- what was read is the club's
+pub record IsReadOf (s : ClubState) (moment : ℕ) (club : ClubRead) : Type 0 where
+  pub moment_is : club.moment ≡ moment_in s moment
+  pub members_are : members_of club.members.items ≡ s.members
+  pub events_are : events_of club.events.items ≡ s.events
+  pub games_are : all_by club.games.items ≡ told_games s

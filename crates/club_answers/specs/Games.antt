@@ -1,0 +1,53 @@
+-- What lists tell of the games of a club.
+use Rattle.std.specs.Prelude.{ℕ, suc, List, [], ◌∷◌, length, Option, Some, None, max}
+use Rattle.std.specs.Option.{option_map}
+use Rattle.squares.specs.Sides.{score_text}
+use Rattle.squares.specs.declared.sides.Side.{Side}
+use Rattle.club_rules.specs.GameRules.{GameRules}
+use Rattle.club_core.specs.Events.{Terms}
+use Rattle.club_core.specs.Game.{Game, clocks_of, end_of, end_score, turn_of}
+use Rattle.club_core.specs.State.{draughts, shogi, place, terms_at}
+use Rattle.club_core.specs.declared.rows.GameEnd.{GameEnd}
+use Rattle.club_rows.specs.Club.{ClubGame, ClubState, both_games}
+use Rattle.club_rows.specs.Tables.{end_name_text}
+use Rattle.club_lists.specs.Told.{Over, Told}
+
+module _ {P M E T : Type 0} (rules : GameRules P M E T) where
+  -- how a game ended, that side being to move
+  abbrev pub over_of : Side → Option (GameEnd E) → Option Over
+  over_of turn None = None
+  over_of turn (Some end) =
+      Some (record { end = end_name_text rules end; result = score_text (end_score rules turn end) })
+
+  -- what is told of the game of this id
+  abbrev pub told_by_rules : Terms → ℕ → Game M → Told
+  told_by_rules terms id game = record {
+    id = id;
+    event = game.event;
+    first = game.first;
+    second = game.second;
+    key = game.key;
+    plies = length game.entries;
+    turn = turn_of rules game;
+    clocks = clocks_of game terms;
+    offer = option_map (λ o. o.side) game.offer;
+    over = over_of (turn_of rules game) (end_of rules game);
+  }
+
+-- the same of a game of the club
+abbrev pub told_of : ClubState → ℕ → ClubGame → Told
+told_of s id (draughts game) = told_by_rules both_games.draughts (terms_at (place s.events game.event)) id game
+told_of s id (shogi game) = told_by_rules both_games.shogi (terms_at (place s.events game.event)) id game
+
+-- the same of some games, their ids counting up from this one
+abbrev pub told_from : ClubState → ℕ → List ClubGame → List Told
+told_from s id [] = []
+told_from s id (game ∷ games) = told_of s id game ∷ told_from s (suc id) games
+
+-- all games of the club
+abbrev pub told_games : ClubState → List Told
+told_games s = told_from s 1 s.games
+
+-- the moment that counts: a request does not go back behind the last one that was accepted
+abbrev pub moment_in : ClubState → ℕ → ℕ
+moment_in s moment = max moment s.last

@@ -1,0 +1,171 @@
+-- What a question is shown: the whole text, or why there is none.
+use Rattle.std.specs.Prelude.{◌≡◌, ◌⊎◌, ℕ, List, [], ◌∷◌, ◌++◌, Option, Some, None, Result, Ok, Err}
+use Rattle.std.specs.Prelude.{codes, string_bytes, true, false}
+use Rattle.std.specs.Io.KnownBytes.{Appends}
+use Rattle.record_writer.specs.Pieces.{AppendsSome}
+use Rattle.club_rules.specs.GameRules.{GameRules}
+use Rattle.club_requests.specs.declared.refusals.Refusal.{Refusal}
+use Rattle.club_requests.specs.declared.refusals.Refusal.TheVariants.{UnknownEvent, UnknownGame, UnknownKey}
+use Rattle.club_core.specs.Game.{Game}
+use Rattle.club_core.specs.State.{draughts, shogi, place}
+use Rattle.club_exports.specs.Title.{Title, timed}
+use Rattle.club_exports.specs.CsaRecords.{IsCsaText}
+use Rattle.club_exports.specs.PdnRecords.{IsPdnText}
+use Rattle.club_rows.specs.Club.{ClubGame, ClubState, both_games}
+use Rattle.club_changes.specs.Stored.{AreLegalRows}
+use Rattle.club_views.specs.CrossTable.{AreTableRows}
+use Rattle.club_views.specs.Exported.{AreNamesOf, IsTitleOf}
+use Rattle.club_views.specs.declared.exported.Names.{Names}
+use Rattle.club_questions.specs.declared.questions.Listing.{Listing}
+use Rattle.club_questions.specs.declared.questions.Question.{Question}
+use Rattle.club_questions.specs.declared.questions.Question.TheVariants.{LegalMoves, CrossTable, Record}
+use Rattle.club_questions.specs.declared.questions.Question.TheVariants.{Members, Events, Games}
+use Rattle.club_questions.specs.declared.questions.Question.TheVariants.{Mine, Inviting, EventGames, ClockOf}
+use Rattle.club_lists.specs.Lines.{member_lines, event_lines, AreGameLines}
+use Rattle.club_lists.specs.Listing.{listing_refusal}
+use Rattle.club_lists.specs.Clock.{clock_text}
+use Rattle.club_lists.specs.Shows.{event_games_text, inviting_text, mine_text, name_by}
+use Rattle.club_core.specs.declared.challenges.Challenge.{Challenge}
+use Rattle.club_core.specs.Events.{has_event_name}
+use Rattle.std.specs.List.{list_any}
+use Rattle.club_answers.specs.Challenges.{AreChallengesOf}
+use Rattle.club_answers.specs.Games.{moment_in, told_games, told_of}
+
+-- each line, with its end
+abbrev pub lined : List (List ℕ) → List ℕ
+lined [] = []
+lined (line ∷ lines) = line ++ codes "\n" ++ lined lines
+
+-- ---- the legal moves of a game, and the cross table of an event
+
+-- lines that are there, one after another
+abbrev pub AreLines : (Option (List (List ℕ)) → Type 0) → List ℕ → Type 0
+AreLines AreThere text = (lines : List (List ℕ)) × AreThere (Some lines) × (text ≡ lined lines)
+
+abbrev pub IsLegalText : ClubState → ℕ → List ℕ → Type 0
+IsLegalText s game text = AreLines (AreLegalRows s game) text
+
+-- the club has no game of this number
+abbrev pub IsNoGame : ClubState → ℕ → Refusal → Type 0
+IsNoGame s game refusal = (place s.games game ≡ None) × (refusal ≡ UnknownGame)
+
+abbrev pub IsTableText : ClubState → List ℕ → List ℕ → Type 0
+IsTableText s name text = AreLines (AreTableRows s name) text
+
+-- the club has no event of this name
+abbrev pub IsNoEvent : ClubState → List ℕ → Refusal → Type 0
+IsNoEvent s name refusal = AreTableRows s name None × (refusal ≡ UnknownEvent)
+
+-- ---- the record of a game
+
+-- the record of a game with these names, by what its format says of the title and of each move with its seconds
+abbrev pub IsRecord : {P M E T : Type 0} → GameRules P M E T → (Title E → List (M × ℕ) → List ℕ → Type 0) → Names
+    → Game M → List ℕ → Type 0
+IsRecord {E = E} rules IsText names game text =
+    (title : Title E) × IsTitleOf rules names game title × IsText title (timed game.start game.entries) text
+
+-- the same in the format of its kind
+abbrev pub IsRecordOf : Names → ClubGame → List ℕ → Type 0
+IsRecordOf names (draughts game) text = IsRecord both_games.draughts IsPdnText names game text
+IsRecordOf names (shogi game) text = IsRecord both_games.shogi IsCsaText names game text
+
+-- the record of the game of this number
+abbrev pub IsRecordAt : ClubState → ℕ → List ℕ → Type 0
+IsRecordAt s id text =
+    (game : ClubGame) × (place s.games id ≡ Some game) × (names : Names) × AreNamesOf s game names
+    × IsRecordOf names game text
+
+-- ---- lists
+
+abbrev pub IsMembersText : ClubState → List ℕ → Type 0
+IsMembersText s text = text ≡ member_lines s.members
+
+abbrev pub IsEventsText : ClubState → List ℕ → Type 0
+IsEventsText s text = text ≡ event_lines (told_games s) s.events
+
+-- the lines of the games that are listed, where the names that are given are known
+abbrev pub IsGamesText : ClubState → ℕ → Listing → List ℕ → Type 0
+IsGamesText s moment listing text =
+    (listing_refusal s.members s.events listing ≡ None)
+    × AreGameLines s.members s.events listing (moment_in s moment) (told_games s) text
+
+abbrev pub IsNoList : ClubState → Listing → Refusal → Type 0
+IsNoList s listing refusal = listing_refusal s.members s.events listing ≡ Some refusal
+
+-- ---- what members are shown
+
+-- the challenges and the running games of the member who has the key
+abbrev pub IsMineText : ClubState → ℕ → List ℕ → List ℕ → Type 0
+IsMineText s moment key text =
+    (name : List ℕ) × (Some name ≡ name_by key s.members) × (challenges : List Challenge)
+    × AreChallengesOf s challenges
+    × (text ≡ mine_text s.members s.events name (moment_in s moment) challenges (told_games s))
+
+-- no member has the key
+abbrev pub IsNoKey : ClubState → List ℕ → Refusal → Type 0
+IsNoKey s key refusal = (name_by key s.members ≡ None) × (refusal ≡ UnknownKey)
+
+abbrev pub IsInvitingText : ClubState → List ℕ → List ℕ → Type 0
+IsInvitingText s key text =
+    (name : List ℕ) × (Some name ≡ name_by key s.members) × (text ≡ inviting_text key s.members s.events)
+
+abbrev pub IsEventGamesText : ClubState → List ℕ → List ℕ → Type 0
+IsEventGamesText s name text =
+    (list_any (has_event_name name) s.events ≡ true)
+    × (text ≡ event_games_text s.members s.events name (told_games s))
+
+-- no event has the name
+abbrev pub IsNoEventNamed : ClubState → List ℕ → Refusal → Type 0
+IsNoEventNamed s name refusal = (list_any (has_event_name name) s.events ≡ false) × (refusal ≡ UnknownEvent)
+
+-- the clock of the game of this number
+abbrev pub IsClockText : ClubState → ℕ → ℕ → List ℕ → Type 0
+IsClockText s moment id text =
+    (game : ClubGame) × (place s.games id ≡ Some game)
+    × (text ≡ clock_text s.members (moment_in s moment) (told_of s id game))
+
+-- ---- what is shown
+
+-- the text that a question is shown at a moment
+abbrev pub IsText : ClubState → (moment : ℕ) → Question → List ℕ → Type 0
+IsText s moment (LegalMoves game) text = IsLegalText s game text
+IsText s moment (CrossTable name) text = IsTableText s (string_bytes name) text
+IsText s moment (Record game) text = IsRecordAt s game text
+IsText s moment Members text = IsMembersText s text
+IsText s moment Events text = IsEventsText s text
+IsText s moment (Games listing) text = IsGamesText s moment listing text
+IsText s moment (Mine key) text = IsMineText s moment (string_bytes key) text
+IsText s moment (Inviting key) text = IsInvitingText s (string_bytes key) text
+IsText s moment (EventGames name) text = IsEventGamesText s (string_bytes name) text
+IsText s moment (ClockOf game) text = IsClockText s moment game text
+
+-- why there is none
+abbrev pub IsRefused : ClubState → Question → Refusal → Type 0
+IsRefused s (LegalMoves game) refusal = IsNoGame s game refusal
+IsRefused s (CrossTable name) refusal = IsNoEvent s (string_bytes name) refusal
+IsRefused s (Record game) refusal = IsNoGame s game refusal
+IsRefused s Members refusal = ⊥
+IsRefused s Events refusal = ⊥
+IsRefused s (Games listing) refusal = IsNoList s listing refusal
+IsRefused s (Mine key) refusal = IsNoKey s (string_bytes key) refusal
+IsRefused s (Inviting key) refusal = IsNoKey s (string_bytes key) refusal
+IsRefused s (EventGames name) refusal = IsNoEventNamed s (string_bytes name) refusal
+IsRefused s (ClockOf game) refusal = IsNoGame s game refusal
+
+-- what a question is shown at a moment
+abbrev pub IsShown : ClubState → (moment : ℕ) → Question → Result (List ℕ) Refusal → Type 0
+IsShown s moment question (Ok text) = IsText s moment question text
+IsShown s moment question (Err refusal) = IsRefused s question refusal
+
+-- ---- what a writer has of it
+
+-- the whole text was added to what the writer held, or nothing was where there is none
+abbrev pub HasShown : ClubState → (moment : ℕ) → Question → Option Refusal → Option (List ℕ) → Option (List ℕ) → Type 0
+HasShown s moment question None before now =
+    (text : List ℕ) × IsShown s moment question (Ok text) × Appends before now text
+HasShown s moment question (Some refusal) before now = IsShown s moment question (Err refusal) × (now ≡ before)
+
+-- wherever it stopped, the writer has what it held, or with it a beginning of a text that is shown
+abbrev pub HasShownSome : ClubState → (moment : ℕ) → Question → Option (List ℕ) → Option (List ℕ) → Type 0
+HasShownSome s moment question before now =
+    (now ≡ before) ⊎ ((text : List ℕ) × IsShown s moment question (Ok text) × AppendsSome before now text)

@@ -1,0 +1,85 @@
+//! What is shown to each question.
+
+ghost use Rattle.std.specs.Prelude.{ℕ, IfOk};
+ghost use Rattle.record_writer.specs.Pieces.{AppendsSome};
+ghost use Rattle.sqlite.specs.State.{HasCleanDisk};
+ghost use Rattle.sqlite.specs.Held.{state};
+ghost use Rattle.store_tables.specs.Club.{IsExactly};
+ghost use Rattle.store_tables.specs.Reading.{OnlyReads};
+ghost use Rattle.club_rows.specs.Club.{ClubState, IsClub, tables};
+ghost use Rattle.club_views.specs.Exported.{KeepsUnlessCalled};
+ghost use Rattle.club_questions.specs.declared.questions.Question.TheVariants as question;
+ghost use Rattle.club_answers.specs.Shown.{HasShown, HasShownSome};
+ghost use Rattle.club_answers.specs.Writing.{IsWritten};
+
+use crate::found::{Found, find_shown};
+use clocks::Moment;
+use club_questions::Question;
+use club_requests::Refusal;
+use club_views::{Stopped, export_of};
+use record_writer::write_piece;
+use sqlite::{Alter, Connection};
+use std::alloc::Global;
+use std::io::Write;
+
+// Writes a text to its end, or a beginning of it where the writer fails.
+fn write_text<W: Write>(text: &str, writer: &mut W) -> Result<Option<Refusal>, Stopped>
+    ensures written { IsWritten result text.now (W.contents writer.old) (W.contents writer.new) }
+    ensures begun { AppendsSome (W.contents writer.old) (W.contents writer.new) text.now }
+{
+    match write_piece(writer, text.as_bytes()) {
+        Ok(()) => Ok(None),
+        Err(_) => Err(Stopped::Output),
+    }
+}
+
+// Writes the record of a game.
+fn write_record<S: Alter, W: Write>(
+    alloc: Global,
+    conn: &mut Connection<S>,
+    game: u64,
+    writer: &mut W,
+) -> Result<Option<Refusal>, Stopped>
+    ensures reads { OnlyReads (state S.Store conn.old) (state S.Store conn.new) }
+    ensures kept { HasCleanDisk (state S.Store conn.new) →
+        KeepsUnlessCalled result (state S.Store conn.old) (state S.Store conn.new) }
+    ensures shown { HasCleanDisk (state S.Store conn.new) → IfOk result (λ refusal. (s : ClubState) (moment : ℕ) →
+        IsClub s → IsExactly (tables s) (state S.Store conn.old) →
+        HasShown s moment (question.Record game) refusal (W.contents writer.old) (W.contents writer.new)) }
+    ensures begun { HasCleanDisk (state S.Store conn.new) → (s : ClubState) (moment : ℕ) → IsClub s →
+        IsExactly (tables s) (state S.Store conn.old) →
+        HasShownSome s moment (question.Record game) (W.contents writer.old) (W.contents writer.new) }
+{
+    match export_of(alloc, conn, game, writer) {
+        Ok(true) => Ok(None),
+        Ok(false) => Ok(Some(Refusal::UnknownGame)),
+        Err(stopped) => Err(stopped),
+    }
+}
+
+/// Writes what a question is shown at a moment, or answers why there is nothing to show: then nothing was written.
+/// Wherever it stops, the writer has a beginning of the text.
+pub fn answer<S: Alter, W: Write>(
+    alloc: Global,
+    conn: &mut Connection<S>,
+    question: &Question,
+    moment: Moment,
+    writer: &mut W,
+) -> Result<Option<Refusal>, Stopped>
+    ensures reads { OnlyReads (state S.Store conn.old) (state S.Store conn.new) }
+    ensures kept { HasCleanDisk (state S.Store conn.new) →
+        KeepsUnlessCalled result (state S.Store conn.old) (state S.Store conn.new) }
+    ensures shown { HasCleanDisk (state S.Store conn.new) → IfOk result (λ refusal. (s : ClubState) → IsClub s →
+        IsExactly (tables s) (state S.Store conn.old) →
+        HasShown s moment question.now refusal (W.contents writer.old) (W.contents writer.new)) }
+    ensures begun { HasCleanDisk (state S.Store conn.new) → (s : ClubState) → IsClub s →
+        IsExactly (tables s) (state S.Store conn.old) →
+        HasShownSome s moment question.now (W.contents writer.old) (W.contents writer.new) }
+{
+    let found = find_shown(alloc, conn, question, moment)?;
+    match found {
+        Found::Text(text) => write_text(text.as_str(), writer),
+        Found::Refused(refusal) => Ok(Some(refusal)),
+        Found::Record(game) => write_record(alloc, conn, game, writer),
+    }
+}

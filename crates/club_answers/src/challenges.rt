@@ -1,0 +1,84 @@
+//! The challenges of a club, by the rows of their table.
+
+ghost use Rattle.std.specs.Prelude.{◌≡◌, true, map, IfOk, OnOk};
+ghost use Rattle.std.specs.List.{AllByRecursion};
+ghost use Rattle.sqlite_trees.specs.Tree.{IsAscending};
+ghost use Rattle.sqlite.specs.State.{HasCleanDisk};
+ghost use Rattle.sqlite.specs.Held.{state};
+ghost use Rattle.store_tables.specs.Club.{IsExactly};
+ghost use Rattle.store_tables.specs.Reading.{OnlyReads};
+ghost use Rattle.store_sql.specs.Read.{KeepsContent};
+ghost use Rattle.club_rows.specs.Club.{ClubState, tables};
+ghost use Rattle.club_rows.specs.Tables.{challenge_row};
+ghost use Rattle.store_tables.specs.Cells.{challenge_cells};
+ghost use Rattle.club_answers.specs.Challenges.{AreChallengesOf, ComesBefore};
+
+use club_core::Challenge;
+use club_reads::CallFault;
+use club_rows::challenge_of;
+use sqlite::{Alter, Connection};
+use std::alloc::Global;
+use store_sql::list;
+use store_tables::ChallengeRow;
+
+// Whether one comes before another one: by challenger, then by number.
+fn comes_before(one: &Challenge, other: &Challenge) -> bool
+    ensures { result ≡ true → ComesBefore one.now other.now }
+{
+    if one.member == other.member {
+        return one.number < other.number;
+    }
+    one.member < other.member
+}
+
+// Whether this one comes after all of those, which are in their order.
+fn comes_last(challenges: &[Challenge], next: &Challenge) -> bool
+    ensures { result ≡ true → IsAscending ComesBefore challenges.now →
+        AllByRecursion (λ c. ComesBefore c next.now) challenges.now }
+{
+    match challenges.last() {
+        Some(last) => comes_before(last, next),
+        None => true,
+    }
+}
+
+// The challenge of which this is the row.
+fn challenge_in(row: &ChallengeRow) -> Result<Challenge, CallFault>
+    ensures { IfOk result (λ c. challenge_cells row.now ≡ challenge_row c) }
+{
+    match challenge_of(row) {
+        Some(challenge) => Ok(challenge),
+        None => Err(CallFault::Store),
+    }
+}
+
+// The challenges of these rows, where each comes after the one before it; all else is a fault.
+fn challenges_in(alloc: Global, rows: &[ChallengeRow]) -> Result<Vec<Challenge>, CallFault>
+    ensures rows { IfOk result (λ found. map challenge_cells rows.now ≡ map challenge_row found.items) }
+    ensures order { IfOk result (λ found. IsAscending ComesBefore found.items) }
+{
+    let mut challenges = Vec::new(alloc);
+    for row in rows {
+        let challenge = challenge_in(row)?;
+        if !comes_last(&challenges, &challenge) {
+            return Err(CallFault::Store);
+        }
+        challenges.push(challenge)?;
+    }
+    Ok(challenges)
+}
+
+/// The challenges of the club, by challenger, then by number.
+pub(crate) fn all_challenges<S: Alter>(
+    alloc: Global,
+    conn: &mut Connection<S>,
+) -> Result<Vec<Challenge>, CallFault>
+    ensures reads { OnlyReads (state S.Store conn.old) (state S.Store conn.new) }
+    ensures kept { HasCleanDisk (state S.Store conn.new) → OnOk result (KeepsContent (state S.Store conn.old)
+        (state S.Store conn.new)) }
+    ensures found { HasCleanDisk (state S.Store conn.new) → IfOk result (λ found. (s : ClubState) →
+        IsExactly (tables s) (state S.Store conn.old) → AreChallengesOf s found.items) }
+{
+    let rows = list::<ChallengeRow, S>(alloc, conn)?;
+    challenges_in(alloc, &rows)
+}

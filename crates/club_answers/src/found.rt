@@ -1,0 +1,172 @@
+//! What is to be shown to a question.
+
+ghost use Rattle.std.specs.Prelude.{◌≡◌, IfOk, OnOk, map, string_bytes};
+ghost use Rattle.sqlite.specs.State.{HasCleanDisk};
+ghost use Rattle.sqlite.specs.Held.{state};
+ghost use Rattle.store_tables.specs.Club.{IsExactly};
+ghost use Rattle.store_tables.specs.Reading.{OnlyReads};
+ghost use Rattle.store_sql.specs.Read.{KeepsContent};
+ghost use Rattle.club_rows.specs.Club.{ClubState, IsClub, tables};
+ghost use Rattle.club_questions.specs.declared.questions.Question.TheVariants as question;
+ghost use Rattle.club_answers.specs.Found.{IsFound, IsFoundAs};
+ghost use Rattle.club_answers.specs.Shown.{lined, IsLegalText, IsNoGame, IsTableText, IsNoEvent, IsMembersText};
+ghost use Rattle.club_answers.specs.Shown.{IsEventsText, IsGamesText, IsNoList};
+
+use crate::read::read_club;
+use crate::shows::{clock, event_games, inviting, mine};
+use clocks::Moment;
+use club_lists::{events_text, games_text, listing_refusal, members_text};
+use club_questions::{Listing, Question};
+use club_reads::{CallFault, all_members};
+use club_requests::Refusal;
+use club_views::{legal_of, table_of};
+use sqlite::{Alter, Connection};
+use std::alloc::{AllocError, Global};
+
+/// What is to be shown to a question.
+#[derive(Drop)]
+pub(crate) enum Found {
+    /// A text.
+    Text(String),
+    /// There is nothing to show.
+    Refused(Refusal),
+    /// The record of a game, if there is one of this number, which is written a row at a time.
+    Record(u64),
+}
+
+// Lines as one text, each with its end.
+fn lined(alloc: Global, lines: &[String]) -> Result<String, AllocError>
+    ensures { IfOk result (λ text. string_bytes text ≡ lined (map (λ t. string_bytes t) lines.now)) }
+{
+    let mut text = String::new(alloc);
+    for line in lines {
+        text.push_str(line.as_str())?;
+        text.push_str("\n")?;
+    }
+    Ok(text)
+}
+
+// The legal moves of a game.
+fn legal_moves<S: Alter>(
+    alloc: Global,
+    conn: &mut Connection<S>,
+    game: u64,
+) -> Result<Found, CallFault>
+    ensures reads { OnlyReads (state S.Store conn.old) (state S.Store conn.new) }
+    ensures kept { HasCleanDisk (state S.Store conn.new) → OnOk result (KeepsContent (state S.Store conn.old)
+        (state S.Store conn.new)) }
+    ensures found { HasCleanDisk (state S.Store conn.new) → IfOk result (λ found. (s : ClubState) → IsClub s →
+        IsExactly (tables s) (state S.Store conn.old) → IsFoundAs (IsLegalText s game) (IsNoGame s game) found) }
+{
+    match legal_of(alloc, conn, game)? {
+        Some(texts) => Ok(Found::Text(lined(alloc, &texts)?)),
+        None => Ok(Found::Refused(Refusal::UnknownGame)),
+    }
+}
+
+// The cross table of an event.
+fn cross_table<S: Alter>(
+    alloc: Global,
+    conn: &mut Connection<S>,
+    name: &str,
+) -> Result<Found, CallFault>
+    ensures reads { OnlyReads (state S.Store conn.old) (state S.Store conn.new) }
+    ensures kept { HasCleanDisk (state S.Store conn.new) → OnOk result (KeepsContent (state S.Store conn.old)
+        (state S.Store conn.new)) }
+    ensures found { HasCleanDisk (state S.Store conn.new) → IfOk result (λ found. (s : ClubState) → IsClub s →
+        IsExactly (tables s) (state S.Store conn.old) →
+        IsFoundAs (IsTableText s name.now) (IsNoEvent s name.now) found) }
+{
+    match table_of(alloc, conn, name)? {
+        Some(lines) => Ok(Found::Text(lined(alloc, &lines)?)),
+        None => Ok(Found::Refused(Refusal::UnknownEvent)),
+    }
+}
+
+// The members of the club.
+fn members<S: Alter>(alloc: Global, conn: &mut Connection<S>) -> Result<Found, CallFault>
+    ensures reads { OnlyReads (state S.Store conn.old) (state S.Store conn.new) }
+    ensures kept { HasCleanDisk (state S.Store conn.new) → OnOk result (KeepsContent (state S.Store conn.old)
+        (state S.Store conn.new)) }
+    ensures found { HasCleanDisk (state S.Store conn.new) → IfOk result (λ found. (s : ClubState) → IsClub s →
+        IsExactly (tables s) (state S.Store conn.old) → IsFoundAs (IsMembersText s) (λ refusal. ⊥) found) }
+{
+    let members = all_members(alloc, conn)?;
+    let text = members_text(alloc, &members)?;
+    Ok(Found::Text(text))
+}
+
+// The events of the club.
+fn events<S: Alter>(
+    alloc: Global,
+    conn: &mut Connection<S>,
+    moment: Moment,
+) -> Result<Found, CallFault>
+    ensures reads { OnlyReads (state S.Store conn.old) (state S.Store conn.new) }
+    ensures kept { HasCleanDisk (state S.Store conn.new) → OnOk result (KeepsContent (state S.Store conn.old)
+        (state S.Store conn.new)) }
+    ensures found { HasCleanDisk (state S.Store conn.new) → IfOk result (λ found. (s : ClubState) → IsClub s →
+        IsExactly (tables s) (state S.Store conn.old) → IsFoundAs (IsEventsText s) (λ refusal. ⊥) found) }
+{
+    let club = read_club(alloc, conn, moment)?;
+    let text = events_text(alloc, &club.events, &club.games)?;
+    Ok(Found::Text(text))
+}
+
+// The games that are listed.
+fn games<S: Alter>(
+    alloc: Global,
+    conn: &mut Connection<S>,
+    listing: &Listing,
+    moment: Moment,
+) -> Result<Found, CallFault>
+    ensures reads { OnlyReads (state S.Store conn.old) (state S.Store conn.new) }
+    ensures kept { HasCleanDisk (state S.Store conn.new) → OnOk result (KeepsContent (state S.Store conn.old)
+        (state S.Store conn.new)) }
+    ensures found { HasCleanDisk (state S.Store conn.new) → IfOk result (λ found. (s : ClubState) → IsClub s →
+        IsExactly (tables s) (state S.Store conn.old) →
+        IsFoundAs (IsGamesText s moment listing.now) (IsNoList s listing.now) found) }
+{
+    let club = read_club(alloc, conn, moment)?;
+    match listing_refusal(listing, &club.members, &club.events) {
+        Some(refusal) => Ok(Found::Refused(refusal)),
+        None => {
+            let text = games_text(
+                alloc,
+                listing,
+                &club.members,
+                &club.events,
+                &club.games,
+                club.moment,
+            )?;
+            Ok(Found::Text(text))
+        }
+    }
+}
+
+/// Finds what is to be shown to a question at a moment.
+pub(crate) fn find_shown<S: Alter>(
+    alloc: Global,
+    conn: &mut Connection<S>,
+    question: &Question,
+    moment: Moment,
+) -> Result<Found, CallFault>
+    ensures reads { OnlyReads (state S.Store conn.old) (state S.Store conn.new) }
+    ensures kept { HasCleanDisk (state S.Store conn.new) → OnOk result (KeepsContent (state S.Store conn.old)
+        (state S.Store conn.new)) }
+    ensures found { HasCleanDisk (state S.Store conn.new) → IfOk result (λ found. (s : ClubState) → IsClub s →
+        IsExactly (tables s) (state S.Store conn.old) → IsFound s moment question.now found) }
+{
+    match question {
+        Question::LegalMoves(game) => legal_moves(alloc, conn, *game),
+        Question::CrossTable(name) => cross_table(alloc, conn, name.as_str()),
+        Question::Record(game) => Ok(Found::Record(*game)),
+        Question::Members => members(alloc, conn),
+        Question::Events => events(alloc, conn, moment),
+        Question::Games(listing) => games(alloc, conn, listing, moment),
+        Question::Mine(key) => mine(alloc, conn, key.as_str(), moment),
+        Question::Inviting(key) => inviting(alloc, conn, key.as_str(), moment),
+        Question::EventGames(name) => event_games(alloc, conn, name.as_str(), moment),
+        Question::ClockOf(game) => clock(alloc, conn, *game, moment),
+    }
+}

@@ -1,0 +1,14 @@
+//! What a club shows of itself to those who ask: one call that answers each question, over a connection. Reading
+//! changes nothing.
+#![tactic(auto)]
+
+mod answers;
+mod challenges;
+mod found;
+mod games;
+pub mod laws;
+mod read;
+mod shows;
+
+pub use answers::answer;
+pub use club_views::Stopped;

@@ -1,0 +1,68 @@
+//! What lists are made of: the moment that counts, the members, the events and the games of a club.
+
+ghost use Rattle.std.specs.Prelude.{◌≡◌, IfOk, OnOk};
+ghost use Rattle.sqlite.specs.State.{HasCleanDisk};
+ghost use Rattle.sqlite.specs.Held.{state};
+ghost use Rattle.store_tables.specs.Club.{IsExactly};
+ghost use Rattle.store_tables.specs.Reading.{OnlyReads};
+ghost use Rattle.store_sql.specs.Read.{KeepsContent};
+ghost use Rattle.club_rows.specs.Club.{ClubState, IsClub, tables};
+ghost use Rattle.club_lists.specs.ToldViews.{all_by};
+ghost use Rattle.club_answers.specs.Found.{IsReadOf};
+ghost use Rattle.club_answers.specs.Games.{told_games};
+
+use crate::games::all_told;
+use clocks::Moment;
+use club_core::{Event, Member};
+use club_lists::ToldGame;
+use club_reads::{CallFault, all_events, all_members, last_moment};
+use sqlite::{Alter, Connection};
+use std::alloc::Global;
+use store_sql::list;
+use store_tables::GameRecord;
+
+/// A club but for the moves of its games, at a moment.
+#[derive(Drop)]
+pub(crate) struct ClubRead {
+    /// The moment that counts.
+    pub moment: Moment,
+    pub members: Vec<Member>,
+    pub events: Vec<Event>,
+    pub games: Vec<ToldGame>,
+}
+
+// What the rows of the games tell.
+fn games_of<S: Alter>(alloc: Global, conn: &mut Connection<S>) -> Result<Vec<ToldGame>, CallFault>
+    ensures reads { OnlyReads (state S.Store conn.old) (state S.Store conn.new) }
+    ensures kept { HasCleanDisk (state S.Store conn.new) → OnOk result (KeepsContent (state S.Store conn.old)
+        (state S.Store conn.new)) }
+    ensures told { HasCleanDisk (state S.Store conn.new) → IfOk result (λ games. (s : ClubState) → IsClub s →
+        IsExactly (tables s) (state S.Store conn.old) → all_by games.items ≡ told_games s) }
+{
+    let rows = list::<GameRecord, S>(alloc, conn)?;
+    all_told(alloc, &rows)
+}
+
+/// Reads a club for one who asks at this moment.
+pub(crate) fn read_club<S: Alter>(
+    alloc: Global,
+    conn: &mut Connection<S>,
+    moment: Moment,
+) -> Result<ClubRead, CallFault>
+    ensures reads { OnlyReads (state S.Store conn.old) (state S.Store conn.new) }
+    ensures kept { HasCleanDisk (state S.Store conn.new) → OnOk result (KeepsContent (state S.Store conn.old)
+        (state S.Store conn.new)) }
+    ensures read { HasCleanDisk (state S.Store conn.new) → IfOk result (λ club. (s : ClubState) → IsClub s →
+        IsExactly (tables s) (state S.Store conn.old) → IsReadOf s moment club) }
+{
+    let last = last_moment(alloc, conn)?;
+    let members = all_members(alloc, conn)?;
+    let events = all_events(alloc, conn)?;
+    let games = games_of(alloc, conn)?;
+    Ok(ClubRead {
+        moment: moment.later(last),
+        members,
+        events,
+        games,
+    })
+}

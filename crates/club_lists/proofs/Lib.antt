@@ -1,0 +1,4 @@
+mod Lists
+mod GameLines
+mod Numbered
+mod Picked

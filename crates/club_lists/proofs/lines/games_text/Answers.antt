@@ -1,0 +1,22 @@
+use Rattle.std.proofs.Common.{◌≡◌, ◌+◌, suc, ◌∷◌, drop, sym, ◌∙◌, rules, arith}
+use Rattle.std.proofs.Math.Seq.{drop-cons}
+use Rattle.std.specs.Prelude.{string_bytes}
+use Rattle.club_core.specs.Answer.{members_of, events_of}
+use Rattle.club_lists.proofs.GameLines.{ahead_more, ahead_all}
+use Rattle.club_lists.proofs.lines.games_text.Goals as goal
+
+pub loop-game-preserved : goal.loop-game-preserved
+loop-game-preserved c =
+    let games = c.args.games.now in
+    let k = c.loop-game.game-index in
+    let game = c.game-item.result in
+    let next : suc k ≡ k + 1 = omega arith in
+    ahead_more (members_of c.args.members.now) (events_of c.args.events.now) c.args.listing.now c.args.moment games
+    (drop k games) (drop (k + 1) games) game (string_bytes c.loop-game.text) (string_bytes c.in_ok-part.part) _
+    (drop-cons games k game c.loop-game-test.true ∙ (λ i. sym c.game-item.is i ∷ drop (next i) games)) c.in_ok-part.ensures (search rules) c.loop-game.invariant
+
+pub returns : goal.returns
+returns c =
+    ahead_all (members_of c.args.members.now) (events_of c.args.events.now) c.args.listing.now c.args.moment
+    c.args.games.now c.loop-game.game-index (string_bytes c.loop-game.text) c.loop-game-test.false
+    c.loop-game.invariant

@@ -1,0 +1,75 @@
+-- Which games are listed, and why a list is refused.
+use Rattle.std.specs.Prelude.{ℕ, Bool, true, false, not, ◌&&◌, ◌||◌, List, [], ◌∷◌, Option, Some, None, string_bytes}
+use Rattle.std.specs.Option.{option_map}
+use Rattle.std.specs.Str.{bytes_eq}
+use Rattle.std.specs.List.{list_any}
+use Rattle.club_requests.specs.declared.refusals.Refusal.{Refusal}
+use Rattle.club_requests.specs.declared.refusals.Refusal.TheVariants.{BadValue, UnknownEvent}
+use Rattle.club_requests.specs.Outcome.{first_refusal}
+use Rattle.club_core.specs.Events.{Event, has_event_name}
+use Rattle.club_core.specs.Members.{Member}
+use Rattle.club_core.specs.Seats.{has_member_name}
+use Rattle.club_core.specs.State.{place}
+use Rattle.club_questions.specs.declared.questions.Listing.{Listing}
+use Rattle.club_questions.specs.declared.questions.Which.{Which}
+use Rattle.club_questions.specs.declared.questions.Which.TheVariants.{All, Running, Overdue}
+use Rattle.club_lists.specs.Told.{Told, is_late, is_over}
+
+-- the name of a member, and of an event, that is there
+abbrev pub member_name : Option Member → List ℕ
+member_name None = []
+member_name (Some member) = member.name
+
+abbrev pub event_name : Option Event → List ℕ
+event_name None = []
+event_name (Some event) = event.name
+
+-- the name is the one that is asked for, if one is
+abbrev pub is_asked : Option (List ℕ) → List ℕ → Bool
+is_asked None name = true
+is_asked (Some asked) name = bytes_eq name asked
+
+-- the moment counts for the overdue games alone: those that a sweep at it ends
+abbrev pub is_which : Which → ℕ → Told → Bool
+is_which All moment told = true
+is_which Running moment told = not (is_over told)
+is_which Overdue moment told = is_late moment told
+
+-- a name is asked for, and none has it
+abbrev pub is_unknown : {A : Type 0} → (List ℕ → A → Bool) → List A → Option (List ℕ) → Bool
+is_unknown has all None = false
+is_unknown has all (Some name) = not (list_any (has name) all)
+
+abbrev pub first_name : List Member → Told → List ℕ
+first_name members told = member_name (place members told.first)
+
+abbrev pub second_name : List Member → Told → List ℕ
+second_name members told = member_name (place members told.second)
+
+abbrev pub event_of : List Event → Told → List ℕ
+event_of events told = event_name (place events told.event)
+
+-- a player of the game has the name that is asked for, if one is
+abbrev pub has_asked : List Member → Option (List ℕ) → Told → Bool
+has_asked members asked told = is_asked asked (first_name members told) || is_asked asked (second_name members told)
+
+module _ (members : List Member) (events : List Event) (listing : Listing) where
+  abbrev pub event_asked : Option (List ℕ)
+  event_asked = option_map (λ name. string_bytes name) listing.event
+
+  abbrev pub member_asked : Option (List ℕ)
+  member_asked = option_map (λ name. string_bytes name) listing.member
+
+  -- the game is of the event that is asked for and has the player who is, and is one of those
+  abbrev pub is_listed : ℕ → Told → Bool
+  is_listed moment told =
+      is_asked event_asked (event_of events told)
+      && (has_asked members member_asked told && is_which listing.which moment told)
+
+  -- there is no event of the name that is given, or no member of the name that is
+  abbrev pub listing_refusal : Option Refusal
+  listing_refusal =
+      first_refusal
+      ((is_unknown has_event_name events event_asked, UnknownEvent)
+      ∷ (is_unknown has_member_name members member_asked, BadValue)
+      ∷ [])

@@ -1,0 +1,38 @@
+-- What is told of a game without its moves.
+use Rattle.std.specs.Prelude.{ℕ, ◌+◌, ◌-◌, ◌&&◌, Bool, not, is_some, nat_lt, List, Option}
+use Rattle.squares.specs.declared.sides.Side.{Side}
+use Rattle.club_core.specs.Game.{Clocks, left_of}
+
+-- the name of the end of a game, and the score as it is written
+pub record Over : Type 0 where
+  pub end : List ℕ
+  pub result : List ℕ
+
+-- its id, those of its event and of its players, its key if it has one, how many plies were played, the side to move,
+-- the clocks, the side that offers a draw, and how it ended, if it has
+pub record Told : Type 0 where
+  pub id : ℕ
+  pub event : ℕ
+  pub first : ℕ
+  pub second : ℕ
+  pub key : Option (List ℕ)
+  pub plies : ℕ
+  pub turn : Side
+  pub clocks : Clocks
+  pub offer : Option Side
+  pub over : Option Over
+
+-- the seconds that the side to move had left after its last move
+abbrev pub left_in : Told → ℕ
+left_in told = left_of told.turn told.clocks
+
+-- the last second in which a move is in time
+abbrev pub deadline : Told → ℕ
+deadline told = told.clocks.since + left_in told
+
+abbrev pub is_over : Told → Bool
+is_over told = is_some told.over
+
+-- the game goes on, and more seconds have gone by this moment than the side to move had left
+abbrev pub is_late : ℕ → Told → Bool
+is_late moment told = not (is_over told) && nat_lt (left_in told) (moment - told.clocks.since)

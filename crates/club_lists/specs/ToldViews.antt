@@ -1,0 +1,27 @@
+-- What the values of the program tell of games.
+use Rattle.std.specs.Prelude.{List, map, string_bytes}
+use Rattle.std.specs.Option.{option_map}
+use Rattle.club_lists.specs.declared.told.GameOver.{GameOver}
+use Rattle.club_lists.specs.declared.told.ToldGame.{ToldGame}
+use Rattle.club_lists.specs.Told.{Over, Told}
+
+abbrev pub over_by : GameOver → Over
+over_by over = record { end = string_bytes over.end; result = string_bytes over.result }
+
+abbrev pub told_by : ToldGame → Told
+told_by game = record {
+  id = game.id;
+  event = game.event;
+  first = game.first;
+  second = game.second;
+  key = option_map (λ key. string_bytes key) game.key;
+  plies = game.plies;
+  turn = game.turn;
+  clocks = record { left_first = game.left_first; left_second = game.left_second; since = game.since };
+  offer = game.offer;
+  over = option_map over_by game.over;
+}
+
+-- those of several games
+abbrev pub all_by : List ToldGame → List Told
+all_by games = map told_by games

@@ -1,0 +1,18 @@
+//! The texts of lists: the members, the events and the games of a club, a line each. No rows.
+#![tactic(auto)]
+
+pub mod clock;
+pub mod dates;
+mod json;
+pub mod lines;
+pub mod listing;
+pub mod mine;
+pub mod shows;
+pub mod told;
+
+pub use clock::clock_text;
+pub use lines::{events_text, games_text, members_text};
+pub use listing::{is_event, listing_refusal};
+pub use mine::mine_text;
+pub use shows::{event_games_text, inviting_text, name_by};
+pub use told::{GameOver, ToldGame};

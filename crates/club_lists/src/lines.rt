@@ -1,0 +1,275 @@
+//! The lines of the lists of a club.
+
+ghost use Rattle.std.specs.Prelude.{◌≡◌, ◌==◌, IfOk, not, ◌&&◌, string_bytes};
+ghost use Rattle.std.specs.Option.{option_map};
+ghost use Rattle.club_core.specs.Answer.{event_of, members_of, events_of};
+ghost use Rattle.club_lists.specs.Dates.{IsUntil};
+ghost use Rattle.club_lists.specs.Lines.{member_lines, game_name, games_of, running_of, event_tail, event_text};
+ghost use Rattle.club_lists.specs.Lines.{event_line, game_tail};
+ghost use Rattle.club_lists.specs.Lines.{event_lines, key_text, player_name, game_line, StandsAs, IsGameLine, IsPart};
+ghost use Rattle.club_lists.specs.Lines.{AreGameLines};
+ghost use Rattle.club_lists.specs.Listing.{is_listed};
+ghost use Rattle.club_lists.specs.Told.{deadline, is_over};
+ghost use Rattle.club_lists.specs.ToldViews.{told_by, all_by};
+
+use crate::dates::date_text;
+use crate::listing::{event_name, is_listed, member_name};
+use crate::told::ToldGame;
+use clocks::Moment;
+use club_core::{Event, Member};
+use club_questions::Listing;
+use club_rules::GameKind;
+use squares::Side;
+use std::alloc::{AllocError, Global};
+
+/// The members, a line each. No line has a key.
+pub fn members_text(alloc: Global, members: &[Member]) -> Result<String, AllocError>
+    ensures { IfOk result (λ text. string_bytes text ≡ member_lines (members_of members.now)) }
+{
+    let mut text = String::new(alloc);
+    let mut id: usize = 0;
+    for member in members {
+        id += 1;
+        let name = member.name.as_str();
+        writeln!(text, "member {id} {name}")?;
+    }
+    Ok(text)
+}
+
+/// The name of a game.
+pub(crate) fn game_name(game: GameKind) -> &'static str
+    ensures { result.now ≡ game_name game }
+{
+    match game {
+        GameKind::Draughts => "draughts",
+        GameKind::Shogi => "shogi",
+    }
+}
+
+// How many games an event has.
+fn games_of(games: &[ToldGame], event: usize) -> usize
+    ensures { result ≡ games_of event (all_by games.now) }
+{
+    games
+        .iter()
+        .filter(|game| game.event as usize == event)
+        .count()
+}
+
+// Whether a game of the event is running.
+fn is_running_in(game: &ToldGame, event: usize) -> bool
+    ensures { result ≡ ((told_by game.now).event == event && not (is_over (told_by game.now))) }
+{
+    if game.event as usize != event {
+        return false;
+    }
+    !game.is_over()
+}
+
+// How many of them run.
+fn running_of(games: &[ToldGame], event: usize) -> usize
+    ensures { result ≡ running_of event (all_by games.now) }
+{
+    games
+        .iter()
+        .filter(|game| is_running_in(game, event))
+        .count()
+}
+
+// The game of an event, its budget and its increment, how many games it has and how many run.
+fn event_tail(
+    alloc: Global,
+    event: &Event,
+    games: usize,
+    running: usize,
+) -> Result<String, AllocError>
+    ensures { IfOk result (λ tail. string_bytes tail ≡ event_tail (event_of event.now) games running) }
+{
+    let game = game_name(event.game);
+    let budget = event.budget;
+    let increment = event.increment;
+    format!(in alloc; "{game} {budget} {increment} {games} {running}\n")
+}
+
+// The line of an event with so many games, of which so many run.
+fn event_text(
+    alloc: Global,
+    id: usize,
+    event: &Event,
+    games: usize,
+    running: usize,
+) -> Result<String, AllocError>
+    ensures { IfOk result (λ line. string_bytes line ≡ event_text id (event_of event.now) games running) }
+{
+    let name = event.name.as_str();
+    let tail = event_tail(alloc, event, games, running)?;
+    format!(in alloc; "event {id} {name} {tail}")
+}
+
+// The line of an event.
+fn event_line(
+    alloc: Global,
+    games: &[ToldGame],
+    id: usize,
+    event: &Event,
+) -> Result<String, AllocError>
+    ensures { IfOk result (λ line. string_bytes line ≡ event_line (all_by games.now) id (event_of event.now)) }
+{
+    let running = running_of(games, id);
+    event_text(alloc, id, event, games_of(games, id), running)
+}
+
+/// The events, a line each, with how many games each has and how many of them run.
+pub fn events_text(
+    alloc: Global,
+    events: &[Event],
+    games: &[ToldGame],
+) -> Result<String, AllocError>
+    ensures { IfOk result (λ text. string_bytes text ≡ event_lines (all_by games.now) (events_of events.now)) }
+{
+    let mut text = String::new(alloc);
+    let mut id: usize = 0;
+    for event in events {
+        id += 1;
+        let line = event_line(alloc, games, id, event)?;
+        text.push_str(line.as_str())?;
+    }
+    Ok(text)
+}
+
+// The last second in which a move in the game is in time.
+fn until_text(alloc: Global, game: &ToldGame) -> Result<String, AllocError>
+    ensures { IfOk result (λ text. IsUntil (deadline (told_by game.now)) (string_bytes text)) }
+{
+    match game.deadline() {
+        Some(moment) => date_text(alloc, moment),
+        None => String::from_str(alloc, "never"),
+    }
+}
+
+/// The name of the player who is to move.
+pub(crate) fn turn_name<'a>(members: &'a [Member], game: &ToldGame) -> &'a str
+    ensures { result.now ≡ player_name (members_of members.now) game.now.turn (told_by game.now) }
+{
+    match game.turn {
+        Side::First => member_name(members, game.first),
+        Side::Second => member_name(members, game.second),
+    }
+}
+
+// How a game stands.
+fn stands_as(alloc: Global, members: &[Member], game: &ToldGame) -> Result<String, AllocError>
+    ensures { IfOk result (λ text.
+        StandsAs (members_of members.now) (told_by game.now) (told_by game.now).over (string_bytes text)) }
+{
+    match &game.over {
+        Some(over) => {
+            let end = over.end.as_str();
+            let score = over.result.as_str();
+            format!(in alloc; "end {end} {score}")
+        }
+        None => {
+            let name = turn_name(members, game);
+            let until = until_text(alloc, game)?;
+            format!(in alloc; "turn {name} until {until}")
+        }
+    }
+}
+
+// A key, or the mark of a game that has none.
+fn key_text(key: &Option<String>) -> &str
+    ensures { result.now ≡ key_text (option_map (λ k. string_bytes k) key.now) }
+{
+    match key {
+        Some(key) => key.as_str(),
+        None => "=",
+    }
+}
+
+// The end of the line of a game that stands so.
+fn game_tail(
+    alloc: Global,
+    members: &[Member],
+    game: &ToldGame,
+    stands: &str,
+) -> Result<String, AllocError>
+    ensures { IfOk result (λ tail. string_bytes tail ≡
+        game_tail (members_of members.now) (told_by game.now) stands.now) }
+{
+    let second = member_name(members, game.second);
+    let key = key_text(&game.key);
+    let plies = game.plies;
+    format!(in alloc; "{second} {key} ply {plies} {stands}\n")
+}
+
+// The line of a game that stands so.
+fn game_text(
+    alloc: Global,
+    members: &[Member],
+    events: &[Event],
+    game: &ToldGame,
+    stands: &str,
+) -> Result<String, AllocError>
+    ensures { IfOk result (λ line. string_bytes line ≡
+        game_line (members_of members.now) (events_of events.now) (told_by game.now) stands.now) }
+{
+    let id = game.id;
+    let event = event_name(events, game.event);
+    let first = member_name(members, game.first);
+    let tail = game_tail(alloc, members, game, stands)?;
+    format!(in alloc; "game {id} {event} {first} {tail}")
+}
+
+// The line of a game.
+fn game_line(
+    alloc: Global,
+    members: &[Member],
+    events: &[Event],
+    game: &ToldGame,
+) -> Result<String, AllocError>
+    ensures { IfOk result (λ line.
+        IsGameLine (members_of members.now) (events_of events.now) (told_by game.now) (string_bytes line)) }
+{
+    let stands = stands_as(alloc, members, game)?;
+    game_text(alloc, members, events, game, stands.as_str())
+}
+
+// What a list has of a game: its line where it is listed.
+fn part_of(
+    alloc: Global,
+    listing: &Listing,
+    members: &[Member],
+    events: &[Event],
+    game: &ToldGame,
+    moment: Moment,
+) -> Result<String, AllocError>
+    ensures { IfOk result (λ text. IsPart (members_of members.now) (events_of events.now)
+        (is_listed (members_of members.now) (events_of events.now) listing.now moment (told_by game.now))
+        (told_by game.now) (string_bytes text)) }
+{
+    if is_listed(listing, members, events, game, moment) {
+        game_line(alloc, members, events, game)
+    } else {
+        Ok(String::new(alloc))
+    }
+}
+
+/// The games that are listed at this moment, a line each.
+pub fn games_text(
+    alloc: Global,
+    listing: &Listing,
+    members: &[Member],
+    events: &[Event],
+    games: &[ToldGame],
+    moment: Moment,
+) -> Result<String, AllocError>
+    ensures { IfOk result (λ text. AreGameLines (members_of members.now) (events_of events.now) listing.now moment
+        (all_by games.now) (string_bytes text)) }
+{
+    let mut text = String::new(alloc);
+    for game in games {
+        let part = part_of(alloc, listing, members, events, game, moment)?;
+        text.push_str(part.as_str())?;
+    }
+    Ok(text)
+}

@@ -1,0 +1,289 @@
+//! What members are shown of the games and the events of a club as JSON.
+
+ghost use Rattle.std.specs.Prelude.{◌≡◌, ◌++◌, None, Some, IfOk, IfSome, OnOk, map, string_bytes};
+ghost use Rattle.std.specs.Option.{option_map};
+ghost use Rattle.club_core.specs.Answer.{event_of, events_of, member_of, members_of};
+ghost use Rattle.club_lists.specs.Json.{quoted_or_null};
+ghost use Rattle.club_lists.specs.Shows.{event_data, event_game_text, event_game_texts, event_games_text, inviting_text};
+ghost use Rattle.club_lists.specs.Shows.{is_of_event, is_other, is_own, name_by, offerer, other_texts, own_game_text};
+ghost use Rattle.club_lists.specs.Shows.{own_game_back, own_game_front, own_game_texts};
+ghost use Rattle.club_lists.specs.ToldViews.{all_by, told_by};
+
+use crate::clock::deadline_text;
+use crate::json::{array, push_counted, push_field, push_named, quoted};
+use crate::lines::{game_name, turn_name};
+use crate::listing::{event_name, member_name};
+use crate::told::ToldGame;
+use club_core::{Event, Member};
+use squares::Side;
+use std::alloc::{AllocError, Global};
+
+/// The name of the member who has a key.
+pub fn name_by<'a>(members: &'a [Member], key: &str) -> Option<&'a str>
+    ensures some { IfSome result (λ name. Some name.now ≡ name_by key.now (members_of members.now)) }
+    ensures none { result ≡ None → name_by key.now (members_of members.now) ≡ None }
+{
+    for member in members {
+        if member.key.as_str() == key {
+            return Some(member.name.as_str());
+        }
+    }
+    None
+}
+
+// The name of the end of a game, or null.
+fn end_text(alloc: Global, game: &ToldGame) -> Result<String, AllocError>
+    ensures { IfOk result (λ text. string_bytes text ≡
+        quoted_or_null (option_map (λ o. o.end) (told_by game.now).over)) }
+{
+    match &game.over {
+        Some(over) => quoted(alloc, over.end.as_str()),
+        None => String::from_str(alloc, "null"),
+    }
+}
+
+// The result of a game, or null.
+fn result_text(alloc: Global, game: &ToldGame) -> Result<String, AllocError>
+    ensures { IfOk result (λ text. string_bytes text ≡
+        quoted_or_null (option_map (λ o. o.result) (told_by game.now).over)) }
+{
+    match &game.over {
+        Some(over) => quoted(alloc, over.result.as_str()),
+        None => String::from_str(alloc, "null"),
+    }
+}
+
+// A game of an event.
+#[tactic(auto, unfolding(crate::specs::Shows::event_game_text))]
+fn event_game_text(alloc: Global, members: &[Member], game: &ToldGame) -> Result<String, AllocError>
+    ensures { IfOk result (λ text. string_bytes text ≡
+        event_game_text (members_of members.now) (told_by game.now)) }
+{
+    let end = end_text(alloc, game)?;
+    let score = result_text(alloc, game)?;
+    let mut text = String::new(alloc);
+    push_field(&mut text, "{", "end", end.as_str())?;
+    push_named(&mut text, ",", "first", member_name(members, game.first))?;
+    push_counted(&mut text, ",", "game", u64::from(game.id))?;
+    push_counted(&mut text, ",", "ply", u64::from(game.plies))?;
+    push_field(&mut text, ",", "result", score.as_str())?;
+    push_named(&mut text, ",", "second", member_name(members, game.second))?;
+    text.push_str("}")?;
+    Ok(text)
+}
+
+// Whether the game is of the event of this name.
+fn is_of_event(events: &[Event], name: &str, game: &ToldGame) -> bool
+    ensures { result ≡ is_of_event (events_of events.now) name.now (told_by game.now) }
+{
+    event_name(events, game.event) == name
+}
+
+// The games of the event of this name.
+fn event_game_texts(
+    alloc: Global,
+    members: &[Member],
+    events: &[Event],
+    name: &str,
+    games: &[ToldGame],
+) -> Result<Vec<String>, AllocError>
+    ensures { IfOk result (λ texts. map (λ t. string_bytes t) texts.items ≡
+        event_game_texts (members_of members.now) (events_of events.now) name.now (all_by games.now)) }
+{
+    let mut texts = Vec::new(alloc);
+    for game in games {
+        if !is_of_event(events, name, game) {
+            continue;
+        }
+        texts.push(event_game_text(alloc, members, game)?)?;
+    }
+    Ok(texts)
+}
+
+/// The games of the event of this name.
+pub fn event_games_text(
+    alloc: Global,
+    members: &[Member],
+    events: &[Event],
+    name: &str,
+    games: &[ToldGame],
+) -> Result<String, AllocError>
+    ensures { IfOk result (λ text. string_bytes text ≡
+        event_games_text (members_of members.now) (events_of events.now) name.now (all_by games.now)) }
+{
+    let texts = event_game_texts(alloc, members, events, name, games)?;
+    let listed = array(alloc, &texts)?;
+    let mut text = String::new(alloc);
+    push_field(&mut text, "{", "games", listed.as_str())?;
+    text.push_str("}")?;
+    Ok(text)
+}
+
+// An event.
+#[tactic(auto, unfolding(crate::specs::Shows::event_data))]
+fn event_data(alloc: Global, event: &Event) -> Result<String, AllocError>
+    ensures { IfOk result (λ text. string_bytes text ≡ event_data (event_of event.now)) }
+{
+    let mut text = String::new(alloc);
+    push_counted(&mut text, "{", "budget", event.budget)?;
+    push_named(&mut text, ",", "event", event.name.as_str())?;
+    push_named(&mut text, ",", "game", game_name(event.game))?;
+    push_counted(&mut text, ",", "increment", event.increment)?;
+    text.push_str("}")?;
+    Ok(text)
+}
+
+// The events.
+fn event_texts(alloc: Global, events: &[Event]) -> Result<Vec<String>, AllocError>
+    ensures { IfOk result (λ texts. map (λ t. string_bytes t) texts.items ≡ map event_data (events_of events.now)) }
+{
+    let mut texts = Vec::new(alloc);
+    for event in events {
+        texts.push(event_data(alloc, event)?)?;
+    }
+    Ok(texts)
+}
+
+// Whether a member does not have the key.
+fn is_other(key: &str, member: &Member) -> bool
+    ensures { result ≡ is_other key.now (member_of member.now) }
+{
+    member.key.as_str() != key
+}
+
+// The names of those who do not have the key.
+fn other_texts(alloc: Global, key: &str, members: &[Member]) -> Result<Vec<String>, AllocError>
+    ensures { IfOk result (λ texts. map (λ t. string_bytes t) texts.items ≡
+        other_texts key.now (members_of members.now)) }
+{
+    let mut texts = Vec::new(alloc);
+    for member in members {
+        if !is_other(key, member) {
+            continue;
+        }
+        texts.push(quoted(alloc, member.name.as_str())?)?;
+    }
+    Ok(texts)
+}
+
+/// All events, and all members but the one who has the key.
+pub fn inviting_text(
+    alloc: Global,
+    key: &str,
+    members: &[Member],
+    events: &[Event],
+) -> Result<String, AllocError>
+    ensures { IfOk result (λ text. string_bytes text ≡
+        inviting_text key.now (members_of members.now) (events_of events.now)) }
+{
+    let all = event_texts(alloc, events)?;
+    let all = array(alloc, &all)?;
+    let others = other_texts(alloc, key, members)?;
+    let others = array(alloc, &others)?;
+    let mut text = String::new(alloc);
+    push_field(&mut text, "{", "events", all.as_str())?;
+    push_field(&mut text, ",", "members", others.as_str())?;
+    text.push_str("}")?;
+    Ok(text)
+}
+
+// The name of the player who offers a draw, or null.
+fn offer_text(alloc: Global, members: &[Member], game: &ToldGame) -> Result<String, AllocError>
+    ensures { IfOk result (λ text. string_bytes text ≡
+        quoted_or_null (offerer (members_of members.now) (told_by game.now))) }
+{
+    match game.offer {
+        Some(Side::First) => quoted(alloc, member_name(members, game.first)),
+        Some(Side::Second) => quoted(alloc, member_name(members, game.second)),
+        None => String::from_str(alloc, "null"),
+    }
+}
+
+// A running game of the one who asks, up to its id.
+#[tactic(auto, unfolding(crate::specs::Shows::own_game_front))]
+fn own_game_front(
+    alloc: Global,
+    members: &[Member],
+    events: &[Event],
+    game: &ToldGame,
+) -> Result<String, AllocError>
+    ensures { IfOk result (λ text. string_bytes text ≡
+        own_game_front (members_of members.now) (events_of events.now) (told_by game.now)) }
+{
+    let deadline = deadline_text(alloc, game)?;
+    let mut text = String::new(alloc);
+    push_field(&mut text, "{", "deadline", deadline.as_str())?;
+    push_named(&mut text, ",", "event", event_name(events, game.event))?;
+    push_named(&mut text, ",", "first", member_name(members, game.first))?;
+    push_counted(&mut text, ",", "game", u64::from(game.id))?;
+    Ok(text)
+}
+
+// Adds the rest of it.
+#[tactic(auto, unfolding(crate::specs::Shows::own_game_back))]
+fn push_own_game(
+    alloc: Global,
+    text: &mut String,
+    members: &[Member],
+    game: &ToldGame,
+) -> Result<(), AllocError>
+    ensures { OnOk result (string_bytes text.new ≡
+        string_bytes text.old ++ own_game_back (members_of members.now) (told_by game.now)) }
+{
+    let offer = offer_text(alloc, members, game)?;
+    push_field(text, ",", "offer", offer.as_str())?;
+    push_counted(text, ",", "ply", u64::from(game.plies))?;
+    push_named(text, ",", "second", member_name(members, game.second))?;
+    push_named(text, ",", "turn", turn_name(members, game))?;
+    text.push_str("}")?;
+    Ok(())
+}
+
+// A running game of the one who asks.
+fn own_game_text(
+    alloc: Global,
+    members: &[Member],
+    events: &[Event],
+    game: &ToldGame,
+) -> Result<String, AllocError>
+    ensures { IfOk result (λ text. string_bytes text ≡
+        own_game_text (members_of members.now) (events_of events.now) (told_by game.now)) }
+{
+    let mut text = own_game_front(alloc, members, events, game)?;
+    push_own_game(alloc, &mut text, members, game)?;
+    Ok(text)
+}
+
+// Whether the game is a running one of the member of this name.
+fn is_own(members: &[Member], name: &str, game: &ToldGame) -> bool
+    ensures { result ≡ is_own (members_of members.now) name.now (told_by game.now) }
+{
+    if game.is_over() {
+        return false;
+    }
+    if member_name(members, game.first) == name {
+        return true;
+    }
+    member_name(members, game.second) == name
+}
+
+/// The running games of the member of this name.
+pub(crate) fn own_game_texts(
+    alloc: Global,
+    members: &[Member],
+    events: &[Event],
+    name: &str,
+    games: &[ToldGame],
+) -> Result<Vec<String>, AllocError>
+    ensures { IfOk result (λ texts. map (λ t. string_bytes t) texts.items ≡
+        own_game_texts (members_of members.now) (events_of events.now) name.now (all_by games.now)) }
+{
+    let mut texts = Vec::new(alloc);
+    for game in games {
+        if !is_own(members, name, game) {
+            continue;
+        }
+        texts.push(own_game_text(alloc, members, events, game)?)?;
+    }
+    Ok(texts)
+}
