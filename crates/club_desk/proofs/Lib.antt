@@ -1,3 +1,4 @@
+pub mod AskLemmas
 pub mod NextLemmas
 pub mod RepeatLemmas
 pub mod ServeLemmas

@@ -8,8 +8,8 @@ use Rattle.club_rows.specs.Club.{ClubState}
 use Rattle.club_changes.specs.Steps.{club_next}
 use Rattle.http_head.specs.Request as head
 use Rattle.http_head.specs.Request.{Seen, unfinished, refused, whole}
-use Rattle.http_desk.specs.Routes.{Asked, game_view, legal_moves, cross_table, on_game, challenge, withdraw, answer}
-use Rattle.http_desk.specs.Routes.{asked_of}
+use Rattle.http_desk.specs.Routes.{Asked, members_page, game_view, legal_moves, question, on_game, challenge, withdraw}
+use Rattle.http_desk.specs.Routes.{answer, asked_of}
 use Rattle.http_desk.specs.Desk.{Due, serve, serve_asked, serve_known, serve_page, serve_command, command_given}
 use Rattle.http_desk.specs.Desk.{state_behind}
 use Rattle.http_bodies.specs.Bodies.{json_of, challenge_with, challenge_in, challenge_of, answer_with, answer_in}
@@ -69,9 +69,10 @@ module _ (s : ClubState) (moment : ℕ) (within : moment ≤ last_moment) where
       )
 
   page_next : (key body : List ℕ) (asked : Asked) → IsNext (serve_page served s moment key body asked).0
+  page_next key body members_page = inl refl
   page_next key body (game_view id) = inl refl
   page_next key body (legal_moves id) = inl refl
-  page_next key body (cross_table event) = inl refl
+  page_next key body (question asking) = inl refl
   page_next key body (on_game id turn) = command_next key id _ (turn_members id (command_given turn body))
   page_next key body (challenge n) = command_next key n _ (opening_members n body)
   page_next key body (withdraw n) = command_next key n (Some (withdraw_challenge n)) tt
@@ -84,7 +85,8 @@ module _ (s : ClubState) (moment : ℕ) (within : moment ≤ last_moment) where
 
   asked_next : (request : head.Request) (asked : Option Asked) → IsNext (serve_asked served s moment request asked).0
   asked_next request None = inl refl
-  asked_next request (Some asked) = if_next _ _ _ (known_next request.key request.body asked) (inl refl)
+  asked_next request (Some asked) =
+      if_next _ _ _ (if_next _ _ _ (inl refl) (known_next request.key request.body asked)) (inl refl)
 
   pub seen_next : (seen : Seen) → IsNext (state_behind served s moment seen)
   unfolding serve

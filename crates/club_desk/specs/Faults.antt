@@ -2,6 +2,8 @@
 use Rattle.std.specs.Prelude.{Result, Ok, Err}
 use Rattle.store.specs.declared.fault.StoreFault.{StoreFault}
 use Rattle.store.specs.declared.fault.StoreFault.TheVariants as club
+use Rattle.store.specs.declared.fault.AskFault.{AskFault}
+use Rattle.store.specs.declared.fault.AskFault.TheVariants as asking
 use Rattle.club_opening.specs.declared.fault.OpenFault.{OpenFault}
 use Rattle.club_opening.specs.declared.fault.OpenFault.TheVariants as opening
 use Rattle.http_desk.specs.declared.faults.ClubFault.{ClubFault}
@@ -15,6 +17,11 @@ told club.Memory = Memory
 abbrev pub told_all : {A : Type 0} → Result A StoreFault → Result A ClubFault
 told_all (Ok found) = Ok found
 told_all (Err fault) = Err (told fault)
+
+-- bytes are written into memory, so that a writer that fails is one that memory was refused
+abbrev pub told_asking : AskFault → ClubFault
+told_asking (asking.Club fault) = told fault
+told_asking asking.Output = Memory
 
 abbrev pub told_of_opening : OpenFault → ClubFault
 told_of_opening opening.Foreign = Foreign

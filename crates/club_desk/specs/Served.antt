@@ -1,5 +1,5 @@
 -- The club of a store, as the desk asks it.
-use Rattle.std.specs.Prelude.{◌≡◌, ℕ, Bool, List, Option, is_some, string_bytes}
+use Rattle.std.specs.Prelude.{◌≡◌, ℕ, Bool, List, Option, Some, None, Result, Ok, Err, is_some, string_bytes}
 use Rattle.std.specs.Option.{option_map}
 use Rattle.squares.specs.declared.sides.Side.{Side}
 use Rattle.squares.specs.declared.sides.Side.TheVariants.{First, Second}
@@ -7,7 +7,8 @@ use Rattle.club_core.specs.Answer.{answered}
 use Rattle.club_core.specs.State.{key_holder, caller_of}
 use Rattle.club_rows.specs.Club.{ClubState}
 use Rattle.club_views.specs.declared.viewed.ViewedGame.{ViewedGame}
-use Rattle.club_views.specs.CrossTable.{AreTableRows}
+use Rattle.club_requests.specs.declared.refusals.Refusal.{Refusal}
+use Rattle.club_answers.specs.Shown.{IsShown}
 use Rattle.club_changes.specs.Steps.{club_step, club_next}
 use Rattle.club_changes.specs.Stored.{AreLegalRows}
 use Rattle.club_views.specs.Viewed.{IsViewed}
@@ -44,12 +45,17 @@ shown_of viewed =
 abbrev pub IsGame : ClubState → ℕ → Option GameShown → Type 0
 IsGame s id shown = (viewed : Option ViewedGame) × IsViewed s id viewed × (shown ≡ option_map shown_of viewed)
 
+-- the bytes that were written, or why there are none
+abbrev pub written : Option Refusal → List ℕ → Result (List ℕ) Refusal
+written None bytes = Ok bytes
+written (Some refusal) bytes = Err refusal
+
 abbrev pub served : Club ClubState
 served =
     record {
       has_key = has_key;
       IsGame = IsGame;
       AreLegal = AreLegalRows;
-      AreLines = AreTableRows;
+      IsShown = IsShown;
       step = λ s request. (club_next s request, answered (club_step s request));
     }

@@ -2,10 +2,11 @@
 
 ghost use Rattle.std.specs.Prelude.{◌≡◌};
 
-use crate::faults::{told, told_all};
-use crate::shown::found_shown;
+use crate::faults::{told, told_all, told_asking};
+use crate::shown::{answered, found_shown};
 use clocks::Moment;
-use club_requests::{Command, Outcome, Who};
+use club_questions::Question;
+use club_requests::{Command, Outcome, Refusal, Who};
 use http_bodies::GameShown;
 use http_desk::{ClubFault, ServedClub};
 use sqlite::Alter;
@@ -55,12 +56,17 @@ impl<S: Alter> ServedClub for DeskClub<S> {
         told_all(self.club.legal_rows(alloc, game))
     }
 
-    fn table_lines(
+    fn ask(
         &mut self,
         alloc: Global,
-        event: &str,
-    ) -> Result<Option<Vec<String>>, ClubFault> {
-        told_all(self.club.table_rows(alloc, event))
+        question: &Question,
+        moment: Moment,
+    ) -> Result<Result<Vec<u8>, Refusal>, ClubFault> {
+        let mut bytes = Vec::new(alloc);
+        match self.club.ask(alloc, question, moment, &mut bytes) {
+            Ok(refusal) => Ok(answered(refusal, bytes)),
+            Err(fault) => Err(told_asking(fault)),
+        }
     }
 
     fn apply(

@@ -1,10 +1,10 @@
 //! What the desk tells of the faults of a store.
 
 ghost use Rattle.std.specs.Prelude.{◌≡◌};
-ghost use Rattle.club_desk.specs.Faults.{told, told_all, told_of_opening};
+ghost use Rattle.club_desk.specs.Faults.{told, told_all, told_asking, told_of_opening};
 
 use http_desk::ClubFault;
-use store::{OpenFault, StoreFault};
+use store::{AskFault, OpenFault, StoreFault};
 
 // What is told of a fault of the club.
 pub(crate) fn told(fault: StoreFault) -> ClubFault
@@ -24,6 +24,16 @@ pub(crate) fn told_all<A>(answer: Result<A, StoreFault>) -> Result<A, ClubFault>
     match answer {
         Ok(found) => Ok(found),
         Err(fault) => Err(told(fault)),
+    }
+}
+
+// What is told where a question was not shown to its end.
+pub(crate) fn told_asking(fault: AskFault) -> ClubFault
+    ensures { result ≡ told_asking fault }
+{
+    match fault {
+        AskFault::Club(fault) => told(fault),
+        AskFault::Output => ClubFault::Memory,
     }
 }
 

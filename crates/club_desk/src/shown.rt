@@ -1,10 +1,11 @@
-//! A game of the club as the desk shows it.
+//! What the club shows, as the desk has it.
 
 ghost use Rattle.std.specs.Prelude.{◌≡◌, IfErr, IfOk, string_bytes};
 ghost use Rattle.std.specs.Option.{option_map};
-ghost use Rattle.http_bodies.specs.ShownViews.{found_view, game_view};
-ghost use Rattle.club_desk.specs.Served.{named, shown_of};
+ghost use Rattle.http_bodies.specs.ShownViews.{found_view, game_view, shown_view};
+ghost use Rattle.club_desk.specs.Served.{named, shown_of, written};
 
+use club_requests::Refusal;
 use http_bodies::GameShown;
 use http_desk::ClubFault;
 use squares::Side;
@@ -79,5 +80,15 @@ pub(crate) fn found_shown(
     match game_shown(alloc, viewed) {
         Ok(game) => Ok(Some(game)),
         Err(_) => Err(ClubFault::Memory),
+    }
+}
+
+// The bytes that a question was shown, or why there are none.
+pub(crate) fn answered(refusal: Option<Refusal>, bytes: Vec<u8>) -> Result<Vec<u8>, Refusal>
+    ensures { shown_view result ≡ written refusal bytes.items }
+{
+    match refusal {
+        None => Ok(bytes),
+        Some(refusal) => Err(refusal),
     }
 }

@@ -1,5 +1,6 @@
 use clocks::Moment;
 use club_core::GameEnd;
+use club_questions::Question;
 use club_requests::{
     Answer, AnswerChallenge, Command, GameCommand, Moved, OnGame, OpenChallenge, Outcome,
     OutsideEnd, Refusal, Who, Withdraw,
@@ -177,20 +178,13 @@ impl ServedClub for Toy {
         }
     }
 
-    fn table_lines(
+    fn ask(
         &mut self,
-        alloc: Global,
-        event: &str,
-    ) -> Result<Option<Vec<String>>, ClubFault> {
-        if event.as_bytes() != b"autumn".as_slice() {
-            return Ok(None);
-        }
-        let lines = [
-            "Event autumn",
-            "  1 bert                         2     1     1     0     0     -     2",
-            "  2 anna                         0     1     0     0     1     0     -",
-        ];
-        Ok(Some(list(alloc, &lines)?))
+        _alloc: Global,
+        _question: &Question,
+        _moment: Moment,
+    ) -> Result<Result<Vec<u8>, Refusal>, ClubFault> {
+        Ok(Err(Refusal::UnknownEvent))
     }
 
     fn apply(
@@ -228,6 +222,30 @@ fn request(alloc: Global, line: &str, body: &str) -> Result<Vec<u8>, Fail> {
     Ok(bytes)
 }
 
+// The reply begins and ends so; its length, or 0 where there is none.
+fn begins_and_ends<R: Abort + AllocGlobal, C: ServedClub>(
+    rt: &R,
+    club: &mut C,
+    bytes: &[u8],
+    front: &str,
+    end: &str,
+) -> usize {
+    let Some(moment) = Moment::new(1000) else {
+        assert!(rt; false);
+        return 0;
+    };
+    let reply = match answer(rt.alloc(), club, bytes, moment) {
+        Ok(reply) => reply,
+        Err(_) => {
+            assert!(rt; false);
+            return 0;
+        }
+    };
+    assert!(rt; reply.starts_with(front.as_bytes()));
+    assert!(rt; reply.ends_with(end.as_bytes()));
+    reply.len()
+}
+
 // The reply has this head and this body.
 fn is_answered<R: Abort + AllocGlobal, C: ServedClub>(
     rt: &R,
@@ -236,20 +254,8 @@ fn is_answered<R: Abort + AllocGlobal, C: ServedClub>(
     head: &str,
     body: &str,
 ) {
-    let Some(moment) = Moment::new(1000) else {
-        assert!(rt; false);
-        return;
-    };
-    let reply = match answer(rt.alloc(), club, bytes, moment) {
-        Ok(reply) => reply,
-        Err(_) => {
-            assert!(rt; false);
-            return;
-        }
-    };
-    assert!(rt; reply.starts_with(head.as_bytes()));
-    assert!(rt; reply.ends_with(body.as_bytes()));
-    assert!(rt; reply.len() == head.len() + body.len());
+    let length = begins_and_ends(rt, club, bytes, head, body);
+    assert!(rt; length == head.len() + body.len());
 }
 
 #[test]
@@ -287,6 +293,30 @@ fn a_club_that_fails_is_told(rt: HostRuntime) {
         unrouted,
         head,
         "{\"error\":82,\"name\":\"NoRoute\"}",
+    );
+}
+
+#[test]
+fn the_page_comes_all_the_same(rt: HostRuntime) {
+    let mut closed = Closed {
+        fault: ClubFault::Damaged,
+    };
+    let bytes = b"GET /play HTTP/1.0\r\n\r\n".as_slice();
+    let front = "HTTP/1.1 200 OK\r\nContent-Type: text/html; charset=utf-8\r\nContent-Length: ";
+    let end = "</script>\n";
+    let length = begins_and_ends(&rt, &mut closed, bytes, front, end);
+    let mut club = new_club();
+    assert!(rt; begins_and_ends(&rt, &mut club, bytes, front, end) == length);
+    let posted = b"POST /play HTTP/1.0\r\nContent-Length: 0\r\n\r\n".as_slice();
+    let head =
+        "HTTP/1.1 405 Method Not Allowed\r\nContent-Type: application/json\r\nContent-Length: 33\r\n\
+        Connection: close\r\nAllow: GET\r\n\r\n";
+    is_answered(
+        &rt,
+        &mut closed,
+        posted,
+        head,
+        "{\"error\":83,\"name\":\"WrongMethod\"}",
     );
 }
 

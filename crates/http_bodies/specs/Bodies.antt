@@ -1,5 +1,5 @@
 -- The bodies of replies, and what the body of a request asks for.
-use Rattle.std.specs.Prelude.{ℕ, Bool, List, [], ◌∷◌, ◌++◌, length, Option, Some, None, option_map, option_and_then}
+use Rattle.std.specs.Prelude.{ℕ, Bool, List, [], ◌∷◌, length, Option, Some, None, option_map, option_and_then}
 use Rattle.std.specs.Prelude.{codes, if◌then◌else◌}
 use Rattle.std.specs.Str.{is_utf8}
 use Rattle.serde_json.specs.Data.{Data, null, number, unsigned, string, array, object, Items, no_items, item, Members}
@@ -120,11 +120,6 @@ reply_data id (challenge_opened n) = stands_data n (codes "open")
 reply_data id (challenge_withdrawn n) = stands_data n (codes "withdrawn")
 reply_data id (challenge_refused n) = stands_data n (codes "refused")
 reply_data id (challenge_accepted n game) = started_data n game
-
--- each line with its line feed
-abbrev pub lined : List (List ℕ) → List ℕ
-lined [] = []
-lined (line ∷ lines) = line ++ codes "\n" ++ lined lines
 
 -- ---- requests
 

@@ -5,6 +5,9 @@ use Rattle.http_head.specs.Head.{number_of}
 use Rattle.http.specs.StatusCode.{reason_phrase}
 use Rattle.serde_json.specs.Data.{Data, number, unsigned, string, object, member, no_members}
 use Rattle.serde_json.specs.Written.{compact_text}
+use Rattle.club_page.specs.Joined.{page, policy}
+use Rattle.http_bodies.specs.declared.reply.Kind.{Kind}
+use Rattle.http_bodies.specs.declared.reply.Kind.TheVariants.{Json, Plain, Html}
 use Rattle.http_bodies.specs.declared.refusals.Method.TheVariants.{Get, Post}
 use Rattle.http_bodies.specs.declared.refusals.Refusal.{Refusal}
 use Rattle.http_bodies.specs.declared.refusals.Refusal.TheVariants.{Head, NoRoute, WrongMethod, BadBody, Club}
@@ -24,23 +27,24 @@ type_line kind = codes "Content-Type: " ++ kind ++ codes "\r\n"
 abbrev pub length_line : ℕ → List ℕ
 length_line n = codes "Content-Length: " ++ decimal n ++ codes "\r\n"
 
+-- a kind as the head of a reply names it
+abbrev pub kind_text : Kind → List ℕ
+kind_text Json = codes "application/json"
+kind_text Plain = codes "text/plain"
+kind_text Html = codes "text/html; charset=utf-8"
+
 -- the head of a reply: further lines stand last
-unfoldable pub reply_head : ℕ → List ℕ → List ℕ → ℕ → List ℕ → List ℕ
+unfoldable pub reply_head : ℕ → List ℕ → Kind → ℕ → List ℕ → List ℕ
 reply_head status phrase kind body_length further =
-    status_line status phrase ++ type_line kind ++ length_line body_length ++ codes "Connection: close\r\n" ++ further
+    status_line status phrase
+    ++ type_line (kind_text kind) ++ length_line body_length ++ codes "Connection: close\r\n" ++ further
     ++ codes "\r\n"
 
 -- a reply: the length is that of the body, also where that is left out
-abbrev pub reply_text : ℕ → List ℕ → List ℕ → List ℕ → Bool → List ℕ
-reply_text status kind further body without_body =
+abbrev pub reply_bytes : ℕ → Kind → List ℕ → List ℕ → Bool → List ℕ
+reply_bytes status kind further body without_body =
     reply_head status (unwrap_or (reason_phrase status) []) kind (length body) further
     ++ (if without_body then [] else body)
-
-abbrev pub json_kind : List ℕ
-json_kind = codes "application/json"
-
-abbrev pub text_kind : List ℕ
-text_kind = codes "text/plain"
 
 -- what a refusal adds to the head: the method that the path takes, or how a member shows who it is
 abbrev pub key_lines : of_club.Refusal → List ℕ
@@ -79,19 +83,24 @@ error_data n name =
     object (member (codes "error") (number (unsigned n)) (member (codes "name") (string name) no_members))
 
 abbrev pub refusal_reply : Refusal → Bool → List ℕ
-refusal_reply refusal without_body = reply_text (refusal_status refusal) json_kind (further_lines refusal)
+refusal_reply refusal without_body = reply_bytes (refusal_status refusal) Json (further_lines refusal)
     (compact_text (error_data (refusal_number refusal) (refusal_name refusal))) without_body
 
--- a reply at 200 whose body is JSON, and one whose body is plain text
-abbrev pub json_text_reply : List ℕ → Bool → List ℕ
-json_text_reply text without_body = reply_text 200 json_kind [] text without_body
+-- a reply at 200 whose body is of this kind
+abbrev pub shown_reply : Kind → List ℕ → Bool → List ℕ
+shown_reply kind body without_body = reply_bytes 200 kind [] body without_body
 
-abbrev pub plain_reply : List ℕ → Bool → List ℕ
-plain_reply text without_body = reply_text 200 text_kind [] text without_body
+-- what a browser lets a page do
+abbrev pub policy_line : List ℕ → List ℕ
+policy_line policy = codes "Content-Security-Policy: " ++ policy ++ codes "\r\n"
+
+-- the members' page, with its policy
+abbrev pub page_reply : Bool → List ℕ
+page_reply without_body = reply_bytes 200 Html (policy_line policy) page without_body
 
 -- a fault of the store
 abbrev pub fault_reply : ℕ → List ℕ → Bool → List ℕ
-fault_reply n name without_body = reply_text 503 json_kind [] (compact_text (error_data n name)) without_body
+fault_reply n name without_body = reply_bytes 503 Json [] (compact_text (error_data n name)) without_body
 
 -- the status that stands behind the version, where there are bytes enough
 abbrev pub status_in : List ℕ → Option ℕ

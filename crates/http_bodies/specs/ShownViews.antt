@@ -1,7 +1,8 @@
 -- What the values of the code stand for: what a club tells.
-use Rattle.std.specs.Prelude.{ℕ, List, map, Option, option_map, String, string_bytes}
+use Rattle.std.specs.Prelude.{ℕ, List, map, Option, option_map, Result, Ok, Err, String, string_bytes}
 use Rattle.std.specs.declared.alloc.Global.{Global}
 use Rattle.std.specs.declared.vec.Vec.{Vec}
+use Rattle.club_requests.specs.declared.refusals.Refusal.{Refusal}
 use Rattle.http_bodies.specs.declared.shown.GameShown as given
 use Rattle.http_bodies.specs.Shown.{GameShown}
 
@@ -27,3 +28,8 @@ game_view g = record {
 
 abbrev pub found_view : Option given.GameShown → Option GameShown
 found_view game = option_map game_view game
+
+-- the bytes that are shown, or why there are none
+abbrev pub shown_view : Result (Vec ℕ Global) Refusal → Result (List ℕ) Refusal
+shown_view (Ok bytes) = Ok bytes.items
+shown_view (Err refusal) = Err refusal

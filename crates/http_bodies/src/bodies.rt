@@ -11,7 +11,7 @@ ghost use Rattle.http_bodies.specs.Shown.{end_name};
 ghost use Rattle.http_bodies.specs.ShownViews.{texts_view, game_view};
 ghost use Rattle.http_bodies.specs.Bodies.{texts, text_or_null, moves_data, lefts, number_data, game_front};
 ghost use Rattle.http_bodies.specs.Bodies.{game_object, game_data, moved_data, offered_data, ended_data, added_data};
-ghost use Rattle.http_bodies.specs.Bodies.{swept_data, reply_data, stands_data, started_data, lined};
+ghost use Rattle.http_bodies.specs.Bodies.{swept_data, reply_data, stands_data, started_data};
 
 use crate::reply::text_of;
 use crate::shown::{GameShown, end_name};
@@ -273,16 +273,4 @@ pub fn answer_text(alloc: Global, id: u32, answer: Answer) -> Result<String, All
 {
     let value = answer_value(alloc, id, answer)?;
     text_of(alloc, &value)
-}
-
-/// Lines as one text, each with a line feed.
-pub fn lined(alloc: Global, lines: &[String]) -> Result<String, AllocError>
-    ensures { IfOk result (λ t. string_bytes t ≡ lined (texts_view lines.now)) }
-{
-    let mut text = String::new(alloc);
-    for line in lines {
-        text.push_str(line.as_str())?;
-        text.push_str("\n")?;
-    }
-    Ok(text)
 }

@@ -9,8 +9,8 @@ pub mod shown;
 pub mod status;
 
 pub use asks::{answer_of, challenge_of, move_text};
-pub use bodies::{answer_text, game_text, lined, moves_text};
+pub use bodies::{answer_text, game_text, moves_text};
 pub use refusals::{Method, Refusal};
-pub use reply::{fault_reply, json_text_reply, plain_reply, refusal_reply};
+pub use reply::{Kind, fault_reply, page_reply, refusal_reply, shown_reply};
 pub use shown::{GameShown, end_name};
 pub use status::status_of;

@@ -3,15 +3,35 @@ ghost use Rattle.std.specs.Prelude.{◌≡◌, ◌++◌, IfOk, string_bytes, Som
 ghost use Rattle.http.specs.StatusCode.{IsStatusCode, reason_phrase};
 ghost use Rattle.serde_json.specs.Written.{compact_text, has_float};
 ghost use Rattle.serde_json.specs.View.{view};
-ghost use Rattle.http_bodies.specs.Reply.{json_kind, status_line, type_line, length_line, reply_head, reply_text};
+ghost use Rattle.http_bodies.specs.Reply.{kind_text, status_line, type_line, length_line, reply_head, reply_bytes};
 ghost use Rattle.http_bodies.specs.Reply.{key_lines, further_lines, refusal_reply, error_data, fault_reply};
-ghost use Rattle.http_bodies.specs.Reply.{json_text_reply, plain_reply};
+ghost use Rattle.http_bodies.specs.Reply.{shown_reply, policy_line, page_reply};
 
 use crate::refusals::{Method, Refusal};
+use club_page::{page, policy};
 use club_requests::Refusal as ClubRefusal;
 use http::StatusCode;
 use serde_json::{Value, json};
 use std::alloc::{AllocError, Global};
+
+/// What the bytes of a body are.
+#[derive(Clone, Copy, Debug, PartialEq, Eq)]
+pub enum Kind {
+    Json,
+    Plain,
+    Html,
+}
+
+// A kind as the head of a reply names it.
+fn kind_text(kind: Kind) -> &'static str
+    ensures { result.now ≡ kind_text kind }
+{
+    match kind {
+        Kind::Json => "application/json",
+        Kind::Plain => "text/plain",
+        Kind::Html => "text/html; charset=utf-8",
+    }
+}
 
 // The phrase of a status.
 fn phrase(status: u16) -> &'static str
@@ -54,14 +74,14 @@ fn reply_head(
     alloc: Global,
     status: u16,
     phrase: &str,
-    kind: &str,
+    kind: Kind,
     body_length: usize,
     further: &str,
 ) -> Result<String, AllocError>
-    ensures { IfOk result (λ s. string_bytes s ≡ reply_head status phrase.now kind.now body_length further.now) }
+    ensures { IfOk result (λ s. string_bytes s ≡ reply_head status phrase.now kind body_length further.now) }
 {
     let mut text = status_line(alloc, status, phrase)?;
-    let kind_line = type_line(alloc, kind)?;
+    let kind_line = type_line(alloc, kind_text(kind))?;
     let length_line = length_line(alloc, body_length)?;
     text.push_str(kind_line.as_str())?;
     text.push_str(length_line.as_str())?;
@@ -72,22 +92,23 @@ fn reply_head(
 }
 
 // A reply, of which the body may be left out.
-fn reply_text(
+fn reply_bytes(
     alloc: Global,
     status: u16,
-    kind: &str,
+    kind: Kind,
     further: &str,
-    body: &str,
+    body: &[u8],
     without_body: bool,
-) -> Result<String, AllocError>
+) -> Result<Vec<u8>, AllocError>
     requires { IsStatusCode status }
-    ensures { IfOk result (λ s. string_bytes s ≡ reply_text status kind.now further.now body.now without_body) }
+    ensures { IfOk result (λ v. v.items ≡ reply_bytes status kind further.now body.now without_body) }
 {
-    let mut text = reply_head(alloc, status, phrase(status), kind, body.len(), further)?;
+    let head = reply_head(alloc, status, phrase(status), kind, body.len(), further)?;
+    let mut bytes = head.into_bytes();
     if !without_body {
-        text.push_str(body)?;
+        bytes.extend_from_slice(body)?;
     }
-    Ok(text)
+    Ok(bytes)
 }
 
 // How a member shows who it is, where the club knows no such key.
@@ -127,26 +148,26 @@ pub fn text_of(alloc: Global, value: &Value) -> Result<String, AllocError>
     value.to_string(alloc)
 }
 
-/// A reply whose body is a value as JSON.
-pub fn json_reply(
+// A reply whose body is a value as JSON.
+fn json_reply(
     alloc: Global,
     status: u16,
     further: &str,
     value: &Value,
     without_body: bool,
-) -> Result<String, AllocError>
+) -> Result<Vec<u8>, AllocError>
     requires status { IsStatusCode status }
     requires value { has_float (view value.now) ≡ false }
-    ensures { IfOk result (λ s. string_bytes s ≡
-        reply_text status json_kind further.now (compact_text (view value.now)) without_body) }
+    ensures { IfOk result (λ v. v.items ≡
+        reply_bytes status Kind.Json further.now (compact_text (view value.now)) without_body) }
 {
     let body = text_of(alloc, value)?;
-    reply_text(
+    reply_bytes(
         alloc,
         status,
-        "application/json",
+        Kind::Json,
         further,
-        body.as_str(),
+        body.as_bytes(),
         without_body,
     )
 }
@@ -159,10 +180,10 @@ fn error_reply(
     number: u16,
     name: &str,
     without_body: bool,
-) -> Result<String, AllocError>
+) -> Result<Vec<u8>, AllocError>
     requires { IsStatusCode status }
-    ensures { IfOk result (λ s. string_bytes s ≡
-        reply_text status json_kind further.now (compact_text (error_data number name.now)) without_body) }
+    ensures { IfOk result (λ v. v.items ≡
+        reply_bytes status Kind.Json further.now (compact_text (error_data number name.now)) without_body) }
 {
     let value = error_value(alloc, u64::from(number), name)?;
     json_reply(alloc, status, further, &value, without_body)
@@ -173,8 +194,8 @@ pub fn refusal_reply(
     alloc: Global,
     refusal: Refusal,
     without_body: bool,
-) -> Result<String, AllocError>
-    ensures { IfOk result (λ s. string_bytes s ≡ refusal_reply refusal without_body) }
+) -> Result<Vec<u8>, AllocError>
+    ensures { IfOk result (λ v. v.items ≡ refusal_reply refusal without_body) }
 {
     error_reply(
         alloc,
@@ -186,18 +207,38 @@ pub fn refusal_reply(
     )
 }
 
-/// A reply at 200 with a text of JSON.
-pub fn json_text_reply(alloc: Global, text: &str, without_body: bool) -> Result<String, AllocError>
-    ensures { IfOk result (λ s. string_bytes s ≡ json_text_reply text.now without_body) }
+/// A reply at 200 with these bytes, which are of this kind.
+pub fn shown_reply(
+    alloc: Global,
+    kind: Kind,
+    body: &[u8],
+    without_body: bool,
+) -> Result<Vec<u8>, AllocError>
+    ensures { IfOk result (λ v. v.items ≡ shown_reply kind body.now without_body) }
 {
-    reply_text(alloc, 200, "application/json", "", text, without_body)
+    reply_bytes(alloc, 200, kind, "", body, without_body)
 }
 
-/// A reply at 200 with a text.
-pub fn plain_reply(alloc: Global, text: &str, without_body: bool) -> Result<String, AllocError>
-    ensures { IfOk result (λ s. string_bytes s ≡ plain_reply text.now without_body) }
+// What a browser lets a page do.
+fn policy_line(alloc: Global, policy: &str) -> Result<String, AllocError>
+    ensures { IfOk result (λ s. string_bytes s ≡ policy_line policy.now) }
 {
-    reply_text(alloc, 200, "text/plain", "", text, without_body)
+    format!(in alloc; "Content-Security-Policy: {policy}\r\n")
+}
+
+/// The reply that is the members' page, with its policy.
+pub fn page_reply(alloc: Global, without_body: bool) -> Result<Vec<u8>, AllocError>
+    ensures { IfOk result (λ v. v.items ≡ page_reply without_body) }
+{
+    let line = policy_line(alloc, policy())?;
+    reply_bytes(
+        alloc,
+        200,
+        Kind::Html,
+        line.as_str(),
+        page().as_bytes(),
+        without_body,
+    )
 }
 
 /// The reply of a fault of the store.
@@ -206,8 +247,8 @@ pub fn fault_reply(
     number: u16,
     name: &str,
     without_body: bool,
-) -> Result<String, AllocError>
-    ensures { IfOk result (λ s. string_bytes s ≡ fault_reply number name.now without_body) }
+) -> Result<Vec<u8>, AllocError>
+    ensures { IfOk result (λ v. v.items ≡ fault_reply number name.now without_body) }
 {
     error_reply(alloc, 503, "", number, name, without_body)
 }

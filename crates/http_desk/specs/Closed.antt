@@ -9,6 +9,6 @@ closed = record {
   has_key = λ s key. false;
   IsGame = λ s game found. ⊥;
   AreLegal = λ s game rows. ⊥;
-  AreLines = λ s event lines. ⊥;
+  IsShown = λ s moment question shown. ⊥;
   step = λ s request. (s, refused UnknownKey);
 }

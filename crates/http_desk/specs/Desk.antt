@@ -3,7 +3,8 @@ use Rattle.std.specs.Prelude.{◌≡◌, ◌⊎◌, ℕ, Bool, ◌&&◌, List, [
 use Rattle.std.specs.Prelude.{if◌then◌else◌, ⊤}
 use Rattle.std.specs.Str.{bytes_eq, is_utf8}
 use Rattle.serde_json.specs.Written.{compact_text}
-use Rattle.club_requests.specs.declared.refusals.Refusal.TheVariants.{UnknownKey, UnknownEvent, UnknownGame}
+use Rattle.club_requests.specs.declared.refusals.Refusal as of_club
+use Rattle.club_requests.specs.declared.refusals.Refusal.TheVariants.{UnknownKey, UnknownGame}
 use Rattle.club_requests.specs.Outcome.{Outcome, accepted, repeated, refused as declined}
 use Rattle.club_core.specs.State.{Command, key_holder, withdraw_challenge, on_game as game_command}
 use Rattle.club_core.specs.Step as play
@@ -15,46 +16,50 @@ use Rattle.http_bodies.specs.declared.refusals.Refusal.TheVariants.{Head, NoRout
 use Rattle.http_desk.specs.declared.faults.ClubFault.{ClubFault}
 use Rattle.http_desk.specs.Faults.{club_fault_number, club_fault_name}
 use Rattle.http_desk.specs.Routes.{Turn, make_move, offer_draw, accept_draw, resign, claim_time, declare}
-use Rattle.http_desk.specs.Routes.{Asked, game_view}
-use Rattle.http_desk.specs.Routes.{legal_moves, cross_table, on_game, challenge, withdraw, answer, asked_of, method_of}
-use Rattle.http_bodies.specs.Reply.{refusal_reply, json_text_reply, plain_reply, fault_reply}
+use Rattle.http_desk.specs.Routes.{Asking, Asked, members_page, game_view, legal_moves, question, on_game, challenge}
+use Rattle.http_desk.specs.Routes.{withdraw, answer, asked_of, method_of, is_for_all}
+use Rattle.http_desk.specs.Questions.{Asks}
+use Rattle.club_questions.specs.declared.questions.Question.{Question}
+use Rattle.http_bodies.specs.declared.reply.Kind.{Kind}
+use Rattle.http_bodies.specs.declared.reply.Kind.TheVariants.{Json}
+use Rattle.http_bodies.specs.Reply.{refusal_reply, shown_reply, page_reply, fault_reply}
 use Rattle.http_bodies.specs.Shown.{GameShown}
-use Rattle.http_bodies.specs.Bodies.{game_data, moves_data, reply_data, lined, move_text, challenge_of, answer_of}
+use Rattle.http_bodies.specs.Bodies.{game_data, moves_data, reply_data, move_text, challenge_of, answer_of}
 use Rattle.http_desk.specs.Served.{Club, IsOfCall, Serves}
 use Rattle.http_desk.specs.declared.desk.Fault.{Fault}
 use Rattle.http_desk.specs.declared.desk.Fault.TheVariants as stop
 
--- what a reply shows: JSON is its text
+-- what a reply shows
 pub data Answer : Type 0 where
   refusal : Refusal → Answer
-  shows : List ℕ → Answer
-  plain : List ℕ → Answer
+  shows : Kind → List ℕ → Answer
+  shows_page : Answer
 
 abbrev pub answer_reply : Answer → Bool → List ℕ
 answer_reply (refusal r) without_body = refusal_reply r without_body
-answer_reply (shows text) without_body = json_text_reply text without_body
-answer_reply (plain text) without_body = plain_reply text without_body
+answer_reply (shows kind bytes) without_body = shown_reply kind bytes without_body
+answer_reply shows_page without_body = page_reply without_body
 
--- what is to be answered: this, or a page that the club shows
+-- what is to be answered: this, a page that the club shows, or what it shows at a moment to one who asks
 pub data Due : Type 0 where
   this : Answer → Due
   game_page : (game : ℕ) → Due
   legal_page : (game : ℕ) → Due
-  table_page : (event : List ℕ) → Due
+  question_page : (moment : ℕ) → Asking → (key : List ℕ) → Due
 
 -- ---- pages
 
 abbrev pub game_answer : ℕ → Option GameShown → Answer
 game_answer id None = refusal (OfClub UnknownGame)
-game_answer id (Some game) = shows (compact_text (game_data id game))
+game_answer id (Some game) = shows Json (compact_text (game_data id game))
 
 abbrev pub legal_answer : Option (List (List ℕ)) → Answer
 legal_answer None = refusal (OfClub UnknownGame)
-legal_answer (Some rows) = shows (compact_text (moves_data rows))
+legal_answer (Some rows) = shows Json (compact_text (moves_data rows))
 
-abbrev pub table_answer : Option (List (List ℕ)) → Answer
-table_answer None = refusal (OfClub UnknownEvent)
-table_answer (Some lines) = plain (lined lines)
+abbrev pub question_answer : Kind → Result (List ℕ) of_club.Refusal → Answer
+question_answer kind (Ok bytes) = shows kind bytes
+question_answer kind (Err r) = refusal (OfClub r)
 
 -- the answer is the one that is due in a state
 abbrev pub IsDue : {S : Type 0} → Club S → S → Due → Answer → Type 0
@@ -62,8 +67,9 @@ IsDue club s (this expected) given = given ≡ expected
 IsDue club s (game_page id) given = (found : Option GameShown) × club.IsGame s id found × (given ≡ game_answer id found)
 IsDue club s (legal_page id) given = (rows : Option (List (List ℕ))) × club.AreLegal s id rows
     × (given ≡ legal_answer rows)
-IsDue club s (table_page event) given = (lines : Option (List (List ℕ))) × club.AreLines s event lines
-    × (given ≡ table_answer lines)
+IsDue club s (question_page moment asking key) given = (about : Question × Kind) × Asks asking key about
+    × (shown : Result (List ℕ) of_club.Refusal) × club.IsShown s moment about.0 shown
+    × (given ≡ question_answer about.1 shown)
 
 -- ---- commands
 
@@ -82,8 +88,8 @@ command_given (declare ply) body = Some (play.declare ply)
 
 -- accepted and repeated commands have the same answer
 abbrev pub outcome_answer : ℕ → Outcome (Unit {0}) → Answer
-outcome_answer id (accepted after reply) = shows (compact_text (reply_data id reply))
-outcome_answer id (repeated reply) = shows (compact_text (reply_data id reply))
+outcome_answer id (accepted after reply) = shows Json (compact_text (reply_data id reply))
+outcome_answer id (repeated reply) = shows Json (compact_text (reply_data id reply))
 outcome_answer id (declined r) = refusal (OfClub r)
 
 abbrev pub told_outcome : {S : Type 0} → ℕ → S × Outcome (Unit {0}) → S × Due
@@ -103,9 +109,10 @@ is_method bytes Post = bytes_eq bytes (codes "POST")
 
 -- a page, for a member
 abbrev pub serve_page : {S : Type 0} → Club S → S → ℕ → List ℕ → List ℕ → Asked → S × Due
+serve_page club s moment key body members_page = (s, this shows_page)
 serve_page club s moment key body (game_view id) = (s, game_page id)
 serve_page club s moment key body (legal_moves id) = (s, legal_page id)
-serve_page club s moment key body (cross_table event) = (s, table_page event)
+serve_page club s moment key body (question asking) = (s, question_page moment asking key)
 serve_page club s moment key body (on_game id turn) =
     serve_command club s moment key id (option_map (game_command id) (command_given turn body))
 serve_page club s moment key body (challenge n) = serve_command club s moment key n (challenge_of n body)
@@ -118,11 +125,16 @@ serve_known club s moment (Some key) body asked =
     if is_utf8 key && club.has_key s key then serve_page club s moment key body
     asked else (s, this (refusal (OfClub UnknownKey)))
 
+-- what anybody is shown, or a page for the bearer of a key
+abbrev pub serve_caller : {S : Type 0} → Club S → S → ℕ → Option (List ℕ) → List ℕ → Asked → S × Due
+serve_caller club s moment key body asked =
+    if is_for_all asked then (s, this shows_page) else serve_known club s moment key body asked
+
 abbrev pub serve_asked : {S : Type 0} → Club S → S → ℕ → Request → Option Asked → S × Due
 serve_asked club s moment request None = (s, this (refusal NoRoute))
 serve_asked club s moment request (Some asked) =
     if is_method request.method (method_of asked)
-    then serve_known club s moment request.key request.body asked
+    then serve_caller club s moment request.key request.body asked
     else (s, this (refusal (WrongMethod (method_of asked))))
 
 -- the state behind a whole request, and the answer that is due to it
@@ -182,10 +194,14 @@ abbrev pub shut_known : ClubFault → Option (List ℕ) → Result Answer ClubFa
 shut_known fault None = Ok (refusal (OfClub UnknownKey))
 shut_known fault (Some key) = if is_utf8 key then Err fault else Ok (refusal (OfClub UnknownKey))
 
+-- the page is shown all the same
+abbrev pub shut_caller : ClubFault → Option (List ℕ) → Asked → Result Answer ClubFault
+shut_caller fault key asked = if is_for_all asked then Ok shows_page else shut_known fault key
+
 abbrev pub shut_asked : ClubFault → Request → Option Asked → Result Answer ClubFault
 shut_asked fault request None = Ok (refusal NoRoute)
 shut_asked fault request (Some asked) =
-    if is_method request.method (method_of asked) then shut_known fault request.key else Ok
+    if is_method request.method (method_of asked) then shut_caller fault request.key asked else Ok
     (refusal (WrongMethod (method_of asked)))
 
 unfoldable pub shut_serve : ClubFault → Request → Result Answer ClubFault

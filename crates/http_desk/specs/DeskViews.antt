@@ -1,5 +1,5 @@
 -- What an answer of the code, and a command that it makes, stand for.
-use Rattle.std.specs.Prelude.{◌≡◌, Option, Result, Ok, Err, option_map, string_bytes}
+use Rattle.std.specs.Prelude.{◌≡◌, Option, Result, Ok, Err, option_map}
 use Rattle.club_requests.specs.declared.requests.GameCommand as given
 use Rattle.club_core.specs.Answer.{game_command_of}
 use Rattle.club_core.specs.Step.{GameCommand}
@@ -8,12 +8,12 @@ use Rattle.http_desk.specs.declared.desk.Shown.TheVariants as variants
 use Rattle.http_desk.specs.declared.desk.Fault.{Fault}
 use Rattle.http_desk.specs.declared.desk.Fault.TheVariants as faults
 use Rattle.http_desk.specs.declared.faults.ClubFault.{ClubFault}
-use Rattle.http_desk.specs.Desk.{Answer, refusal, shows, plain}
+use Rattle.http_desk.specs.Desk.{Answer, refusal, shows, shows_page}
 
 abbrev pub answer_view : code.Shown → Answer
 answer_view (variants.Refused r) = refusal r
-answer_view (variants.Shows value) = shows (string_bytes value)
-answer_view (variants.Plain text) = plain (string_bytes text)
+answer_view (variants.Shows kind bytes) = shows kind bytes.items
+answer_view variants.Page = shows_page
 
 abbrev pub command_view : Option given.GameCommand → Option GameCommand
 command_view command = option_map game_command_of command

@@ -4,7 +4,11 @@ use Rattle.http_desk.specs.declared.routes.Turn.TheVariants as turn
 use Rattle.http_desk.specs.declared.routes.Asked as given
 use Rattle.http_desk.specs.declared.routes.Asked.TheVariants as asked
 use Rattle.http_desk.specs.Routes.{Turn, make_move, offer_draw, accept_draw, resign, claim_time, declare}
-use Rattle.http_desk.specs.Routes.{Asked, game_view, legal_moves, cross_table, on_game, challenge, withdraw, answer}
+use Rattle.http_desk.specs.declared.questions.Asking as given_asking
+use Rattle.http_desk.specs.declared.questions.Asking.TheVariants as asking
+use Rattle.http_desk.specs.Routes.{Asking, of_game, of_event, of_member}
+use Rattle.http_desk.specs.Routes.{Asked, members_page, game_view, legal_moves, question, on_game, challenge}
+use Rattle.http_desk.specs.Routes.{withdraw, answer}
 
 abbrev pub turn_view : given_turn.Turn → Turn
 turn_view (turn.MakeMove ply) = make_move ply
@@ -14,10 +18,16 @@ turn_view turn.Resign = resign
 turn_view turn.ClaimTime = claim_time
 turn_view (turn.Declare ply) = declare ply
 
+abbrev pub asking_view : given_asking.Asking → Asking
+asking_view (asking.OfGame topic game) = of_game topic game
+asking_view (asking.OfEvent topic event) = of_event topic event.now
+asking_view (asking.OfMember topic) = of_member topic
+
 abbrev pub asked_view : given.Asked → Asked
+asked_view asked.MembersPage = members_page
 asked_view (asked.GameView game) = game_view game
 asked_view (asked.LegalMoves game) = legal_moves game
-asked_view (asked.CrossTable event) = cross_table event.now
+asked_view (asked.Question about) = question (asking_view about)
 asked_view (asked.OnGame game turn) = on_game game (turn_view turn)
 asked_view (asked.Challenge number) = challenge number
 asked_view (asked.Withdraw number) = withdraw number

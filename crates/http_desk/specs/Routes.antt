@@ -1,6 +1,6 @@
 -- What a target asks for.
 use Rattle.std.specs.Prelude.{ℕ, Bool, ◌&&◌, ◌==◌, List, [], ◌∷◌, Option, Some, None, Result, Ok, Err, option_map}
-use Rattle.std.specs.Prelude.{codes, length, take, drop, nat_lt, if◌then◌else◌}
+use Rattle.std.specs.Prelude.{codes, length, take, drop, nat_lt, if◌then◌else◌, true, false}
 use Rattle.std.specs.Str.{bytes_eq, is_utf8}
 use Rattle.matchit.specs.Rows.{RowsOf}
 use Rattle.matchit.specs.Router.{RouteOf, route_from}
@@ -9,9 +9,15 @@ use Rattle.matchit.specs.Route.{Scan, parse_route}
 use Rattle.matchit.specs.Seek.{first}
 use Rattle.matchit.specs.declared.error.InsertError.{InsertError}
 use Rattle.http_desk.specs.declared.routes.Page.{Page}
-use Rattle.http_desk.specs.declared.routes.Page.TheVariants.{GameView, LegalMoves, CrossTable, MakeMove, OfferDraw}
-use Rattle.http_desk.specs.declared.routes.Page.TheVariants.{AcceptDraw, Resign, ClaimTime, Declare}
-use Rattle.http_desk.specs.declared.routes.Page.TheVariants.{Challenge, Withdraw, Answer}
+use Rattle.http_desk.specs.declared.routes.Page.TheVariants.{GameView, LegalMoves, AskGame, AskEvent, AskMember}
+use Rattle.http_desk.specs.declared.routes.Page.TheVariants.{MakeMove, OfferDraw, AcceptDraw, Resign, ClaimTime, Declare}
+use Rattle.http_desk.specs.declared.routes.Page.TheVariants.{Challenge, Withdraw, Answer, Members}
+use Rattle.http_desk.specs.declared.questions.OfGame.{OfGame}
+use Rattle.http_desk.specs.declared.questions.OfGame.TheVariants.{Record, Clock}
+use Rattle.http_desk.specs.declared.questions.OfEvent.{OfEvent}
+use Rattle.http_desk.specs.declared.questions.OfEvent.TheVariants as of_events
+use Rattle.http_desk.specs.declared.questions.OfMember.{OfMember}
+use Rattle.http_desk.specs.declared.questions.OfMember.TheVariants as of_members
 use Rattle.http_bodies.specs.declared.refusals.Method.{Method}
 use Rattle.http_bodies.specs.declared.refusals.Method.TheVariants.{Get, Post}
 use Rattle.http_head.specs.Head.{number_of}
@@ -54,7 +60,8 @@ with_route (Err e) page rows = rows
 
 unfoldable pub routes : RowsOf (RouteOf Page)
 routes =
-    with_route (parse_route (codes "/answers/{member}/{number}")) Answer
+    with_route (parse_route (codes "/play")) Members
+    (with_route (parse_route (codes "/answers/{member}/{number}")) Answer
     (with_route (parse_route (codes "/challenges/{number}/withdraw")) Withdraw
     (with_route (parse_route (codes "/challenges/{number}")) Challenge
     (with_route (parse_route (codes "/games/{id}/declare/{ply}")) Declare
@@ -63,9 +70,14 @@ routes =
     (with_route (parse_route (codes "/games/{id}/draw/{ply}/accept")) AcceptDraw
     (with_route (parse_route (codes "/games/{id}/draw/{ply}/offer")) OfferDraw
     (with_route (parse_route (codes "/games/{id}/moves/{ply}")) MakeMove
-    (with_route (parse_route (codes "/events/{name}/table")) CrossTable
+    (with_route (parse_route (codes "/me/events")) (AskMember of_members.Events)
+    (with_route (parse_route (codes "/me")) (AskMember of_members.Games)
+    (with_route (parse_route (codes "/events/{name}/games")) (AskEvent of_events.Games)
+    (with_route (parse_route (codes "/events/{name}/table")) (AskEvent of_events.Table)
+    (with_route (parse_route (codes "/games/{id}/clock")) (AskGame Clock)
+    (with_route (parse_route (codes "/games/{id}/record")) (AskGame Record)
     (with_route (parse_route (codes "/games/{id}/legal")) LegalMoves
-    (with_route (parse_route (codes "/games/{id}")) GameView [])))))))))))
+    (with_route (parse_route (codes "/games/{id}")) GameView [])))))))))))))))))
 
 -- the page that `matchit` gives of a path
 abbrev pub page_of : List ℕ → Option Page
@@ -90,15 +102,28 @@ pub data Turn : Type 0 where
   claim_time : Turn
   declare : (ply : ℕ) → Turn
 
+-- what a path asks the club: of a game, of an event, or of the member who shows the key
+pub data Asking : Type 0 where
+  of_game : OfGame → (game : ℕ) → Asking
+  of_event : OfEvent → (event : List ℕ) → Asking
+  of_member : OfMember → Asking
+
 -- what a path asks for
 pub data Asked : Type 0 where
+  members_page : Asked
   game_view : (game : ℕ) → Asked
   legal_moves : (game : ℕ) → Asked
-  cross_table : (event : List ℕ) → Asked
+  question : Asking → Asked
   on_game : (game : ℕ) → Turn → Asked
   challenge : (number : ℕ) → Asked
   withdraw : (number : ℕ) → Asked
   answer : (member : List ℕ) → (number : ℕ) → Asked
+
+abbrev pub about_game : OfGame → ℕ → Asked
+about_game topic game = question (of_game topic game)
+
+abbrev pub about_event : OfEvent → List ℕ → Asked
+about_event topic event = question (of_event topic event)
 
 abbrev pub turn_asked : Turn → Option ℕ → Option Asked
 turn_asked turn None = None
@@ -119,9 +144,12 @@ text_of bytes = if is_utf8 bytes then Some bytes else None
 
 abbrev pub asked_of_page : Option Page → List ℕ → Option Asked
 asked_of_page None path = None
+asked_of_page (Some Members) path = Some members_page
 asked_of_page (Some GameView) path = option_map game_view (number_of (second_part path))
 asked_of_page (Some LegalMoves) path = option_map legal_moves (number_of (second_part path))
-asked_of_page (Some CrossTable) path = option_map cross_table (text_of (second_part path))
+asked_of_page (Some (AskGame topic)) path = option_map (about_game topic) (number_of (second_part path))
+asked_of_page (Some (AskEvent topic)) path = option_map (about_event topic) (text_of (second_part path))
+asked_of_page (Some (AskMember topic)) path = Some (question (of_member topic))
 asked_of_page (Some MakeMove) path = ply_asked make_move (number_of (second_part path)) (number_of (fourth_part path))
 asked_of_page (Some OfferDraw) path = ply_asked offer_draw (number_of (second_part path)) (number_of (fourth_part path))
 asked_of_page (Some AcceptDraw) path = ply_asked accept_draw (number_of (second_part path))
@@ -142,10 +170,22 @@ asked_of target = asked_of_path (path_of target)
 
 -- the one method that serves it
 abbrev pub method_of : Asked → Method
+method_of members_page = Get
 method_of (game_view game) = Get
 method_of (legal_moves game) = Get
-method_of (cross_table event) = Get
+method_of (question asking) = Get
 method_of (on_game game turn) = Post
 method_of (challenge number) = Post
 method_of (withdraw number) = Post
 method_of (answer member number) = Post
+
+-- whether anybody is shown it, with or without a key
+abbrev pub is_for_all : Asked → Bool
+is_for_all members_page = true
+is_for_all (game_view game) = false
+is_for_all (legal_moves game) = false
+is_for_all (question asking) = false
+is_for_all (on_game game turn) = false
+is_for_all (challenge number) = false
+is_for_all (withdraw number) = false
+is_for_all (answer member number) = false

@@ -1,6 +1,8 @@
 -- A club as the desk sees it, and what a call on it leaves.
 use Rattle.std.specs.Prelude.{◌≡◌, ◌⊎◌, ℕ, Bool, List, Option, Result, Ok, Err}
 use Rattle.club_requests.specs.Outcome.{Outcome}
+use Rattle.club_requests.specs.declared.refusals.Refusal.{Refusal}
+use Rattle.club_questions.specs.declared.questions.Question.{Question}
 use Rattle.club_core.specs.State.{Request}
 use Rattle.http_bodies.specs.Shown.{GameShown}
 use Rattle.http_desk.specs.declared.faults.ClubFault.{ClubFault}
@@ -14,8 +16,8 @@ pub record Club (S : Type 0) : Type 1 where
   pub IsGame : S → ℕ → Option GameShown → Type 0
   -- its legal moves as they are written, in their order
   pub AreLegal : S → ℕ → Option (List (List ℕ)) → Type 0
-  -- the lines of the cross table of the event of that name
-  pub AreLines : S → List ℕ → Option (List (List ℕ)) → Type 0
+  -- the bytes that a question is shown at a moment, or why there are none
+  pub IsShown : S → ℕ → Question → Result (List ℕ) Refusal → Type 0
   -- the state after a request, and its answer
   pub step : S → Request → S × Outcome (Unit {0})
 

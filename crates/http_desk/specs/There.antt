@@ -3,9 +3,12 @@ use Rattle.std.specs.Prelude.{◌≡◌, ℕ, List, Some, option_map, Ok, codes}
 use Rattle.matchit.specs.Order.{lookup}
 use Rattle.matchit.specs.Route.{Scan, parse_route}
 use Rattle.http_desk.specs.declared.routes.Page.{Page}
-use Rattle.http_desk.specs.declared.routes.Page.TheVariants.{GameView, LegalMoves, CrossTable, MakeMove, OfferDraw}
-use Rattle.http_desk.specs.declared.routes.Page.TheVariants.{AcceptDraw, Resign, ClaimTime, Declare}
-use Rattle.http_desk.specs.declared.routes.Page.TheVariants.{Challenge, Withdraw, Answer}
+use Rattle.http_desk.specs.declared.routes.Page.TheVariants.{GameView, LegalMoves, AskGame, AskEvent, AskMember}
+use Rattle.http_desk.specs.declared.routes.Page.TheVariants.{MakeMove, OfferDraw, AcceptDraw, Resign, ClaimTime, Declare}
+use Rattle.http_desk.specs.declared.routes.Page.TheVariants.{Challenge, Withdraw, Answer, Members}
+use Rattle.http_desk.specs.declared.questions.OfGame.TheVariants.{Record, Clock}
+use Rattle.http_desk.specs.declared.questions.OfEvent.TheVariants as of_events
+use Rattle.http_desk.specs.declared.questions.OfMember.TheVariants as of_members
 use Rattle.http_desk.specs.Routes.{page_of, routes}
 
 -- the text of a route reads, and its pattern leads to the page
@@ -17,7 +20,12 @@ pub record LeadsTo (text : List ℕ) (page : Page) : Type 0 where
 pub record AreThere : Type 0 where
   pub game : LeadsTo (codes "/games/{id}") GameView
   pub legal : LeadsTo (codes "/games/{id}/legal") LegalMoves
-  pub table : LeadsTo (codes "/events/{name}/table") CrossTable
+  pub records : LeadsTo (codes "/games/{id}/record") (AskGame Record)
+  pub clock : LeadsTo (codes "/games/{id}/clock") (AskGame Clock)
+  pub table : LeadsTo (codes "/events/{name}/table") (AskEvent of_events.Table)
+  pub games : LeadsTo (codes "/events/{name}/games") (AskEvent of_events.Games)
+  pub mine : LeadsTo (codes "/me") (AskMember of_members.Games)
+  pub inviting : LeadsTo (codes "/me/events") (AskMember of_members.Events)
   pub moves : LeadsTo (codes "/games/{id}/moves/{ply}") MakeMove
   pub offer : LeadsTo (codes "/games/{id}/draw/{ply}/offer") OfferDraw
   pub accept : LeadsTo (codes "/games/{id}/draw/{ply}/accept") AcceptDraw
@@ -27,12 +35,18 @@ pub record AreThere : Type 0 where
   pub opens : LeadsTo (codes "/challenges/{number}") Challenge
   pub withdraws : LeadsTo (codes "/challenges/{number}/withdraw") Withdraw
   pub answers : LeadsTo (codes "/answers/{member}/{number}") Answer
+  pub play : LeadsTo (codes "/play") Members
 
 -- the page of a path of each kind
 pub record AreFound : Type 0 where
   pub game : page_of (codes "/games/7") ≡ Some GameView
   pub legal : page_of (codes "/games/7/legal") ≡ Some LegalMoves
-  pub table : page_of (codes "/events/autumn/table") ≡ Some CrossTable
+  pub records : page_of (codes "/games/7/record") ≡ Some (AskGame Record)
+  pub clock : page_of (codes "/games/7/clock") ≡ Some (AskGame Clock)
+  pub table : page_of (codes "/events/autumn/table") ≡ Some (AskEvent of_events.Table)
+  pub games : page_of (codes "/events/autumn/games") ≡ Some (AskEvent of_events.Games)
+  pub mine : page_of (codes "/me") ≡ Some (AskMember of_members.Games)
+  pub inviting : page_of (codes "/me/events") ≡ Some (AskMember of_members.Events)
   pub moves : page_of (codes "/games/7/moves/5") ≡ Some MakeMove
   pub offer : page_of (codes "/games/7/draw/5/offer") ≡ Some OfferDraw
   pub accept : page_of (codes "/games/7/draw/5/accept") ≡ Some AcceptDraw
@@ -42,3 +56,4 @@ pub record AreFound : Type 0 where
   pub opens : page_of (codes "/challenges/3") ≡ Some Challenge
   pub withdraws : page_of (codes "/challenges/3/withdraw") ≡ Some Withdraw
   pub answers : page_of (codes "/answers/anna/3") ≡ Some Answer
+  pub play : page_of (codes "/play") ≡ Some Members

@@ -3,7 +3,8 @@
 use crate::faults::ClubFault;
 use crate::served::ServedClub;
 use clocks::Moment;
-use club_requests::{Command, Outcome, Who};
+use club_questions::Question;
+use club_requests::{Command, Outcome, Refusal, Who};
 use http_bodies::GameShown;
 use std::alloc::Global;
 
@@ -41,11 +42,12 @@ impl ServedClub for Closed {
         Err(self.fault)
     }
 
-    fn table_lines(
+    fn ask(
         &mut self,
         _alloc: Global,
-        _event: &str,
-    ) -> Result<Option<Vec<String>>, ClubFault> {
+        _question: &Question,
+        _moment: Moment,
+    ) -> Result<Result<Vec<u8>, Refusal>, ClubFault> {
         Err(self.fault)
     }
 

@@ -5,6 +5,7 @@ ghost use Rattle.club_core.specs.Answer.{command_of, game_command_of, outcome_of
 ghost use Rattle.club_core.specs.State.{key_holder, on_game, withdraw_challenge};
 ghost use Rattle.http_desk.specs.RouteViews.{turn_view};
 ghost use Rattle.http_bodies.specs.Bodies.{reply_data};
+ghost use Rattle.http_bodies.specs.declared.reply.Kind.TheVariants.{Json};
 ghost use Rattle.http_desk.specs.Desk.{shows, command_given, outcome_answer, serve_command, ServesDue};
 ghost use Rattle.http_desk.specs.DeskViews.{answer_view, command_view};
 
@@ -13,7 +14,7 @@ use crate::routes::Turn;
 use crate::served::ServedClub;
 use clocks::Moment;
 use club_requests::{Answer, Command, GameCommand, OnGame, Outcome, Who, Withdraw};
-use http_bodies::{Refusal, answer_text, move_text};
+use http_bodies::{Kind, Refusal, answer_text, move_text};
 use std::alloc::{AllocError, Global};
 
 // What a path and a body give to do in a game.
@@ -44,10 +45,10 @@ fn command_given(alloc: Global, turn: Turn, body: &[u8]) -> Result<Option<GameCo
 
 // The answer to a command that stands.
 fn answer_shown(alloc: Global, game: u32, answer: Answer) -> Result<Shown, AllocError>
-    ensures { IfOk result (λ shown. answer_view shown ≡ shows (compact_text (reply_data game (reply_of answer)))) }
+    ensures { IfOk result (λ shown. answer_view shown ≡ shows Json (compact_text (reply_data game (reply_of answer)))) }
 {
     let text = answer_text(alloc, game, answer)?;
-    Ok(Shown::Shows(text))
+    Ok(Shown::Shows(Kind::Json, text.into_bytes()))
 }
 
 // What a command is answered: the same whether it was accepted now or before.

@@ -1,24 +1,24 @@
 //! The answer to a request.
-ghost use Rattle.std.specs.Prelude.{◌≡◌, IfOk, IfErr, option_map, option_and_then, string_bytes};
+ghost use Rattle.std.specs.Prelude.{◌≡◌, IfOk, IfErr, option_map, option_and_then};
 ghost use Rattle.http_head.specs.Request.{whole};
 ghost use Rattle.http_head.specs.RequestViews.{request_view, seen_view};
 ghost use Rattle.http_desk.specs.RouteViews.{asked_view};
 ghost use Rattle.http_desk.specs.Routes.{text_of};
-ghost use Rattle.http_desk.specs.Desk.{is_method, answer_reply, serve_page, serve_known, serve_asked, serve, ServesDue};
-ghost use Rattle.http_desk.specs.Desk.{RepliesTo, Answers, shut_known, shut_asked, shut_serve, shut_text, shut_reply};
-ghost use Rattle.http_desk.specs.Desk.{IsShutReply};
+ghost use Rattle.http_desk.specs.Desk.{is_method, answer_reply, serve_page, serve_known, serve_caller, serve_asked, serve};
+ghost use Rattle.http_desk.specs.Desk.{ServesDue, RepliesTo, Answers, shut_known, shut_caller, shut_asked, shut_serve};
+ghost use Rattle.http_desk.specs.Desk.{shut_text, shut_reply, IsShutReply};
 ghost use Rattle.http_desk.specs.DeskViews.{answer_view, IsShutBy};
 
 use crate::commands::{serve_command, turn_given, withdrawal};
 use crate::faults::{ClubFault, DeskFault};
-use crate::pages::{serve_game, serve_legal, serve_table};
+use crate::pages::{serve_game, serve_legal, serve_question};
 use crate::routes::{Asked, asked_of, text_of};
 use crate::served::ServedClub;
 use clocks::Moment;
 use club_requests::Refusal as ClubRefusal;
 use http_bodies::{
-    Method, Refusal, answer_of, challenge_of, fault_reply, json_text_reply, plain_reply,
-    refusal_reply,
+    Kind, Method, Refusal, answer_of, challenge_of, fault_reply, page_reply, refusal_reply,
+    shown_reply,
 };
 use http_head::{Request, Seen, read_request};
 use matchit::InsertError;
@@ -28,9 +28,9 @@ use std::alloc::{AllocError, Global};
 #[derive(Drop)]
 pub(crate) enum Shown {
     Refused(Refusal),
-    /// JSON, as text.
-    Shows(String),
-    Plain(String),
+    Shows(Kind, Vec<u8>),
+    /// The page on which members play.
+    Page,
 }
 
 /// Why there is no answer.
@@ -88,9 +88,10 @@ fn serve_page<C: ServedClub>(
         (serve_page C.club s moment key.now body.now (asked_view asked.entry)) result }
 {
     match asked {
+        Asked::MembersPage => Ok(Shown::Page),
         Asked::GameView(game) => serve_game(alloc, club, game),
         Asked::LegalMoves(game) => serve_legal(alloc, club, game),
-        Asked::CrossTable(event) => serve_table(alloc, club, event),
+        Asked::Question(asking) => serve_question(alloc, club, key, asking, moment),
         Asked::OnGame(game, turn) => {
             let command = turn_given(alloc, game, turn, body)?;
             serve_command(alloc, club, key, game, command, moment)
@@ -158,6 +159,29 @@ fn serve_known<C: ServedClub>(
     }
 }
 
+// What anybody is shown, or a page for the bearer of a key.
+fn serve_caller<C: ServedClub>(
+    alloc: Global,
+    club: &mut C,
+    request: &Request<'_>,
+    asked: Asked<'_>,
+    moment: Moment,
+) -> Result<Shown, Fault>
+    ensures clean { C.IsClean club.new → C.IsClean club.old }
+    ensures shut { (fault : ClubFault) → C.IsShut club.old fault → C.IsShut club.new fault ×
+        IsShutBy (shut_caller fault (request_view request.now).key (asked_view asked.entry)) result }
+    ensures serves { C.IsClean club.new → (s : C.State) → C.Stands club.old s →
+        ServesDue C.club (C.Stands club.new) (C.Leaves club.new) answer_view s
+        (serve_caller C.club s moment (request_view request.now).key (request_view request.now).body
+        (asked_view asked.entry)) result }
+{
+    if asked.is_for_all() {
+        Ok(Shown::Page)
+    } else {
+        serve_known(alloc, club, request.key, request.body, asked, moment)
+    }
+}
+
 // What a request asks for, by its method.
 fn serve_asked<C: ServedClub>(
     alloc: Global,
@@ -178,7 +202,7 @@ fn serve_asked<C: ServedClub>(
         Some(asked) => {
             let method = asked.method();
             if is_method(request.method, method) {
-                serve_known(alloc, club, request.key, request.body, asked, moment)
+                serve_caller(alloc, club, request, asked, moment)
             } else {
                 Ok(Shown::Refused(Refusal::WrongMethod(method)))
             }
@@ -206,13 +230,13 @@ fn serve<C: ServedClub>(
 }
 
 // The reply that shows an answer.
-fn answer_reply(alloc: Global, answer: Shown, without_body: bool) -> Result<String, AllocError>
-    ensures { IfOk result (λ t. string_bytes t ≡ answer_reply (answer_view answer) without_body) }
+fn answer_reply(alloc: Global, answer: Shown, without_body: bool) -> Result<Vec<u8>, AllocError>
+    ensures { IfOk result (λ v. v.items ≡ answer_reply (answer_view answer) without_body) }
 {
     match answer {
         Shown::Refused(refusal) => refusal_reply(alloc, refusal, without_body),
-        Shown::Shows(text) => json_text_reply(alloc, text.as_str(), without_body),
-        Shown::Plain(text) => plain_reply(alloc, text.as_str(), without_body),
+        Shown::Shows(kind, bytes) => shown_reply(alloc, kind, &bytes, without_body),
+        Shown::Page => page_reply(alloc, without_body),
     }
 }
 
@@ -223,13 +247,13 @@ fn reply_whole<C: ServedClub>(
     request: &Request<'_>,
     moment: Moment,
     without_body: bool,
-) -> Result<String, DeskFault>
+) -> Result<Vec<u8>, DeskFault>
     ensures fault { IfErr result (λ e. e ≡ DeskFault.Memory) }
     ensures clean { C.IsClean club.new → C.IsClean club.old }
     ensures shut { (fault : ClubFault) → C.IsShut club.old fault → C.IsShut club.new fault ×
-        IfOk result (λ t. string_bytes t ≡ shut_text (shut_serve fault (request_view request.now)) without_body) }
+        IfOk result (λ v. v.items ≡ shut_text (shut_serve fault (request_view request.now)) without_body) }
     ensures replies { C.IsClean club.new → (s : C.State) → C.Stands club.old s →
-        RepliesTo C.club (C.Stands club.new) (C.Leaves club.new) (λ t. string_bytes t) s moment without_body
+        RepliesTo C.club (C.Stands club.new) (C.Leaves club.new) (λ v. v.items) s moment without_body
         (whole (request_view request.now)) result }
 {
     match serve(alloc, club, request, moment) {
@@ -252,17 +276,17 @@ fn reply<C: ServedClub>(
     seen: Seen<'_>,
     moment: Moment,
     without_body: bool,
-) -> Result<String, DeskFault>
+) -> Result<Vec<u8>, DeskFault>
     ensures fault { IfErr result (λ e. e ≡ DeskFault.Memory) }
     ensures clean { C.IsClean club.new → C.IsClean club.old }
     ensures shut { (fault : ClubFault) → C.IsShut club.old fault → C.IsShut club.new fault ×
-        IfOk result (λ t. string_bytes t ≡ shut_reply fault without_body (seen_view seen.entry)) }
+        IfOk result (λ v. v.items ≡ shut_reply fault without_body (seen_view seen.entry)) }
     ensures replies { C.IsClean club.new → (s : C.State) → C.Stands club.old s →
-        RepliesTo C.club (C.Stands club.new) (C.Leaves club.new) (λ t. string_bytes t) s moment without_body
+        RepliesTo C.club (C.Stands club.new) (C.Leaves club.new) (λ v. v.items) s moment without_body
         (seen_view seen.entry) result }
 {
     match seen {
-        Seen::Unfinished => Ok(String::new(alloc)),
+        Seen::Unfinished => Ok(Vec::new(alloc)),
         Seen::Refused(refusal) => {
             let reply = refusal_reply(alloc, Refusal::Head(refusal), without_body)?;
             Ok(reply)
@@ -288,5 +312,5 @@ pub fn answer<C: ServedClub>(
 {
     let reading = read_request(bytes);
     let reply = reply(alloc, club, reading.seen, moment, reading.asks_head)?;
-    Ok(reply.into_bytes())
+    Ok(reply)
 }

@@ -7,6 +7,7 @@ pub mod desk;
 pub mod faults;
 pub mod laws;
 mod pages;
+pub mod questions;
 pub mod routes;
 pub mod served;
 

@@ -1,12 +1,15 @@
 //! The pages that a club shows.
 ghost use Rattle.std.specs.Prelude.{◌≡◌};
-ghost use Rattle.http_desk.specs.Desk.{game_page, legal_page, table_page, ServesDue};
+ghost use Rattle.http_desk.specs.RouteViews.{asking_view};
+ghost use Rattle.http_desk.specs.Desk.{game_page, legal_page, question_page, ServesDue};
 ghost use Rattle.http_desk.specs.DeskViews.{answer_view};
 
 use crate::desk::{Fault, Shown};
+use crate::questions::{Asking, question_of};
 use crate::served::ServedClub;
+use clocks::Moment;
 use club_requests::Refusal as ClubRefusal;
-use http_bodies::{Refusal, game_text, lined, moves_text};
+use http_bodies::{Kind, Refusal, game_text, moves_text};
 use std::alloc::Global;
 
 // A game as it stands.
@@ -24,7 +27,7 @@ pub(crate) fn serve_game<C: ServedClub>(
         None => Ok(Shown::Refused(Refusal::Club(ClubRefusal::UnknownGame))),
         Some(found) => {
             let text = game_text(alloc, game, found)?;
-            Ok(Shown::Shows(text))
+            Ok(Shown::Shows(Kind::Json, text.into_bytes()))
         }
     }
 }
@@ -44,27 +47,27 @@ pub(crate) fn serve_legal<C: ServedClub>(
         None => Ok(Shown::Refused(Refusal::Club(ClubRefusal::UnknownGame))),
         Some(rows) => {
             let text = moves_text(alloc, rows)?;
-            Ok(Shown::Shows(text))
+            Ok(Shown::Shows(Kind::Json, text.into_bytes()))
         }
     }
 }
 
-// The cross table of an event.
-pub(crate) fn serve_table<C: ServedClub>(
+// What the club shows to one who asks by a path.
+pub(crate) fn serve_question<C: ServedClub>(
     alloc: Global,
     club: &mut C,
-    event: &str,
+    key: &str,
+    asking: Asking<'_>,
+    moment: Moment,
 ) -> Result<Shown, Fault>
     ensures clean { C.IsClean club.new → C.IsClean club.old }
     ensures serves { C.IsClean club.new → (s : C.State) → C.Stands club.old s →
         ServesDue C.club (C.Stands club.new) (C.Leaves club.new) answer_view s
-        (s, table_page event.now) result }
+        (s, question_page moment (asking_view asking.entry) key.now) result }
 {
-    match club.table_lines(alloc, event)? {
-        None => Ok(Shown::Refused(Refusal::Club(ClubRefusal::UnknownEvent))),
-        Some(lines) => {
-            let text = lined(alloc, &lines)?;
-            Ok(Shown::Plain(text))
-        }
+    let (question, kind) = question_of(alloc, asking, key)?;
+    match club.ask(alloc, &question, moment)? {
+        Ok(bytes) => Ok(Shown::Shows(kind, bytes)),
+        Err(refusal) => Ok(Shown::Refused(Refusal::Club(refusal))),
     }
 }

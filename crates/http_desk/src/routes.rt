@@ -5,11 +5,12 @@ ghost use Rattle.matchit.specs.Route.{parse_route};
 ghost use Rattle.http_head.specs.Head.{number_of};
 ghost use Rattle.http_desk.specs.Routes.{before, behind, begins, path_behind, path_of, with_route, routes, page_of};
 ghost use Rattle.http_desk.specs.Routes.{second_part, third_part, fourth_part, make_move, offer_draw, accept_draw};
-ghost use Rattle.http_desk.specs.Routes.{declare, cross_table, turn_asked, ply_asked, answer_asked, text_of};
-ghost use Rattle.http_desk.specs.Routes.{asked_of_page};
-ghost use Rattle.http_desk.specs.Routes.{asked_of_path, asked_of, method_of};
+ghost use Rattle.http_desk.specs.Routes.{declare, turn_asked, ply_asked, answer_asked, text_of};
+ghost use Rattle.http_desk.specs.Routes.{about_game, about_event, asked_of_page};
+ghost use Rattle.http_desk.specs.Routes.{asked_of_path, asked_of, method_of, is_for_all};
 ghost use Rattle.http_desk.specs.RouteViews.{turn_view, asked_view};
 
+use crate::questions::{Asking, OfEvent, OfGame, OfMember};
 use http_bodies::Method;
 use http_head::number_of;
 use matchit::{InsertError, Router};
@@ -18,9 +19,12 @@ use std::alloc::Global;
 /// The pages of the desk, each with a path of its own.
 #[derive(Clone, Copy, Debug, PartialEq, Eq)]
 pub enum Page {
+    Members,
     GameView,
     LegalMoves,
-    CrossTable,
+    AskGame(OfGame),
+    AskEvent(OfEvent),
+    AskMember(OfMember),
     MakeMove,
     OfferDraw,
     AcceptDraw,
@@ -46,9 +50,11 @@ pub enum Turn {
 /// What a path asks for.
 #[derive(Clone, Copy)]
 pub enum Asked<'p> {
+    /// The page on which members play.
+    MembersPage,
     GameView(u32),
     LegalMoves(u32),
-    CrossTable(&'p str),
+    Question(Asking<'p>),
     /// The game of that number.
     OnGame(u32, Turn),
     Challenge(u32),
@@ -63,13 +69,30 @@ impl<'p> Asked<'p> {
         ensures { result ≡ method_of (asked_view self.entry) }
     {
         match self {
+            Asked::MembersPage => Method::Get,
             Asked::GameView(_) => Method::Get,
             Asked::LegalMoves(_) => Method::Get,
-            Asked::CrossTable(_) => Method::Get,
+            Asked::Question(_) => Method::Get,
             Asked::OnGame(_, _) => Method::Post,
             Asked::Challenge(_) => Method::Post,
             Asked::Withdraw(_) => Method::Post,
             Asked::Answer(_, _) => Method::Post,
+        }
+    }
+
+    /// Whether it is the members' page, which anybody is shown.
+    pub fn is_for_all(self) -> bool
+        ensures { result ≡ is_for_all (asked_view self.entry) }
+    {
+        match self {
+            Asked::MembersPage => true,
+            Asked::GameView(_) => false,
+            Asked::LegalMoves(_) => false,
+            Asked::Question(_) => false,
+            Asked::OnGame(_, _) => false,
+            Asked::Challenge(_) => false,
+            Asked::Withdraw(_) => false,
+            Asked::Answer(_, _) => false,
         }
     }
 }
@@ -131,7 +154,12 @@ fn routes(alloc: Global) -> Result<Router<Page>, InsertError>
     let mut router = Router::new(alloc);
     router.insert("/games/{id}", Page::GameView)?;
     router.insert("/games/{id}/legal", Page::LegalMoves)?;
-    router.insert("/events/{name}/table", Page::CrossTable)?;
+    router.insert("/games/{id}/record", Page::AskGame(OfGame::Record))?;
+    router.insert("/games/{id}/clock", Page::AskGame(OfGame::Clock))?;
+    router.insert("/events/{name}/table", Page::AskEvent(OfEvent::Table))?;
+    router.insert("/events/{name}/games", Page::AskEvent(OfEvent::Games))?;
+    router.insert("/me", Page::AskMember(OfMember::Games))?;
+    router.insert("/me/events", Page::AskMember(OfMember::Events))?;
     router.insert("/games/{id}/moves/{ply}", Page::MakeMove)?;
     router.insert("/games/{id}/draw/{ply}/offer", Page::OfferDraw)?;
     router.insert("/games/{id}/draw/{ply}/accept", Page::AcceptDraw)?;
@@ -141,6 +169,7 @@ fn routes(alloc: Global) -> Result<Router<Page>, InsertError>
     router.insert("/challenges/{number}", Page::Challenge)?;
     router.insert("/challenges/{number}/withdraw", Page::Withdraw)?;
     router.insert("/answers/{member}/{number}", Page::Answer)?;
+    router.insert("/play", Page::Members)?;
     Ok(router)
 }
 
@@ -279,13 +308,23 @@ fn answer_asked<'p>(path: &'p [u8]) -> Option<Asked<'p>>
     }
 }
 
-// The event whose table a path names.
-fn table_asked<'p>(path: &'p [u8]) -> Option<Asked<'p>>
-    ensures { option_map asked_view result ≡ option_map cross_table (text_of (second_part path.now)) }
+// What is asked of the game whose number a path names.
+fn game_asked<'p>(topic: OfGame, path: &'p [u8]) -> Option<Asked<'p>>
+    ensures { option_map asked_view result ≡ option_map (about_game topic) (number_of (second_part path.now)) }
+{
+    match second_number(path) {
+        None => None,
+        Some(game) => Some(Asked::Question(Asking::OfGame(topic, game))),
+    }
+}
+
+// What is asked of the event that a path names.
+fn event_asked<'p>(topic: OfEvent, path: &'p [u8]) -> Option<Asked<'p>>
+    ensures { option_map asked_view result ≡ option_map (about_event topic) (text_of (second_part path.now)) }
 {
     match text_of(second_part(path)) {
         None => None,
-        Some(event) => Some(Asked::CrossTable(event)),
+        Some(event) => Some(Asked::Question(Asking::OfEvent(topic, event))),
     }
 }
 
@@ -295,6 +334,7 @@ fn asked_of_page<'p>(page: Option<Page>, path: &'p [u8]) -> Option<Asked<'p>>
 {
     match page {
         None => None,
+        Some(Page::Members) => Some(Asked::MembersPage),
         Some(Page::GameView) => match second_number(path) {
             None => None,
             Some(game) => Some(Asked::GameView(game)),
@@ -303,7 +343,9 @@ fn asked_of_page<'p>(page: Option<Page>, path: &'p [u8]) -> Option<Asked<'p>>
             None => None,
             Some(game) => Some(Asked::LegalMoves(game)),
         },
-        Some(Page::CrossTable) => table_asked(path),
+        Some(Page::AskGame(topic)) => game_asked(topic, path),
+        Some(Page::AskEvent(topic)) => event_asked(topic, path),
+        Some(Page::AskMember(topic)) => Some(Asked::Question(Asking::OfMember(topic))),
         Some(Page::MakeMove) => move_asked(path),
         Some(Page::OfferDraw) => offer_asked(path),
         Some(Page::AcceptDraw) => accept_asked(path),

@@ -1,12 +1,13 @@
 //! What the desk asks of a club.
 ghost use Rattle.std.specs.Prelude.{◌≡◌, Err};
 ghost use Rattle.club_core.specs.Answer.{command_of, outcome_of, who_of};
-ghost use Rattle.http_bodies.specs.ShownViews.{found_view, rows_view};
+ghost use Rattle.http_bodies.specs.ShownViews.{found_view, rows_view, shown_view};
 ghost use Rattle.http_desk.specs.Served.{Club, IsOfCall, Serves};
 
 use crate::faults::ClubFault;
 use clocks::Moment;
-use club_requests::{Command, Outcome, Who};
+use club_questions::Question;
+use club_requests::{Command, Outcome, Refusal, Who};
 use http_bodies::GameShown;
 use std::alloc::Global;
 
@@ -55,14 +56,19 @@ pub trait ServedClub {
             Serves (Stands self.new) (Leaves self.new) s s (λ rows. club.AreLegal s game (rows_view rows))
             IsOfCall result };
 
-    /// The lines of an event's cross table, if there is an event of that name.
-    fn table_lines(&mut self, alloc: Global, event: &str) -> Result<Option<Vec<String>>, ClubFault>
+    /// The bytes that a question is shown at a moment, or why there are none.
+    fn ask(
+        &mut self,
+        alloc: Global,
+        question: &Question,
+        moment: Moment,
+    ) -> Result<Result<Vec<u8>, Refusal>, ClubFault>
         ensures clean { IsClean self.new → IsClean self.old }
         ensures shut { (fault : ClubFault) → IsShut self.old fault →
             (result ≡ Err fault) × IsShut self.new fault }
         ensures serves { IsClean self.new → (s : State) → Stands self.old s →
             Serves (Stands self.new) (Leaves self.new) s s
-            (λ rows. club.AreLines s event.now (rows_view rows)) IsOfCall result };
+            (λ shown. club.IsShown s moment question.now (shown_view shown)) IsOfCall result };
 
     /// Gives the club a command.
     fn apply(

@@ -9,7 +9,12 @@ unfolding routes scan param_step seek
 returns c = record {
   game = refl;
   legal = refl;
+  records = refl;
+  clock = refl;
   table = refl;
+  games = refl;
+  mine = refl;
+  inviting = refl;
   moves = refl;
   offer = refl;
   accept = refl;
@@ -19,4 +24,5 @@ returns c = record {
   opens = refl;
   withdraws = refl;
   answers = refl;
+  play = refl;
 }

@@ -8,7 +8,12 @@ unfolding routes scan
 returns c = record {
   game = record { scan = _; reads = refl; leads = refl };
   legal = record { scan = _; reads = refl; leads = refl };
+  records = record { scan = _; reads = refl; leads = refl };
+  clock = record { scan = _; reads = refl; leads = refl };
   table = record { scan = _; reads = refl; leads = refl };
+  games = record { scan = _; reads = refl; leads = refl };
+  mine = record { scan = _; reads = refl; leads = refl };
+  inviting = record { scan = _; reads = refl; leads = refl };
   moves = record { scan = _; reads = refl; leads = refl };
   offer = record { scan = _; reads = refl; leads = refl };
   accept = record { scan = _; reads = refl; leads = refl };
@@ -18,4 +23,5 @@ returns c = record {
   opens = record { scan = _; reads = refl; leads = refl };
   withdraws = record { scan = _; reads = refl; leads = refl };
   answers = record { scan = _; reads = refl; leads = refl };
+  play = record { scan = _; reads = refl; leads = refl };
 }

@@ -1,0 +1,22 @@
+use Rattle.std.proofs.Common.{ap, Err}
+use Rattle.sqlite.specs.Held.{state}
+use Rattle.club_desk.proofs.AskLemmas.{asking_left, asking_shown}
+use Rattle.club_desk.proofs.ServeLemmas.{read_stands}
+use Rattle.club_desk.proofs.desk_club.DeskClubServedClub.ask.Goals as goal
+
+pub returns-in-Ok-clause-serves : goal.returns-in-Ok-clause-serves
+returns-in-Ok-clause-serves g c clean s served = (
+  asking_shown s c.args.moment c.args.question.now c.in-Ok.refusal c.new-bytes.result.items c.ask.new.writer.items
+      c.answered.result c.new-bytes.ensures.items c.answered.ensures
+      (c.in-Ok.ensures.shown clean s served.legal served.exactly),
+  read_stands c.args.self.now.club.needs_reopening c.ask.new.self.needs_reopening
+      (state g.S.Store c.args.self.now.club.connection) (state g.S.Store c.ask.new.self.connection) s
+      c.in-Ok.ensures.goes_on (c.in-Ok.ensures.kept clean served.ready) served,
+)
+
+pub returns-in-Err-clause-serves : goal.returns-in-Err-clause-serves
+returns-in-Err-clause-serves g c clean s served =
+    asking_left c.args.self.now.club.needs_reopening c.ask.new.self.needs_reopening
+    (state g.S.Store c.args.self.now.club.connection) (state g.S.Store c.ask.new.self.connection) s c.in-Err.fault
+    c.told_asking.result c.told_asking.ensures (λ is. c.in-Err.ensures.output (ap Err is)) c.in-Err.ensures.ends
+    (c.in-Err.ensures.named served.ready) c.in-Err.ensures.reads (c.in-Err.ensures.kept clean served.ready) clean served
