@@ -4,6 +4,9 @@ import json
 import malformed_draughts
 import malformed_shogi
 from malformed_draughts import Refused
+from malformed_written import record_of
+
+LAST_MOMENT = 253402300799
 
 NAMES = {
     10: "NoSuchMove", 11: "MustCapture", 12: "NotLongest", 13: "NoSuchMove", 14: "NotInHand", 15: "MustPromote",
@@ -54,6 +57,19 @@ class Game:
 
     def turn(self):
         return self.plies() % 2
+
+    def deadline(self):
+        """The last second in which the side to move is in time."""
+        return self.since + self.left[self.turn()]
+
+    def deadline_told(self):
+        return None if self.end or self.deadline() > LAST_MOMENT else self.deadline()
+
+    def mover_told(self):
+        return None if self.end else self.players[self.turn()]
+
+    def offerer_told(self):
+        return self.offer and self.players[self.offer[0]]
 
     def lost_by(self, side, end):
         self.end, self.result = end, ("0-2", "2-0")[side]
@@ -176,9 +192,25 @@ class Game:
 
     def shown(self):
         return {"end": self.end, "event": self.event["name"], "first": self.players[0], "game": self.number,
-                "left": self.left, "moves": self.texts, "offer": self.offer and self.players[self.offer[0]],
+                "left": self.left, "moves": self.texts, "offer": self.offerer_told(),
                 "ply": self.plies(), "position": self.line.position_text(), "result": self.result,
                 "second": self.players[1]}
+
+    def clock(self, moment):
+        now = list(self.left)
+        if not self.end:
+            now[self.turn()] = max(self.deadline() - moment, 0)
+        return {"deadline": self.deadline_told(), "game": self.number, "left": self.left, "moment": moment,
+                "now": now, "since": self.since, "turn": self.mover_told()}
+
+    def mine(self):
+        return {"deadline": self.deadline_told(), "event": self.event["name"], "first": self.players[0],
+                "game": self.number, "offer": self.offerer_told(), "ply": self.plies(), "second": self.players[1],
+                "turn": self.mover_told()}
+
+    def in_event(self):
+        return {"end": self.end, "first": self.players[0], "game": self.number, "ply": self.plies(),
+                "result": self.result, "second": self.players[1]}
 
     def legal(self):
         if self.end:
@@ -207,6 +239,8 @@ class Club:
             raise Refused(50)
         if route == "table":
             return "text/plain", self.table(self.event_of(values[0]))
+        if route == "record":
+            return "text/plain", record_of(self.game_of(values[0]))
         before = self.state()
         text = told(getattr(self, f"do_{route}")(self.keys[key], *values, *body))
         if self.state() != before:
@@ -232,6 +266,35 @@ class Club:
 
     def do_legal(self, _, number):
         return self.game_of(number).legal()
+
+    def do_clock(self, _, number):
+        return self.game_of(number).clock(max(self.last, self.moment))
+
+    def games_in(self, event):
+        return [it for it in self.games if it.event is event]
+
+    def do_games_in(self, _, name):
+        return {"games": [it.in_event() for it in self.games_in(self.event_of(name))]}
+
+    def do_inviting(self, member):
+        events = [{"budget": it["budget"], "event": it["name"], "game": it["game"], "increment": it["increment"]}
+                  for it in self.events.values()]
+        return {"events": events, "members": [it for it in self.keys.values() if it != member]}
+
+    def do_me(self, member):
+        ids = {name: at for at, name in enumerate(self.keys.values())}
+        games = [it.mine() for it in self.games if member in it.players and not it.end]
+        challenges = [self.challenge_told(*it) for it in sorted(self.challenges, key=lambda it: (ids[it[0]], it[1]))]
+        mine = [it for it in challenges if it["state"] == "open" and member in (it["from"], it["to"])
+                or it["state"] == "accepted" and member == it["from"]]
+        return {"challenges": mine, "games": games, "member": member, "moment": max(self.last, self.moment)}
+
+    def challenge_told(self, member, number):
+        found = self.challenges[member, number]
+        event, other, is_first = found["asked"]
+        first, second = (member, other) if is_first else (other, member)
+        return {"event": event, "first": first, "from": member, "game": found["game"], "number": number,
+                "second": second, "state": found["state"], "to": other}
 
     def do_move(self, member, number, ply, text):
         return self.game_of(number).move(member, ply, text, self.moment)

@@ -16,7 +16,12 @@ NUMBER = re.compile(rb"[0-9]{1,9}")
 ROUTES = (  # method, path, name, and the keys of its body with their kinds
     ("GET", "/games/ID", "game", ()),
     ("GET", "/games/ID/legal", "legal", ()),
+    ("GET", "/games/ID/clock", "clock", ()),
+    ("GET", "/games/ID/record", "record", ()),
     ("GET", "/events/NAME/table", "table", ()),
+    ("GET", "/events/NAME/games", "games_in", ()),
+    ("GET", "/me", "me", ()),
+    ("GET", "/me/events", "inviting", ()),
     ("POST", "/games/ID/moves/ID", "move", (("move", str),)),
     ("POST", "/games/ID/draw/ID/offer", "offer", ()),
     ("POST", "/games/ID/draw/ID/accept", "accept", ()),

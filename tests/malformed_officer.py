@@ -4,8 +4,9 @@ import time
 
 import malformed_draughts
 import malformed_shogi
-from malformed_club import Club, NAMES
+from malformed_club import Club, LAST_MOMENT, NAMES
 from malformed_draughts import Refused
+from malformed_written import record_of
 
 NAME, KEY = re.compile(r"[A-Za-z0-9._-]{1,24}"), re.compile(r"[A-Za-z0-9]{8,64}")
 LIMIT = 65536
@@ -24,6 +25,16 @@ def bad_text(number, text):
 def told_refusal(refusing):
     number, *more = refusing.args
     return " ".join(map(str, ("refused", number, NAMES[number], *more))) + "\n"
+
+
+def game_line(game):
+    """A game's line in a list, with the last second in which the side to move is in time."""
+    told = ["game", game.number, game.event["name"], *game.players, game.key or "=", "ply", game.plies()]
+    until = "never"
+    if game.deadline() <= LAST_MOMENT:
+        until = time.strftime("%Y-%m-%dT%H:%M:%SZ", time.gmtime(game.deadline()))
+    told += ["end", game.end, game.result] if game.end else ["turn", game.players[game.turn()], "until", until]
+    return " ".join(map(str, told)) + "\n"
 
 
 class OfficersClub(Club):
@@ -135,7 +146,7 @@ class OfficersClub(Club):
         return f"repeated {done}\n" if again and before == game.plies() else self.accepted(done)
 
     def do_sweep(self):
-        late = [it for it in self.games if not it.end and self.now() - it.since > it.left[it.turn()]]
+        late = [it for it in self.games if not it.end and self.now() > it.deadline()]
         for game in late:
             game.lost_by(game.turn(), "Time")
         return self.accepted(f"sweep {len(late)}")
@@ -144,48 +155,25 @@ class OfficersClub(Club):
         return "".join(f"{move}\n" for move in self.game_of(number).legal()["moves"])
 
     def do_export(self, number):
-        game = self.game_of(number)
-        return (pdn_of if game.event["game"] == "draughts" else csa_of)(game)
+        return record_of(self.game_of(number))
 
     def do_table(self, name):
         return self.table(self.event_of(name))
 
+    def do_members(self):
+        return "".join(f"member {number} {name}\n" for number, name in enumerate(self.keys.values(), 1))
 
-# ---- records as they are written
+    def do_events(self):
+        lines = []
+        for number, event in enumerate(self.events.values(), 1):
+            ends = [game.end for game in self.games if game.event is event]
+            lines.append(f"event {number} {' '.join(map(str, event.values()))} {len(ends)} {ends.count(None)}\n")
+        return "".join(lines)
 
-def pdn_of(game):
-    date = time.strftime("%Y.%m.%d", time.gmtime(game.start))
-    tags = (("Event", game.event["name"]), ("Date", date), ("White", game.players[0]), ("Black", game.players[1]),
-            ("Result", game.result or "*"), ("GameType", "20"))
-    pairs = [f"{at // 2 + 1}. {' '.join(game.texts[at:at + 2])}\n" for at in range(0, game.plies(), 2)]
-    return "".join(f'[{name} "{value}"]\n' for name, value in tags) + "\n" + "".join(pairs) + f"{game.result or '*'}\n"
-
-
-def csa_of(game):
-    line, before = malformed_shogi.Line(), game.start
-    lines = ["V2.2", f"N+{game.players[0]}", f"N-{game.players[1]}", f"$EVENT:{game.event['name']}",
-             time.strftime("$START_TIME:%Y/%m/%d %H:%M:%S", time.gmtime(game.start)), "PI", "+"]
-    for move, moment in zip(game.line.moves, game.moments):
-        lines += [csa_move(line.position, move), f"T{moment - before}"]
-        line.push(move)
-        before = moment
-    return "".join(f"{it}\n" for it in (*lines, csa_end(game)))
-
-
-def csa_move(position, move):
-    codes = {kind: code for code, kind in malformed_shogi.CODES.items()}
-    promoted = {kind: code for code, kind in malformed_shogi.PROMOTED.items()}
-    start, to, promotes = move
-    kind, is_promoted = (start, False) if isinstance(start, str) else position[1][start][1:]
-    code = (promoted if is_promoted or promotes else codes)[kind]
-    squares = ("00" if isinstance(start, str) else f"{start[0]}{start[1]}") + f"{to[0]}{to[1]}"
-    return f"{'+' if position[0] == 'b' else '-'}{squares}{code}"
-
-
-def csa_end(game):
-    illegal = "%+ILLEGAL_ACTION" if game.result == "0-2" else "%-ILLEGAL_ACTION"
-    mover_lost = game.result == ("0-2", "2-0")[game.turn()]
-    if game.end == "Recorded":
-        return "%HIKIWAKE" if game.result == "1-1" else "%TORYO" if mover_lost else illegal
-    return {None: "%CHUDAN", "NoMove": "%TSUMI", "PerpetualCheck": illegal, "Fourfold": "%SENNICHITE",
-            "PlyLimit": "%JISHOGI", "Resigned": "%TORYO", "Time": "%TIME_UP"}[game.end]
+    def do_games(self, event, member, flag):
+        games = self.games if event is None else self.games_in(self.event_of(event))
+        if member is not None and member not in self.keys.values():
+            raise Refused(65)
+        is_shown = {None: lambda it: True, "--running": lambda it: not it.end,
+                    "--overdue": lambda it: not it.end and self.now() > it.deadline()}[flag]
+        return "".join(game_line(it) for it in games if (member is None or member in it.players) and is_shown(it))

@@ -21,6 +21,7 @@ KINDS = {  # the kinds of each command's words
     "seat": ("name", "name", "name", "name"), "import-pdn": ("name", "name", "name", "name", "record"),
     "import-csa": ("name", "name", "name", "name", "record"), "move": ("number", "number", "move"), "sweep": (),
     "legal": ("number",), "export": ("number",), "table": ("name",), "verify": (), "upgrade": (),
+    "members": (), "events": (), "games": (),  # behind the last stand options
 }
 POOLS = {
     "name": ("anna", "bert", "cara", "dora", "autumn", "fuji", "winter", "g1", "g2", "g3", "a", "a" * 24, "a" * 25,
@@ -40,7 +41,10 @@ POOLS = {
 }
 PLAYERS = "anna", "bert", "cara", "dora"
 COMMANDS = (*KINDS, *("member", "event", "seat", "move", "move", "move", "import-pdn", "import-csa", "legal",
-            "export", "table"))
+            "export", "table", "games", "games"))
+NAMED, FLAGS = ("--event", "--member"), ("--running", "--overdue")
+ODD_OPTIONS = (*NAMED, *FLAGS, *FLAGS, "--event=", "--member=-a", "--running=1", "--ended", "--over", "--Event", "-",
+               "anna")
 ODD = ("sit", "", "INIT", "--help", "-h", "help", "--version", "init init", "serve", "import", "-", "--", "moves",
        "\udcff")
 FILES = (("missing.db", "70 Foreign"), ("folder", "73 Store"), ("notes.txt", "73 Store"), ("empty.db", "70 Foreign"),
@@ -57,12 +61,29 @@ class BadWords(Exception):
 def words_of(chance, club):
     """A command and its words, mostly such as may be accepted."""
     command = chance.choice(COMMANDS)
+    if command == "games":
+        return [command, *options_of(chance, club)]
     words = [chance.choice(POOLS[kind][:8] if chance.random() < 0.75 else POOLS[kind]) for kind in KINDS[command]]
     if chance.random() < 0.8:
         words = likely(chance, club, command, words)
     if command == "import-csa" and chance.random() < 0.4:
         words[:0] = ["--part", chance.choice(POOLS["number"][:4] if chance.random() < 0.8 else POOLS["number"])]
     return [command, *words]
+
+
+def options_of(chance, club):
+    """Options of a list of games, mostly such as it may have."""
+    found = []
+    for option, names in zip(NAMED, (club.events, club.keys.values())):
+        if chance.random() < 0.5:
+            name = chance.choice([*names] if chance.random() < 0.7 else POOLS["name"])
+            found.append(chance.choice(([option, name], [f"{option}={name}"])))
+    if chance.random() < 0.6:
+        found.append([chance.choice(FLAGS)])
+    if chance.random() < 0.2:
+        found.append([chance.choice(ODD_OPTIONS)])
+    chance.shuffle(found)
+    return [word for option in found for word in option]
 
 
 def likely(chance, club, command, words):
@@ -125,8 +146,10 @@ def changed(chance, words):
 
 def moments(chance, club, command):
     """The words of the moment, which mostly stands still or goes on a little; it may lack where nothing is changed."""
-    if command in ("verify", "legal", "export", "table") and chance.random() < 0.2:
+    if command in ("verify", "legal", "export", "table", "members", "events") and chance.random() < 0.2:
         return []
+    if command == "games" and chance.random() < 0.5:
+        return ["--now", str(chance.choice(club.games).deadline() + chance.choice((-1, 0, 1)))]
     if chance.random() < 0.08:
         return ["--now", chance.choice(("253402300800", "-1", "x", "", "18446744073709551616", "1.5", "01000"))]
     if chance.random() < 0.01:
@@ -144,8 +167,7 @@ def number_of(word):
 
 def order_of(words):
     """The moment, the command and its values; BadWords where they are no order, None where that is left open."""
-    is_open = any(word.startswith("-") and word not in ("-", "--part", "--now") for word in words)
-    if is_open or is_odd(words) or words.count("--now") > 1:
+    if any(is_open(word) for word in words) or is_odd(words) or words.count("--now") > 1:
         return None
     now = 0
     if words[0] == "--now":
@@ -156,6 +178,10 @@ def order_of(words):
     if command not in KINDS:
         raise BadWords
     part = 1
+    if command == "games":
+        return now, command, listed(values), part
+    if any(word.startswith((*NAMED, *FLAGS)) for word in words):
+        raise BadWords
     if command == "import-csa" and "--part" in values:
         at = values.index("--part")
         if at > 0 or values.count("--part") > 1:
@@ -169,6 +195,29 @@ def order_of(words):
     if command == "event" and values[1] not in ("draughts", "shogi"):
         raise BadWords
     return now, command, values, part
+
+
+def is_open(word):
+    """Whether a word is an option of which the documents do not say whether it is one."""
+    known = ("-", "--part", "--now", *FLAGS, *NAMED)
+    return word.startswith("-") and word not in known and not word.startswith(tuple(f"{it}=" for it in known[3:]))
+
+
+def listed(options):
+    """The event and the member that options name, where they do, and the flag; each stands once, and one flag."""
+    found, flags, words = {}, [], list(options)
+    while words:
+        option, is_joined, name = words.pop(0).partition("=")
+        if option in NAMED and not is_joined and words and (words[0] == "-" or not words[0].startswith("-")):
+            is_joined, name = True, words.pop(0)
+        if option in found or (not is_joined if option in NAMED else is_joined or option not in FLAGS):
+            raise BadWords
+        if option in FLAGS:
+            flags.append(option)
+        found[option] = name
+    if len(flags) > 1:
+        raise BadWords
+    return [*(found.get(option) for option in NAMED), *(flags or [None])]
 
 
 def is_odd(words):
@@ -191,7 +240,8 @@ def printed(club, order, standard_input):
     club.moment, command, values, part = order
     acts = {"member": club.add_member, "event": club.add_event, "seat": club.add_seat, "move": club.do_officers_move,
             "sweep": club.do_sweep, "legal": club.do_list, "export": club.do_export, "table": club.do_table,
-            "verify": club.do_verify, "upgrade": club.do_upgrade}
+            "verify": club.do_verify, "upgrade": club.do_upgrade, "members": club.do_members,
+            "events": club.do_events, "games": club.do_games}
     if command.startswith("import-"):
         text = record_of(values[-1], standard_input)
         if text is None:

@@ -1,13 +1,13 @@
 #!/usr/bin/env python3
 """Refuses each request for memory of each command in turn, over a database in memory: the program `trials` is given the
-script that it is stopped in (`club stopped 1` of crates/trials/stdin), command by command.
+script that it is stopped in (`club stopped 1` of tests/courses.txt), command by command.
 
     python3 tests/memory.py [TRIALS] [--each N]
 
 Before a command the club is given up and taken again. Where one request of the command is refused, it is answered as
 where none is, or with 73 or 75, never with another number; and given again, over the club as it was left, it is repeated
-where it stood and else accepted (a sweep that stood ends no game more). The same of the upgrade of the script's first
-database of schema 1. Of N requests one is refused: 7, or 1 for all. Prints 'ok COMMANDS' or 'not ok COMMANDS' for those
+where it stood and else accepted (a sweep that stood ends no game more). The same of the upgrade of the first database of
+schema 1 in crates/trials/stdin. Of N requests one is refused: 7, or 1 for all. Prints 'ok COMMANDS' or 'not ok COMMANDS' for those
 that begin with the same word.
 """
 import concurrent.futures
@@ -20,7 +20,7 @@ import sys
 import tempfile
 
 TOP = pathlib.Path(__file__).resolve().parent.parent
-SCRIPT = TOP / "crates/trials/stdin"
+SCRIPT, COURSES = TOP / "crates/trials/stdin", TOP / "tests/courses.txt"
 FAULTS = "73 Store", "75 Memory"
 OWN = "memory allocation failed"  # of `trials`, and not of the club
 GOT = re.compile(r"line (\d+): .* \.\. got (.*)")
@@ -31,7 +31,7 @@ PROGRAM = str(pathlib.Path(words[0] if words else TOP / "crates/trials/out/trial
 
 def commands():
     """The requests of the script that is stopped, each with its outcome."""
-    found, _, rest = SCRIPT.read_text(encoding="utf-8").partition("club stopped 1\n")
+    found, _, rest = COURSES.read_text(encoding="utf-8").partition("club stopped 1\n")
     assert found and rest
     for line in rest.splitlines():
         if not line[:1].isdigit():

@@ -431,6 +431,7 @@ if command -v gcc > /dev/null 2>&1; then
     refuses 'an import' 11 'accepted game 2' import-pdn evening autumn anna bert "$records/evening.pdn"
     copies before.db e.db
     refuses 'an export' 11 "$("$top/build/club" e.db export 1)" export 1
+    refuses 'a list of games' 11 "$("$top/build/club" e.db games)" games
     copies unswept.db before.db
     moment=2000
     refuses 'a sweep' 11 'accepted sweep 1' sweep

@@ -1,0 +1,330 @@
+"""A club as those know it who ask it: by what they ordered and were answered, and what each question must then show.
+
+Nothing here knows the rules of a game: which moves there are, and that one of them ended its game, the program says.
+Clocks, lists and each text are reckoned here.
+"""
+import dataclasses
+import datetime
+import json
+
+LAST_MOMENT = 253402300799
+NAMES = {50: "UnknownKey", 52: "UnknownEvent", 53: "UnknownGame", 65: "BadValue", 72: "Damaged", 82: "NoRoute",
+         83: "WrongMethod"}  # of the refusals that a question may have
+PHRASES = {200: "OK", 401: "Unauthorized", 404: "Not Found", 405: "Method Not Allowed", 503: "Service Unavailable"}
+STATUSES = {50: 401, 52: 404, 53: 404, 72: 503, 82: 404, 83: 405}
+FURTHER = {50: "WWW-Authenticate: Member-Key\r\n", 83: "Allow: GET\r\n"}
+OPENING = ("KY KE GI KI OU KI GI KE KY", ". HI . . . . . KA .", "FU FU FU FU FU FU FU FU FU")  # from file 9, as White
+LETTERS = {"P": "FU", "L": "KY", "N": "KE", "S": "GI", "G": "KI", "B": "KA", "R": "HI"}
+PROMOTED = {"FU": "TO", "KY": "NY", "KE": "NK", "GI": "NG", "KA": "UM", "HI": "RY"}
+CSA_ENDS = {None: "%CHUDAN", "Fourfold": "%SENNICHITE", "NoMove": "%TSUMI", "PlyLimit": "%JISHOGI",
+            "Resigned": "%TORYO", "Time": "%TIME_UP", "Declared": "%KACHI"}
+
+
+class Refused(Exception):
+    """The number of a refusal."""
+
+
+@dataclasses.dataclass
+class Event:
+    name: str
+    game: str
+    budget: int
+    increment: int
+
+
+@dataclasses.dataclass
+class Challenge:
+    member: str
+    number: int
+    event: str
+    other: str
+    first: bool
+    state: str = "open"
+    game: int | None = None
+
+    def sides(self):
+        return (self.member, self.other) if self.first else (self.other, self.member)
+
+
+class Game:
+    def __init__(self, number, key, event, players, moment):
+        self.number, self.key, self.event, self.players = number, key, event, players
+        self.start = self.since = moment
+        self.left, self.texts, self.spent = [event.budget] * 2, [], []
+        self.offer = self.end = self.result = None
+
+    def turn(self):
+        return len(self.texts) % 2
+
+    def mover(self):
+        return self.players[self.turn()]
+
+    def deadline(self):
+        """The last second in which the side to move is in time."""
+        return self.since + self.left[self.turn()]
+
+    def is_overdue(self, moment):
+        return not self.end and moment > self.deadline()
+
+    def now(self, moment):
+        """What the two have left at a moment: the clock of the side to move goes, as long as the game does."""
+        left = list(self.left)
+        if not self.end:
+            left[self.turn()] = max(0, self.deadline() - moment)
+        return left
+
+    def played(self, text, moment):
+        self.left[self.turn()] += self.event.increment - (moment - self.since)
+        self.spent.append(moment - self.since)
+        self.texts.append(text)
+        self.since, self.offer = moment, None
+
+    def ended(self, end, result):
+        self.end, self.result = end, result
+
+    def lost_by(self, member, end):
+        self.ended(end, "0-2" if member == self.players[0] else "2-0")
+
+    def points(self, member):
+        return int(self.result.split("-")[self.players.index(member)])
+
+
+class Club:
+    def __init__(self):
+        self.keys, self.events, self.games, self.challenges = {}, {}, [], {}
+        self.last = 0
+
+    # ---- what was ordered
+
+    def accepted(self, moment):
+        """The moment of a command that was accepted."""
+        self.last = max(self.last, moment)
+        return self.last
+
+    def add_member(self, name, key, moment):
+        self.accepted(moment)
+        self.keys[name] = key
+
+    def add_event(self, name, game, budget, increment, moment):
+        self.accepted(moment)
+        self.events[name] = Event(name, game, budget, increment)
+
+    def add_game(self, key, event, first, second, moment):
+        moment = self.accepted(moment)
+        self.games.append(Game(len(self.games) + 1, key, self.events[event], (first, second), moment))
+        return self.games[-1]
+
+    def add_challenge(self, challenge, moment):
+        self.accepted(moment)
+        self.challenges[challenge.member, challenge.number] = challenge
+
+    def overdue(self, now):
+        return [it for it in self.games if it.is_overdue(self.moment(now))]
+
+    # ---- what is there
+
+    def moment(self, now):
+        return max(self.last, now)
+
+    def event_of(self, name):
+        if name not in self.events:
+            raise Refused(52)
+        return self.events[name]
+
+    def game_of(self, number):
+        if not 1 <= number <= len(self.games):
+            raise Refused(53)
+        return self.games[number - 1]
+
+    def id_of(self, name):
+        return [*self.keys].index(name) + 1
+
+    # ---- words
+
+    def printed(self, words, now):
+        """The status of a word that asks, its standard output and its standard error."""
+        shown = {"members": self.members_listed, "events": self.events_listed, "games": self.games_listed,
+                 "table": self.table, "export": lambda it: record(self.game_of(int(it)))}
+        try:
+            values = (words[1:], now) if words[0] == "games" else words[1:]
+            return 0, shown[words[0]](*values), ""
+        except Refused as refusing:
+            number = refusing.args[0]
+            return 1, "", f"refused {number} {NAMES[number]}\n"
+
+    def members_listed(self):
+        return lined(f"member {number} {name}" for number, name in enumerate(self.keys, 1))
+
+    def events_listed(self):
+        return lined(self.event_line(number, it) for number, it in enumerate(self.events.values(), 1))
+
+    def event_line(self, number, event):
+        ends = [it.end for it in self.games if it.event is event]
+        counts = len(ends), ends.count(None)
+        return " ".join(map(str, ("event", number, event.name, event.game, event.budget, event.increment, *counts)))
+
+    def games_listed(self, options, now):
+        games, moment = self.games, self.moment(now)
+        if "--event" in options:
+            event = self.event_of(options[options.index("--event") + 1])
+            games = [it for it in games if it.event is event]
+        if "--member" in options:
+            member = options[options.index("--member") + 1]
+            if member not in self.keys:
+                raise Refused(65)
+            games = [it for it in games if member in it.players]
+        if "--running" in options:
+            games = [it for it in games if not it.end]
+        if "--overdue" in options:
+            games = [it for it in games if it.is_overdue(moment)]
+        return lined(map(game_line, games))
+
+    def table(self, name):
+        """The cross table of an event."""
+        ended = [it for it in self.games if it.event is self.event_of(name) and it.end]
+        met = {member: [it for it in ended if member in it.players] for member in self.keys}
+        points = {member: [it.points(member) for it in games] for member, games in met.items() if games}
+        order = sorted(points, key=lambda it: (-sum(points[it]), -points[it].count(2), self.id_of(it)))
+        lines = [f"Event {self.event_of(name).name}"]
+        for rank, member in enumerate(order, 1):
+            mine = points[member]
+            cells = [sum(mine), len(mine), mine.count(2), mine.count(1), mine.count(0)]
+            for other in order:
+                between = [it.points(member) for it in met[member] if other in it.players]
+                cells.append("-" if other == member else sum(between) if between else ".")
+            lines.append(f"{rank:>3} {member:<24}" + "".join(f"{it:>6}" for it in cells))
+        return lined(lines)
+
+    # ---- routes
+
+    def replied(self, member, path, now):
+        """The bytes of the reply to a member who asks by one of the paths."""
+        routes = {("me",): self.me, ("me", "events"): self.my_events, ("events", "games"): self.event_games,
+                  ("events", "table"): self.event_table, ("games", "clock"): self.clock,
+                  ("games", "record"): self.game_record}
+        words = path.split("/")[1:]
+        asked = routes[tuple(words) if words[0] == "me" else (words[0], words[2])]
+        try:
+            return reply(200, *asked(words, member, self.moment(now)))
+        except Refused as refusing:
+            return refusal(refusing.args[0])
+
+    def me(self, _, member, moment):
+        games = [mine(it) for it in self.games if member in it.players and not it.end]
+        numbered = sorted(self.challenges.values(), key=lambda it: (self.id_of(it.member), it.number))
+        challenges = [challenge_shown(it) for it in numbered if it.state == "open" and member in it.sides()
+                      or it.state == "accepted" and member == it.member]
+        return told({"challenges": challenges, "games": games, "member": member, "moment": moment})
+
+    def my_events(self, _, member, moment):
+        events = [{"budget": it.budget, "event": it.name, "game": it.game, "increment": it.increment}
+                  for it in self.events.values()]
+        return told({"events": events, "members": [name for name in self.keys if name != member]})
+
+    def event_games(self, words, member, moment):
+        event = self.event_of(words[1])
+        return told({"games": [{"end": it.end, "first": it.players[0], "game": it.number, "ply": len(it.texts),
+                                "result": it.result, "second": it.players[1]}
+                               for it in self.games if it.event is event]})
+
+    def event_table(self, words, member, moment):
+        return "text/plain", self.table(words[1])
+
+    def clock(self, words, member, moment):
+        game = self.game_of(int(words[1]))
+        return told({"deadline": None if game.end else shown_deadline(game), "game": game.number, "left": game.left,
+                     "moment": moment, "now": game.now(moment), "since": game.since,
+                     "turn": None if game.end else game.mover()})
+
+    def game_record(self, words, member, moment):
+        return "text/plain", record(self.game_of(int(words[1])))
+
+
+def lined(lines):
+    return "".join(f"{it}\n" for it in lines)
+
+
+def told(values):
+    return "application/json", json.dumps(values, separators=(",", ":"), sort_keys=True)
+
+
+def reply(status, kind, body, further="", has_body=True):
+    head = (f"HTTP/1.1 {status} {PHRASES[status]}\r\nContent-Type: {kind}\r\nContent-Length: {len(body.encode())}\r\n"
+            f"Connection: close\r\n{further}\r\n")
+    return (head + body * has_body).encode()
+
+
+def refusal(number, has_body=True):
+    return reply(STATUSES[number], *told({"error": number, "name": NAMES[number]}), FURTHER.get(number, ""), has_body)
+
+
+def game_line(game):
+    parts = ["game", game.number, game.event.name, *game.players, game.key or "=", "ply", len(game.texts)]
+    parts += ["end", game.end, game.result] if game.end else ["turn", game.mover(), "until", until(game.deadline())]
+    return " ".join(map(str, parts))
+
+
+def until(deadline):
+    if deadline > LAST_MOMENT:
+        return "never"
+    at = datetime.datetime(1970, 1, 1) + datetime.timedelta(seconds=deadline)
+    return f"{at.year:04}-{at:%m-%dT%H:%M:%S}Z"
+
+
+def shown_deadline(game):
+    return game.deadline() if game.deadline() <= LAST_MOMENT else None
+
+
+def mine(game):
+    return {"deadline": shown_deadline(game), "event": game.event.name, "first": game.players[0], "game": game.number,
+            "offer": None if game.offer is None else game.players[game.offer], "ply": len(game.texts),
+            "second": game.players[1], "turn": game.mover()}
+
+
+def challenge_shown(challenge):
+    first, second = challenge.sides()
+    return {"event": challenge.event, "first": first, "from": challenge.member, "game": challenge.game,
+            "number": challenge.number, "second": second, "state": challenge.state, "to": challenge.other}
+
+
+# ---- records
+
+def record(game):
+    return pdn(game) if game.event.game == "draughts" else csa(game)
+
+
+def date(moment, form):
+    return (datetime.datetime(1970, 1, 1) + datetime.timedelta(seconds=moment)).strftime(form)
+
+
+def pdn(game):
+    result = game.result or "*"
+    tags = (("Event", game.event.name), ("Date", date(game.start, "%Y.%m.%d")), ("White", game.players[0]),
+            ("Black", game.players[1]), ("Result", result), ("GameType", "20"))
+    pairs = [f"{at // 2 + 1}. {' '.join(game.texts[at:at + 2])}" for at in range(0, len(game.texts), 2)]
+    return lined([*(f'[{name} "{value}"]' for name, value in tags), "", *pairs, result])
+
+
+def csa(game):
+    lines = ["V2.2", f"N+{game.players[0]}", f"N-{game.players[1]}", f"$EVENT:{game.event.name}",
+             date(game.start, "$START_TIME:%Y/%m/%d %H:%M:%S"), "PI", "+"]
+    board = {f"{9 - file}{rank}": code for rank, row in enumerate(OPENING, 1) for file, code in enumerate(row.split())}
+    board |= {f"{10 - int(at[0])}{10 - int(at[1])}": code for at, code in board.items()}
+    for ply, (text, seconds) in enumerate(zip(game.texts, game.spent)):
+        lines += ["+-"[ply % 2] + csa_move(board, text), f"T{seconds}"]
+    return lined([*lines, csa_end(game)])
+
+
+def csa_end(game):
+    if game.end != "Recorded":
+        return CSA_ENDS[game.end]
+    return "%HIKIWAKE" if game.result == "1-1" else "%TORYO"
+
+
+def csa_move(board, text):
+    """A move of USI as CSA writes it, done on the board."""
+    to = f"{text[2]}{ord(text[3]) - ord('a') + 1}"
+    start = "00" if text[1] == "*" else f"{text[0]}{ord(text[1]) - ord('a') + 1}"
+    code = LETTERS[text[0]] if text[1] == "*" else board.pop(start)
+    board[to] = PROMOTED[code] if text.endswith("+") else code
+    return f"{start}{to}{board[to]}"

@@ -1,0 +1,116 @@
+"""What each question must show, by SQL on the rows of a club's file: sqlite3 makes the lines and the JSON itself.
+
+The questions are those of season_club.Club: words by `printed`, paths by `body`. Where SQL has no say there is None.
+"""
+import contextlib
+import shutil
+import sqlite3
+import tempfile
+
+from clubs import QUICK, copied
+
+GIVEN = """WITH given AS (SELECT max(:now, last) AS moment FROM meta),
+named AS (
+    SELECT games.*, events.name AS name, one.name AS white, two.name AS black,
+        iif(plies % 2, two.name, one.name) AS mover, since + iif(plies % 2, left2, left1) AS deadline
+    FROM games, events, members AS one, members AS two
+    WHERE events.id = games.event AND one.id = games.first AND two.id = games.second),
+dated AS (
+    SELECT *, iif(deadline > 253402300799, NULL, deadline) AS until, "end" IS NULL AS runs,
+        "end" IS NULL AND (SELECT moment FROM given) > deadline AS is_late
+    FROM named) """
+MEMBERS = "SELECT 'member ' || id || ' ' || name || char(10) AS line FROM members ORDER BY id"
+EVENTS = """SELECT 'event ' || id || ' ' || name || ' ' || iif(game, 'shogi', 'draughts') || ' ' || budget || ' '
+    || increment || ' ' || (SELECT count(*) FROM games WHERE event = events.id) || ' '
+    || (SELECT count(*) FROM games WHERE event = events.id AND "end" IS NULL) || char(10) AS line
+FROM events ORDER BY id"""
+GAMES = """SELECT 'game ' || id || ' ' || name || ' ' || white || ' ' || black || ' ' || ifnull("key", '=') || ' ply '
+    || plies || iif(runs, ' turn ' || mover || ' until ' ||
+        ifnull(strftime('%Y-%m-%dT%H:%M:%SZ', until, 'unixepoch'), 'never'), ' end ' || "end" || ' ' || result)
+    || char(10) AS line
+FROM dated
+WHERE (:event IS NULL OR name = :event) AND (:member IS NULL OR :member IN (white, black)) AND (NOT :running OR runs)
+    AND (NOT :overdue OR is_late)
+ORDER BY id"""
+MINE = """SELECT json_object('challenges', json((SELECT json_group_array(json(text)) FROM (
+        SELECT json_object('event', events.name, 'first', iif(challenges.first, me.name, you.name), 'from', me.name,
+            'game', challenges.game, 'number', number, 'second', iif(challenges.first, you.name, me.name),
+            'state', iif(state, 'accepted', 'open'), 'to', you.name) AS text
+        FROM challenges, events, members AS me, members AS you
+        WHERE events.id = event AND me.id = member AND you.id = other
+            AND (state = 0 AND :member IN (me.name, you.name) OR state = 3 AND me.name = :member)
+        ORDER BY member, number))),
+    'games', json((SELECT json_group_array(json(text)) FROM (
+        SELECT json_object('deadline', until, 'event', name, 'first', white, 'game', id,
+            'offer', iif(offer_side, black, iif(offer_side IS NULL, NULL, white)), 'ply', plies, 'second', black,
+            'turn', mover) AS text
+        FROM dated WHERE runs AND :member IN (white, black) ORDER BY id))),
+    'member', :member, 'moment', moment) FROM given"""
+INVITING = """SELECT json_object('events', json((SELECT json_group_array(json(text)) FROM (
+        SELECT json_object('budget', budget, 'event', name, 'game', iif(game, 'shogi', 'draughts'), 'increment',
+            increment) AS text FROM events ORDER BY id))),
+    'members', json((SELECT json_group_array(name) FROM (
+        SELECT name FROM members WHERE name <> :member ORDER BY id))))"""
+EVENT_GAMES = """SELECT json_object('games', json(json_group_array(json(text)))) FROM (
+    SELECT json_object('end', "end", 'first', white, 'game', id, 'ply', plies, 'result', result, 'second', black)
+        AS text
+    FROM dated WHERE name = :event ORDER BY id)"""
+CLOCK = """SELECT json_object('deadline', iif(runs, until, NULL), 'game', id, 'left', json_array(left1, left2),
+    'moment', moment, 'now', json_array(iif(runs AND NOT plies % 2, max(0, deadline - moment), left1),
+        iif(runs AND plies % 2, max(0, deadline - moment), left2)),
+    'since', since, 'turn', iif(runs, mover, NULL)) FROM dated, given WHERE id = :game"""
+OPTIONS = {"event": None, "member": None, "running": 0, "overdue": 0}
+
+
+def tables(found):
+    """All rows of each table that there is."""
+    names = [name for name, in found.execute("SELECT name FROM sqlite_master WHERE type = 'table' ORDER BY 1")]
+    return {it: found.execute(f'SELECT * FROM "{it}" ORDER BY 1, 2').fetchall() for it in names}
+
+
+class Rows:
+    """The rows of a folder's club as they stand, read from a copy of the file and its log."""
+
+    def __init__(self, folder):
+        self.room = tempfile.mkdtemp(dir=QUICK)
+        copied(folder, self.room)
+        self.found = sqlite3.connect(f"{self.room}/c.db")
+        self.held = tables(self.found)
+
+    def close(self):
+        self.found.close()
+        shutil.rmtree(self.room)
+
+    def one(self, query, **values):
+        row = self.found.execute(GIVEN + query, values).fetchone()
+        return row and row[0]
+
+    def lines(self, query, **values):
+        return "".join(line for line, in self.found.execute(GIVEN + query, values))
+
+    def printed(self, words, now):
+        """What a word lists, or None."""
+        if words[0] in ("members", "events"):
+            return self.lines(MEMBERS if words[0] == "members" else EVENTS, now=now)
+        if words[0] != "games":
+            return None
+        asked, options = dict(OPTIONS), list(words[1:])
+        while options:
+            option = options.pop(0).removeprefix("--")
+            asked[option] = options.pop(0) if option in ("event", "member") else 1
+        return self.lines(GAMES, now=now, **asked)
+
+    def body(self, member, path, now):
+        """The JSON that a path shows a member, or None."""
+        words = path.split("/")[1:]
+        if path in ("/me", "/me/events"):
+            return self.one(MINE if path == "/me" else INVITING, member=member, now=now)
+        if words[2] == "games":
+            return self.one(EVENT_GAMES, event=words[1], now=now)
+        return self.one(CLOCK, game=int(words[1]), now=now) if words[2] == "clock" else None
+
+
+@contextlib.contextmanager
+def rows_of(folder):
+    with contextlib.closing(Rows(folder)) as found:
+        yield found
