@@ -16,7 +16,8 @@ import malformed_draughts
 import malformed_shogi
 from malformed_desk import copy_club, rows
 from malformed_draughts import Refused
-from malformed_officer import LIMIT, csa_move, told_refusal
+from malformed_officer import LIMIT, told_refusal
+from malformed_written import csa_move
 
 RECORDS = pathlib.Path(__file__).resolve().parent / "records"
 GAMES = 12

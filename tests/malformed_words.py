@@ -288,6 +288,7 @@ class Wording:
             for number in range(len(self.club.events) + 1, 50):
                 self.club.event(f"e{number}", "shogi", number, 0)
                 found.execute("INSERT INTO events VALUES (?, ?, 1, ?, 0)", (number, f"e{number}", number))
+                found.execute("INSERT INTO event_rules VALUES (?, 1)", (number,))
 
     def case(self, name, words, standard_input):
         try:
