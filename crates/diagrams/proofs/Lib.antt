@@ -1,0 +1,10 @@
+pub mod BodCells
+pub mod BodHands
+pub mod BodLemmas
+pub mod BodWriting
+pub mod DraughtsLemmas
+pub mod DraughtsWriting
+pub mod HandLemmas
+pub mod Joined
+pub mod ShogiLemmas
+pub mod ShogiWriting

@@ -1,0 +1,78 @@
+-- The diagram of a position of shogi that Japanese programs read and write (BOD).
+use Rattle.std.specs.Prelude.{ℕ, zero, suc, List, [], ◌∷◌, ◌++◌, codes}
+use Rattle.std.specs.FinMap as map
+use Rattle.std.proofs.Math.Utf8.{encodes}
+use Rattle.squares.specs.declared.sides.Side.{Side}
+use Rattle.squares.specs.declared.sides.Side.TheVariants.{First, Second}
+use Rattle.squares.specs.declared.shogi.piece.HandKind.{HandKind}
+use Rattle.squares.specs.declared.shogi.hand.Hand.{Hand}
+use Rattle.squares.specs.ShogiBoard.{ShogiBoard}
+use Rattle.squares.specs.ShogiGeometry.{shogi_number}
+use Rattle.squares.specs.ShogiHands.{count_of}
+use Rattle.squares.specs.ShogiPieces.{on_board, demoted}
+use Rattle.squares.specs.ShogiSets.{ShogiPosition}
+use Rattle.diagrams.specs.BodNames.{role_name, digit_name, count_name, cell_text, wide_blank, nothing}
+use Rattle.diagrams.specs.ShogiDiagram.{hand_kinds}
+
+-- the squares of a rank from that file down to file 1
+abbrev pub squares_text : ShogiBoard → ℕ → ℕ → List ℕ
+squares_text board rank zero = []
+squares_text board rank (suc file) =
+    cell_text (map.get board (shogi_number (suc file) rank)) ++ squares_text board rank file
+
+-- a rank between bars, and its name
+unfoldable pub rank_text : ShogiBoard → ℕ → List ℕ
+rank_text board rank =
+    codes "|" ++ (squares_text board rank 9 ++ (codes "|" ++ (digit_name rank ++ codes "\n")))
+
+-- so many ranks from a rank on
+abbrev pub ranks_text : ShogiBoard → ℕ → ℕ → List ℕ
+ranks_text board rank zero = []
+ranks_text board rank (suc more) = rank_text board rank ++ ranks_text board (suc rank) more
+
+-- the numbers of the files
+unfoldable pub heading : List ℕ
+heading = encodes (codes "  ９ ８ ７ ６ ５ ４ ３ ２ １\n")
+
+-- the edge of the board
+unfoldable pub border : List ℕ
+border = codes "+---------------------------+\n"
+
+unfoldable pub board_text : ShogiBoard → List ℕ
+board_text board = heading ++ (border ++ (ranks_text board 1 9 ++ border))
+
+-- so many pieces of a kind: the kind, the count where it is above 1, and a wide blank
+abbrev pub held_text : HandKind → ℕ → List ℕ
+held_text kind zero = []
+held_text kind (suc n) = role_name (demoted (on_board kind)) ++ (count_name (suc n) ++ wide_blank)
+
+-- the pieces of these kinds in a hand
+abbrev pub kinds_text : Hand → List HandKind → List ℕ
+kinds_text hand [] = []
+kinds_text hand (kind ∷ kinds) = held_text kind (count_of kind hand) ++ kinds_text hand kinds
+
+-- a word for nothing
+abbrev pub or_none : List ℕ → List ℕ
+or_none [] = nothing
+or_none (c ∷ text) = c ∷ text
+
+unfoldable pub hand_text : Hand → List ℕ
+hand_text hand = or_none (kinds_text hand hand_kinds)
+
+abbrev pub hand_name : Side → List ℕ
+hand_name First = encodes (codes "先手の持駒：")
+hand_name Second = encodes (codes "後手の持駒：")
+
+-- the line of a side's hand
+abbrev pub hand_line : Side → Hand → List ℕ
+hand_line side hand = hand_name side ++ (hand_text hand ++ codes "\n")
+
+-- the line that says that White is to move; there is none where Black is
+abbrev pub turn_line : Side → List ℕ
+turn_line First = []
+turn_line Second = encodes (codes "後手番\n")
+
+unfoldable pub bod_text : ShogiPosition → List ℕ
+bod_text p =
+    hand_line Second p.hands.second
+    ++ (board_text p.board ++ (hand_line First p.hands.first ++ turn_line p.turn))

@@ -1,0 +1,7 @@
+pub mod BodDiagram
+pub mod BodNames
+pub mod DraughtsDiagram
+pub mod Laws
+pub mod Numbers
+pub mod ShogiDiagram
+pub mod ShogiLetters

@@ -1,0 +1,273 @@
+//! Positions of shogi as the diagram that Japanese programs read and write (BOD).
+ghost use Rattle.std.specs.Prelude.{◌≡◌, ◌++◌, ◌<◌, ◌≤◌, OnOk, IfOk, string_bytes};
+ghost use Rattle.diagrams.specs.BodNames.{side_mark, role_name, digit_name, count_name, cell_text};
+ghost use Rattle.diagrams.specs.BodNames.{empty_square, ten, wide_blank, nothing};
+ghost use Rattle.diagrams.specs.BodDiagram.{squares_text, rank_text, heading, border, ranks_text, held_text};
+ghost use Rattle.diagrams.specs.BodDiagram.{kinds_text, hand_text, hand_line, board_text, bod_text, hand_name, turn_line};
+ghost use Rattle.diagrams.specs.ShogiDiagram.{hand_kinds};
+
+use crate::shogi::piece_at;
+use squares::{Hand, HandKind, Memory, Role, SBoard, SPiece, SPos, Side};
+use std::alloc::Global;
+
+// The mark before a side's piece.
+fn side_mark(side: Side) -> &'static str
+    ensures { result.now ≡ side_mark side }
+{
+    match side {
+        Side::First => " ",
+        Side::Second => "v",
+    }
+}
+
+// The name of a piece, of one character.
+fn role_name(role: Role) -> &'static str
+    ensures { result.now ≡ role_name role }
+{
+    match role {
+        Role::King => "玉",
+        Role::Rook => "飛",
+        Role::Bishop => "角",
+        Role::Gold => "金",
+        Role::Silver => "銀",
+        Role::Knight => "桂",
+        Role::Lance => "香",
+        Role::Pawn => "歩",
+        Role::PromotedRook => "龍",
+        Role::PromotedBishop => "馬",
+        Role::PromotedSilver => "全",
+        Role::PromotedKnight => "圭",
+        Role::PromotedLance => "杏",
+        Role::PromotedPawn => "と",
+    }
+}
+
+// The name of a number from 1 to 9, and nothing for 0.
+fn digit_name(number: u8) -> &'static str
+    requires { number < 10 }
+    ensures { result.now ≡ digit_name number }
+{
+    match number {
+        0 => "",
+        1 => "一",
+        2 => "二",
+        3 => "三",
+        4 => "四",
+        5 => "五",
+        6 => "六",
+        7 => "七",
+        8 => "八",
+        _ => "九",
+    }
+}
+
+// An empty square.
+fn empty_square() -> &'static str
+    ensures { result.now ≡ empty_square }
+{
+    " ・"
+}
+
+// The name of ten.
+fn ten() -> &'static str
+    ensures { result.now ≡ ten }
+{
+    "十"
+}
+
+// A blank that is as wide as a name.
+fn wide_blank() -> &'static str
+    ensures { result.now ≡ wide_blank }
+{
+    "\u{3000}"
+}
+
+// What is written for no pieces.
+fn nothing() -> &'static str
+    ensures { result.now ≡ nothing }
+{
+    "なし"
+}
+
+// Adds what stands on a square.
+fn push_cell(text: &mut String, cell: Option<SPiece>) -> Result<(), Memory>
+    ensures { OnOk result (string_bytes text.new ≡ string_bytes text.old ++ cell_text cell) }
+{
+    match cell {
+        Some(piece) => {
+            text.push_str(side_mark(piece.side))?;
+            text.push_str(role_name(piece.role))?;
+            Ok(())
+        }
+        None => {
+            text.push_str(empty_square())?;
+            Ok(())
+        }
+    }
+}
+
+// Adds the squares of a rank, from file 9 to file 1.
+fn push_squares(text: &mut String, board: &SBoard, rank: u8) -> Result<(), Memory>
+    requires low { 1 ≤ rank }
+    requires high { rank ≤ 9 }
+    ensures { OnOk result
+        (string_bytes text.new ≡ string_bytes text.old ++ squares_text board.now rank 9) }
+{
+    for past in 0..9 {
+        push_cell(text, piece_at(board, 9 - past, rank))?;
+    }
+    Ok(())
+}
+
+// Adds a rank: its squares between bars, and its name.
+fn push_rank(text: &mut String, board: &SBoard, rank: u8) -> Result<(), Memory>
+    requires low { 1 ≤ rank }
+    requires high { rank ≤ 9 }
+    ensures { OnOk result
+        (string_bytes text.new ≡ string_bytes text.old ++ rank_text board.now rank) }
+{
+    text.push_str("|")?;
+    push_squares(text, board, rank)?;
+    text.push_str("|")?;
+    text.push_str(digit_name(rank))?;
+    text.push_str("\n")?;
+    Ok(())
+}
+
+// The numbers of the files.
+fn heading() -> &'static str
+    ensures { result.now ≡ heading }
+{
+    "  ９ ８ ７ ６ ５ ４ ３ ２ １\n"
+}
+
+// The edge of the board.
+#[tactic(auto, unfolding(crate::specs::BodDiagram::border))]
+fn border() -> &'static str
+    ensures { result.now ≡ border }
+{
+    "+---------------------------+\n"
+}
+
+// Adds the nine ranks.
+fn push_ranks(text: &mut String, board: &SBoard) -> Result<(), Memory>
+    ensures { OnOk result
+        (string_bytes text.new ≡ string_bytes text.old ++ ranks_text board.now 1 9) }
+{
+    for rank in 1..10 {
+        push_rank(text, board, rank)?;
+    }
+    Ok(())
+}
+
+// Adds the numbers of the files, and the nine ranks between edges.
+fn push_board(text: &mut String, board: &SBoard) -> Result<(), Memory>
+    ensures { OnOk result (string_bytes text.new ≡ string_bytes text.old ++ board_text board.now) }
+{
+    text.push_str(heading())?;
+    text.push_str(border())?;
+    push_ranks(text, board)?;
+    text.push_str(border())?;
+    Ok(())
+}
+
+// Adds a count below 20, and nothing for 1.
+fn push_count(text: &mut String, count: u8) -> Result<(), Memory>
+    ensures { OnOk result (string_bytes text.new ≡ string_bytes text.old ++ count_name count) }
+{
+    if count == 1 {
+        return Ok(());
+    }
+    if count < 10 {
+        text.push_str(digit_name(count % 10))?;
+        return Ok(());
+    }
+    text.push_str(ten())?;
+    text.push_str(digit_name(count % 10))?;
+    Ok(())
+}
+
+// Adds so many pieces of a kind: nothing for none, else the kind, the count and a blank.
+fn push_held(text: &mut String, kind: HandKind, count: u8) -> Result<(), Memory>
+    ensures { OnOk result
+        (string_bytes text.new ≡ string_bytes text.old ++ held_text kind count) }
+{
+    if count == 0 {
+        return Ok(());
+    }
+    text.push_str(role_name(kind.kind().role()))?;
+    push_count(text, count)?;
+    text.push_str(wide_blank())?;
+    Ok(())
+}
+
+// Adds the pieces of a hand.
+fn push_kinds(text: &mut String, hand: Hand) -> Result<(), Memory>
+    ensures { OnOk result
+        (string_bytes text.new ≡ string_bytes text.old ++ kinds_text hand hand_kinds) }
+{
+    for kind in HandKind::ALL {
+        push_held(text, kind, hand.count(kind))?;
+    }
+    Ok(())
+}
+
+// Adds the pieces of a hand, or that there are none.
+fn push_hand(text: &mut String, hand: Hand) -> Result<(), Memory>
+    ensures { OnOk result (string_bytes text.new ≡ string_bytes text.old ++ hand_text hand) }
+{
+    let before = text.len();
+    push_kinds(text, hand)?;
+    if text.len() == before {
+        text.push_str(nothing())?;
+    }
+    Ok(())
+}
+
+// What stands before the pieces of a side's hand.
+fn hand_name(side: Side) -> &'static str
+    ensures { result.now ≡ hand_name side }
+{
+    match side {
+        Side::First => "先手の持駒：",
+        Side::Second => "後手の持駒：",
+    }
+}
+
+// Adds the line of a side's hand.
+fn push_line(text: &mut String, side: Side, hand: Hand) -> Result<(), Memory>
+    ensures { OnOk result (string_bytes text.new ≡ string_bytes text.old ++ hand_line side hand) }
+{
+    text.push_str(hand_name(side))?;
+    push_hand(text, hand)?;
+    text.push_str("\n")?;
+    Ok(())
+}
+
+// What stands behind the hands where White is to move.
+fn turn_line(side: Side) -> &'static str
+    ensures { result.now ≡ turn_line side }
+{
+    match side {
+        Side::First => "",
+        Side::Second => "後手番\n",
+    }
+}
+
+/// The diagram of a position of shogi that Japanese programs read and write (BOD), in UTF-8: White's hand, the numbers
+/// of the files, the nine ranks from file 9 to file 1, and Black's hand. A piece is its name of one character, after a
+/// `v` where it is White's; a count above 1 stands behind the kind's name. A last line says that White is to move; there
+/// is none where Black is.
+///
+/// It fails where memory is refused, and then alone.
+pub fn write_bod(alloc: Global, position: &SPos) -> Result<String, Memory>
+    ensures { IfOk result (λ text. string_bytes text ≡ bod_text position.now) }
+{
+    let hands = position.hands();
+    let mut text = String::new(alloc);
+    push_line(&mut text, Side::Second, hands.second)?;
+    push_board(&mut text, position.board())?;
+    push_line(&mut text, Side::First, hands.first)?;
+    text.push_str(turn_line(position.turn()))?;
+    Ok(text)
+}

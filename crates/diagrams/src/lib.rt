@@ -1,0 +1,12 @@
+//! Positions as lines of text for a person to look at.
+#![tactic(auto)]
+
+pub mod bod;
+pub mod draughts;
+pub mod laws;
+pub mod shogi;
+
+pub use bod::write_bod;
+pub use draughts::write_draughts;
+pub use shogi::write_shogi;
+pub use squares::Memory;

@@ -1,0 +1,4 @@
+pub mod Ahead
+pub mod Computed
+pub mod OfSix
+pub mod Tables

@@ -1,0 +1,3 @@
+pub mod Fide
+pub mod Laws
+pub mod Table
