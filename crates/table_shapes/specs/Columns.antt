@@ -1,0 +1,118 @@
+-- Whether the columns of a table keep, compare and refuse values as those of a table of the club. Names go without
+-- regard to case; the order of columns does not count.
+use Rattle.std.specs.Prelude.{ℕ, ◌-◌, ◌==◌, ◌&&◌, ◌||◌, not, Bool, true, false, if◌then◌else◌, List, [], codes}
+use Rattle.std.specs.Prelude.{Option, Some, None, slice_get}
+use Rattle.std.specs.List.{list_all, list_any}
+use Rattle.sqlite_value.specs.declared.keys.Collation.{Collation}
+use Rattle.sqlite_value.specs.declared.keys.Collation.TheVariants.{Binary, NoCase, RTrim}
+use Rattle.sqlite_value.specs.declared.value.Value.{Value}
+use Rattle.sqlite_value.specs.declared.value.Value.TheVariants as value
+use Rattle.sqlite_schema.specs.declared.schema.Column.{Column}
+use Rattle.sqlite_schema.specs.declared.schema.Kind.{Kind}
+use Rattle.sqlite_schema.specs.declared.schema.Kind.TheVariants.{Integer, Real, Text, Blob, Any}
+use Rattle.sqlite_schema.specs.declared.schema.Table.{Table}
+use Rattle.sqlite_schema.specs.Names.{same_name}
+
+-- ---- names
+
+abbrev pub name_of : Option Column → List ℕ
+name_of None = []
+name_of (Some column) = column.name
+
+abbrev pub name_under : List Column → Option ℕ → List ℕ
+name_under columns None = []
+name_under columns (Some at) = name_of (slice_get columns at)
+
+-- the name of the column by which rows are numbered, if there is one
+abbrev pub key_name : Table → List ℕ
+key_name table = name_under table.columns table.key
+
+-- the name of the column at a place of a row: place 0 is the number of the row
+abbrev pub name_at : Table → ℕ → List ℕ
+name_at table place = if place == 0 then key_name table else name_of (slice_get table.columns (place - 1))
+
+abbrev pub is_named : List ℕ → Column → Bool
+is_named name column = same_name column.name name
+
+abbrev pub has_name : Table → List ℕ → Bool
+has_name table name = list_any (is_named name) table.columns
+
+-- ---- types
+
+abbrev pub is_integer : Kind → Bool
+is_integer Integer = true
+is_integer Real = false
+is_integer Text = false
+is_integer Blob = false
+is_integer Any = false
+
+abbrev pub is_text : Kind → Bool
+is_text Integer = false
+is_text Real = false
+is_text Text = true
+is_text Blob = false
+is_text Any = false
+
+-- a column of the second type or affinity keeps the values of the first as they are
+abbrev pub keeps_values : (ours theirs : Kind) → Bool
+keeps_values ours Integer = is_integer ours
+keeps_values ours Real = false
+keeps_values ours Text = is_text ours
+keeps_values ours Blob = false
+keeps_values ours Any = true
+
+abbrev pub compares_bytes : Collation → Bool
+compares_bytes Binary = true
+compares_bytes NoCase = false
+compares_bytes RTrim = false
+
+-- ---- a column of ours
+
+-- it takes NULL exactly where ours does; for the number of a row NOT NULL says nothing
+abbrev pub takes_null_as : List ℕ → (ours theirs : Column) → Bool
+takes_null_as key ours theirs =
+    if ours.not_null then theirs.not_null else not theirs.not_null || same_name key ours.name
+
+-- it is the column of ours, and keeps, compares and refuses values alike
+abbrev pub is_column_as : List ℕ → (ours theirs : Column) → Bool
+is_column_as key ours theirs =
+    same_name ours.name theirs.name && keeps_values ours.kind theirs.kind && compares_bytes theirs.collation
+    && takes_null_as key ours theirs
+
+-- the table has such a column
+abbrev pub has_column : (ours theirs : Table) → Column → Bool
+has_column ours theirs column = list_any (is_column_as (key_name ours) column) theirs.columns
+
+-- ---- a column that ours has not
+
+-- It takes this value, which it gets where it is left out: a STRICT table asks for one of the column's type.
+abbrev pub takes_default : Column → Value → Bool
+takes_default column value.Null = not column.not_null
+takes_default column (value.Int n) = not column.is_strict || is_integer column.kind
+takes_default column (value.Real x) = not column.is_strict
+takes_default column (value.Text t) = not column.is_strict || is_text column.kind
+takes_default column (value.Blob b) = not column.is_strict
+
+-- No row is refused where it is left out, and it does not hide the number of a row, which `rowid` names.
+abbrev pub is_further : Column → Bool
+is_further column = takes_default column column.default && not (same_name column.name (codes "rowid"))
+
+-- it is a column of ours, or may be left out
+abbrev pub may_be_left_out : Table → Column → Bool
+may_be_left_out ours column = is_further column || has_name ours column.name
+
+-- A default that is computed may fail: the column at this place, which has one, is a column of ours, never left out.
+abbrev pub is_computed_in : (ours theirs : Table) → ℕ → Bool
+is_computed_in ours theirs place = has_name ours (name_at theirs place)
+
+-- ---- all columns
+
+abbrev pub has_each_column : (ours theirs : Table) → Bool
+has_each_column ours theirs = list_all (has_column ours theirs) ours.columns
+
+abbrev pub wants_no_other : (ours theirs : Table) → Bool
+wants_no_other ours theirs =
+    list_all (may_be_left_out ours) theirs.columns && list_all (is_computed_in ours theirs) theirs.computed
+
+abbrev pub has_columns_as : (ours theirs : Table) → Bool
+has_columns_as ours theirs = has_each_column ours theirs && wants_no_other ours theirs

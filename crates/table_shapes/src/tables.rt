@@ -1,0 +1,203 @@
+//! Whether each table of a club stands in a schema, or one that answers as it.
+
+ghost use Rattle.std.specs.Prelude.{◌≡◌, ◌==◌, ◌&&◌, Ok, IfOk, length};
+ghost use Rattle.sqlite.specs.Held.{state};
+ghost use Rattle.sqlite.specs.Compile.{table_defined_by};
+ghost use Rattle.sqlite_schema.specs.declared.schema.Table as made;
+ghost use Rattle.store_tables.specs.Tables.{event_rules};
+ghost use Rattle.store_tables.specs.declared.names.Version.{Version};
+ghost use Rattle.table_shapes.specs.Shapes as spec;
+ghost use Rattle.table_shapes.specs.Told.{has_version};
+
+use crate::columns::{has_columns_as, key_name};
+use crate::keys::has_keys_as;
+use sqlite::{Alter, Connection};
+use sqlite_resolve::define_table;
+use sqlite_schema::code::Terms;
+use sqlite_schema::names::same_name;
+use sqlite_schema::schema::{Schema, Table};
+use std::alloc::{AllocError, Global};
+use store_tables::Version;
+
+const CREATE_META: &str =
+    "CREATE TABLE meta (id INTEGER PRIMARY KEY, schema INTEGER NOT NULL, last INTEGER NOT NULL) STRICT";
+
+const CREATE_MEMBERS: &str =
+    "CREATE TABLE members (id INTEGER PRIMARY KEY, name TEXT NOT NULL UNIQUE, key TEXT NOT NULL UNIQUE) STRICT";
+
+const CREATE_EVENTS: &str =
+    "CREATE TABLE events (id INTEGER PRIMARY KEY, name TEXT NOT NULL UNIQUE, game INTEGER NOT NULL, budget INTEGER NOT NULL, increment INTEGER NOT NULL) STRICT";
+
+const CREATE_CHALLENGES: &str =
+    "CREATE TABLE challenges (member INTEGER NOT NULL, number INTEGER NOT NULL, event INTEGER NOT NULL, other INTEGER NOT NULL, first INTEGER NOT NULL, state INTEGER NOT NULL, game INTEGER, PRIMARY KEY (member, number)) STRICT";
+
+const CREATE_MOVES: &str =
+    "CREATE TABLE moves (game INTEGER NOT NULL, ply INTEGER NOT NULL, text TEXT NOT NULL, moment INTEGER NOT NULL, left INTEGER NOT NULL, position TEXT NOT NULL, PRIMARY KEY (game, ply)) STRICT";
+
+const CREATE_GAMES: &str =
+    "CREATE TABLE games (id INTEGER PRIMARY KEY, key TEXT UNIQUE, event INTEGER NOT NULL, first INTEGER NOT NULL, second INTEGER NOT NULL, start INTEGER NOT NULL, since INTEGER NOT NULL, plies INTEGER NOT NULL, left1 INTEGER NOT NULL, left2 INTEGER NOT NULL, offer_side INTEGER, offer_ply INTEGER, end TEXT, result TEXT, position TEXT NOT NULL, track_a INTEGER NOT NULL, track_b INTEGER NOT NULL) STRICT";
+
+const CREATE_SEEN: &str =
+    "CREATE TABLE seen (game INTEGER NOT NULL, position TEXT NOT NULL, count INTEGER NOT NULL, first_ply INTEGER NOT NULL, PRIMARY KEY (game, position)) STRICT";
+
+const CREATE_SCORES: &str =
+    "CREATE TABLE scores (event INTEGER NOT NULL, member INTEGER NOT NULL, opponent INTEGER NOT NULL, points INTEGER NOT NULL, wins INTEGER NOT NULL, draws INTEGER NOT NULL, losses INTEGER NOT NULL, PRIMARY KEY (event, member, opponent)) STRICT";
+
+const CREATE_EVENT_RULES: &str =
+    "CREATE TABLE event_rules (event INTEGER PRIMARY KEY, declares INTEGER NOT NULL) STRICT";
+
+/// Whether no rule is stated by the terms.
+fn are_none(alloc: Global, terms: &Terms) -> Result<bool, AllocError>
+    ensures { IfOk result (λ none. none ≡ (length terms.now == 0)) }
+{
+    let lent = terms.lend(alloc)?;
+    Ok(lent.roots.len() == 0)
+}
+
+/// Whether there is no CHECK and no foreign key, and rows are numbered by the column of the same name.
+fn is_plain_as(alloc: Global, ours: &Table, theirs: &Table) -> Result<bool, AllocError>
+    ensures { IfOk result (λ plain. plain ≡ spec.is_plain_as ours.now theirs.now) }
+{
+    let free = are_none(alloc, &theirs.checks)?;
+    Ok(free && theirs.references.len() == 0 && same_name(key_name(ours), key_name(theirs)))
+}
+
+/// Whether this table of the schema answers as ours.
+fn answers_as(
+    alloc: Global,
+    schema: &Schema,
+    ours: &Table,
+    theirs: &Table,
+) -> Result<bool, AllocError>
+    ensures { IfOk result (λ answers. answers ≡ spec.answers_as schema.now ours.now theirs.now) }
+{
+    let plain = is_plain_as(alloc, ours, theirs)?;
+    Ok(
+        same_name(ours.name.as_slice(), theirs.name.as_slice())
+            && plain
+            && has_columns_as(ours, theirs)
+            && has_keys_as(schema, ours, theirs),
+    )
+}
+
+/// Whether a table of the schema answers as ours.
+fn has_table(alloc: Global, schema: &Schema, ours: &Table) -> Result<bool, AllocError>
+    ensures { IfOk result (λ has. has ≡ spec.has_table schema.now ours.now) }
+{
+    for theirs in schema.tables.as_slice() {
+        if answers_as(alloc, schema, ours, theirs)? {
+            return Ok(true);
+        }
+    }
+    Ok(false)
+}
+
+/// Whether the table that this text of ours makes stands in the schema, or one that answers as it.
+fn stands(alloc: Global, schema: &Schema, sql: &str) -> Result<bool, AllocError>
+    ensures { IfOk result (λ stands. (ours : made.Table) → table_defined_by sql.now ≡ Ok ours →
+        stands ≡ spec.has_table schema.now ours) }
+{
+    let ours = match define_table(alloc, sql.as_bytes()) {
+        Ok(ours) => ours,
+        Err(_) => return Err(AllocError),
+    };
+    has_table(alloc, schema, &ours)
+}
+
+/// Whether the tables of what is in a club but its games stand there.
+fn first_stand(alloc: Global, schema: &Schema) -> Result<bool, AllocError>
+    ensures { IfOk result (λ stand. stand ≡ spec.have_first schema.now) }
+{
+    if !stands(alloc, schema, CREATE_META)? {
+        return Ok(false);
+    }
+    if !stands(alloc, schema, CREATE_MEMBERS)? {
+        return Ok(false);
+    }
+    if !stands(alloc, schema, CREATE_EVENTS)? {
+        return Ok(false);
+    }
+    stands(alloc, schema, CREATE_CHALLENGES)
+}
+
+/// Whether the tables of games stand there.
+fn last_stand(alloc: Global, schema: &Schema) -> Result<bool, AllocError>
+    ensures { IfOk result (λ stand. stand ≡ spec.have_last schema.now) }
+{
+    if !stands(alloc, schema, CREATE_MOVES)? {
+        return Ok(false);
+    }
+    if !stands(alloc, schema, CREATE_GAMES)? {
+        return Ok(false);
+    }
+    if !stands(alloc, schema, CREATE_SEEN)? {
+        return Ok(false);
+    }
+    stands(alloc, schema, CREATE_SCORES)
+}
+
+/// Whether the tables stand there that each version has.
+fn both_stand(alloc: Global, schema: &Schema) -> Result<bool, AllocError>
+    ensures { IfOk result (λ stand. stand ≡ spec.have_both schema.now) }
+{
+    if !first_stand(alloc, schema)? {
+        return Ok(false);
+    }
+    last_stand(alloc, schema)
+}
+
+/// Whether the table of the rules of events stands there.
+fn rules_stand(alloc: Global, schema: &Schema) -> Result<bool, AllocError>
+    ensures { IfOk result (λ stand. stand ≡ spec.has_table schema.now (event_rules 0)) }
+{
+    stands(alloc, schema, CREATE_EVENT_RULES)
+}
+
+/// The versions of a club for which the tables of a database may be taken.
+#[derive(Debug, Clone, Copy, PartialEq, Eq)]
+pub struct Versions {
+    /// Schema 1.
+    pub first: bool,
+    /// Schema 2.
+    pub current: bool,
+}
+
+impl Versions {
+    /// Whether the tables may be taken for those of this version.
+    pub fn has(self, version: Version) -> bool
+        ensures { result ≡ has_version self version }
+    {
+        match version {
+            Version::First => self.first,
+            Version::Current => self.current,
+        }
+    }
+}
+
+/// The same, of a schema.
+fn versions_in(alloc: Global, schema: &Schema) -> Result<Versions, AllocError>
+    ensures first { IfOk result (λ found. found.first ≡ spec.have_both schema.now) }
+    ensures current { IfOk result (λ found. found.current ≡
+        (spec.have_both schema.now && spec.has_table schema.now (event_rules 0))) }
+{
+    let first = both_stand(alloc, schema)?;
+    let rules = rules_stand(alloc, schema)?;
+    Ok(Versions {
+        first,
+        current: first && rules,
+    })
+}
+
+/// For which versions of a club the tables of a database may be taken: those whose tables stand there, or others that
+/// answer as they do, beside whatever further ones. Nothing is read of them.
+///
+/// # Errors
+///
+/// Where memory is refused.
+pub fn versions_of<S: Alter>(alloc: Global, conn: &Connection<S>) -> Result<Versions, AllocError>
+    ensures { IfOk result (λ found. (version : Version) →
+        has_version found version ≡ spec.is_of_club version (state S.Store conn.now).now.schema) }
+{
+    let schema = conn.schema();
+    versions_in(alloc, schema)
+}
