@@ -63,7 +63,7 @@ one-more k = omega arith
 heads : {A : Type 0} (x y : A) (xs ys : List A) → x ∷ xs ≡ y ∷ ys → (x ≡ y) × (xs ≡ ys)
 heads x y xs ys is = (cc, cc)
 
-row_id : (events : List Event) (n : ℕ) (any : ClubGame) → column (row_of_game both_games events n any) 0 ≡ Int (pos n)
+pub row_id : (events : List Event) (n : ℕ) (any : ClubGame) → column (row_of_game both_games events n any) 0 ≡ Int (pos n)
 row_id events n (draughts g) = refl
 row_id events n (shogi g) = refl
 
@@ -76,7 +76,7 @@ numbered_begin row first n (x ∷ xs) zero low = first n x ∙ ap (λ m. Int (po
 numbered_begin row first n (x ∷ xs) (suc k) low = numbered_begin row first (suc n) xs k (omega (arith, low))
     ∙ ap (λ m. Int (pos m)) (next-is n k)
 
-begin_places : {A : Type 0} (row : ℕ → A → Row) → ((n : ℕ) (x : A) → column (row n x) 0 ≡ Int (pos n)) → (xs : List A)
+pub begin_places : {A : Type 0} (row : ℕ → A → Row) → ((n : ℕ) (x : A) → column (row n x) 0 ≡ Int (pos n)) → (xs : List A)
     → BeginWithPlaces (numbered_from row 1 xs)
 begin_places row first xs k low = numbered_begin row first 1 xs k low ∙ ap (λ m. Int (pos m)) (one-more k)
 
@@ -94,7 +94,7 @@ club_typed s club Seen = seen-typed s club
 club_typed s club Scores = scores_typed both_games s.games
 club_typed s club Meta = record { schema = pos 2; last = pos s.last; is = refl }
 
-typed_at : (version : Version) (s : ClubState) → IsClub s → (t : Table) → HasTypes t (tables_at version s)
+pub typed_at : (version : Version) (s : ClubState) → IsClub s → (t : Table) → HasTypes t (tables_at version s)
 typed_at Current s club t = club_typed s club t
 typed_at First s club Members = club_typed s club Members
 typed_at First s club Events = club_typed s club Events
@@ -148,7 +148,7 @@ good_fault s club db holds fault blamed = elim (good_in Current Current s club d
 -- ---- what was read
 
 -- rows with ids that are places were read as the list that they are
-ids_read : (table : Definition) (rows wanted : List Row) (old new : State) → IsReadAs table 1 rows old new → AreIds rows
+pub ids_read : (table : Definition) (rows wanted : List Row) (old new : State) → IsReadAs table 1 rows old new → AreIds rows
     → Keeps table old.now.trees wanted → BeginWithPlaces wanted → rows ≡ wanted
 ids_read table rows wanted old new read ids keeps places =
     one_list rows wanted (in_order rows read.sorted ids) (places_rise wanted places)
@@ -160,31 +160,48 @@ one_last : (last moment : ℤ) (number schema : ℤ) (id : ℤ)
 one_last last moment number schema id (inl is) = cc
 one_last last moment number schema id (inr none) = absurd none
 
--- rows of members that were read of a legal club are its own, and so are those of events
-pub members_read : (s : ClubState) (rows : List MemberRow) (old new : State) → IsStored old.now s
-    → IsReadAs (members 1) 1 (map member_cells rows) old new → map member_cells rows ≡ tables_of both_games s 1
-members_read s rows old new holds read =
+-- rows of members that were read where those of a club stand are its own, and so are those of events
+pub members_kept : (s : ClubState) (rows : List MemberRow) (old new : State)
+    → Keeps (members 1) old.now.trees (tables_of both_games s 1) → IsReadAs (members 1) 1 (map member_cells rows) old new
+    → map member_cells rows ≡ tables_of both_games s 1
+members_kept s rows old new keeps read =
     ids_read (members 1) (map member_cells rows) (tables_of both_games s 1) old new read
     (ids_of (members 1) (old.now.trees 1) (map member_cells rows) (λ r. refl) read.once read.apart)
-    holds.members.rows (begin_places member_row (λ n x. refl) s.members)
+    keeps (begin_places member_row (λ n x. refl) s.members)
+
+pub events_kept : (s : ClubState) (rows : List EventRow) (old new : State)
+    → Keeps (events 4) old.now.trees (tables_of both_games s 4) → IsReadAs (events 4) 1 (map event_cells rows) old new
+    → map event_cells rows ≡ tables_of both_games s 4
+events_kept s rows old new keeps read =
+    ids_read (events 4) (map event_cells rows) (tables_of both_games s 4) old new read
+    (ids_of (events 4) (old.now.trees 4) (map event_cells rows) (λ r. refl) read.once read.apart)
+    keeps (begin_places event_row (λ n x. refl) s.events)
+
+-- so are those of their rules
+pub rules_kept : (s : ClubState) (rows : List EventRuleRow) (old new : State)
+    → Keeps (event_rules 16) old.now.trees (tables_of both_games s 16)
+    → IsReadAs (event_rules 16) 1 (map event_rule_cells rows) old new
+    → map event_rule_cells rows ≡ tables_of both_games s 16
+rules_kept s rows old new keeps read =
+    ids_read (event_rules 16) (map event_rule_cells rows) (tables_of both_games s 16) old new read
+    (ids_of (event_rules 16) (old.now.trees 16) (map event_rule_cells rows) (λ r. refl) read.once read.apart)
+    keeps (begin_places rule_row (λ n x. refl) s.events)
+
+-- and those of a legal club
+pub members_read : (s : ClubState) (rows : List MemberRow) (old new : State) → IsStored old.now s
+    → IsReadAs (members 1) 1 (map member_cells rows) old new → map member_cells rows ≡ tables_of both_games s 1
+members_read s rows old new holds read = members_kept s rows old new holds.members.rows read
 
 pub events_read : (s : ClubState) (rows : List EventRow) (old new : State) → IsStored old.now s
     → IsReadAs (events 4) 1 (map event_cells rows) old new → map event_cells rows ≡ tables_of both_games s 4
-events_read s rows old new holds read =
-    ids_read (events 4) (map event_cells rows) (tables_of both_games s 4) old new read
-    (ids_of (events 4) (old.now.trees 4) (map event_cells rows) (λ r. refl) read.once read.apart)
-    holds.events.rows (begin_places event_row (λ n x. refl) s.events)
+events_read s rows old new holds read = events_kept s rows old new holds.events.rows read
 
--- so are those of their rules
 pub rules_read : (s : ClubState) (rows : List EventRuleRow) (old new : State) → HoldsClub Current old.now s
     → IsReadAs (event_rules 16) 1 (map event_rule_cells rows) old new
     → map event_rule_cells rows ≡ tables_of both_games s 16
-rules_read s rows old new holds read =
-    ids_read (event_rules 16) (map event_rule_cells rows) (tables_of both_games s 16) old new read
-    (ids_of (event_rules 16) (old.now.trees 16) (map event_rule_cells rows) (λ r. refl) read.once read.apart)
-    (rules_stored old.now s holds).rows (begin_places rule_row (λ n x. refl) s.events)
+rules_read s rows old new holds read = rules_kept s rows old new (rules_stored old.now s holds).rows read
 
-members_of : (s : ClubState) → IsClub s → (rows : List MemberRow) → map member_cells rows ≡ tables_of both_games s 1
+pub members_of : (s : ClubState) → IsClub s → (rows : List MemberRow) → map member_cells rows ≡ tables_of both_games s 1
     → AreMembers s.members rows
 members_of s club rows are = record {
   rows_are = are;
@@ -194,7 +211,7 @@ members_of s club rows are = record {
   keys = club.member_keys;
 }
 
-events_of : (s : ClubState) → IsClub s → (rows : List EventRow) → map event_cells rows ≡ tables_of both_games s 4
+pub events_of : (s : ClubState) → IsClub s → (rows : List EventRow) → map event_cells rows ≡ tables_of both_games s 4
     → AreEvents s.events rows
 events_of s club rows are =
     record { rows_are = are; legal = club.events; count = club.event_count; names = club.event_names }

@@ -16,7 +16,8 @@ use Rattle.store_tables.specs.Cells.{game_cells, move_cells, seen_cells}
 use Rattle.store_tables.specs.Content.{AreApart, cells}
 use Rattle.store_tables.specs.Tables.{moves, scores as scored, seen}
 use Rattle.store_tables.specs.declared.names.Table.{Table}
-use Rattle.store_tables.specs.declared.names.Table.TheVariants.{Meta}
+use Rattle.store_tables.specs.declared.names.Table.TheVariants.{Members, Events, EventRules, Challenges, Moves}
+use Rattle.store_tables.specs.declared.names.Table.TheVariants.{Games, Seen, Scores, Meta}
 use Rattle.store_tables.specs.declared.names.Version.{Version}
 use Rattle.store_tables.specs.declared.rows.GameRecord.{GameRecord}
 use Rattle.store_tables.specs.declared.rows.MoveRow.{MoveRow}
@@ -27,16 +28,16 @@ use Rattle.store_sql.specs.Read.{AreCounted, AreReadOf, beginning_with}
 use Rattle.club_rows.specs.Club.{both_games, ClubGame, ClubState, IsClub}
 use Rattle.club_rows.specs.FirstSchema.{IsClubOf}
 use Rattle.club_rows.specs.Tables.{numbered_from, row_of_game, rows_of_moves, rows_of_seen}
-use Rattle.club_audit.specs.Audit.{AreAllOf, HasPeople}
-use Rattle.club_audit.specs.FirstWrong.{IsFirstWrong}
+use Rattle.club_audit.specs.Audit.{AreAllOf, HasPeople, until}
+use Rattle.club_audit.specs.FirstWrong.{IsFirstWrong, Precedes, order}
 use Rattle.club_audit.specs.GameAudit.{IsRightAt}
 use Rattle.club_audit.proofs.Proved.{all-right, club-right, id-told, none-named, numbered-append, numbered-at}
 use Rattle.club_audit.proofs.Proved.{numbered-length, right-club, take-got}
 use Rattle.club_rows.proofs.Proved.{same-pos}
 use Rattle.club_opening.specs.Examined.{AreGamesFound, AreLeftAfter, IsFoundAs, IsGameFound, IsPlayExamined, NamesPlay}
-use Rattle.club_opening.specs.Examined.{AreScoresExamined, IsOf, NoneIsLeft, WereFound, moves_in, past, seen_in}
+use Rattle.club_opening.specs.Examined.{AreScoresExamined, IsOf, IsPlayed, NoneIsLeft, WereFound, moves_in, past, seen_in}
 use Rattle.club_opening.specs.Blames.{NamesTable}
-use Rattle.club_opening.specs.Places.{IsMomentOf, IsNoRegister, IsRegisterOf}
+use Rattle.club_opening.specs.Places.{IsMomentOf, IsNoRegister, IsRegisterOf, last_moment}
 use Rattle.club_changes.specs.Steps.{HaveSame}
 use Rattle.club_opening.specs.declared.fault.OpenFault.{OpenFault}
 use Rattle.club_opening.specs.declared.fault.OpenFault.TheVariants.{Damaged}
@@ -45,6 +46,26 @@ use Rattle.club_opening.proofs.GroupRows.{none_left, own_moves, own_seen, same_o
 use Rattle.club_opening.specs.Versions.{HoldsClub}
 use Rattle.club_opening.proofs.PastLemmas.{past_step}
 use Rattle.club_opening.proofs.StoredLemmas.{IsStored, club_of_version, stored_of}
+
+-- ---- wrong tables
+
+seen_precedes : (wrong : Option Table) → IsPlayed wrong → Precedes Seen wrong
+seen_precedes None played = tt
+seen_precedes (Some t) played = subst (λ (u : Table). order Seen < order u) (sym (played t refl)) (omega arith)
+
+last_table : (t : Table) → order Meta ≤ order t → t ≡ Meta
+last_table Members low = absurd (omega (arith, low))
+last_table Events low = absurd (omega (arith, low))
+last_table EventRules low = absurd (omega (arith, low))
+last_table Challenges low = absurd (omega (arith, low))
+last_table Moves low = absurd (omega (arith, low))
+last_table Games low = absurd (omega (arith, low))
+last_table Seen low = absurd (omega (arith, low))
+last_table Scores low = absurd (omega (arith, low))
+last_table Meta low = refl
+
+none_some : (o : Option Table) (t : Table) → o ≡ Some t → o ≡ None → ⊥
+none_some o t some none = let both : ◌≡◌ {A = Option Table} (Some t) None = sym some ∙ none in absurd cc
 
 -- ---- one game
 
@@ -144,6 +165,13 @@ module _ (rows : Rows) (place : ℕ) (game : GameRecord) (ms : List MoveRow) (ss
         let (g, all) = right-club s rows of.people place game ms ss last of.within of.moment right in
         (g, found_as s g all)
 
+    -- so they are up to the last moment of all, where at most `meta` is wrong
+    game_played : IsPlayed wrong → (s : ClubState) → HasPeople s rows → (g : ClubGame)
+        × IsFoundAs (until last_moment s) (place + 1) game old.now.trees g
+    game_played played s people =
+        let (g, all) = (first s people).before Seen (seen_precedes wrong played) in
+        (g, found_as (until last_moment s) g all)
+
     -- a table that is named is damaged
     game_blamed : slice_get rows.games.items place ≡ Some game → (t : Table) → wrong ≡ Some t
         → NamesPlay rows old.now (Damaged t)
@@ -177,26 +205,29 @@ module _ (rows : Rows) (place : ℕ) (game : GameRecord) (ms : List MoveRow) (ss
       moves_number = sym (length-map ms move_cells) ∙ length_permutation _ (map move_cells ms) one.once;
       seen_number = sym (length-map ss seen_cells) ∙ length_permutation _ (map seen_cells ss) seen_once;
       found = game_found_as;
+      played = game_played;
       blamed = game_blamed at;
     }
 
 -- ---- one game after another
+
+-- of no game all are found
+none_found : (s : ClubState) (rows : List GameRecord) (db : Trees) → WereFound s rows db 0
+none_found s rows db = record {
+  games = [];
+  number_of = refl;
+  legal = λ n x at. cc;
+  rows_are = refl;
+  moves_are = λ n g at. cc;
+  seen_are = λ n g at. cc;
+}
 
 pub left_start : (rows : Rows) (last : Option ℕ) (ms ss : ℕ) (known : Option Table) (old : State)
     → ((t : Table) → known ≡ Some t → IsNoRegister rows) → IsUnchanged old old → ms ≡ length (moves_in old.now.trees)
     → ss ≡ length (seen_in old.now.trees) → AreLeftAfter rows last 0 ms ss known old old
 left_start rows last ms ss known old none same one two = record {
   same = same;
-  found =
-      λ free s of. record {
-        games = [];
-        number_of = refl;
-        legal = λ n x at. cc;
-        rows_are = refl;
-        moves_are =
-            λ n g at. cc;
-        seen_are = λ n g at. cc;
-      };
+  found = λ free s of. none_found s rows.games.items old.now.trees;
   blamed = λ t is. (
     t,
     refl,
@@ -204,6 +235,9 @@ left_start rows last ms ss known old none same one two = record {
   );
   moves_left = λ free s of. one;
   seen_left = λ free s of. two;
+  played = λ free s people. none_found (until last_moment s) rows.games.items old.now.trees;
+  moves_rest = λ free s people. one;
+  seen_rest = λ free s people. two;
 }
 
 found_more : (s : ClubState) (rows : List GameRecord) (db : Trees) (k : ℕ) (row : GameRecord) → WereFound s rows db k
@@ -248,10 +282,33 @@ play_back : (rows : Rows) (old mid : State) (fault : OpenFault) → IsUnchanged 
     → NamesPlay rows old.now fault
 play_back rows old mid fault same = subst (λ (d : Database). NamesPlay rows d fault) same.0.now_is
 
--- Of two wrong tables one is named, and none where there is none.
+-- Of two wrong tables the first is named, and none where there is none.
 pub record IsOneOf (w v u : Option Table) : Type 0 where
   pub none : u ≡ None → (w ≡ None) × (v ≡ None)
   pub some : (t : Table) → u ≡ Some t → (w ≡ Some t) ⊎ (v ≡ Some t)
+  pub first : (t x : Table) → u ≡ Some t → (w ≡ Some x) ⊎ (v ≡ Some x) → order t ≤ order x
+
+-- a table from which on one is wrong is the last, where none before that is
+no_sooner : (u : Option Table) (t : Table) → IsPlayed u → (u ≡ None → ⊥)
+    → ((x : Table) → u ≡ Some x → order x ≤ order t) → t ≡ Meta
+no_sooner None t played some low = absurd (some refl)
+no_sooner (Some x) t played some low =
+    last_table t (subst (λ (y : Table). order y ≤ order t) (played x refl) (low x refl))
+
+-- where no table before `meta` is named, neither has one
+pub both_played : (w v u : Option Table) → IsOneOf w v u → IsPlayed u → IsPlayed w × IsPlayed v
+both_played w v u one played = (
+  λ t is. no_sooner u t played (λ none. none_some w t is (one.none none).0) (λ x named. one.first x t named (inl is)),
+  λ t is. no_sooner u t played (λ none. none_some v t is (one.none none).1) (λ x named. one.first x t named (inr is)),
+)
+
+none_named_of : (o : Option Table) → IsPlayed o → ((t : Table) → o ≡ Some t → t ≢ Meta) → o ≡ None
+none_named_of None played other = refl
+none_named_of (Some t) played other = absurd (other t refl (played t refl))
+
+pub not_last : (table t : Table) → order table < order Meta → t ≡ table → t ≢ Meta
+not_last table t low is last =
+    let less = subst (λ (u : Table). order u < order Meta) (sym is ∙ last) low in absurd (omega (arith, less))
 
 -- with one game more, its rows are no longer left
 module _ (rows : Rows) (last : Option ℕ) (k : ℕ) (game : GameRecord) (ms ss a b : ℕ) (w v u : Option Table)
@@ -266,6 +323,18 @@ module _ (rows : Rows) (last : Option ℕ) (k : ℕ) (game : GameRecord) (ms ss 
       let neither = one_of.none none in
       let (g, found) = is.found neither.1 s of in
       id-told s (k + 1) game g found.row_is ∙ ap pos (sym (next_suc k))
+
+  -- the same where at most `meta` is wrong
+  game_in : IsPlayed u → (s : ClubState) → HasPeople s rows → (g : ClubGame)
+      × IsFoundAs (until last_moment s) (k + 1) game old.now.trees g
+  game_in free s people =
+      let (g, found) = is.played (both_played w v u one_of free).1 s people in
+      (g, subst (λ t. IsFoundAs (until last_moment s) (k + 1) game t g) trees_same_after found)
+
+  id_in : IsPlayed u → (s : ClubState) → HasPeople s rows → game.id ≡ pos (suc k)
+  id_in free s people =
+      let (g, found) = game_in free s people in
+      id-told (until last_moment s) (k + 1) game g found.row_is ∙ ap pos (sym (next_suc k))
 
   pub left_more : AreLeftAfter rows last (k + 1) (ms - a) (ss - b) u old new
   left_more = record {
@@ -293,6 +362,25 @@ module _ (rows : Rows) (last : Option ℕ) (k : ℕ) (game : GameRecord) (ms ss 
         ap (λ n. ss - n) own
         ∙ (taken ss _ _ _ (was.seen_left (one_of.none none).0 s of) (past_step k (seen_in old.now.trees))
         ∙ ap (λ n. length (past n (seen_in old.now.trees))) (next_suc k));
+    played = λ free s people.
+        found_more (until last_moment s) rows.games.items old.now.trees k game
+        (was.played (both_played w v u one_of free).0 s people) at (game_in free s people);
+    moves_rest = λ free s people.
+        let id = id_in free s people in
+        let own : a ≡ length (beginning_with (pos (suc k)) (moves_in old.now.trees)) = is.moves_number
+        ∙ (λ i. length (beginning_with (id i) (moves_in (trees_same_after i)))) in
+        ap (λ n. ms - n) own
+        ∙ (taken ms _ _ _ (was.moves_rest (both_played w v u one_of free).0 s people)
+        (past_step k (moves_in old.now.trees))
+        ∙ ap (λ n. length (past n (moves_in old.now.trees))) (next_suc k));
+    seen_rest = λ free s people.
+        let id = id_in free s people in
+        let own : b ≡ length (beginning_with (pos (suc k)) (seen_in old.now.trees)) = is.seen_number
+        ∙ (λ i. length (beginning_with (id i) (seen_in (trees_same_after i)))) in
+        ap (λ n. ss - n) own
+        ∙ (taken ss _ _ _ (was.seen_rest (both_played w v u one_of free).0 s people)
+        (past_step k (seen_in old.now.trees))
+        ∙ ap (λ n. length (past n (seen_in old.now.trees))) (next_suc k));
   }
 
 -- a table that was known to be wrong is not forgotten
@@ -303,6 +391,7 @@ IsKept known wrong = wrong ≡ None → known ≡ None
 pub record NamesLeft (count : ℕ) (o : Option Table) : Type 0 where
   pub none : o ≡ None → count ≡ 0
   pub some : (t : Table) → o ≡ Some t → 0 < count
+  pub other : (t : Table) → o ≡ Some t → t ≢ Meta
 
 -- when the rows of all games were read
 module _ (rows : Rows) (last : Option ℕ) (told : IsMomentOf rows.meta.last last) (k ms ss : ℕ)
@@ -358,6 +447,19 @@ module _ (rows : Rows) (last : Option ℕ) (told : IsMomentOf rows.meta.last las
           seen = ap (λ n. length (past n (seen_in old.now.trees))) (sym all)
               ∙ (sym (was.seen_left before s of) ∙ seen_left.none no_seen);
         };
+    played = λ free s people.
+        let early = (both_played u b v then_of free).0 in
+        let before = (both_played w a u one_of early).0 in
+        subst (WereFound (until last_moment s) rows.games.items old.now.trees) all (was.played before s people);
+    none_rests = λ free s people.
+        let (early, from_seen) = both_played u b v then_of free in
+        let (before, from_moves) = both_played w a u one_of early in
+        record {
+          moves = ap (λ n. length (past n (moves_in old.now.trees))) (sym all)
+              ∙ (sym (was.moves_rest before s people) ∙ moves_left.none (none_named_of a from_moves moves_left.other));
+          seen = ap (λ n. length (past n (seen_in old.now.trees))) (sym all)
+              ∙ (sym (was.seen_rest before s people) ∙ seen_left.none (none_named_of b from_seen seen_left.other));
+        };
     blamed = left_blamed;
   }
 
@@ -400,6 +502,11 @@ module _ (old one two : State) (m n : ℕ) (moves_are : AreCounted 8 m old one) 
               (found.found none s of);
           none_left = λ none s of. subst (λ (t : Trees). NoneIsLeft t (length rows.games.items)) back
               (found.none_left none s of);
+          played = λ free s people.
+              subst (λ (t : Trees). WereFound (until last_moment s) rows.games.items t (length rows.games.items)) back
+              (found.played free s people);
+          none_rests = λ free s people. subst (λ (t : Trees). NoneIsLeft t (length rows.games.items)) back
+              (found.none_rests free s people);
           blamed = λ t is. play_back rows old two (Damaged t) both_same (found.blamed t is);
         };
         moves_apart = moves_are.apart;
@@ -414,6 +521,8 @@ play_later rows last old mid new play same = record {
     same = unchanged_then old mid new play.games.same same;
     found = play.games.found;
     none_left = play.games.none_left;
+    played = play.games.played;
+    none_rests = play.games.none_rests;
     blamed = play.games.blamed;
   };
   moves_apart = play.moves_apart;

@@ -1,10 +1,13 @@
 pub mod BlameLemmas
+pub mod ChallengedLemmas
 pub mod ClubLemmas
 pub mod ExaminedLemmas
+pub mod FirstLemmas
 pub mod GroupRows
 pub mod MoveOrderLemmas
 pub mod OnceLemmas
 pub mod PastLemmas
+pub mod PlayedLemmas
 pub mod Proved
 pub mod RegisterLemmas
 pub mod StoredLemmas

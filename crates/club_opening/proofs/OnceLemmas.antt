@@ -101,7 +101,7 @@ shown_once table key stored rows apart keyed once =
     (stored_differ table key stored apart keyed)
 
 -- Rows that were read of a table are those that it has, each once, in whatever order.
-each_once : (table : Definition) (width : ℕ) (key : List ℕ) (rows made : List Row) (old new : State)
+pub each_once : (table : Definition) (width : ℕ) (key : List ℕ) (rows made : List Row) (old new : State)
     → HasKey table key (old.now.trees table.tree) → Keeps table old.now.trees made → IsReadAs table width rows old new
     → AreEachOnce rows made
 each_once table width key rows made old new keyed keeps read = record {
@@ -130,7 +130,7 @@ seen_key trees unique typed = record {
   unique = unique.seen;
 }
 
-challenge_key : (trees : Trees) → AreUnique trees
+pub challenge_key : (trees : Trees) → AreUnique trees
     → ((r : Row) → Has (trees 6) r → IsChallenge (cells (challenges 6) r))
     → HasKey (challenges 6) (1 ∷ 2 ∷ []) (trees 6)
 challenge_key trees unique typed = record {
@@ -139,7 +139,7 @@ challenge_key trees unique typed = record {
   unique = unique.challenges;
 }
 
-score_key : (trees : Trees) → AreUnique trees → ((r : Row) → Has (trees 14) r → IsScore (cells (scores 14) r))
+pub score_key : (trees : Trees) → AreUnique trees → ((r : Row) → Has (trees 14) r → IsScore (cells (scores 14) r))
     → HasKey (scores 14) (1 ∷ 2 ∷ 3 ∷ []) (trees 14)
 score_key trees unique typed = record {
   filled = λ r h. let is = typed r h in (int_there _ is.event, (int_there _ is.member, (int_there _ is.opponent, tt)));

@@ -94,14 +94,14 @@ content_with rows scored db t =
     else (if t == 16 then map event_rule_cells rows.event_rules.items
     else []))))))))
 
-keeps_shown : (table : Definition) (db : Trees) → Keeps table db (map (cells table) (db table.tree))
+pub keeps_shown : (table : Definition) (db : Trees) → Keeps table db (map (cells table) (db table.tree))
 keeps_shown table db = record {
   stored = λ z h. let (r, stored, is) = has_mapped (cells table) (db table.tree) z h in (r, stored, sym is);
   only = λ r h. has_map (cells table) (db table.tree) r h;
 }
 
 -- rows of rules that say 0 are those of events without declarations
-none_declared : (n : ℕ) (es : List Event) (rows : List EventRow)
+pub none_declared : (n : ℕ) (es : List Event) (rows : List EventRow)
     → map undeclared_row rows ≡ numbered_from rule_row n es → Each (λ e. e.terms.declares ≡ false) es
 none_declared n es rows are k e at =
     let (row, stands, cells) = numbered-back undeclared_row rule_row n rows es are k e at in
@@ -109,7 +109,7 @@ none_declared n es rows are k e at =
     declares-alike e.terms.declares false (same-pos _ _ says)
 
 -- tables with the same rows are held alike
-keeps_same : (table : Definition) (db : Trees) (one other : List Row) → HaveSame one other → Keeps table db one
+pub keeps_same : (table : Definition) (db : Trees) (one other : List Row) → HaveSame one other → Keeps table db one
     → Keeps table db other
 keeps_same table db one other same keeps = record {
   stored = λ row h. keeps.stored row (same.back row h);
@@ -121,7 +121,7 @@ both_all : {A : Type 0} (P Q R : A → Type 0) (xs : List A) → ((x : A) → P 
 both_all P Q R [] f p q = tt
 both_all P Q R (x ∷ xs) f p q = (f x p.0 q.0, both_all P Q R xs f p.1 q.1)
 
-stored_same : (schema : Schema) (db : Trees) (one other : Content) → changes.AreSame schema one other
+pub stored_same : (schema : Schema) (db : Trees) (one other : Content) → changes.AreSame schema one other
     → AreStored schema db one → AreStored schema db other
 stored_same schema db one other =
     both_all (λ t. HaveSame (one t.tree) (other t.tree)) (λ t. Stores t db one) (λ t. Stores t db other)

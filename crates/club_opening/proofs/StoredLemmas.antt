@@ -60,7 +60,7 @@ pub record AreUnique (trees : Trees) : Type 0 where
   pub seen : (r : Row) → Has (trees 12) r → clashes plain (1 ∷ 2 ∷ []) (trees 12) r ≡ false
   pub scores : (r : Row) → Has (trees 14) r → clashes plain (1 ∷ 2 ∷ 3 ∷ []) (trees 14) r ≡ false
 
-first_unique : (trees : Trees) → IsSound first_schema trees → AreUnique trees
+pub first_unique : (trees : Trees) → IsSound first_schema trees → AreUnique trees
 first_unique trees sound = record {
   challenges = λ r h. not_true _ (and_first _ (all_has _ (trees 6) r (sound.obeys.rules Unique).1.1.1.0 h));
   moves = λ r h. not_true _ (and_first _ (all_has _ (trees 8) r (sound.obeys.rules Unique).1.1.1.1.0 h));
@@ -68,7 +68,7 @@ first_unique trees sound = record {
   scores = λ r h. not_true _ (and_first _ (all_has _ (trees 14) r (sound.obeys.rules Unique).1.1.1.1.1.1.1.0 h));
 }
 
-current_unique : (trees : Trees) → IsSound club_schema trees → AreUnique trees
+pub current_unique : (trees : Trees) → IsSound club_schema trees → AreUnique trees
 current_unique trees sound = record {
   challenges = λ r h. not_true _ (and_first _ (all_has _ (trees 6) r (sound.obeys.rules Unique).1.1.1.0 h));
   moves = λ r h. not_true _ (and_first _ (all_has _ (trees 8) r (sound.obeys.rules Unique).1.1.1.1.0 h));

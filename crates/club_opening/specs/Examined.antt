@@ -35,9 +35,10 @@ use Rattle.store_tables.specs.Tables.{moves, scores, seen}
 use Rattle.store_tables.specs.declared.rows.GameRecord.{GameRecord}
 use Rattle.store_sql.specs.Read.{IsReadAs, beginning_with}
 use Rattle.store_tables.specs.declared.names.Table.{Table}
+use Rattle.store_tables.specs.declared.names.Table.TheVariants.{Meta}
 use Rattle.store_tables.specs.declared.names.Version.{Version}
 use Rattle.store_tables.specs.declared.rows.Rows.{Rows}
-use Rattle.club_audit.specs.Audit.{AreApartGames, HasPeople}
+use Rattle.club_audit.specs.Audit.{AreApartGames, HasPeople, until}
 use Rattle.club_audit.specs.ChallengeAudit.{AreChallenges}
 use Rattle.club_core.specs.declared.challenges.Challenge.{Challenge}
 use Rattle.club_audit.specs.Standings.{AreGamesOf}
@@ -90,6 +91,10 @@ pub record IsOf (s : ClubState) (rows : Rows) (last : Option ℕ) : Type 0 where
   pub moment : last ≡ Some s.last
   pub within : s.last ≤ last_moment
 
+-- no table before `meta` is wrong
+abbrev pub IsPlayed : Option Table → Type 0
+IsPlayed wrong = (t : Table) → wrong ≡ Some t → t ≡ Meta
+
 -- What was read of a game's rows tells: how many are of its moves and of its positions, and that all of them are those
 -- of a legal game at its place, or a wrong table.
 pub record IsGameFound (rows : Rows) (last : Option ℕ) (place : ℕ) (game : GameRecord) (moves seen : ℕ)
@@ -99,6 +104,8 @@ pub record IsGameFound (rows : Rows) (last : Option ℕ) (place : ℕ) (game : G
   pub seen_number : seen ≡ length (beginning_with game.id (seen_in old.now.trees))
   pub found : wrong ≡ None → (s : ClubState) → IsOf s rows last → (g : ClubGame)
       × IsFoundAs s (place + 1) game old.now.trees g
+  pub played : IsPlayed wrong → (s : ClubState) → HasPeople s rows → (g : ClubGame)
+      × IsFoundAs (until last_moment s) (place + 1) game old.now.trees g
   pub blamed : (t : Table) → wrong ≡ Some t → NamesPlay rows old.now (Damaged t)
 
 -- none of the rows of moves and of positions is another's than those of the first so many games
@@ -113,6 +120,10 @@ pub record AreGamesFound (rows : Rows) (last : Option ℕ) (wrong : Option Table
       → WereFound s rows.games.items old.now.trees (length rows.games.items)
   pub none_left : wrong ≡ None → (s : ClubState) → IsOf s rows last
       → NoneIsLeft old.now.trees (length rows.games.items)
+  pub played : IsPlayed wrong → (s : ClubState) → HasPeople s rows
+      → WereFound (until last_moment s) rows.games.items old.now.trees (length rows.games.items)
+  pub none_rests : IsPlayed wrong → (s : ClubState) → HasPeople s rows
+      → NoneIsLeft old.now.trees (length rows.games.items)
   pub blamed : (t : Table) → wrong ≡ Some t → NamesPlay rows old.now (Damaged t)
 
 -- and what is left of the rows when so many games were read, of which a table was wrong or none
@@ -124,6 +135,12 @@ pub record AreLeftAfter (rows : Rows) (last : Option ℕ) (place moves seen : �
   pub moves_left : wrong ≡ None → (s : ClubState) → IsOf s rows last
       → moves ≡ length (past place (moves_in old.now.trees))
   pub seen_left : wrong ≡ None → (s : ClubState) → IsOf s rows last
+      → seen ≡ length (past place (seen_in old.now.trees))
+  pub played : IsPlayed wrong → (s : ClubState) → HasPeople s rows
+      → WereFound (until last_moment s) rows.games.items old.now.trees place
+  pub moves_rest : IsPlayed wrong → (s : ClubState) → HasPeople s rows
+      → moves ≡ length (past place (moves_in old.now.trees))
+  pub seen_rest : IsPlayed wrong → (s : ClubState) → HasPeople s rows
       → seen ≡ length (past place (seen_in old.now.trees))
 
 -- what was read of all games tells, with the rowids of both tables

@@ -5,3 +5,4 @@ pub mod Faults
 pub mod Places
 pub mod Versions
 pub mod Refused
+pub mod RightTables

@@ -9,8 +9,11 @@ ghost use Rattle.store_tables.specs.Tables.{IsClubSchema};
 ghost use Rattle.store_sql.specs.Read.{AreCounted, AreReadOf};
 ghost use Rattle.club_opening.specs.Blames.{Blames, NamesTable};
 ghost use Rattle.club_audit.specs.FirstWrong.{order};
+ghost use Rattle.club_audit.specs.Audit.{HasPeople};
 ghost use Rattle.club_opening.specs.Places.{IsMomentOf, IsNoRegister};
-ghost use Rattle.club_opening.specs.Examined.{AreGamesFound, IsGameFound, NamesPlay, moves_in, seen_in};
+ghost use Rattle.club_opening.specs.RightTables.{IsLater, NamesPlayed};
+ghost use Rattle.club_rows.specs.Club.{ClubState};
+ghost use Rattle.club_opening.specs.Examined.{AreGamesFound, IsGameFound, IsPlayed, NamesPlay, moves_in, seen_in};
 
 use crate::fault::OpenFault;
 use crate::read::fault_in;
@@ -151,6 +154,9 @@ fn examine_game<S: Alter>(
     ensures blames { HasCleanDisk (state S.Store conn.new) → IfErr result (λ e.
         IsClubSchema (state S.Store conn.old).now.schema →
         NamesTable (state S.Store conn.old).now e ⊎ NamesPlay rows.now (state S.Store conn.old).now e) }
+    ensures later { IfOk result (λ found. (s : ClubState) → HasPeople s rows.now → IsLater found.wrong) }
+    ensures later_fault { HasCleanDisk (state S.Store conn.new) → IfErr result (λ e.
+        IsClubSchema (state S.Store conn.old).now.schema → NamesPlayed e) }
 {
     let moves = match read_of::<MoveRow, S>(alloc, conn, Table::Moves, game) {
         Ok(moves) => moves,
@@ -192,11 +198,17 @@ pub(crate) fn examine_games<S: Alter>(
         all.seen ≡ length (seen_in (state S.Store conn.old).now.trees) →
         AreGamesFound rows.now last wrong (state S.Store conn.old) (state S.Store conn.new)) }
     ensures known { IfOk result (λ wrong. wrong ≡ None → known ≡ None) }
+    ensures known_played { IfOk result (λ wrong. IsPlayed wrong → IsPlayed known) }
     ensures blames { HasCleanDisk (state S.Store conn.new) → IfErr result (λ e.
         IsClubSchema (state S.Store conn.old).now.schema → IsTrue (state S.Store conn.old).is_open →
         all.moves ≡ length (moves_in (state S.Store conn.old).now.trees) →
         all.seen ≡ length (seen_in (state S.Store conn.old).now.trees) →
         NamesTable (state S.Store conn.old).now e ⊎ NamesPlay rows.now (state S.Store conn.old).now e) }
+    ensures later { IfOk result (λ wrong. (s : ClubState) → HasPeople s rows.now → IsLater known → IsLater wrong) }
+    ensures later_fault { HasCleanDisk (state S.Store conn.new) → IfErr result (λ e.
+        IsClubSchema (state S.Store conn.old).now.schema → IsTrue (state S.Store conn.old).is_open →
+        all.moves ≡ length (moves_in (state S.Store conn.old).now.trees) →
+        all.seen ≡ length (seen_in (state S.Store conn.old).now.trees) → NamesPlayed e) }
 {
     let mut moves = all.moves;
     let mut seen = all.seen;

@@ -1,18 +1,21 @@
 //! Examining the tables of a database that was opened.
 
-ghost use Rattle.std.specs.Prelude.{◌≡◌, ◌⊎◌, None, Some, IfErr, IfOk, OnOk};
+ghost use Rattle.std.specs.Prelude.{◌≡◌, ◌⊎◌, true, None, Some, IfErr, IfOk, OnOk};
 ghost use Rattle.sqlite.specs.State.{HasCleanDisk, IsUnchanged};
 ghost use Rattle.sqlite.specs.Held.{state};
 ghost use Rattle.store_tables.specs.Club.{IsExactly, IsOpened};
 ghost use Rattle.store_tables.specs.Reading.{OnlyReads};
 ghost use Rattle.store_tables.specs.Tables.{club_schema, IsClubSchema, schema_of};
 ghost use Rattle.store_tables.specs.declared.names.Version.TheVariants.{Current};
+ghost use Rattle.table_shapes.specs.Shapes.{is_of_club};
 ghost use Rattle.club_opening.specs.Blames.{Names, NamesTable};
 ghost use Rattle.club_opening.specs.Versions.{HoldsClub, IsExactlyClub, IsOpenedAt};
-ghost use Rattle.club_opening.specs.Examined.{AreExamined, AreScoresExamined, IsPlayExamined, NamesPlay};
+ghost use Rattle.club_opening.specs.Examined.{AreExamined, AreScoresExamined, IsPlayExamined, IsPlayed, NamesPlay};
 ghost use Rattle.club_rows.specs.FirstSchema.{IsClubOf};
 ghost use Rattle.club_rows.specs.Club.{ClubState, IsClub, tables};
+ghost use Rattle.club_audit.specs.Audit.{HasPeople};
 ghost use Rattle.club_opening.specs.Places.{IsMomentOf, IsNoRegister, IsRegisterOf};
+ghost use Rattle.club_opening.specs.RightTables.{IsLater, NamesExamined, NamesFirst, NamesPlayed, NamesScores};
 
 use crate::audit::audit;
 use crate::fault::OpenFault;
@@ -41,9 +44,13 @@ fn examine_play<S: Alter>(
         IsClubSchema (state S.Store conn.old).now.schema →
         IsPlayExamined rows.now last wrong (state S.Store conn.old) (state S.Store conn.new)) }
     ensures known { IfOk result (λ wrong. wrong ≡ None → known ≡ None) }
+    ensures known_played { IfOk result (λ wrong. IsPlayed wrong → IsPlayed known) }
     ensures blames { HasCleanDisk (state S.Store conn.new) → IfErr result (λ e.
         IsClubSchema (state S.Store conn.old).now.schema →
         NamesTable (state S.Store conn.old).now e ⊎ NamesPlay rows.now (state S.Store conn.old).now e) }
+    ensures later { IfOk result (λ wrong. (s : ClubState) → HasPeople s rows.now → IsLater known → IsLater wrong) }
+    ensures later_fault { HasCleanDisk (state S.Store conn.new) → IfErr result (λ e.
+        IsClubSchema (state S.Store conn.old).now.schema → NamesPlayed e) }
 {
     let moves = match count_of::<MoveRow, S>(alloc, conn, Table::Moves) {
         Ok(count) => count,
@@ -72,6 +79,9 @@ fn examine_scores<S: Alter>(
     ensures blames { HasCleanDisk (state S.Store conn.new) → IfErr result (λ e.
         IsClubSchema (state S.Store conn.old).now.schema →
         NamesTable (state S.Store conn.old).now e ⊎ NamesPlay rows.now (state S.Store conn.old).now e) }
+    ensures scores { HasCleanDisk (state S.Store conn.new) → IfErr result (λ e.
+        IsClubSchema (state S.Store conn.old).now.schema →
+        NamesScores rows.now (state S.Store conn.old).now e) }
 {
     let scores = match read::<ScoreRow, S>(alloc, conn, Table::Scores) {
         Ok(scores) => scores,
@@ -97,19 +107,23 @@ fn before_scores(wrong: Option<Table>) -> Option<Table>
     }
 }
 
-/// Tests that the tables are those of a club of schema 2, and changes nothing. Of wrong tables the first is named, in the
-/// order members, events, rules of events, challenges, moves, games, positions, scores, `meta`. Schema 1 is refused by
-/// its number.
+/// Tests that the tables are those of a club of schema 2, or answer as they do, and changes nothing. Of wrong tables the
+/// first is named, in the order members, events, rules of events, challenges, moves, games, positions, scores, `meta`.
+/// Schema 1 is refused by its number.
 pub fn examine<S: Alter>(alloc: Global, conn: &mut Connection<S>) -> Result<(), OpenFault>
     ensures reads { OnlyReads (state S.Store conn.old) (state S.Store conn.new) }
     ensures found { HasCleanDisk (state S.Store conn.new) → OnOk result (IsOpened (state S.Store conn.old) → (s : _) ×
         IsClub s × IsExactly (tables s) (state S.Store conn.new)) }
+    // By whatever texts its tables were made, they answer as those of a club.
+    ensures shape { OnOk result (is_of_club Current (state S.Store conn.old).now.schema ≡ true) }
     ensures same { HasCleanDisk (state S.Store conn.new) → OnOk result (
         IsClubSchema (state S.Store conn.old).now.schema →
         ((state S.Store conn.old).now.schema ≡ club_schema) ×
         IsUnchanged (state S.Store conn.old) (state S.Store conn.new)) }
     ensures blames { HasCleanDisk (state S.Store conn.new) → IfErr result (λ e.
         IsClubSchema (state S.Store conn.old).now.schema → Names Current (state S.Store conn.old).now e) }
+    ensures first { HasCleanDisk (state S.Store conn.new) → IfErr result (λ e.
+        IsClubSchema (state S.Store conn.old).now.schema → NamesFirst (state S.Store conn.old).now e) }
 {
     let _register = match examine_from(alloc, conn, Version::Current) {
         Ok(register) => register,
@@ -127,6 +141,7 @@ pub fn examine_from<S: Alter>(
 ) -> Result<Register, OpenFault>
     ensures reads { OnlyReads (state S.Store conn.old) (state S.Store conn.new) }
     ensures taken { IfOk result (λ found. oldest ≡ Current → found.version ≡ Current) }
+    ensures shape { IfOk result (λ found. is_of_club found.version (state S.Store conn.old).now.schema ≡ true) }
     ensures found { HasCleanDisk (state S.Store conn.new) → IfOk result (λ found.
         (version : _) → IsOpenedAt version (state S.Store conn.old) → (found.version ≡ version) × ((s : _) ×
         IsClubOf version s × IsRegisterOf s found.rows × IsExactlyClub version s (state S.Store conn.new))) }
@@ -138,6 +153,8 @@ pub fn examine_from<S: Alter>(
         IsUnchanged (state S.Store conn.old) (state S.Store conn.new)) }
     ensures blames { HasCleanDisk (state S.Store conn.new) → IfErr result (λ e.
         IsClubSchema (state S.Store conn.old).now.schema → Names oldest (state S.Store conn.old).now e) }
+    ensures first { HasCleanDisk (state S.Store conn.new) → IfErr result (λ e.
+        IsClubSchema (state S.Store conn.old).now.schema → NamesFirst (state S.Store conn.old).now e) }
 {
     let found = match read_rows(alloc, conn, oldest) {
         Ok(found) => found,
@@ -162,6 +179,9 @@ fn examine_rows<S: Alter>(
     ensures blames { HasCleanDisk (state S.Store conn.new) → IfErr result (λ e.
         IsClubSchema (state S.Store conn.old).now.schema →
         NamesTable (state S.Store conn.old).now e ⊎ NamesPlay rows.now (state S.Store conn.old).now e) }
+    ensures examined { HasCleanDisk (state S.Store conn.new) → IfErr result (λ e.
+        IsClubSchema (state S.Store conn.old).now.schema → (s : ClubState) → HasPeople s rows.now →
+        NamesExamined rows.now (state S.Store conn.old).now e) }
 {
     let known = match audit(alloc, rows) {
         Ok(known) => known,

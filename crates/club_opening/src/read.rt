@@ -1,6 +1,6 @@
 //! All rows of each table, as rows of its type.
 
-ghost use Rattle.std.specs.Prelude.{◌≡◌, ◌≢◌, ◌⊎◌, ℕ, pos, None, Some, IfSome, IfOk, IfErr, OnOk, IsTrue, List};
+ghost use Rattle.std.specs.Prelude.{◌≡◌, ◌≢◌, ◌⊎◌, ℕ, pos, true, None, Some, IfSome, IfOk, IfErr, OnOk, IsTrue, List};
 ghost use Rattle.std.specs.Prelude.{[], ◌∷◌, length, map};
 ghost use Rattle.sqlite.specs.State.{HasCleanDisk, IsUnchanged};
 ghost use Rattle.sqlite.specs.Held.{state};
@@ -14,9 +14,11 @@ ghost use Rattle.store_tables.specs.declared.names.Version.TheVariants.{First, C
 ghost use Rattle.club_opening.specs.Blames.{IsMetaRead, IsOneMeta, HasTypes, HoldsNone, Blames, Names, NamesTable};
 ghost use Rattle.club_opening.specs.Blames.{AreRead, AreRulesRead, IsNumberFrom, NamesSchema, undeclared_row};
 ghost use Rattle.club_opening.specs.Places.{NamesRows};
+ghost use Rattle.club_opening.specs.RightTables.{NamesFirst, NamesWrong, TellsEvents};
 ghost use Rattle.club_opening.specs.Versions.{HasEvents};
 ghost use Rattle.club_opening.specs.Faults.{told};
 ghost use Rattle.store_sql.specs.Read.{IsReadAs};
+ghost use Rattle.table_shapes.specs.Shapes.{is_of_club};
 
 use crate::fault::OpenFault;
 use club_audit::{are_events, are_members, are_rules};
@@ -29,6 +31,7 @@ use store_tables::{
     ChallengeRow, EventRow, EventRuleRow, GameRecord, MemberRow, MetaRow, MoveRow, Rows, ScoreRow,
     SeenRow, Table, TableRow, Unread, Version,
 };
+use table_shapes::versions_of;
 
 /// A text that is not understood names a table or a column that is missing, or makes a table that stands.
 pub fn fault_of(error: Error) -> OpenFault
@@ -131,6 +134,8 @@ fn read_members<S: Alter>(
     ensures blames { HasCleanDisk (state S.Store conn.new) → IfErr result (λ e.
         IsClubSchema (state S.Store conn.old).now.schema → NamesTable (state S.Store conn.old).now e ⊎ NamesRows
         (state S.Store conn.old).now e) }
+    ensures wrong { HasCleanDisk (state S.Store conn.new) → IfErr result (λ e.
+        IsClubSchema (state S.Store conn.old).now.schema → NamesWrong Table.Members (state S.Store conn.old).now e) }
 {
     let members = match read::<MemberRow, S>(alloc, conn, Table::Members) {
         Ok(members) => members,
@@ -155,6 +160,8 @@ fn read_events<S: Alter>(
     ensures blames { HasCleanDisk (state S.Store conn.new) → IfErr result (λ e.
         IsClubSchema (state S.Store conn.old).now.schema → NamesTable (state S.Store conn.old).now e ⊎ NamesRows
         (state S.Store conn.old).now e) }
+    ensures wrong { HasCleanDisk (state S.Store conn.new) → IfErr result (λ e.
+        IsClubSchema (state S.Store conn.old).now.schema → NamesWrong Table.Events (state S.Store conn.old).now e) }
 {
     let events = match read::<EventRow, S>(alloc, conn, Table::Events) {
         Ok(events) => events,
@@ -391,6 +398,10 @@ fn read_rules<S: Alter>(
         (state S.Store conn.old).now.schema ≡ schema_of version →
         (es : List Event) → AreEvents es events.now → HasEvents events.now (state S.Store conn.old).now →
         NamesTable (state S.Store conn.old).now e ⊎ NamesRows (state S.Store conn.old).now e) }
+    ensures wrong { HasCleanDisk (state S.Store conn.new) → IfErr result (λ e.
+        (state S.Store conn.old).now.schema ≡ schema_of version →
+        TellsEvents events.now (state S.Store conn.old).now →
+        NamesWrong Table.EventRules (state S.Store conn.old).now e) }
 {
     let rules = match version {
         Version::First => return undeclared(alloc, events),
@@ -428,6 +439,8 @@ fn read_head<S: Alter>(conn: &mut Connection<S>, oldest: Version) -> Result<Told
     ensures taken { IfOk result (λ told. oldest ≡ Current → told.version ≡ Current) }
     ensures blames { HasCleanDisk (state S.Store conn.new) → IfErr result (λ e.
         IsClubSchema (state S.Store conn.old).now.schema → Names oldest (state S.Store conn.old).now e) }
+    ensures undamaged { HasCleanDisk (state S.Store conn.new) → IfErr result (λ e.
+        IsClubSchema (state S.Store conn.old).now.schema → (t : Table) → e ≢ OpenFault.Damaged t) }
 {
     let told = match read_told(conn) {
         Ok(told) => told,
@@ -447,9 +460,47 @@ fn read_head<S: Alter>(conn: &mut Connection<S>, oldest: Version) -> Result<Told
     }
 }
 
+/// The same, where the tables answer as those of the version, by whatever texts they were made. Tables of another
+/// schema are called so by its number.
+fn read_shaped<S: Alter>(
+    alloc: Global,
+    conn: &mut Connection<S>,
+    oldest: Version,
+) -> Result<Told, OpenFault>
+    ensures reads { OnlyReads (state S.Store conn.old) (state S.Store conn.new) }
+    ensures shape { IfOk result (λ told. is_of_club told.version (state S.Store conn.old).now.schema ≡ true) }
+    ensures found { HasCleanDisk (state S.Store conn.new) → IfOk result (λ told.
+        IsClubSchema (state S.Store conn.old).now.schema →
+        ((state S.Store conn.old).now.schema ≡ schema_of told.version) ×
+        IsMetaRead told.version told.meta (state S.Store conn.old) (state S.Store conn.new)) }
+    ensures same { HasCleanDisk (state S.Store conn.new) → OnOk result (
+        IsClubSchema (state S.Store conn.old).now.schema →
+        IsUnchanged (state S.Store conn.old) (state S.Store conn.new)) }
+    ensures taken { IfOk result (λ told. oldest ≡ Current → told.version ≡ Current) }
+    ensures blames { HasCleanDisk (state S.Store conn.new) → IfErr result (λ e.
+        IsClubSchema (state S.Store conn.old).now.schema → Names oldest (state S.Store conn.old).now e) }
+    ensures undamaged { HasCleanDisk (state S.Store conn.new) → IfErr result (λ e.
+        IsClubSchema (state S.Store conn.old).now.schema → (t : Table) → e ≢ OpenFault.Damaged t) }
+{
+    let shapes = match versions_of(alloc, conn) {
+        Ok(shapes) => shapes,
+        Err(_) => return Err(OpenFault::Memory),
+    };
+    let told = match read_head(conn, oldest) {
+        Ok(told) => told,
+        Err(fault) => return Err(fault),
+    };
+    let fits = shapes.has(told.version);
+    if fits {
+        Ok(told)
+    } else {
+        Err(OpenFault::Foreign)
+    }
+}
+
 /// All rows of a club but those of moves, positions and scores, and nothing changed, where its version is taken: from
-/// the oldest on. The members, the events and their rules are tested as they are read, so that of tables with wrong rows
-/// the first is named.
+/// the oldest on. Tables that would not answer as a club's are refused before their rows are read. The members, the
+/// events and their rules are tested as they are read, so that of tables with wrong rows the first is named.
 pub(crate) fn read_rows<S: Alter>(
     alloc: Global,
     conn: &mut Connection<S>,
@@ -460,6 +511,7 @@ pub(crate) fn read_rows<S: Alter>(
         IsClubSchema (state S.Store conn.old).now.schema →
         ((state S.Store conn.old).now.schema ≡ schema_of found.version) ×
         AreRead found.version found.rows (state S.Store conn.old) (state S.Store conn.new)) }
+    ensures shape { IfOk result (λ found. is_of_club found.version (state S.Store conn.old).now.schema ≡ true) }
     ensures taken { IfOk result (λ found. oldest ≡ Current → found.version ≡ Current) }
     ensures members { IfOk result (λ found. (ms : List Member) × AreMembers ms found.rows.members.items) }
     ensures events { IfOk result (λ found. (es : List Event) × AreEvents es found.rows.events.items) }
@@ -467,8 +519,10 @@ pub(crate) fn read_rows<S: Alter>(
         (length found.rows.events.items)) }
     ensures blames { HasCleanDisk (state S.Store conn.new) → IfErr result (λ e.
         IsClubSchema (state S.Store conn.old).now.schema → Names oldest (state S.Store conn.old).now e) }
+    ensures first { HasCleanDisk (state S.Store conn.new) → IfErr result (λ e.
+        IsClubSchema (state S.Store conn.old).now.schema → NamesFirst (state S.Store conn.old).now e) }
 {
-    let Told { version, meta } = match read_head(conn, oldest) {
+    let Told { version, meta } = match read_shaped(alloc, conn, oldest) {
         Ok(told) => told,
         Err(fault) => return Err(fault),
     };

@@ -9,7 +9,9 @@ ghost use Rattle.store_tables.specs.Club.{IsExactly, IsOpened, Leaves};
 ghost use Rattle.store_tables.specs.Reading.{KeepsMay, OnlyReads};
 ghost use Rattle.store_tables.specs.Tables.{club_schema, IsClubSchema};
 ghost use Rattle.store_tables.specs.declared.names.Version.TheVariants.{First, Current};
+ghost use Rattle.table_shapes.specs.Shapes.{is_of_club};
 ghost use Rattle.club_opening.specs.Blames.{Names};
+ghost use Rattle.club_opening.specs.RightTables.{NamesFirst};
 ghost use Rattle.club_opening.specs.Versions.{IsExactlyClub};
 ghost use Rattle.club_rows.specs.FirstSchema.{IsFirstClub};
 ghost use Rattle.store.specs.Histories.{IsReachable, IsHistory, answered_session, cut_session};
@@ -123,11 +125,15 @@ pub fn adopt<S: Alter>(alloc: Global, conn: Connection<S>) -> Result<Club<S>, Un
         (state S.Store club.connection) × KeepsMay (state S.Store conn) (state S.Store club.connection)) }
     ensures clean { IfOk result (λ club. doubt (state S.Store conn).is_clean ≤ doubt
         (state S.Store club.connection).is_clean) }
+    // By whatever texts its tables were made, they answer as those of a club.
+    ensures shape { IfOk result (λ club. is_of_club Current (state S.Store conn).now.schema ≡ true) }
     // Whatever the tables are.
     ensures kept { IfOk result (λ club. OnlyReads (state S.Store conn) (state S.Store club.connection)) }
     ensures idle { IfErr result (λ u. u.conn.in_transaction ≡ false) }
     ensures blames { IfErr result (λ u. HasCleanDisk (state S.Store u.conn) →
         IsClubSchema (state S.Store conn).now.schema → Names Current (state S.Store conn).now u.fault) }
+    ensures named { IfErr result (λ u. HasCleanDisk (state S.Store u.conn) →
+        IsClubSchema (state S.Store conn).now.schema → NamesFirst (state S.Store conn).now u.fault) }
     ensures older { IfOk result (λ club. HasCleanDisk (state S.Store club.connection) → (s : _) → IsFirstClub s →
         ¬ IsExactlyClub First s (state S.Store conn)) }
     ensures first { IfErr result (λ u. HasCleanDisk (state S.Store u.conn) → (s : _) → IsFirstClub s →

@@ -1,8 +1,10 @@
-use Rattle.std.proofs.Common.{refl, sym, subst, inr}
+use Rattle.std.proofs.Common.{◌≡◌, arith, inl, refl, sym, subst, inr}
 use Rattle.club_audit.specs.Audit.{AreApartGames}
 use Rattle.club_audit.proofs.Proved.{events-count, members-count}
 use Rattle.club_opening.proofs.ExaminedLemmas.{people_of}
 use Rattle.club_opening.proofs.RegisterLemmas.{register_apart, register_challenges}
+use Rattle.store_tables.specs.declared.names.Table.TheVariants.{Challenges, Games, Meta}
+use Rattle.club_opening.proofs.FirstLemmas.{damaged_same, memory_undamaged, some_later}
 use Rattle.club_opening.proofs.audit.audit.Goals as goal
 
 pub returns-in-Ok-false-clause-fault : goal.returns-in-Ok-false-clause-fault
@@ -26,3 +28,32 @@ returns-in-Ok-false-are_apart-clause-remembered c = λ t is s club register.
     (subst AreApartGames (sym c.deref.ensures.value) (register_apart s c.args.rows.now club register)) in
     let no = c.in-Ok-false-are_apart.field-0-test in
     absurd cc
+
+pub returns-in-Ok-false-clause-challenged : goal.returns-in-Ok-false-clause-challenged
+returns-in-Ok-false-clause-challenged c s people t is = (
+  sym (damaged_same Challenges t is),
+  λ cs are.
+      let rows = c.args.rows.now in
+      let yes = c.in-Ok-false.ensures.complete (members-count s.members rows.members.items people.members)
+      (events-count s.events rows.events.items people.events) cs are in
+      let no = c.in-Ok-false.field-0-test in
+      absurd cc,
+)
+
+pub returns-in-Err-clause-challenged : goal.returns-in-Err-clause-challenged
+returns-in-Err-clause-challenged c s people t is = absurd (memory_undamaged _ refl t is)
+
+pub returns-in-Err-are_apart-clause-challenged : goal.returns-in-Err-are_apart-clause-challenged
+returns-in-Err-are_apart-clause-challenged c s people t is = absurd (memory_undamaged _ refl t is)
+
+pub returns-in-Ok-false-are_apart-clause-later : goal.returns-in-Ok-false-are_apart-clause-later
+returns-in-Ok-false-are_apart-clause-later c = some_later Games (inl (omega arith, omega arith))
+
+pub returns-in-Some-clause-later : goal.returns-in-Some-clause-later
+returns-in-Some-clause-later c t is = cc
+
+pub returns-in-None-clause-later : goal.returns-in-None-clause-later
+returns-in-None-clause-later c = some_later Meta (inr refl)
+
+pub returns-in-Ok-false-are_apart-clause-apart : goal.returns-in-Ok-false-are_apart-clause-apart
+returns-in-Ok-false-are_apart-clause-apart c played = let no : Games ≡ Meta = played Games refl in absurd cc

@@ -1,4 +1,4 @@
-use Rattle.std.proofs.Common.{◌≡◌, length, ap, sym, subst, subst₂, ◌∙◌, arith, rules}
+use Rattle.std.proofs.Common.{◌≡◌, length, sym, subst, subst₂, arith, rules}
 use Rattle.club_audit.specs.Audit.{HasPeople}
 use Rattle.club_audit.specs.FirstWrong.{IsFirstWrong}
 use Rattle.club_audit.specs.GameAudit.{IsRightAt}
@@ -8,6 +8,10 @@ use Rattle.sqlite.specs.State.{HasCleanDisk}
 use Rattle.club_opening.specs.Examined.{IsGameFound}
 use Rattle.club_opening.proofs.BlameLemmas.{still}
 use Rattle.club_opening.proofs.ExaminedLemmas.{game_found}
+use Rattle.store_tables.specs.Cells.{IsMove, IsSeen}
+use Rattle.store_tables.specs.Tables.{moves, seen}
+use Rattle.store_tables.specs.declared.names.Table.TheVariants.{Moves, Seen}
+use Rattle.club_opening.proofs.FirstLemmas.{blames_later, wrong_later}
 use Rattle.club_opening.proofs.games.examine_game.Goals as goal
 
 pub returns-in-Ok-wrong_game-clause-found : goal.returns-in-Ok-wrong_game-clause-found
@@ -33,3 +37,22 @@ returns-in-Ok-wrong_game-clause-found g c clean has =
     (game_found rows c.args.place game ms ss s0 s1 s2 one two c.args.last.now c.requires.last wrong
     (subst (λ l. (s : ClubState) → HasPeople s rows
     → IsFirstWrong (IsRightAt s rows c.args.place game ms ss l) wrong) c.given.ensures first) c.requires.at)
+
+pub returns-in-Ok-wrong_game-clause-later : goal.returns-in-Ok-wrong_game-clause-later
+returns-in-Ok-wrong_game-clause-later g c s people =
+    wrong_later s c.args.rows.now c.args.place c.args.game.now _ _ c.given.result c.in-Ok-wrong_game.wrong
+    (c.in-Ok-wrong_game.ensures s people)
+
+pub returns-in-Err-clause-later_fault : goal.returns-in-Err-clause-later_fault
+returns-in-Err-clause-later_fault g c clean has =
+    blames_later Moves (moves 8) IsMove (state g.S.Store c.args.conn.now) c.in-Err.fault (omega arith, omega arith)
+    (c.in-Err.ensures.blames clean has)
+
+pub returns-in-Err-read_of-clause-later_fault : goal.returns-in-Err-read_of-clause-later_fault
+returns-in-Err-read_of-clause-later_fault g c clean has =
+    let s0 = state g.S.Store c.args.conn.now in
+    let s1 = state g.S.Store c.read_of.new.conn in
+    let early : HasCleanDisk s1 = omega (arith, c.read_of-2.ensures.reads.clean) in
+    let one = c.in-Ok.ensures.rows early has in
+    blames_later Seen (seen 12) IsSeen s1 c.in-Err-read_of.fault (omega arith, omega arith)
+    (c.in-Err-read_of.ensures.blames clean (still s0 s1 one.same has))

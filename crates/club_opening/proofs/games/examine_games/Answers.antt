@@ -7,7 +7,9 @@ use Rattle.sqlite.proofs.StateLemmas.{unchanged}
 use Rattle.store_tables.proofs.Proved.{reads_nothing, reads_then}
 use Rattle.club_opening.specs.Examined.{AreLeftAfter}
 use Rattle.club_opening.proofs.BlameLemmas.{still}
-use Rattle.club_opening.proofs.ExaminedLemmas.{IsOneOf, NamesLeft, blamed_before, left_all, left_more, left_start}
+use Rattle.club_opening.proofs.ExaminedLemmas.{IsOneOf, NamesLeft, blamed_before, both_played, left_all, left_more, left_start, not_last}
+use Rattle.store_tables.specs.declared.names.Table.TheVariants.{Moves, Seen}
+use Rattle.club_opening.proofs.FirstLemmas.{either_later, left_later}
 use Rattle.club_opening.proofs.games.examine_games.Goals as goal
 
 pub loop-place-init : goal.loop-place-init
@@ -17,6 +19,8 @@ loop-place-init g c =
       items = c.deref-game-items.ensures.value;
       reads = reads_nothing s0;
       kept = λ none. none;
+      later = λ s people known. known;
+      free = λ played. played;
       left = λ clean has is_open one two. left_start c.args.rows.now c.args.last c.args.all.moves c.args.all.seen
           c.args.known s0 c.requires.known (unchanged s0 is_open) one two;
     }
@@ -36,11 +40,15 @@ loop-place-preserved g c =
     let new = state g.S.Store c.examine_game.new.conn in
     let found = c.in-Ok.found in
     let one_of : IsOneOf c.loop-place.wrong found.wrong c.first_of-wrong.result =
-    record { none = c.first_of-wrong.ensures.none; some = c.first_of-wrong.ensures.some } in
+    record { none = c.first_of-wrong.ensures.none; some = c.first_of-wrong.ensures.some; first = c.first_of-wrong.ensures.first } in
     record {
       items = c.loop-place.invariant.items;
       reads = reads_then s0 mid new c.loop-place.invariant.reads c.examine_game.ensures.reads;
       kept = λ none. c.loop-place.invariant.kept (one_of.none none).0;
+      later = λ s people known. either_later c.loop-place.wrong found.wrong c.first_of-wrong.result one_of.some
+          (c.loop-place.invariant.later s people known) (c.in-Ok.ensures.later s people);
+      free = λ played. c.loop-place.invariant.free
+          (both_played c.loop-place.wrong found.wrong c.first_of-wrong.result one_of played).0;
       left = λ clean has is_open one two.
           let early : HasCleanDisk mid = omega (arith, c.examine_game.ensures.reads.clean) in
           let was = c.loop-place.invariant.left early has is_open one two in
@@ -70,13 +78,25 @@ returns-clause-found g c clean has is_open one two =
     let items = ap length l.invariant.items in
     let all : l.place ≡ length rows.games.items = omega (arith, items, c.loop-place-test.false) in
     let of_moves : NamesLeft l.moves c.left_over.result =
-    record { none = c.left_over.ensures.none; some = λ t is. (c.left_over.ensures.some t is).1 } in
+    record {
+      none = c.left_over.ensures.none;
+      some = λ t is. (c.left_over.ensures.some t is).1;
+      other = λ t is. not_last Moves t (omega arith) (c.left_over.ensures.some t is).0;
+    } in
     let of_seen : NamesLeft l.seen c.left_over-2.result =
-    record { none = c.left_over-2.ensures.none; some = λ t is. (c.left_over-2.ensures.some t is).1 } in
+    record {
+      none = c.left_over-2.ensures.none;
+      some = λ t is. (c.left_over-2.ensures.some t is).1;
+      other = λ t is. not_last Seen t (omega arith) (c.left_over-2.ensures.some t is).0;
+    } in
     let first : IsOneOf l.wrong c.left_over.result c.first_of-with_moves.result =
-    record { none = c.first_of-with_moves.ensures.none; some = c.first_of-with_moves.ensures.some } in
+    record {
+      none = c.first_of-with_moves.ensures.none;
+      some = c.first_of-with_moves.ensures.some;
+      first = c.first_of-with_moves.ensures.first;
+    } in
     let then : IsOneOf c.first_of-with_moves.result c.left_over-2.result c.first_of.result =
-    record { none = c.first_of.ensures.none; some = c.first_of.ensures.some } in
+    record { none = c.first_of.ensures.none; some = c.first_of.ensures.some; first = c.first_of.ensures.first } in
     left_all rows c.args.last c.requires.last l.place l.moves l.seen l.wrong c.left_over.result
     c.first_of-with_moves.result c.left_over-2.result c.first_of.result s0 s (l.invariant.left clean has is_open one
     two)
@@ -85,3 +105,32 @@ returns-clause-found g c clean has is_open one two =
 pub returns-clause-known : goal.returns-clause-known
 returns-clause-known g c = λ none.
     c.loop-place.invariant.kept (c.first_of-with_moves.ensures.none (c.first_of.ensures.none none).0).0
+
+pub returns-clause-later : goal.returns-clause-later
+returns-clause-later g c s people known =
+    either_later c.first_of-with_moves.result c.left_over-2.result c.first_of.result c.first_of.ensures.some
+    (either_later c.loop-place.wrong c.left_over.result c.first_of-with_moves.result
+    c.first_of-with_moves.ensures.some (c.loop-place.invariant.later s people known)
+    (left_later Moves c.loop-place.moves c.left_over.result (omega arith, omega arith) c.left_over.ensures.some))
+    (left_later Seen c.loop-place.seen c.left_over-2.result (omega arith, omega arith) c.left_over-2.ensures.some)
+
+pub returns-in-Err-clause-later_fault : goal.returns-in-Err-clause-later_fault
+returns-in-Err-clause-later_fault g c clean has is_open one two =
+    let s0 = state g.S.Store c.args.conn.now in
+    let mid = state g.S.Store c.loop-place.conn in
+    let early : HasCleanDisk mid = omega (arith, c.examine_game.ensures.reads.clean) in
+    let was = c.loop-place.invariant.left early has is_open one two in
+    c.in-Err.ensures.later_fault clean (still s0 mid was.same has)
+
+pub returns-clause-known_played : goal.returns-clause-known_played
+returns-clause-known_played g c played =
+    let first : IsOneOf c.loop-place.wrong c.left_over.result c.first_of-with_moves.result = record {
+      none = c.first_of-with_moves.ensures.none;
+      some = c.first_of-with_moves.ensures.some;
+      first = c.first_of-with_moves.ensures.first;
+    } in
+    let then : IsOneOf c.first_of-with_moves.result c.left_over-2.result c.first_of.result =
+    record { none = c.first_of.ensures.none; some = c.first_of.ensures.some; first = c.first_of.ensures.first } in
+    let early = (both_played c.first_of-with_moves.result c.left_over-2.result c.first_of.result then played).0 in
+    c.loop-place.invariant.free
+    (both_played c.loop-place.wrong c.left_over.result c.first_of-with_moves.result first early).0

@@ -3,7 +3,10 @@ use Rattle.sqlite.specs.State.{HasCleanDisk}
 use Rattle.sqlite.specs.Held.{state}
 use Rattle.store_tables.specs.Reading.{OnlyReads}
 use Rattle.store_tables.specs.Tables.{IsClubSchema}
-use Rattle.club_opening.specs.Examined.{AreLeftAfter, moves_in, seen_in}
+use Rattle.club_audit.specs.Audit.{HasPeople}
+use Rattle.club_rows.specs.Club.{ClubState}
+use Rattle.club_opening.specs.RightTables.{IsLater}
+use Rattle.club_opening.specs.Examined.{AreLeftAfter, IsPlayed, moves_in, seen_in}
 use Rattle.club_opening.proofs.ExaminedLemmas.{IsKept}
 use Rattle.club_opening.proofs.games.examine_games.Given as goal
 
@@ -12,6 +15,8 @@ invariant-loop-place g l = record {
   items : l.game-items ≡ l.rows.games.items;
   reads : OnlyReads (state g.S.Store l.fn.conn) (state g.S.Store l.conn);
   kept : IsKept l.fn.known l.wrong;
+  later : (s : ClubState) → HasPeople s l.rows → IsLater l.fn.known → IsLater l.wrong;
+  free : IsPlayed l.wrong → IsPlayed l.fn.known;
   left : HasCleanDisk (state g.S.Store l.conn) → IsClubSchema (state g.S.Store l.fn.conn).now.schema
       → IsTrue (state g.S.Store l.fn.conn).is_open
       → l.fn.all.moves ≡ length (moves_in (state g.S.Store l.fn.conn).now.trees)

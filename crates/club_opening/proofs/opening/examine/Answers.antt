@@ -1,6 +1,8 @@
-use Rattle.std.proofs.Common.{refl, ap, ◌∙◌}
+use Rattle.std.proofs.Common.{◌≡◌, true, refl, ap, subst, ◌∙◌}
+use Rattle.sqlite.specs.Held.{state}
 use Rattle.store_tables.specs.Tables.{schema_of}
 use Rattle.store_tables.specs.declared.names.Version.TheVariants.{Current}
+use Rattle.table_shapes.specs.Shapes.{is_of_club}
 use Rattle.club_opening.proofs.opening.examine.Goals as goal
 
 pub returns-clause-found : goal.returns-clause-found
@@ -12,3 +14,8 @@ pub returns-clause-same : goal.returns-clause-same
 returns-clause-same g c clean has =
     let (schema, same) = c.in-Ok.ensures.same clean has in
     (schema ∙ ap schema_of (c.in-Ok.ensures.taken refl), same)
+
+pub returns-clause-shape : goal.returns-clause-shape
+returns-clause-shape g c =
+    subst (λ v. is_of_club v (state g.S.Store c.args.conn.now).now.schema ≡ true) (c.in-Ok.ensures.taken refl)
+    c.in-Ok.ensures.shape

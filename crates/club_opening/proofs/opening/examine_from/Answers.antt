@@ -12,6 +12,11 @@ use Rattle.club_opening.proofs.BlameLemmas.{have_ids, still}
 use Rattle.club_opening.proofs.ClubLemmas.{club_read_as}
 use Rattle.club_opening.proofs.RegisterLemmas.{examined_club, meta_found, play_blamed}
 use Rattle.club_opening.proofs.StoredLemmas.{one_version, schema_known}
+use Rattle.club_opening.proofs.FirstLemmas.{first_examined, has_people, have_challenges, pass_challenges}
+use Rattle.club_opening.proofs.FirstLemmas.{people_of_all, people_right}
+use Rattle.sqlite.specs.Effect.{Database}
+use Rattle.club_opening.specs.RightTables.{NamesExamined}
+use Rattle.club_opening.proofs.PlayedLemmas.{has_scores, scores_right, seen_right, whole_unblamed}
 use Rattle.club_opening.proofs.opening.examine_from.Goals as goal
 
 pub returns-in-Ok-examine_rows-clause-found : goal.returns-in-Ok-examine_rows-clause-found
@@ -70,3 +75,33 @@ returns-in-Err-examine_rows-clause-blames g c clean has =
     play_blamed c.args.oldest c.in-Ok.found.version c.in-Ok.found.rows s0 s1 s1 c.in-Err-examine_rows.fault schema read
     read.same
     (c.in-Err-examine_rows.ensures.blames clean (still s0 s1 read.same has))
+
+pub returns-in-Err-examine_rows-clause-first : goal.returns-in-Err-examine_rows-clause-first
+returns-in-Err-examine_rows-clause-first g c clean has =
+    let s0 = state g.S.Store c.args.conn.now in
+    let s1 = state g.S.Store c.read_rows.new.conn in
+    let clean1 : HasCleanDisk s1 = omega (arith, c.examine_rows.ensures.reads.clean) in
+    let found = c.in-Ok.found in
+    let rows = found.rows in
+    let (schema, read) = c.in-Ok.ensures.rows clean1 has in
+    let (ms, are_ms) = c.in-Ok.ensures.members in
+    let (es, are_es) = c.in-Ok.ensures.events in
+    let are_rules = c.in-Ok.ensures.rules in
+    let (s, people) = has_people rows ms are_ms es are_es are_rules in
+    let made = ruled-of es rows.events.items rows.event_rules.items are_es are_rules in
+    let e = c.in-Err-examine_rows.fault in
+    let here = still s0 s1 read.same has in
+    let names = play_blamed c.args.oldest found.version rows s0 s1 s1 e schema read read.same
+    (c.in-Err-examine_rows.ensures.blames clean here) in
+    first_examined s0.now rows e
+    (people_right found.version rows.members.items rows.events.items rows.event_rules.items s0.now
+    (people_of_all found.version rows s0 s1 schema read ms are_ms es are_es are_rules))
+    (have_challenges rows found.version s0 s1 read ms are_ms es are_es)
+    (pass_challenges rows found.version s0 s1 read ms are_ms es are_es)
+    (λ v content holds cs are_cs played. seen_right rows found.version s0 s1 read ms are_ms made.ruled made.events_are
+    made.rules_are cs are_cs played schema v content holds)
+    (λ v content holds cs are_cs played scored. scores_right rows found.version s0 s1 read ms are_ms made.ruled
+    made.events_are made.rules_are cs are_cs played schema scored v content holds)
+    (has_scores rows found.version s0 s1 read) (whole_unblamed c.args.oldest s0 e names)
+    (subst (λ (d : Database). NamesExamined rows d e) read.same.0.now_is
+    (c.in-Err-examine_rows.ensures.examined clean here s people))

@@ -6,6 +6,7 @@ use Rattle.club_rows.specs.Club.{both_games}
 use Rattle.club_rows.specs.EachOnce.{AreEachOnce}
 use Rattle.club_rows.specs.Scores.{scores_in}
 use Rattle.club_opening.proofs.RegisterLemmas.{scores_blamed}
+use Rattle.club_opening.proofs.PlayedLemmas.{score_types_wrong, scores_wrong}
 use Rattle.club_opening.proofs.opening.examine_scores.Goals as goal
 
 pub returns-in-Ok-true-clause-found : goal.returns-in-Ok-true-clause-found
@@ -29,3 +30,19 @@ returns-in-Ok-false-clause-blames g c clean has =
     ∙ c.in-Ok-false.ensures.complete s (subst (AreGamesOf s) (sym c.deref.ensures.value) of)
     (subst (λ rows. AreEachOnce (map score_cells rows) (scores_in both_games s.games)) (sym c.deref-2.ensures.value)
     once)))
+
+pub returns-in-Err-clause-scores : goal.returns-in-Err-clause-scores
+returns-in-Err-clause-scores g c clean has =
+    score_types_wrong c.args.rows.now (state g.S.Store c.args.conn.now) c.in-Err.fault
+    (c.in-Err.ensures.blames clean has)
+
+pub returns-in-Ok-false-clause-scores : goal.returns-in-Ok-false-clause-scores
+returns-in-Ok-false-clause-scores g c clean has =
+    let s0 = state g.S.Store c.args.conn.now in
+    let s1 = state g.S.Store c.read.new.conn in
+    scores_wrong c.args.rows.now c.in-Ok.scores.items s0 s1 (c.in-Ok.ensures.rows clean has)
+    (λ s of once.
+    sym c.in-Ok-false.field-0-test
+    ∙ c.in-Ok-false.ensures.complete s (subst (AreGamesOf s) (sym c.deref.ensures.value) of)
+    (subst (λ rows. AreEachOnce (map score_cells rows) (scores_in both_games s.games)) (sym c.deref-2.ensures.value)
+    once))

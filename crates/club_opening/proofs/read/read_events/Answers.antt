@@ -2,6 +2,7 @@ use Rattle.std.proofs.Common.{subst, sym, inr}
 use Rattle.sqlite.specs.Held.{state}
 use Rattle.club_audit.specs.Audit.{AreEvents}
 use Rattle.club_opening.proofs.ClubLemmas.{events_blamed}
+use Rattle.club_opening.proofs.FirstLemmas.{event_types_wrong, events_wrong}
 use Rattle.club_opening.proofs.read.read_events.Goals as goal
 
 pub returns-then-not-are_events-clause-blames : goal.returns-then-not-are_events-clause-blames
@@ -18,3 +19,16 @@ pub returns-clause-are : goal.returns-clause-are
 returns-clause-are g c =
     let (es, are) = c.are_events.ensures.sound c.if-not-are_events.false in
     (es, subst (AreEvents es) c.deref.ensures.value are)
+
+pub returns-in-Err-clause-wrong : goal.returns-in-Err-clause-wrong
+returns-in-Err-clause-wrong g c clean has =
+    event_types_wrong (state g.S.Store c.args.conn.now) c.in-Err.fault (c.in-Err.ensures.blames clean has)
+
+pub returns-then-not-are_events-clause-wrong : goal.returns-then-not-are_events-clause-wrong
+returns-then-not-are_events-clause-wrong g c clean has =
+    events_wrong c.in-Ok.events.items (state g.S.Store c.args.conn.now) (state g.S.Store c.read.new.conn)
+    (c.in-Ok.ensures.rows clean has)
+    (λ es are.
+    let yes = c.are_events.ensures.complete es (subst (AreEvents es) (sym c.deref.ensures.value) are) in
+    let no = c.if-not-are_events.true in
+    absurd cc)

@@ -6,6 +6,7 @@ use Rattle.sqlite.proofs.Callers.{unchanged_then}
 use Rattle.store_tables.specs.Tables.{schema_of}
 use Rattle.club_opening.specs.Blames.{IsMetaRead, NamesForeign, NamesSchema}
 use Rattle.club_opening.proofs.BlameLemmas.{foreign_named, meta_before, refused_named, still, still_of, told_blamed}
+use Rattle.club_opening.proofs.FirstLemmas.{foreign_undamaged, schema_undamaged, store_undamaged, told_undamaged}
 use Rattle.club_opening.proofs.read.read_head.Goals as goal
 
 pub returns-in-Err-clause-blames : goal.returns-in-Err-clause-blames
@@ -92,3 +93,29 @@ returns-in-Ok-check_tables-clause-same g c clean has =
 
 pub returns-in-Ok-check_tables-clause-taken : goal.returns-in-Ok-check_tables-clause-taken
 returns-in-Ok-check_tables-clause-taken g c is = c.refused.ensures.none c.in-None.is is
+
+pub returns-in-Err-clause-undamaged : goal.returns-in-Err-clause-undamaged
+returns-in-Err-clause-undamaged g c clean has =
+    told_undamaged (state g.S.Store c.args.conn.now).now c.in-Err.fault (c.in-Err.ensures.blames clean has)
+
+pub returns-in-Err-check_rules-clause-undamaged : goal.returns-in-Err-check_rules-clause-undamaged
+returns-in-Err-check_rules-clause-undamaged g c clean has = elim (c.in-Err-check_rules.ensures.blames clean) [
+  | inl store ↦ store_undamaged c.in-Err-check_rules.fault store
+  | inr (foreign, other) ↦ foreign_undamaged c.in-Err-check_rules.fault foreign
+]
+
+pub returns-in-Some-clause-undamaged : goal.returns-in-Some-clause-undamaged
+returns-in-Some-clause-undamaged g c clean has =
+    schema_undamaged _ c.in-Some.fault c.in-Some.ensures.some.0
+
+pub returns-in-Err-check_tables-clause-undamaged : goal.returns-in-Err-check_tables-clause-undamaged
+returns-in-Err-check_tables-clause-undamaged g c clean has =
+    let s0 = state g.S.Store c.args.conn.now in
+    let s1 = state g.S.Store c.read_told.new.conn in
+    let s2 = state g.S.Store c.check_rules.new.conn in
+    let clean2 : HasCleanDisk s2 = omega (arith, c.check_tables.ensures.reads.clean) in
+    let clean1 : HasCleanDisk s1 = omega (arith, c.check_rules.ensures.reads.clean, c.check_tables.ensures.reads.clean)
+    in
+    let same1 = c.in-Ok.ensures.same clean1 has in
+    let same2 = unchanged_then s0 s1 s2 same1 (c.in-Ok-check_rules.ensures.same clean2 (still s0 s1 same1 has)) in
+    store_undamaged c.in-Err-check_tables.fault (c.in-Err-check_tables.ensures.blames clean (still s0 s2 same2 has))

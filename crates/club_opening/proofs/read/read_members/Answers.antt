@@ -2,6 +2,7 @@ use Rattle.std.proofs.Common.{subst, sym, inr}
 use Rattle.sqlite.specs.Held.{state}
 use Rattle.club_audit.specs.Audit.{AreMembers}
 use Rattle.club_opening.proofs.ClubLemmas.{members_blamed}
+use Rattle.club_opening.proofs.FirstLemmas.{member_types_wrong, members_wrong}
 use Rattle.club_opening.proofs.read.read_members.Goals as goal
 
 pub returns-then-not-are_members-clause-blames : goal.returns-then-not-are_members-clause-blames
@@ -18,3 +19,16 @@ pub returns-clause-are : goal.returns-clause-are
 returns-clause-are g c =
     let (ms, are) = c.are_members.ensures.sound c.if-not-are_members.false in
     (ms, subst (AreMembers ms) c.deref.ensures.value are)
+
+pub returns-in-Err-clause-wrong : goal.returns-in-Err-clause-wrong
+returns-in-Err-clause-wrong g c clean has =
+    member_types_wrong (state g.S.Store c.args.conn.now) c.in-Err.fault (c.in-Err.ensures.blames clean has)
+
+pub returns-then-not-are_members-clause-wrong : goal.returns-then-not-are_members-clause-wrong
+returns-then-not-are_members-clause-wrong g c clean has =
+    members_wrong c.in-Ok.members.items (state g.S.Store c.args.conn.now) (state g.S.Store c.read.new.conn)
+    (c.in-Ok.ensures.rows clean has)
+    (λ ms are.
+    let yes = c.are_members.ensures.complete ms (subst (AreMembers ms) (sym c.deref.ensures.value) are) in
+    let no = c.if-not-are_members.true in
+    absurd cc)

@@ -8,15 +8,27 @@ use Rattle.store_tables.specs.Tables.{members, events, challenges, games, schema
 use Rattle.store_tables.specs.declared.names.Table.TheVariants.{Challenges, Games}
 use Rattle.club_opening.proofs.BlameLemmas.{meta_before, names_both, read_after, read_before, rows_blamed_before}
 use Rattle.club_opening.proofs.BlameLemmas.{rules_after, rules_unchanged, still, still_of}
-use Rattle.club_opening.specs.Blames.{AreRulesRead}
+use Rattle.club_opening.specs.Blames.{AreRulesRead, HasTypes, HoldsNone}
 use Rattle.club_opening.specs.Versions.{HasEvents}
 use Rattle.club_opening.proofs.ClubLemmas.{has_events}
+use Rattle.club_opening.proofs.FirstLemmas.{challenge_types_wrong, events_right, first_before, first_challenges}
+use Rattle.club_opening.proofs.FirstLemmas.{first_events, first_games, games_untyped}
+use Rattle.club_opening.proofs.FirstLemmas.{first_members, first_none, first_rules, members_right, people_read}
+use Rattle.club_opening.proofs.FirstLemmas.{people_right, tells_events}
+use Rattle.club_opening.specs.RightTables.{NamesWrong, TellsEvents}
+use Rattle.sqlite.specs.Effect.{Database}
+use Rattle.store_sql.specs.Read.{IsReadAs}
+use Rattle.std.proofs.Common.{◌≡◌, map}
+use Rattle.club_opening.specs.declared.fault.OpenFault.TheVariants.{Damaged}
+use Rattle.store_tables.specs.declared.names.Table.{Table}
+use Rattle.store_tables.specs.Cells.{event_cells}
+use Rattle.store_tables.specs.declared.names.Table.TheVariants.{Events, EventRules}
 use Rattle.club_opening.proofs.read.read_rows.Goals as goal
 
 pub returns-clause-rows : goal.returns-clause-rows
 returns-clause-rows g c clean has =
     let s0 = state g.S.Store c.args.conn.now in
-    let s1 = state g.S.Store c.read_head.new.conn in
+    let s1 = state g.S.Store c.read_shaped.new.conn in
     let s2 = state g.S.Store c.read_members.new.conn in
     let s3 = state g.S.Store c.read_events.new.conn in
     let s4 = state g.S.Store c.read_rules.new.conn in
@@ -82,7 +94,7 @@ returns-clause-rows g c clean has =
 pub returns-in-Err-read_members-clause-blames : goal.returns-in-Err-read_members-clause-blames
 returns-in-Err-read_members-clause-blames g c clean has =
     let s0 = state g.S.Store c.args.conn.now in
-    let s1 = state g.S.Store c.read_head.new.conn in
+    let s1 = state g.S.Store c.read_shaped.new.conn in
     let clean1 : HasCleanDisk s1 = omega (arith, c.read_members.ensures.reads.clean) in
     let version = c.in-Ok.told.version in
     let (schema, one) = c.in-Ok.ensures.found clean1 has in
@@ -93,7 +105,7 @@ returns-in-Err-read_members-clause-blames g c clean has =
 pub returns-in-Err-read_events-clause-blames : goal.returns-in-Err-read_events-clause-blames
 returns-in-Err-read_events-clause-blames g c clean has =
     let s0 = state g.S.Store c.args.conn.now in
-    let s1 = state g.S.Store c.read_head.new.conn in
+    let s1 = state g.S.Store c.read_shaped.new.conn in
     let s2 = state g.S.Store c.read_members.new.conn in
     let clean2 : HasCleanDisk s2 = omega (arith, c.read_events.ensures.reads.clean) in
     let clean1 : HasCleanDisk s1 = omega
@@ -109,7 +121,7 @@ returns-in-Err-read_events-clause-blames g c clean has =
 pub returns-in-Err-read_rules-clause-blames : goal.returns-in-Err-read_rules-clause-blames
 returns-in-Err-read_rules-clause-blames g c clean has =
     let s0 = state g.S.Store c.args.conn.now in
-    let s1 = state g.S.Store c.read_head.new.conn in
+    let s1 = state g.S.Store c.read_shaped.new.conn in
     let s2 = state g.S.Store c.read_members.new.conn in
     let s3 = state g.S.Store c.read_events.new.conn in
     let clean3 : HasCleanDisk s3 = omega (arith, c.read_rules.ensures.reads.clean) in
@@ -136,7 +148,7 @@ returns-in-Err-read_rules-clause-blames g c clean has =
 pub returns-in-Err-read-clause-blames : goal.returns-in-Err-read-clause-blames
 returns-in-Err-read-clause-blames g c clean has =
     let s0 = state g.S.Store c.args.conn.now in
-    let s1 = state g.S.Store c.read_head.new.conn in
+    let s1 = state g.S.Store c.read_shaped.new.conn in
     let s2 = state g.S.Store c.read_members.new.conn in
     let s3 = state g.S.Store c.read_events.new.conn in
     let s4 = state g.S.Store c.read_rules.new.conn in
@@ -174,7 +186,7 @@ returns-in-Err-read-clause-blames g c clean has =
 pub returns-in-Err-read-2-clause-blames : goal.returns-in-Err-read-2-clause-blames
 returns-in-Err-read-2-clause-blames g c clean has =
     let s0 = state g.S.Store c.args.conn.now in
-    let s1 = state g.S.Store c.read_head.new.conn in
+    let s1 = state g.S.Store c.read_shaped.new.conn in
     let s2 = state g.S.Store c.read_members.new.conn in
     let s3 = state g.S.Store c.read_events.new.conn in
     let s4 = state g.S.Store c.read_rules.new.conn in
@@ -225,3 +237,143 @@ returns-clause-rules g c =
     let (es, are) = c.in-Ok-read_events.ensures.are in
     subst (λ l. AreRules c.in-Ok-read_rules.rules.items (length l)) c.deref.ensures.value
     (c.in-Ok-read_rules.ensures.are es (subst (AreEvents es) (sym c.deref.ensures.value) are))
+
+pub returns-in-Err-clause-first : goal.returns-in-Err-clause-first
+returns-in-Err-clause-first g c clean has =
+    first_none (state g.S.Store c.args.conn.now).now c.in-Err.fault (c.in-Err.ensures.undamaged clean has)
+
+pub returns-in-Err-read_members-clause-first : goal.returns-in-Err-read_members-clause-first
+returns-in-Err-read_members-clause-first g c clean has =
+    let s0 = state g.S.Store c.args.conn.now in
+    let s1 = state g.S.Store c.read_shaped.new.conn in
+    let clean1 : HasCleanDisk s1 = omega (arith, c.read_members.ensures.reads.clean) in
+    let same1 = c.in-Ok.ensures.same clean1 has in
+    let e = c.in-Err-read_members.fault in
+    first_before s0 s1 e same1
+    (first_members s1.now e (c.in-Err-read_members.ensures.wrong clean (still s0 s1 same1 has)))
+
+pub returns-in-Err-read_events-clause-first : goal.returns-in-Err-read_events-clause-first
+returns-in-Err-read_events-clause-first g c clean has =
+    let s0 = state g.S.Store c.args.conn.now in
+    let s1 = state g.S.Store c.read_shaped.new.conn in
+    let s2 = state g.S.Store c.read_members.new.conn in
+    let clean2 : HasCleanDisk s2 = omega (arith, c.read_events.ensures.reads.clean) in
+    let clean1 : HasCleanDisk s1 = omega
+    (arith, c.read_members.ensures.reads.clean, c.read_events.ensures.reads.clean) in
+    let same1 = c.in-Ok.ensures.same clean1 has in
+    let are_members = c.in-Ok-read_members.ensures.rows clean2 (still s0 s1 same1 has) in
+    let same2 = unchanged_then s0 s1 s2 same1 are_members.same in
+    let (ms, are) = c.in-Ok-read_members.ensures.are in
+    let e = c.in-Err-read_events.fault in
+    let wrong = c.in-Err-read_events.ensures.wrong clean (still s0 s2 same2 has) in
+    first_events s0.now e
+    (subst (λ (d : Database). NamesWrong Events d e) same2.0.now_is wrong)
+    (λ version content holds. members_right version content s0.now holds ms _ are
+    (read_after (members 1) 1 _ s0 s1 s2 same1 are_members).keeps)
+
+pub returns-in-Err-read_rules-clause-first : goal.returns-in-Err-read_rules-clause-first
+returns-in-Err-read_rules-clause-first g c clean has =
+    let s0 = state g.S.Store c.args.conn.now in
+    let s1 = state g.S.Store c.read_shaped.new.conn in
+    let s2 = state g.S.Store c.read_members.new.conn in
+    let s3 = state g.S.Store c.read_events.new.conn in
+    let clean3 : HasCleanDisk s3 = omega (arith, c.read_rules.ensures.reads.clean) in
+    let clean2 : HasCleanDisk s2 = omega (arith, c.read_events.ensures.reads.clean, c.read_rules.ensures.reads.clean) in
+    let clean1 : HasCleanDisk s1 = omega (
+      arith,
+      c.read_members.ensures.reads.clean,
+      c.read_events.ensures.reads.clean,
+      c.read_rules.ensures.reads.clean,
+    ) in
+    let version = c.in-Ok.told.version in
+    let (schema, one) = c.in-Ok.ensures.found clean1 has in
+    let same1 = c.in-Ok.ensures.same clean1 has in
+    let are_members = c.in-Ok-read_members.ensures.rows clean2 (still s0 s1 same1 has) in
+    let same2 = unchanged_then s0 s1 s2 same1 are_members.same in
+    let are_events = c.in-Ok-read_events.ensures.rows clean3 (still s0 s2 same2 has) in
+    let same3 = unchanged_then s0 s2 s3 same2 are_events.same in
+    let (ms, are_ms) = c.in-Ok-read_members.ensures.are in
+    let (es, are_es) = c.in-Ok-read_events.ensures.are in
+    let e = c.in-Err-read_rules.fault in
+    let wrong = c.in-Err-read_rules.ensures.wrong clean (still_of s0 s3 (schema_of version) same3 schema)
+    (subst (λ l. TellsEvents l s3.now) (sym c.deref.ensures.value) (tells_events _ s2 s3 are_events)) in
+    first_rules s0.now e
+    (subst (λ (d : Database). NamesWrong EventRules d e) same3.0.now_is wrong)
+    (λ version content holds. events_right version content s0.now holds ms _ are_ms
+    (read_after (members 1) 1 _ s0 s1 s2 same1 are_members).keeps _
+    (read_after (events 4) 1 _ s0 s2 s3 same2 are_events).keeps es are_es)
+
+pub returns-in-Err-read-clause-first : goal.returns-in-Err-read-clause-first
+returns-in-Err-read-clause-first g c clean has =
+    let s0 = state g.S.Store c.args.conn.now in
+    let s1 = state g.S.Store c.read_shaped.new.conn in
+    let s2 = state g.S.Store c.read_members.new.conn in
+    let s3 = state g.S.Store c.read_events.new.conn in
+    let s4 = state g.S.Store c.read_rules.new.conn in
+    let clean4 : HasCleanDisk s4 = omega (arith, c.read.ensures.reads.clean) in
+    let clean3 : HasCleanDisk s3 = omega (arith, c.read_rules.ensures.reads.clean, c.read.ensures.reads.clean) in
+    let clean2 : HasCleanDisk s2 = omega (arith, c.read_events.ensures.reads.clean, c.read_rules.ensures.reads.clean, c.read.ensures.reads.clean) in
+    let clean1 : HasCleanDisk s1 = omega (arith, c.read_members.ensures.reads.clean, c.read_events.ensures.reads.clean, c.read_rules.ensures.reads.clean, c.read.ensures.reads.clean) in
+    let version = c.in-Ok.told.version in
+    let (schema, one) = c.in-Ok.ensures.found clean1 has in
+    let same1 = c.in-Ok.ensures.same clean1 has in
+    let are_members = c.in-Ok-read_members.ensures.rows clean2 (still s0 s1 same1 has) in
+    let same2 = unchanged_then s0 s1 s2 same1 are_members.same in
+    let are_events = c.in-Ok-read_events.ensures.rows clean3 (still s0 s2 same2 has) in
+    let same3 = unchanged_then s0 s2 s3 same2 are_events.same in
+    let are_rules = c.in-Ok-read_rules.ensures.rules clean4 (still_of s0 s3
+    (schema_of version) same3 schema) are_events.same.0.is_open in
+    let same4 = unchanged_then s0 s3 s4 same3 (rules_unchanged version _ _ s3 s4 are_rules) in
+    let (ms, are_ms) = c.in-Ok-read_members.ensures.are in
+    let (es, are_es) = c.in-Ok-read_events.ensures.are in
+    let event_rows = c.deref.result.now in
+    let own_es = subst (AreEvents es) (sym c.deref.ensures.value) are_es in
+    let own_events = subst (λ l. IsReadAs (events 4) 1 (map event_cells l) s2 s3) (sym c.deref.ensures.value) are_events
+    in
+    let e = c.in-Err-read.fault in
+    let wrong = challenge_types_wrong s4 e (c.in-Err-read.ensures.blames clean (still s0 s4 same4 has)) in
+    first_challenges s0.now e
+    (subst (λ (d : Database). NamesWrong Challenges d e) same4.0.now_is wrong)
+    (people_right version c.in-Ok-read_members.members.items event_rows c.in-Ok-read_rules.rules.items s0.now
+    (people_read version _ event_rows _ s0 s1 s2 s3 s4 schema same1 are_members own_events are_rules ms are_ms es own_es
+    (c.in-Ok-read_rules.ensures.are es own_es)))
+
+pub returns-in-Err-read-2-clause-first : goal.returns-in-Err-read-2-clause-first
+returns-in-Err-read-2-clause-first g c clean has =
+    let s0 = state g.S.Store c.args.conn.now in
+    let s1 = state g.S.Store c.read_shaped.new.conn in
+    let s2 = state g.S.Store c.read_members.new.conn in
+    let s3 = state g.S.Store c.read_events.new.conn in
+    let s4 = state g.S.Store c.read_rules.new.conn in
+    let s5 = state g.S.Store c.read.new.conn in
+    let clean5 : HasCleanDisk s5 = omega (arith, c.read-2.ensures.reads.clean) in
+    let clean4 : HasCleanDisk s4 = omega (arith, c.read.ensures.reads.clean, c.read-2.ensures.reads.clean) in
+    let clean3 : HasCleanDisk s3 = omega (arith, c.read_rules.ensures.reads.clean, c.read.ensures.reads.clean, c.read-2.ensures.reads.clean) in
+    let clean2 : HasCleanDisk s2 = omega (arith, c.read_events.ensures.reads.clean, c.read_rules.ensures.reads.clean, c.read.ensures.reads.clean, c.read-2.ensures.reads.clean) in
+    let clean1 : HasCleanDisk s1 = omega (arith, c.read_members.ensures.reads.clean, c.read_events.ensures.reads.clean, c.read_rules.ensures.reads.clean, c.read.ensures.reads.clean, c.read-2.ensures.reads.clean) in
+    let version = c.in-Ok.told.version in
+    let (schema, one) = c.in-Ok.ensures.found clean1 has in
+    let same1 = c.in-Ok.ensures.same clean1 has in
+    let are_members = c.in-Ok-read_members.ensures.rows clean2 (still s0 s1 same1 has) in
+    let same2 = unchanged_then s0 s1 s2 same1 are_members.same in
+    let are_events = c.in-Ok-read_events.ensures.rows clean3 (still s0 s2 same2 has) in
+    let same3 = unchanged_then s0 s2 s3 same2 are_events.same in
+    let are_rules = c.in-Ok-read_rules.ensures.rules clean4 (still_of s0 s3
+    (schema_of version) same3 schema) are_events.same.0.is_open in
+    let same4 = unchanged_then s0 s3 s4 same3 (rules_unchanged version _ _ s3 s4 are_rules) in
+    let (ms, are_ms) = c.in-Ok-read_members.ensures.are in
+    let (es, are_es) = c.in-Ok-read_events.ensures.are in
+    let event_rows = c.deref.result.now in
+    let own_es = subst (AreEvents es) (sym c.deref.ensures.value) are_es in
+    let own_events = subst (λ l. IsReadAs (events 4) 1 (map event_cells l) s2 s3) (sym c.deref.ensures.value) are_events
+    in
+    let are_challenges = c.in-Ok-read.ensures.rows clean5 (still s0 s4 same4 has) in
+    let same5 = unchanged_then s0 s4 s5 same4 are_challenges.same in
+    let e = c.in-Err-read-2.fault in
+    let untyped = games_untyped s5 e (c.in-Err-read-2.ensures.blames clean (still s0 s5 same5 has)) in
+    first_games s0.now e
+    (subst (λ (d : Database). (t : Table) → e ≡ Damaged t
+    → (t ≡ Games) × HoldsNone d (λ version content. HasTypes Games content)) same5.0.now_is untyped)
+    (people_right version c.in-Ok-read_members.members.items event_rows c.in-Ok-read_rules.rules.items s0.now
+    (people_read version _ event_rows _ s0 s1 s2 s3 s4 schema same1 are_members own_events are_rules ms are_ms es own_es
+    (c.in-Ok-read_rules.ensures.are es own_es)))

@@ -1,6 +1,8 @@
 use Rattle.std.proofs.Common.{inl, inr, refl, sym, subst, ◌∙◌}
 use Rattle.sqlite.specs.Held.{state}
+use Rattle.store_tables.specs.Tables.{club_schema}
 use Rattle.store_tables.specs.declared.names.Version.TheVariants.{First, Current}
+use Rattle.store_tables.proofs.Proved.{unchanged_exactly}
 use Rattle.club_opening.proofs.Proved.{good_fault, good_in, schema_known, schemas_differ}
 use Rattle.store.proofs.club.adopt.Goals as goal
 
@@ -25,3 +27,16 @@ returns-in-Err-clause-first g c = λ clean s club exactly.
       | inr (inl memory) ↦ inr (inr memory)
       | inr (inr (named, other)) ↦ inl named
     ]
+
+pub returns-in-Ok-clause-same : goal.returns-in-Ok-clause-same
+returns-in-Ok-clause-same g c = λ clean content exactly.
+    let old = state g.S.Store c.args.conn in
+    let new = state g.S.Store c.examine.new.conn in
+    let (schema, same) = c.in-Ok.ensures.same clean (schema_known Current old.now.schema exactly.now.schema) in
+    unchanged_exactly club_schema content old new exactly same
+    (λ db left. exactly.may_leave db (c.in-Ok.ensures.reads.may clean db left))
+
+pub returns-in-Ok-clause-unchanged : goal.returns-in-Ok-clause-unchanged
+returns-in-Ok-clause-unchanged g c = λ clean known.
+    let (schema, same) = c.in-Ok.ensures.same clean known in
+    (schema, same, c.in-Ok.ensures.reads.may clean)

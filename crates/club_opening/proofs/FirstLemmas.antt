@@ -1,0 +1,702 @@
+-- Of the tables of a file the first wrong one is named.
+use Rattle.std.proofs.Common.{◌≡◌, ◌≢◌, ◌⊎◌, ℕ, ◌<◌, ◌≤◌, false, List, [], ◌∷◌, length, map, Option, Some, None}
+use Rattle.std.proofs.Common.{refl, ap, sym, subst, ◌∙◌, arith, inl, inr}
+use Rattle.std.specs.Prelude.{slice_get, pos, ℤ}
+use Rattle.std.specs.List.{AllByRecursion}
+use Rattle.std.proofs.lemmas.Option.{same_Some}
+use Rattle.sqlite.specs.Effect.{Database}
+use Rattle.sqlite.specs.Order.{Row}
+use Rattle.sqlite.specs.State.{State, IsUnchanged}
+use Rattle.sqlite.specs.Table.{Table as Definition}
+use Rattle.sqlite.proofs.Callers.{unchanged_then}
+use Rattle.sqlite_rules.specs.Lists.{Has}
+use Rattle.sqlite_rules.proofs.ListLemmas.{all_has, has_got}
+use Rattle.store_tables.specs.Cells.{IsChallenge, IsEvent, IsEventRule, IsGame, IsMember, challenge_cells}
+use Rattle.store_tables.specs.Cells.{event_cells, event_rule_cells, game_cells, member_cells}
+use Rattle.store_tables.specs.Changes.{HaveSame}
+use Rattle.store_tables.specs.Content.{Keeps}
+use Rattle.store_tables.specs.Contents.{Content, Stores}
+use Rattle.store_tables.specs.Contents as of_schema
+use Rattle.store_tables.specs.Tables.{club_schema, first_schema, schema_of, members, events, event_rules}
+use Rattle.store_tables.specs.Tables.{challenges, games}
+use Rattle.store_tables.specs.declared.names.Table.{Table}
+use Rattle.store_tables.specs.declared.names.Table.TheVariants.{Members, Events, EventRules, Challenges, Moves}
+use Rattle.store_tables.specs.declared.names.Table.TheVariants.{Games, Seen, Scores, Meta}
+use Rattle.store_tables.specs.declared.names.Version.{Version}
+use Rattle.store_tables.specs.declared.names.Version.TheVariants.{First, Current}
+use Rattle.store_tables.specs.declared.rows.EventRow.{EventRow}
+use Rattle.store_tables.specs.declared.rows.EventRuleRow.{EventRuleRow}
+use Rattle.store_tables.specs.declared.rows.GameRecord.{GameRecord}
+use Rattle.store_tables.specs.declared.rows.MemberRow.{MemberRow}
+use Rattle.store_tables.specs.declared.rows.MoveRow.{MoveRow}
+use Rattle.store_tables.specs.declared.rows.Rows.{Rows}
+use Rattle.store_tables.specs.declared.rows.SeenRow.{SeenRow}
+use Rattle.store_sql.specs.Read.{IsReadAs}
+use Rattle.club_core.specs.declared.challenges.Challenge.{Challenge}
+use Rattle.club_core.specs.Events.{Event}
+use Rattle.club_core.specs.LegalState.{Each}
+use Rattle.club_core.specs.Members.{Member}
+use Rattle.club_rows.specs.Club.{both_games, ClubState, IsClub}
+use Rattle.club_rows.specs.FirstSchema.{IsClubOf, tables_at}
+use Rattle.club_rows.specs.Tables.{challenge_row, numbered_from, rule_row, tables_of}
+use Rattle.club_audit.specs.Audit.{AreEvents, AreMembers, AreRules, HasPeople}
+use Rattle.club_audit.specs.ChallengeAudit.{AreChallenges}
+use Rattle.club_audit.specs.FirstWrong.{IsFirstWrong, order}
+use Rattle.club_audit.specs.GameAudit.{IsRightAt}
+use Rattle.club_audit.proofs.Proved.{rules-counted, ruled-of}
+use Rattle.club_changes.proofs.Proved.{challenges_typed, moved}
+use Rattle.club_opening.specs.Blames.{AreRead, AreRulesRead, Blames, HasTypes, HoldsNone, NamesSchema}
+use Rattle.club_opening.specs.Blames.{undeclared_row}
+use Rattle.club_opening.specs.RightTables.{AreOfClub, ArePlayed, AreScored, HasScores, HasTable, HaveChallenges}
+use Rattle.club_opening.specs.RightTables.{IsLater, IsOfPlay, IsRight, NamesExamined, NamesFirst, NamesPlayed, NamesWrong}
+use Rattle.club_opening.specs.RightTables.{TellsEvents, rows_in}
+use Rattle.club_opening.specs.declared.fault.OpenFault.{OpenFault}
+use Rattle.club_opening.specs.declared.fault.OpenFault.TheVariants.{Damaged, Foreign, Memory, Schema, Store}
+use Rattle.club_opening.proofs.BlameLemmas.{place_in, read_after}
+use Rattle.club_opening.proofs.ChallengedLemmas.{challenges_once, challenges_right, right_challenges}
+use Rattle.club_opening.proofs.ClubLemmas.{events_kept, events_of, members_kept, members_of, rules_kept, typed_at}
+use Rattle.club_opening.proofs.ClubLemmas.{undeclared_are}
+use Rattle.club_opening.proofs.RegisterLemmas.{keeps_same, none_declared}
+use Rattle.club_opening.proofs.StoredLemmas.{club_of_version, one_version, schemas_differ}
+
+-- ---- tables that a database holds
+
+-- a table of both versions, by its place
+pub stores_of : (definition : Definition) (place : ℕ) → slice_get first_schema.tables place ≡ Some definition
+    → slice_get club_schema.tables place ≡ Some definition → (version : Version) (db : Database) (content : Content)
+    → of_schema.Holds (schema_of version) db content → Stores definition db.trees content
+stores_of definition place first current version db content holds =
+    all_has (λ d. Stores d db.trees content) (schema_of version).tables definition holds.tables
+    (has_got (schema_of version).tables place definition (place_in definition place first current version))
+
+pub rules_in : (db : Database) (content : Content) → of_schema.Holds (schema_of Current) db content
+    → Stores (event_rules 16) db.trees content
+rules_in db content holds = holds.tables.1.1.1.1.1.1.1.1.0
+
+-- what a table is kept by is what it has
+pub kept_same : (table : Definition) (db : Database) (one other : List Row) → Keeps table db.trees one
+    → Keeps table db.trees other → HaveSame one other
+kept_same table db one other first second = record {
+  there = moved table db.trees one other first second;
+  back = moved table db.trees other one second first;
+}
+
+members_at : (version : Version) (s : ClubState) → tables_at version s 1 ≡ tables_of both_games s 1
+members_at First s = refl
+members_at Current s = refl
+
+events_at : (version : Version) (s : ClubState) → tables_at version s 4 ≡ tables_of both_games s 4
+events_at First s = refl
+events_at Current s = refl
+
+-- ---- types
+
+pub types_same : (P : Row → Type 0) (xs ys : List Row) → ((x : Row) → Has xs x → Has ys x) → AllByRecursion P ys
+    → AllByRecursion P xs
+types_same P [] ys there all = tt
+types_same P (x ∷ xs) ys there all = (
+  all_has P ys x all (there x (inl refl)),
+  types_same P xs ys (λ y h. there y (inr h)) all,
+)
+
+pub damaged_same : (t u : Table) → ◌≡◌ {A = OpenFault} (Damaged t) (Damaged u) → t ≡ u
+damaged_same t u is = cc
+
+-- a table that is called damaged is this one, and no club has its rows
+pub named_wrong : (table : Table) (db : Database) → HoldsNone db (IsRight table) → NamesWrong table db (Damaged table)
+named_wrong table db none t is = (sym (damaged_same table t is), none)
+
+pub memory_wrong : (table : Table) (db : Database) (e : OpenFault) → e ≡ Memory → NamesWrong table db e
+memory_wrong table db e memory t is = let both : ◌≡◌ {A = OpenFault} Memory (Damaged t) = sym memory ∙ is in absurd cc
+
+-- where rows of other types than those of the columns are blamed, none is held that has them
+pub types_none : (table : Table) (definition : Definition) (IsTyped : Row → Type 0) (IsSo : Version → Content → Type 0)
+    (old : State) (e : OpenFault)
+    → ((version : Version) (content : Content) → of_schema.Holds (schema_of version) old.now content
+    → IsSo version content
+    → Stores definition old.now.trees content × AllByRecursion IsTyped (content definition.tree))
+    → Blames table definition IsTyped old e → (t : Table) → e ≡ Damaged t → (t ≡ table) × HoldsNone old.now IsSo
+types_none table definition IsTyped IsSo old e typed (inl store) t is =
+    let both : ◌≡◌ {A = OpenFault} Store (Damaged t) = sym store ∙ is in absurd cc
+types_none table definition IsTyped IsSo old e typed (inr (inl memory)) t is =
+    let both : ◌≡◌ {A = OpenFault} Memory (Damaged t) = sym memory ∙ is in absurd cc
+types_none table definition IsTyped IsSo old e typed (inr (inr (named, wrong))) t is = (
+  damaged_same t table (sym is ∙ named),
+  λ version content holds so.
+      let (stored, are) = typed version content holds so in
+      wrong (content definition.tree) stored.rows stored.apart are,
+)
+
+pub member_types_wrong : (old : State) (e : OpenFault) → Blames Members (members 1) IsMember old e
+    → NamesWrong Members old.now e
+member_types_wrong old e = types_none Members (members 1) IsMember (IsRight Members) old e (λ version content holds club. (
+  stores_of (members 1) 1 refl refl version old.now content holds,
+  types_same IsMember (content 1) (tables_at version club.state 1) (club.same Members tt (omega arith)).there
+      (typed_at version club.state (club_of_version version club.state club.legal) Members),
+))
+
+pub event_types_wrong : (old : State) (e : OpenFault) → Blames Events (events 4) IsEvent old e
+    → NamesWrong Events old.now e
+event_types_wrong old e = types_none Events (events 4) IsEvent (IsRight Events) old e (λ version content holds club. (
+  stores_of (events 4) 2 refl refl version old.now content holds,
+  types_same IsEvent (content 4) (tables_at version club.state 4) (club.same Events tt (omega arith)).there
+      (typed_at version club.state (club_of_version version club.state club.legal) Events),
+))
+
+pub rule_types_wrong : (old : State) (e : OpenFault) → old.now.schema ≡ club_schema
+    → Blames EventRules (event_rules 16) IsEventRule old e → NamesWrong EventRules old.now e
+rule_types_wrong old e has = types_none EventRules (event_rules 16) IsEventRule (IsRight EventRules) old e by_version
+  where
+    by_version : (version : Version) (content : Content) → of_schema.Holds (schema_of version) old.now content
+        → AreOfClub version EventRules content
+        → Stores (event_rules 16) old.now.trees content × AllByRecursion IsEventRule (content 16)
+    by_version First content holds club = absurd (schemas_differ (sym holds.schema ∙ has))
+    by_version Current content holds club = (
+      rules_in old.now content holds,
+      types_same IsEventRule (content 16) (tables_at Current club.state 16)
+          (club.same EventRules tt (omega arith)).there (typed_at Current club.state club.legal EventRules),
+    )
+
+pub challenge_types_wrong : (old : State) (e : OpenFault) → Blames Challenges (challenges 6) IsChallenge old e
+    → NamesWrong Challenges old.now e
+challenge_types_wrong old e = types_none Challenges (challenges 6) IsChallenge (IsRight Challenges) old e
+    (λ version content holds have. (
+      stores_of (challenges 6) 3 refl refl version old.now content holds,
+      types_same IsChallenge (content 6) (map challenge_row have.challenges) have.same.there
+          (challenges_typed have.challenges),
+    ))
+
+-- games that are blamed for their types are held in no content with these
+pub games_untyped : (old : State) (e : OpenFault) → Blames Games (games 10) IsGame old e → (t : Table) → e ≡ Damaged t
+    → (t ≡ Games) × HoldsNone old.now (λ version content. HasTypes Games content)
+games_untyped old e = types_none Games (games 10) IsGame (λ version content. HasTypes Games content) old e
+    (λ version content holds typed. (stores_of (games 10) 5 refl refl version old.now content holds, typed))
+
+-- ---- rows
+
+-- members that are those of no legal club are wrong, and so are events
+pub members_wrong : (rows : List MemberRow) (old new : State) → IsReadAs (members 1) 1 (map member_cells rows) old new
+    → ((ms : List Member) → ¬ AreMembers ms rows) → NamesWrong Members old.now (Damaged Members)
+members_wrong rows old new read none = named_wrong Members old.now (λ version content holds club.
+    let s = club.state in
+    let kept : Keeps (members 1) old.now.trees (tables_at version s 1) =
+    keeps_same (members 1) old.now.trees (content 1) (tables_at version s 1) (club.same Members tt (omega arith))
+    (stores_of (members 1) 1 refl refl version old.now content holds).rows in
+    none s.members
+    (members_of s (club_of_version version s club.legal) rows
+    (members_kept s rows old new (subst (Keeps (members 1) old.now.trees) (members_at version s) kept) read)))
+
+pub events_wrong : (rows : List EventRow) (old new : State) → IsReadAs (events 4) 1 (map event_cells rows) old new
+    → ((es : List Event) → ¬ AreEvents es rows) → NamesWrong Events old.now (Damaged Events)
+events_wrong rows old new read none = named_wrong Events old.now (λ version content holds club.
+    let s = club.state in
+    let kept : Keeps (events 4) old.now.trees (tables_at version s 4) =
+    keeps_same (events 4) old.now.trees (content 4) (tables_at version s 4) (club.same Events tt (omega arith))
+    (stores_of (events 4) 2 refl refl version old.now content holds).rows in
+    none s.events
+    (events_of s (club_of_version version s club.legal) rows
+    (events_kept s rows old new (subst (Keeps (events 4) old.now.trees) (events_at version s) kept) read)))
+
+-- rows of events that were read are those of each club that has the rows
+pub tells_events : (rows : List EventRow) (old new : State) → IsReadAs (events 4) 1 (map event_cells rows) old new
+    → TellsEvents rows new.now
+tells_events rows old new read version content holds s same =
+    let here : of_schema.Holds (schema_of version) old.now content =
+    subst (λ (d : Database). of_schema.Holds (schema_of version) d content) read.same.0.now_is holds in
+    events_kept s rows old new
+    (keeps_same (events 4) old.now.trees (content 4) (tables_of both_games s 4) same
+    (stores_of (events 4) 2 refl refl version old.now content here).rows)
+    read
+
+-- rules of events that are those of no club with these rows of events are wrong
+pub rules_wrong : (events_rows : List EventRow) (rows : List EventRuleRow) (old new : State)
+    → TellsEvents events_rows old.now → old.now.schema ≡ club_schema
+    → IsReadAs (event_rules 16) 1 (map event_rule_cells rows) old new → ¬ AreRules rows (length events_rows)
+    → NamesWrong EventRules old.now (Damaged EventRules)
+rules_wrong events_rows rows old new told has read none = named_wrong EventRules old.now by_version
+  where
+    by_version : (version : Version) (content : Content) → of_schema.Holds (schema_of version) old.now content
+        → ¬ AreOfClub version EventRules content
+    by_version First content holds club = schemas_differ (sym holds.schema ∙ has)
+    by_version Current content holds club =
+        let s = club.state in
+        let kept = keeps_same (event_rules 16) old.now.trees (content 16) (tables_of both_games s 16)
+        (club.same EventRules tt (omega arith)) (rules_in old.now content holds).rows in
+        none
+        (rules-counted s.events events_rows rows
+        (events_of s club.legal events_rows
+        (told Current content holds s (club.same Events tt (omega arith))))
+        (rules_kept s rows old new kept read))
+
+-- ---- clubs with people alone
+
+abbrev club_with : List Member → List Event → ClubState
+club_with ms es = record { last = 0; members = ms; events = es; games = []; challenges = [] }
+
+is_club : (ms : List Member) (es : List Event) (member_rows : List MemberRow) (event_rows : List EventRow)
+    → AreMembers ms member_rows → AreEvents es event_rows → IsClub (club_with ms es)
+is_club ms es member_rows event_rows are_ms are_es = record {
+  last = omega arith;
+  members = are_ms.legal;
+  member_count = are_ms.count;
+  member_names = are_ms.names;
+  member_keys = are_ms.keys;
+  events = are_es.legal;
+  event_count = are_es.count;
+  event_names = are_es.names;
+  games = λ n x at. cc;
+  game_count = omega arith;
+  game_keys = λ i j x y b one two first second. cc;
+  challenges = λ n x at. cc;
+  challenge_numbers = λ i j x y one two alike. cc;
+}
+
+no_events : AreEvents [] []
+no_events = record {
+  rows_are = refl;
+  legal = λ n x at. cc;
+  count = omega arith;
+  names = λ i j x y one two alike. cc;
+}
+
+pub of_either : (version : Version) (s : ClubState) → IsClub s
+    → (version ≡ First → Each (λ e. e.terms.declares ≡ false) s.events) → IsClubOf version s
+of_either First s club none = record { club = club; undeclared = none refl }
+of_either Current s club none = club
+
+-- what holds of the tables of people up to a place
+upto : (n : ℕ) (P : Table → Type 0) → P Members → (1 ≤ n → P Events) → (2 ≤ n → P EventRules) → n ≤ 2 → (u : Table)
+    → order u ≤ n → P u
+upto n P m e r few Members low = m
+upto n P m e r few Events low = e low
+upto n P m e r few EventRules low = r low
+upto n P m e r few Challenges low = absurd (omega (arith, few, low))
+upto n P m e r few Moves low = absurd (omega (arith, few, low))
+upto n P m e r few Games low = absurd (omega (arith, few, low))
+upto n P m e r few Seen low = absurd (omega (arith, few, low))
+upto n P m e r few Scores low = absurd (omega (arith, few, low))
+upto n P m e r few Meta low = absurd (omega (arith, few, low))
+
+-- a club with the rows of a table has those of the tables before it
+sooner : (version : Version) (t u : Table) (content : Content) → order u ≤ order t → AreOfClub version t content
+    → AreOfClub version u content
+sooner version t u content low club = record {
+  state = club.state;
+  legal = club.legal;
+  same = λ v there lower. club.same v there (omega (arith, low, lower));
+}
+
+people_upto : (version : Version) (t : Table) (content : Content) → order t ≤ order EventRules → AreOfClub version t content
+    → (u : Table) → order u ≤ order t → IsRight u version content
+people_upto version t content few club =
+    upto (order t) (λ u. IsRight u version content) (sooner version t Members content (omega arith) club)
+    (λ one. sooner version t Events content one club) (λ two. sooner version t EventRules content two club) few
+
+register_upto : (version : Version) (content : Content) → AreOfClub version EventRules content → (u : Table)
+    → order u ≤ order Challenges → (u ≡ Challenges → HaveChallenges content) → IsRight u version content
+register_upto version content club Members low have = sooner version EventRules Members content (omega arith) club
+register_upto version content club Events low have = sooner version EventRules Events content (omega arith) club
+register_upto version content club EventRules low have = club
+register_upto version content club Challenges low have = have refl
+register_upto version content club Moves low have = absurd (omega (arith, low))
+register_upto version content club Games low have = absurd (omega (arith, low))
+register_upto version content club Seen low have = absurd (omega (arith, low))
+register_upto version content club Scores low have = absurd (omega (arith, low))
+register_upto version content club Meta low have = absurd (omega (arith, low))
+
+all_upto : (version : Version) (content : Content) (top : Table) → AreOfClub version top content
+    → HaveChallenges content → (u : Table) → order u ≤ order top → IsRight u version content
+all_upto version content top club have Members low = sooner version top Members content low club
+all_upto version content top club have Events low = sooner version top Events content low club
+all_upto version content top club have EventRules low = sooner version top EventRules content low club
+all_upto version content top club have Challenges low = have
+all_upto version content top club have Moves low = sooner version top Moves content low club
+all_upto version content top club have Games low = sooner version top Games content low club
+all_upto version content top club have Seen low = sooner version top Seen content low club
+all_upto version content top club have Scores low = sooner version top Scores content low club
+all_upto version content top club have Meta low = sooner version top Meta content low club
+
+-- ---- rows of members and events that a database has
+
+abbrev undeclared_rows : List EventRow → List EventRuleRow
+undeclared_rows [] = []
+undeclared_rows (e ∷ es) = record { event = e.id; declares = pos 0 } ∷ undeclared_rows es
+
+undeclared_shown : (es : List EventRow) → map event_rule_cells (undeclared_rows es) ≡ map undeclared_row es
+undeclared_shown [] = refl
+undeclared_shown (e ∷ es) = ap (λ l. undeclared_row e ∷ l) (undeclared_shown es)
+
+module _ (version : Version) (content : Content) (db : Database) (holds : of_schema.Holds (schema_of version) db content)
+    (ms : List Member) (member_rows : List MemberRow) (are_ms : AreMembers ms member_rows)
+    (kept_ms : Keeps (members 1) db.trees (map member_cells member_rows)) where
+  same_members : (es : List Event) → HaveSame (content 1) (tables_at version (club_with ms es) 1)
+  same_members es =
+      subst (HaveSame (content 1)) (are_ms.rows_are ∙ sym (members_at version (club_with ms es)))
+      (kept_same (members 1) db (content 1) (map member_cells member_rows)
+      (stores_of (members 1) 1 refl refl version db content holds).rows kept_ms)
+
+  pub members_right : AreOfClub version Members content
+  members_right = record {
+    state = club_with ms [];
+    legal = of_either version (club_with ms []) (is_club ms [] member_rows [] are_ms no_events) (λ is n x at. cc);
+    same = λ u there low.
+        upto 0 (λ u. HasTable u version
+        → HaveSame (rows_in u content) (rows_in u (tables_at version (club_with ms []))))
+        (λ there. same_members []) (λ one. absurd (omega (arith, one))) (λ two. absurd (omega (arith, two)))
+        (omega arith) u low there;
+  }
+
+  module _ (event_rows : List EventRow) (kept_es : Keeps (events 4) db.trees (map event_cells event_rows)) where
+    same_events : (es : List Event) → AreEvents es event_rows
+        → HaveSame (content 4) (tables_at version (club_with ms es) 4)
+    same_events es are_es =
+        subst (HaveSame (content 4)) (are_es.rows_are ∙ sym (events_at version (club_with ms es)))
+        (kept_same (events 4) db (content 4) (map event_cells event_rows)
+        (stores_of (events 4) 2 refl refl version db content holds).rows kept_es)
+
+    pub events_right : (es : List Event) → AreEvents es event_rows → AreOfClub version Events content
+    events_right es are =
+        let rules = undeclared_rows event_rows in
+        let shown = undeclared_shown event_rows in
+        let made = ruled-of es event_rows rules are (undeclared_are es event_rows rules are shown) in
+        let s = club_with ms made.ruled in
+        record {
+          state = s;
+          legal = of_either version s (is_club ms made.ruled member_rows event_rows are_ms made.events_are)
+              (λ is. none_declared 1 made.ruled event_rows (sym shown ∙ made.rules_are));
+          same = λ u there low.
+              upto 1 (λ u. HasTable u version → HaveSame (rows_in u content) (rows_in u (tables_at version s)))
+              (λ there. same_members made.ruled) (λ one there. same_events made.ruled made.events_are)
+              (λ two. absurd (omega (arith, two))) (omega arith) u low there;
+        }
+
+-- What was read of the people of a database.
+pub record ArePeople (version : Version) (member_rows : List MemberRow) (event_rows : List EventRow)
+    (rule_rows : List EventRuleRow) (db : Database) : Type 0 where
+  pub schema : db.schema ≡ schema_of version
+  pub ms : List Member
+  pub members_are : AreMembers ms member_rows
+  pub members_kept : Keeps (members 1) db.trees (map member_cells member_rows)
+  pub es : List Event
+  pub events_are : AreEvents es event_rows
+  pub events_kept : Keeps (events 4) db.trees (map event_cells event_rows)
+  pub rules_are : AreRules rule_rows (length event_rows)
+  pub rules_kept : version ≡ Current → Keeps (event_rules 16) db.trees (map event_rule_cells rule_rows)
+  pub undeclared : version ≡ First → map event_rule_cells rule_rows ≡ map undeclared_row event_rows
+
+people_at : (version : Version) (member_rows : List MemberRow) (event_rows : List EventRow)
+    (rule_rows : List EventRuleRow) (db : Database) → ArePeople version member_rows event_rows rule_rows db
+    → (content : Content) → of_schema.Holds (schema_of version) db content → AreOfClub version EventRules content
+people_at version member_rows event_rows rule_rows db it content holds =
+    let made = ruled-of it.es event_rows rule_rows it.events_are it.rules_are in
+    let s = club_with it.ms made.ruled in
+    record {
+      state = s;
+      legal = of_either version s (is_club it.ms made.ruled member_rows event_rows it.members_are made.events_are)
+          (λ is. none_declared 1 made.ruled event_rows (sym (it.undeclared is) ∙ made.rules_are));
+      same = λ u there low.
+          upto 2 (λ u. HasTable u version → HaveSame (rows_in u content) (rows_in u (tables_at version s)))
+          (λ there. same_members version content db holds it.ms member_rows it.members_are it.members_kept made.ruled)
+          (λ one there. same_events version content db holds it.ms member_rows it.members_are it.members_kept
+          event_rows it.events_kept made.ruled made.events_are)
+          (λ two there. same_rules version refl there holds made.ruled made.rules_are) (omega arith) u low there;
+    }
+  where
+    same_rules : (v : Version) → v ≡ version → HasTable EventRules v → of_schema.Holds (schema_of v) db content
+        → (es : List Event) → map event_rule_cells rule_rows ≡ numbered_from rule_row 1 es
+        → HaveSame (content 16) (tables_at v (club_with it.ms es) 16)
+    same_rules First is there holds es are = absurd there
+    same_rules Current is there holds es are =
+        subst (HaveSame (content 16)) are
+        (kept_same (event_rules 16) db (content 16) (map event_rule_cells rule_rows) (rules_in db content holds).rows
+        (it.rules_kept (sym is)))
+
+-- in whatever content the database may hold
+pub people_right : (version : Version) (member_rows : List MemberRow) (event_rows : List EventRow)
+    (rule_rows : List EventRuleRow) (db : Database) → ArePeople version member_rows event_rows rule_rows db
+    → (v : Version) (content : Content) → of_schema.Holds (schema_of v) db content → AreOfClub v EventRules content
+people_right version member_rows event_rows rule_rows db it v content holds =
+    let same : version ≡ v = one_version version v db.schema it.schema holds.schema in
+    subst (λ w. AreOfClub w EventRules content) same
+    (people_at version member_rows event_rows rule_rows db it content
+    (subst (λ w. of_schema.Holds (schema_of w) db content) (sym same) holds))
+
+-- ---- what is named
+
+-- a fault that names no table
+pub first_none : (db : Database) (e : OpenFault) → ((t : Table) → e ≢ Damaged t) → NamesFirst db e
+first_none db e none t is = absurd (none t is)
+
+-- one that names a wrong table, where those before it are right
+pub first_wrong : (table : Table) (db : Database) (e : OpenFault) → NamesWrong table db e
+    → ((version : Version) (content : Content) → of_schema.Holds (schema_of version) db content → (u : Table)
+    → order u < order table → IsRight u version content) → NamesFirst db e
+first_wrong table db e wrong right t is version content holds =
+    let (named, none) = wrong t is in
+    record {
+      before = λ u low only typed. right version content holds u (subst (λ (v : Table). order u < order v) named low);
+      named = λ other club. none version content holds (subst (λ v. IsRight v version content) named club);
+    }
+
+pub first_members : (db : Database) (e : OpenFault) → NamesWrong Members db e → NamesFirst db e
+first_members db e wrong = first_wrong Members db e wrong (λ version content holds u low. absurd (omega (arith, low)))
+
+pub first_events : (db : Database) (e : OpenFault) → NamesWrong Events db e
+    → ((version : Version) (content : Content) → of_schema.Holds (schema_of version) db content
+    → AreOfClub version Members content) → NamesFirst db e
+first_events db e wrong right = first_wrong Events db e wrong (λ version content holds u low.
+    people_upto version Members content (omega arith) (right version content holds) u (omega (arith, low)))
+
+pub first_rules : (db : Database) (e : OpenFault) → NamesWrong EventRules db e
+    → ((version : Version) (content : Content) → of_schema.Holds (schema_of version) db content
+    → AreOfClub version Events content) → NamesFirst db e
+first_rules db e wrong right = first_wrong EventRules db e wrong (λ version content holds u low.
+    people_upto version Events content (omega arith) (right version content holds) u (omega (arith, low)))
+
+-- of the challenges, where those of people are right
+pub first_challenges : (db : Database) (e : OpenFault) → NamesWrong Challenges db e
+    → ((version : Version) (content : Content) → of_schema.Holds (schema_of version) db content
+    → AreOfClub version EventRules content) → NamesFirst db e
+first_challenges db e wrong right = first_wrong Challenges db e wrong (λ version content holds u low.
+    people_upto version EventRules content (omega arith) (right version content holds) u (omega (arith, low)))
+
+-- one that names the games for their types
+pub first_games : (db : Database) (e : OpenFault)
+    → ((t : Table) → e ≡ Damaged t → (t ≡ Games) × HoldsNone db (λ version content. HasTypes Games content))
+    → ((version : Version) (content : Content) → of_schema.Holds (schema_of version) db content
+    → AreOfClub version EventRules content) → NamesFirst db e
+first_games db e untyped right t is version content holds =
+    let (named, none) = untyped t is in
+    let play : IsOfPlay t = subst IsOfPlay (sym named) (omega arith, omega arith) in
+    record {
+      before = λ u low only typed. register_upto version content (right version content holds) u (only play)
+          (λ here. absurd (none version content holds (typed here)));
+      named = λ other club. absurd (other play);
+    }
+
+-- one that names a table that was examined
+module _ (db : Database) (rows : Rows) (e : OpenFault)
+    (right : (version : Version) (content : Content) → of_schema.Holds (schema_of version) db content
+    → AreOfClub version EventRules content)
+    (have : (version : Version) (content : Content) → of_schema.Holds (schema_of version) db content
+    → (cs : List Challenge) → AreChallenges cs rows → HaveChallenges content)
+    (pass : (version : Version) (content : Content) → of_schema.Holds (schema_of version) db content
+    → HaveChallenges content → (cs : List Challenge) × AreChallenges cs rows)
+    (seen_of : (version : Version) (content : Content) → of_schema.Holds (schema_of version) db content
+    → (cs : List Challenge) → AreChallenges cs rows → ArePlayed rows db → AreOfClub version Seen content)
+    (scores_of : (version : Version) (content : Content) → of_schema.Holds (schema_of version) db content
+    → (cs : List Challenge) → AreChallenges cs rows → ArePlayed rows db → AreScored rows db
+    → AreOfClub version Scores content)
+    (has : (version : Version) (content : Content) → of_schema.Holds (schema_of version) db content
+    → AreOfClub version Scores content → HasScores rows content)
+    (whole : (version : Version) (content : Content) → of_schema.Holds (schema_of version) db content
+    → AreOfClub version Meta content → (t : Table) → e ≢ Damaged t) where
+  pub first_examined : NamesExamined rows db e → NamesFirst db e
+  first_examined names t is version content holds = elim (names t is) [
+    | inl (named, none) ↦ record {
+      before = λ u low only typed.
+          let less = subst (λ (v : Table). order u < order v) named low in
+          people_upto version EventRules content (omega arith) (right version content holds) u (omega (arith, less));
+      named = λ other club.
+          let (cs, are) = pass version content holds (subst (λ v. IsRight v version content) named club) in none cs are;
+    }
+    | inr ((cs, are), inl play) ↦ record {
+      before = λ u low only typed. register_upto version content (right version content holds) u (only play)
+          (λ here. have version content holds cs are);
+      named = λ other club. absurd (other play);
+    }
+    | inr ((cs, are), inr (inl (named, played, none))) ↦ record {
+      before = λ u low only typed.
+          let less = subst (λ (v : Table). order u < order v) named low in
+          all_upto version content Seen (seen_of version content holds cs are played) (have version content holds cs are)
+          u (omega (arith, less));
+      named = λ other club.
+          none version content holds
+          (has version content holds (subst (λ v. IsRight v version content) named club));
+    }
+    | inr ((cs, are), inr (inr (named, played, scored))) ↦ record {
+      before = λ u low only typed.
+          let less = subst (λ (v : Table). order u < order v) named low in
+          all_upto version content Scores (scores_of version content holds cs are played scored)
+          (have version content holds cs are) u (omega (arith, less));
+      named = λ other club.
+          whole version content holds (subst (λ v. IsRight v version content) named club) t is;
+    }
+  ]
+
+-- a database that did not change has the same first one
+pub first_before : (old mid : State) (e : OpenFault) → IsUnchanged old mid → NamesFirst mid.now e
+    → NamesFirst old.now e
+first_before old mid e same = subst (λ (d : Database). NamesFirst d e) same.0.now_is
+
+-- ---- later tables
+
+pub blames_later : (table : Table) (definition : Definition) (IsTyped : Row → Type 0) (old : State) (e : OpenFault)
+    → IsOfPlay table → Blames table definition IsTyped old e → NamesPlayed e
+blames_later table definition IsTyped old e play (inl store) t is =
+    let both : ◌≡◌ {A = OpenFault} Store (Damaged t) = sym store ∙ is in absurd cc
+blames_later table definition IsTyped old e play (inr (inl memory)) t is =
+    let both : ◌≡◌ {A = OpenFault} Memory (Damaged t) = sym memory ∙ is in absurd cc
+blames_later table definition IsTyped old e play (inr (inr (named, wrong))) t is =
+    subst IsOfPlay (damaged_same table t (sym named ∙ is)) play
+
+-- of the tables that the rows of a game may show to be wrong none is one up to the challenges
+game_later : (s : ClubState) (rows : Rows) (place : ℕ) (game : GameRecord) (ms : List MoveRow) (ss : List SeenRow)
+    (last : Option ℕ) (t : Table) → ¬ IsRightAt s rows place game ms ss last t → IsOfPlay t ⊎ (t ≡ Meta)
+game_later s rows place game ms ss last Members wrong = absurd (wrong tt)
+game_later s rows place game ms ss last Events wrong = absurd (wrong tt)
+game_later s rows place game ms ss last EventRules wrong = absurd (wrong tt)
+game_later s rows place game ms ss last Challenges wrong = absurd (wrong tt)
+game_later s rows place game ms ss last Moves wrong = inl (omega arith, omega arith)
+game_later s rows place game ms ss last Games wrong = inl (omega arith, omega arith)
+game_later s rows place game ms ss last Seen wrong = inl (omega arith, omega arith)
+game_later s rows place game ms ss last Scores wrong = absurd (wrong tt)
+game_later s rows place game ms ss last Meta wrong = inr refl
+
+pub wrong_later : (s : ClubState) (rows : Rows) (place : ℕ) (game : GameRecord) (ms : List MoveRow) (ss : List SeenRow)
+    (last : Option ℕ) (wrong : Option Table) → IsFirstWrong (IsRightAt s rows place game ms ss last) wrong
+    → IsLater wrong
+wrong_later s rows place game ms ss last None first t is = cc
+wrong_later s rows place game ms ss last (Some u) first t is =
+    subst (λ (v : Table). IsOfPlay v ⊎ (v ≡ Meta)) (same_Some u t is)
+    (game_later s rows place game ms ss last u first.named)
+
+-- of two
+pub either_later : (w v u : Option Table) → ((t : Table) → u ≡ Some t → (w ≡ Some t) ⊎ (v ≡ Some t)) → IsLater w
+    → IsLater v → IsLater u
+either_later w v u some one two t is = elim (some t is) [
+  | inl here ↦ one t here
+  | inr there ↦ two t there
+]
+
+pub left_later : (table : Table) (count : ℕ) (o : Option Table) → IsOfPlay table
+    → ((t : Table) → o ≡ Some t → (t ≡ table) × (0 < count)) → IsLater o
+left_later table count o play some t is = inl (subst IsOfPlay (sym (some t is).0) play)
+
+pub some_later : (table : Table) → IsOfPlay table ⊎ (table ≡ Meta) → IsLater (Some table)
+some_later table later t is = subst (λ (u : Table). IsOfPlay u ⊎ (u ≡ Meta)) (same_Some table t is) later
+
+-- ---- what was read
+
+-- rows of rules that were read of a database
+pub kept_rules : (version : Version) (event_rows : List EventRow) (rule_rows : List EventRuleRow) (old new : State)
+    → AreRulesRead version event_rows rule_rows old new → version ≡ Current
+    → Keeps (event_rules 16) old.now.trees (map event_rule_cells rule_rows)
+kept_rules First event_rows rule_rows old new read is = let no : First ≡ Current = is in absurd cc
+kept_rules Current event_rows rule_rows old new read is = read.keeps
+
+pub none_said : (version : Version) (event_rows : List EventRow) (rule_rows : List EventRuleRow) (old new : State)
+    → AreRulesRead version event_rows rule_rows old new → version ≡ First
+    → map event_rule_cells rule_rows ≡ map undeclared_row event_rows
+none_said First event_rows rule_rows old new read is = read.1
+none_said Current event_rows rule_rows old new read is = let no : Current ≡ First = is in absurd cc
+
+-- what was read, table after table
+pub people_read : (version : Version) (member_rows : List MemberRow) (event_rows : List EventRow)
+    (rule_rows : List EventRuleRow) (old one two three four : State) → old.now.schema ≡ schema_of version
+    → IsUnchanged old one → IsReadAs (members 1) 1 (map member_cells member_rows) one two
+    → IsReadAs (events 4) 1 (map event_cells event_rows) two three
+    → AreRulesRead version event_rows rule_rows three four → (ms : List Member) → AreMembers ms member_rows
+    → (es : List Event) → AreEvents es event_rows → AreRules rule_rows (length event_rows)
+    → ArePeople version member_rows event_rows rule_rows old.now
+people_read version member_rows event_rows rule_rows old one two three four schema same read_ms read_es read_rules ms
+    are_ms es are_es are_rules =
+    let same_two = unchanged_then old one two same read_ms.same in
+    let same_three = unchanged_then old two three same_two read_es.same in
+    record {
+      schema = schema;
+      ms = ms;
+      members_are = are_ms;
+      members_kept = (read_after (members 1) 1 (map member_cells member_rows) old one two same read_ms).keeps;
+      es = es;
+      events_are = are_es;
+      events_kept = (read_after (events 4) 1 (map event_cells event_rows) old two three same_two read_es).keeps;
+      rules_are = are_rules;
+      rules_kept = λ is. subst (λ (d : Database). Keeps (event_rules 16) d.trees (map event_rule_cells rule_rows))
+          same_three.0.now_is (kept_rules version event_rows rule_rows three four read_rules is);
+      undeclared = none_said version event_rows rule_rows three four read_rules;
+    }
+
+-- and all together
+pub people_of_all : (version : Version) (rows : Rows) (old new : State) → old.now.schema ≡ schema_of version
+    → AreRead version rows old new → (ms : List Member) → AreMembers ms rows.members.items → (es : List Event)
+    → AreEvents es rows.events.items → AreRules rows.event_rules.items (length rows.events.items)
+    → ArePeople version rows.members.items rows.events.items rows.event_rules.items old.now
+people_of_all version rows old new schema read ms are_ms es are_es are_rules = record {
+  schema = schema;
+  ms = ms;
+  members_are = are_ms;
+  members_kept = read.members.keeps;
+  es = es;
+  events_are = are_es;
+  events_kept = read.events.keeps;
+  rules_are = are_rules;
+  rules_kept = kept_rules version rows.events.items rows.event_rules.items old new read.rules;
+  undeclared = none_said version rows.events.items rows.event_rules.items old new read.rules;
+}
+
+-- the club of these people
+pub has_people : (rows : Rows) (ms : List Member) → AreMembers ms rows.members.items → (es : List Event)
+    → AreEvents es rows.events.items → AreRules rows.event_rules.items (length rows.events.items)
+    → (s : ClubState) × HasPeople s rows
+has_people rows ms are_ms es are_es are_rules =
+    let made = ruled-of es rows.events.items rows.event_rules.items are_es are_rules in (
+      club_with ms made.ruled,
+      record { members = are_ms; events = made.events_are; rules = made.rules_are },
+    )
+
+-- ---- the head names no table
+
+pub store_undamaged : (e : OpenFault) → e ≡ Store → (t : Table) → e ≢ Damaged t
+store_undamaged e named t is = let both : ◌≡◌ {A = OpenFault} Store (Damaged t) = sym named ∙ is in absurd cc
+
+pub memory_undamaged : (e : OpenFault) → e ≡ Memory → (t : Table) → e ≢ Damaged t
+memory_undamaged e named t is = let both : ◌≡◌ {A = OpenFault} Memory (Damaged t) = sym named ∙ is in absurd cc
+
+pub foreign_undamaged : (e : OpenFault) → e ≡ Foreign → (t : Table) → e ≢ Damaged t
+foreign_undamaged e named t is = let both : ◌≡◌ {A = OpenFault} Foreign (Damaged t) = sym named ∙ is in absurd cc
+
+pub schema_undamaged : (n : ℤ) (e : OpenFault) → e ≡ Schema n → (t : Table) → e ≢ Damaged t
+schema_undamaged n e named t is = let both : ◌≡◌ {A = OpenFault} (Schema n) (Damaged t) = sym named ∙ is in absurd cc
+
+pub told_undamaged : (db : Database) (e : OpenFault) → (e ≡ Store) ⊎ ((e ≡ Memory) ⊎ NamesSchema First db e)
+    → (t : Table) → e ≢ Damaged t
+told_undamaged db e (inl store) t is = store_undamaged e store t is
+told_undamaged db e (inr (inl memory)) t is = memory_undamaged e memory t is
+told_undamaged db e (inr (inr (n, named, none, has))) t is = schema_undamaged n e named t is
+
+-- ---- challenges that were read
+
+-- what the audit lets pass of the rows that were read is right in whatever content the database may hold, and back
+module _ (rows : Rows) (version : Version) (old new : State) (read : AreRead version rows old new) (ms : List Member)
+    (are_ms : AreMembers ms rows.members.items) (es : List Event) (are_es : AreEvents es rows.events.items) (v : Version)
+    (content : Content) (holds : of_schema.Holds (schema_of v) old.now content) where
+  stored_challenges : Stores (challenges 6) old.now.trees content
+  stored_challenges = stores_of (challenges 6) 3 refl refl v old.now content holds
+
+  same_ms : HaveSame (content 1) (map member_cells rows.members.items)
+  same_ms = kept_same (members 1) old.now (content 1) (map member_cells rows.members.items)
+      (stores_of (members 1) 1 refl refl v old.now content holds).rows read.members.keeps
+
+  same_es : HaveSame (content 4) (map event_cells rows.events.items)
+  same_es = kept_same (events 4) old.now (content 4) (map event_cells rows.events.items)
+      (stores_of (events 4) 2 refl refl v old.now content holds).rows read.events.keeps
+
+  same_cs : HaveSame (content 6) (map challenge_cells rows.challenges.items)
+  same_cs = kept_same (challenges 6) old.now (content 6) (map challenge_cells rows.challenges.items)
+      stored_challenges.rows read.challenges.keeps
+
+  same_games : HaveSame (content 10) (map game_cells rows.games.items)
+  same_games = kept_same (games 10) old.now (content 10) (map game_cells rows.games.items)
+      (stores_of (games 10) 5 refl refl v old.now content holds).rows read.games.keeps
+
+  pub have_challenges : (cs : List Challenge) → AreChallenges cs rows → HaveChallenges content
+  have_challenges = challenges_right content rows ms are_ms es are_es same_ms same_es same_cs same_games
+
+  pub pass_challenges : HaveChallenges content → (cs : List Challenge) × AreChallenges cs rows
+  pass_challenges have = (
+    have.challenges,
+    right_challenges content rows ms are_ms es are_es same_ms same_es same_cs same_games have
+        (challenges_once v content (map challenge_cells rows.challenges.items) old new holds stored_challenges have
+        read.challenges),
+  )

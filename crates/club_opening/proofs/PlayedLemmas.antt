@@ -1,0 +1,370 @@
+-- The tables of a file up to the scores, where at most `meta` is wrong, and the scores that are no club's.
+use Rattle.std.proofs.Common.{◌≡◌, ◌≢◌, ◌⊎◌, ℕ, ◌≤◌, false, true, true≢false, List, [], ◌∷◌, length, map, Option, Some, None}
+use Rattle.std.proofs.Common.{refl, ap, sym, subst, ◌∙◌, arith, inl, inr}
+use Rattle.std.proofs.lemmas.List.{take_all}
+use Rattle.std.proofs.lemmas.Option.{same_Some}
+use Rattle.sqlite.specs.Effect.{Database}
+use Rattle.sqlite.specs.Order.{Row}
+use Rattle.sqlite.specs.State.{State, IsUnchanged}
+use Rattle.sqlite_rules.proofs.ListLemmas.{all_has}
+use Rattle.store_tables.specs.Cells.{IsScore, challenge_cells, event_cells, event_rule_cells, game_cells, member_cells}
+use Rattle.store_tables.specs.Cells.{score_cells}
+use Rattle.store_tables.specs.Changes as changes
+use Rattle.store_tables.specs.Changes.{HaveSame}
+use Rattle.store_tables.specs.Content.{Keeps, cells}
+use Rattle.store_tables.specs.Contents.{Content, Stores}
+use Rattle.store_tables.specs.Contents as of_schema
+use Rattle.store_tables.specs.Tables.{challenges, event_rules, events, games, members, moves, schema_of, scores, seen}
+use Rattle.store_tables.specs.declared.names.Table.{Table}
+use Rattle.store_tables.specs.declared.names.Table.TheVariants.{Members, Events, EventRules, Challenges, Moves}
+use Rattle.store_tables.specs.declared.names.Table.TheVariants.{Games, Seen, Scores, Meta}
+use Rattle.store_tables.specs.declared.names.Version.{Version}
+use Rattle.store_tables.specs.declared.names.Version.TheVariants.{First, Current}
+use Rattle.store_tables.specs.declared.rows.Rows.{Rows}
+use Rattle.store_tables.specs.declared.rows.ScoreRow.{ScoreRow}
+use Rattle.store_tables.proofs.Proved.{ids_of}
+use Rattle.store_sql.specs.Read.{IsReadAs}
+use Rattle.club_core.specs.declared.challenges.Challenge.{Challenge}
+use Rattle.club_core.specs.Events.{Event}
+use Rattle.club_core.specs.Members.{Member}
+use Rattle.club_rows.specs.Club.{both_games, ClubState, IsClub}
+use Rattle.club_rows.specs.EachOnce.{AreEachOnce}
+use Rattle.club_rows.specs.FirstSchema.{IsClubOf, tables_at}
+use Rattle.club_rows.specs.Scores.{scores_in}
+use Rattle.club_rows.specs.Tables.{numbered_from, row_of_game, rows_of_moves, rows_of_seen, tables_of}
+use Rattle.club_rows.proofs.Proved.{scores_typed}
+use Rattle.club_audit.specs.Audit.{AreApartGames, AreEvents, AreMembers, AreRulesOf, HasPeople}
+use Rattle.club_audit.specs.ChallengeAudit.{AreChallenges}
+use Rattle.club_audit.specs.FirstWrong.{order}
+use Rattle.club_audit.specs.Standings.{AreGamesOf}
+use Rattle.club_audit.proofs.Proved.{challenges-of, game-elsewhere, keys-of}
+use Rattle.club_changes.proofs.Proved.{moves_had}
+use Rattle.club_opening.specs.Blames.{AreRead, Blames, Names}
+use Rattle.club_opening.specs.Examined.{AreScoresExamined, IsPlayExamined, IsPlayed, WereFound, moves_in, past, seen_in}
+use Rattle.club_opening.specs.Places.{last_moment}
+use Rattle.club_opening.specs.RightTables.{AreOfClub, ArePlayed, AreScored, HasScores, HasTable, IsOfPlay, NamesScores}
+use Rattle.club_opening.specs.RightTables.{rows_in}
+use Rattle.club_opening.specs.Versions.{HoldsClub}
+use Rattle.club_opening.specs.declared.fault.OpenFault.{OpenFault}
+use Rattle.club_opening.specs.declared.fault.OpenFault.TheVariants.{Damaged}
+use Rattle.club_opening.proofs.ChallengedLemmas.{unique_of}
+use Rattle.club_opening.proofs.ClubLemmas.{begin_places, good_in, ids_read, row_id}
+use Rattle.club_opening.proofs.FirstLemmas.{damaged_same, kept_rules, kept_same, memory_undamaged, none_said, of_either}
+use Rattle.club_opening.proofs.FirstLemmas.{rules_in, schema_undamaged, store_undamaged, stores_of, types_none}
+use Rattle.club_opening.proofs.FirstLemmas.{types_same}
+use Rattle.club_opening.proofs.GroupRows.{seen_had}
+use Rattle.club_opening.proofs.OnceLemmas.{each_once, score_key}
+use Rattle.club_opening.proofs.PastLemmas.{table_gathered}
+use Rattle.club_opening.proofs.RegisterLemmas.{keeps_same, keeps_shown, none_declared, stored_same}
+use Rattle.club_opening.proofs.StoredLemmas.{club_of_version, one_version}
+
+-- ---- scores
+
+pub score_types_wrong : (rows : Rows) (old : State) (e : OpenFault) → Blames Scores (scores 14) IsScore old e
+    → NamesScores rows old.now e
+score_types_wrong rows old e = types_none Scores (scores 14) IsScore (λ version content. HasScores rows content) old e
+    (λ version content holds has. (
+      stores_of (scores 14) 7 refl refl version old.now content holds,
+      types_same IsScore (content 14) (tables_of both_games has.state 14) has.same.there
+          (scores_typed both_games has.state.games),
+    ))
+
+-- rows of scores that were judged to be other ones are those of no club with these games
+pub scores_wrong : (rows : Rows) (scored_rows : List ScoreRow) (old new : State)
+    → IsReadAs (scores 14) 3 (map score_cells scored_rows) old new
+    → ((s : ClubState) → AreGamesOf s rows.games.items
+    → AreEachOnce (map score_cells scored_rows) (scores_in both_games s.games) → false ≡ true)
+    → NamesScores rows old.now (Damaged Scores)
+scores_wrong rows scored_rows old new read complete t is = (
+  sym (damaged_same Scores t is),
+  λ version content holds has.
+      let s = has.state in
+      let made = tables_of both_games s 14 in
+      let stored : Stores (scores 14) old.now.trees content =
+      stores_of (scores 14) 7 refl refl version old.now content holds in
+      let keyed = score_key old.now.trees (unique_of version old.now content holds)
+      (λ r h. all_has IsScore made (cells (scores 14) r) (scores_typed both_games s.games)
+      (has.same.there (cells (scores 14) r) (stored.rows.only r h))) in
+      let once = each_once (scores 14) 3 (1 ∷ 2 ∷ 3 ∷ []) (map score_cells scored_rows) made old new keyed
+      (keeps_same (scores 14) old.now.trees (content 14) made has.same stored.rows) read in
+      true≢false (sym (complete s (record { few = has.legal.game_count; rows_are = has.games }) once)),
+)
+
+-- ---- what was examined
+
+pub none_played : (o : Option Table) → o ≡ None → IsPlayed o
+none_played o none t is = let both : ◌≡◌ {A = Option Table} (Some t) None = sym is ∙ none in absurd cc
+
+pub meta_played : (o : Option Table) → (o ≡ None) ⊎ (o ≡ Some Meta) → IsPlayed o
+meta_played o (inl none) = none_played o none
+meta_played o (inr last) = λ t is. same_Some t Meta (sym is ∙ last)
+
+pub are_played : (rows : Rows) (last : Option ℕ) (wrong : Option Table) (old new : State)
+    → IsPlayExamined rows last wrong old new → IsPlayed wrong → AreApartGames rows.games.items
+    → ArePlayed rows old.now
+are_played rows last wrong old new play played apart =
+    record { apart = apart; found = play.games.played played; none_left = play.games.none_rests played }
+
+pub are_scored : (rows : Rows) (old mid new : State) → IsUnchanged old mid → AreScoresExamined rows mid new
+    → AreScored rows old.now
+are_scored rows old mid new same scored = record {
+  scored = scored.rows_of;
+  keeps = subst (λ (d : Database). Keeps (scores 14) d.trees scored.rows_of) same.0.now_is scored.read.keeps;
+  are = scored.are;
+}
+
+-- a table that is named before the scores is one of play
+pub before_last : (wrong before : Option Table) (t : Table) → wrong ≡ Some t → before ≡ Some t
+    → (wrong ≡ Some Meta → before ≡ None) → IsOfPlay t ⊎ (t ≡ Meta) → IsOfPlay t
+before_last wrong before t is first none (inl play) = play
+before_last wrong before t is first none (inr last) =
+    let both : ◌≡◌ {A = Option Table} (Some t) None = sym first ∙ none (is ∙ ap Some last) in absurd cc
+
+-- ---- the club of the games
+
+-- the tables of both versions but `meta`
+rows_at : (version : Version) (s : ClubState) (u : Table) → order u ≤ order Scores → HasTable u version
+    → rows_in u (tables_at version s) ≡ rows_in u (tables_of both_games s)
+rows_at Current s u low there = refl
+rows_at First s Members low there = refl
+rows_at First s Events low there = refl
+rows_at First s EventRules low there = absurd there
+rows_at First s Challenges low there = refl
+rows_at First s Moves low there = refl
+rows_at First s Games low there = refl
+rows_at First s Seen low there = refl
+rows_at First s Scores low there = refl
+rows_at First s Meta low there = absurd (omega (arith, low))
+
+same_then : (one two three : List Row) → HaveSame one two → HaveSame two three → HaveSame one three
+same_then one two three first second =
+    record { there = λ z h. second.there z (first.there z h); back = λ z h. first.back z (second.back z h) }
+
+module _ (rows : Rows) (version : Version) (old mid : State) (read : AreRead version rows old mid) (ms : List Member)
+    (are_ms : AreMembers ms rows.members.items) (fs : List Event) (are_fs : AreEvents fs rows.events.items)
+    (rules_are : AreRulesOf fs rows.event_rules.items) (cs : List Challenge) (are_cs : AreChallenges cs rows)
+    (played : ArePlayed rows old.now) where
+  abbrev known : ClubState
+  known = record { last = last_moment; members = ms; events = fs; games = []; challenges = cs }
+
+  people : HasPeople known rows
+  people = record { members = are_ms; events = are_fs; rules = rules_are }
+
+  found : WereFound known rows.games.items old.now.trees (length rows.games.items)
+  found = played.found known people
+
+  abbrev all : ClubState
+  all = record { last = last_moment; members = ms; events = fs; games = found.games; challenges = cs }
+
+  rows_are : map game_cells rows.games.items ≡ numbered_from (row_of_game both_games fs) 1 found.games
+  rows_are = ap (map game_cells) (sym (take_all (length rows.games.items) rows.games.items (omega arith)))
+      ∙ found.rows_are
+
+  few : length found.games ≤ 5000
+  few = let count = found.number_of in let low = played.apart.few in omega (arith, count, low)
+
+  club : IsClub all
+  club = record {
+    last = omega arith;
+    members = are_ms.legal;
+    member_count = are_ms.count;
+    member_names = are_ms.names;
+    member_keys = are_ms.keys;
+    events = are_fs.legal;
+    event_count = are_fs.count;
+    event_names = are_fs.names;
+    games = λ n any at. game-elsewhere known found.games any (found.legal n any at);
+    game_count = few;
+    game_keys = keys-of known found.games rows.games.items rows_are played.apart.keys;
+    challenges = challenges-of known rows people found.games rows_are are_cs.legal;
+    challenge_numbers = are_cs.numbers;
+  }
+
+  legal : IsClubOf version all
+  legal = of_either version all club (λ is. none_declared 1 fs rows.events.items
+      (sym (none_said version rows.events.items rows.event_rules.items old mid read.rules is) ∙ rules_are))
+
+  moves_same : HaveSame (moves_in old.now.trees) (tables_of both_games all 8)
+  moves_same =
+      let none = played.none_left known people in
+      table_gathered (rows_of_moves both_games fs) (λ id g z h. moves_had both_games fs id g z h)
+      (moves_in old.now.trees) found.games
+      (subst (λ n. length (past n (moves_in old.now.trees)) ≡ 0) (sym found.number_of) none.moves) found.moves_are
+
+  seen_same : HaveSame (seen_in old.now.trees) (tables_of both_games all 12)
+  seen_same =
+      let none = played.none_left known people in
+      table_gathered (rows_of_seen both_games) (λ id g z h. seen_had id g z h) (seen_in old.now.trees) found.games
+      (subst (λ n. length (past n (seen_in old.now.trees)) ≡ 0) (sym found.number_of) none.seen) found.seen_are
+
+  module _ (content : Content) (holds : of_schema.Holds (schema_of version) old.now content) where
+    rules_same : (v : Version) → v ≡ version → HasTable EventRules v → of_schema.Holds (schema_of v) old.now content
+        → HaveSame (content 16) (tables_of both_games all 16)
+    rules_same First is there held = absurd there
+    rules_same Current is there held =
+        subst (HaveSame (content 16)) rules_are
+        (kept_same (event_rules 16) old.now (content 16) (map event_rule_cells rows.event_rules.items)
+        (rules_in old.now content held).rows
+        (kept_rules version rows.events.items rows.event_rules.items old mid read.rules (sym is)))
+
+    -- the rows of each table before the scores
+    same_plain : (u : Table) → order u ≤ order Seen → HasTable u version → HaveSame (rows_in u content) (rows_in u (tables_of both_games all))
+    same_plain Members low there =
+        subst (HaveSame (content 1)) are_ms.rows_are
+        (kept_same (members 1) old.now (content 1) (map member_cells rows.members.items)
+        (stores_of (members 1) 1 refl refl version old.now content holds).rows read.members.keeps)
+    same_plain Events low there =
+        subst (HaveSame (content 4)) are_fs.rows_are
+        (kept_same (events 4) old.now (content 4) (map event_cells rows.events.items)
+        (stores_of (events 4) 2 refl refl version old.now content holds).rows read.events.keeps)
+    same_plain EventRules low there = rules_same version refl there holds
+    same_plain Challenges low there =
+        same_then (content 6) (map challenge_cells rows.challenges.items) (tables_of both_games all 6)
+        (kept_same (challenges 6) old.now (content 6) (map challenge_cells rows.challenges.items)
+        (stores_of (challenges 6) 3 refl refl version old.now content holds).rows read.challenges.keeps)
+        are_cs.rows_are.same
+    same_plain Moves low there =
+        same_then (content 8) (moves_in old.now.trees) (tables_of both_games all 8)
+        (kept_same (moves 8) old.now (content 8) (moves_in old.now.trees)
+        (stores_of (moves 8) 4 refl refl version old.now content holds).rows (keeps_shown (moves 8) old.now.trees))
+        moves_same
+    same_plain Games low there =
+        subst (HaveSame (content 10)) rows_are
+        (kept_same (games 10) old.now (content 10) (map game_cells rows.games.items)
+        (stores_of (games 10) 5 refl refl version old.now content holds).rows read.games.keeps)
+    same_plain Seen low there =
+        same_then (content 12) (seen_in old.now.trees) (tables_of both_games all 12)
+        (kept_same (seen 12) old.now (content 12) (seen_in old.now.trees)
+        (stores_of (seen 12) 6 refl refl version old.now content holds).rows (keeps_shown (seen 12) old.now.trees))
+        seen_same
+    same_plain Scores low there = absurd (omega (arith, low))
+    same_plain Meta low there = absurd (omega (arith, low))
+
+    seen_at : AreOfClub version Seen content
+    seen_at = record {
+      state = all;
+      legal = legal;
+      same = λ u there low. subst (HaveSame (rows_in u content)) (sym (rows_at version all u (omega (arith, low)) there))
+          (same_plain u low there);
+    }
+
+    -- and the scores, where they were scored
+    scores_same : AreScored rows old.now → HaveSame (content 14) (tables_of both_games all 14)
+    scores_same scored =
+        same_then (content 14) scored.scored (tables_of both_games all 14)
+        (kept_same (scores 14) old.now (content 14) scored.scored
+        (stores_of (scores 14) 7 refl refl version old.now content holds).rows scored.keeps)
+        (scored.are all (record { few = few; rows_are = rows_are })).same
+
+    same_scored : AreScored rows old.now → (u : Table) → order u ≤ order Scores → HasTable u version
+        → HaveSame (rows_in u content) (rows_in u (tables_of both_games all))
+    same_scored scored Members low there = same_plain Members (omega arith) there
+    same_scored scored Events low there = same_plain Events (omega arith) there
+    same_scored scored EventRules low there = same_plain EventRules (omega arith) there
+    same_scored scored Challenges low there = same_plain Challenges (omega arith) there
+    same_scored scored Moves low there = same_plain Moves (omega arith) there
+    same_scored scored Games low there = same_plain Games (omega arith) there
+    same_scored scored Seen low there = same_plain Seen (omega arith) there
+    same_scored scored Scores low there = scores_same scored
+    same_scored scored Meta low there = absurd (omega (arith, low))
+
+    scores_at : AreScored rows old.now → AreOfClub version Scores content
+    scores_at scored = record {
+      state = all;
+      legal = legal;
+      same = λ u there low. subst (HaveSame (rows_in u content)) (sym (rows_at version all u low there))
+          (same_scored scored u low there);
+    }
+
+  pub seen_right : old.now.schema ≡ schema_of version → (v : Version) (content : Content)
+      → of_schema.Holds (schema_of v) old.now content → AreOfClub v Seen content
+  seen_right schema v content holds =
+      let same : version ≡ v = one_version version v old.now.schema schema holds.schema in
+      subst (λ w. AreOfClub w Seen content) same
+      (seen_at content (subst (λ w. of_schema.Holds (schema_of w) old.now content) (sym same) holds))
+
+  pub scores_right : old.now.schema ≡ schema_of version → AreScored rows old.now → (v : Version) (content : Content)
+      → of_schema.Holds (schema_of v) old.now content → AreOfClub v Scores content
+  scores_right schema scored v content holds =
+      let same : version ≡ v = one_version version v old.now.schema schema holds.schema in
+      subst (λ w. AreOfClub w Scores content) same
+      (scores_at content (subst (λ w. of_schema.Holds (schema_of w) old.now content) (sym same) holds) scored)
+
+-- a club with the rows up to the scores has these games
+pub has_scores : (rows : Rows) (version : Version) (old mid : State) → AreRead version rows old mid → (v : Version)
+    (content : Content) → of_schema.Holds (schema_of v) old.now content → AreOfClub v Scores content
+    → HasScores rows content
+has_scores rows version old mid read v content holds club =
+    let s = club.state in
+    let kept : Keeps (games 10) old.now.trees (tables_of both_games s 10) =
+    keeps_same (games 10) old.now.trees (content 10) (tables_of both_games s 10)
+    (subst (HaveSame (content 10)) (rows_at v s Games (omega arith) tt) (club.same Games tt (omega arith)))
+    (stores_of (games 10) 5 refl refl v old.now content holds).rows in
+    record {
+      state = s;
+      legal = club_of_version v s club.legal;
+      games = ids_read (games 10) (map game_cells rows.games.items) (tables_of both_games s 10) old mid read.games
+          (ids_of (games 10) (old.now.trees 10) (map game_cells rows.games.items) (λ r. refl) read.games.once
+          read.games.apart) kept (begin_places (row_of_game both_games s.events) (row_id s.events) s.games);
+      same = subst (HaveSame (content 14)) (rows_at v s Scores (omega arith) tt) (club.same Scores tt (omega arith));
+    }
+
+-- a club with all rows is what the database holds, and that is blamed for no table
+pub whole_unblamed : (oldest : Version) (old : State) (e : OpenFault) → Names oldest old.now e → (v : Version)
+    (content : Content) → of_schema.Holds (schema_of v) old.now content → AreOfClub v Meta content → (t : Table)
+    → e ≢ Damaged t
+whole_unblamed oldest old e names v content holds club =
+    let all : HoldsClub v old.now club.state = record {
+      schema = holds.schema;
+      sound = holds.sound;
+      tables = stored_same (schema_of v) old.now.trees content (tables_at v club.state) (same_all v club) holds.tables;
+    } in
+    elim (good_in oldest v club.state club.legal old.now all e names) [
+      | inl store ↦ store_undamaged e store
+      | inr (inl memory) ↦ memory_undamaged e memory
+      | inr (inr (named, other)) ↦ schema_undamaged _ e named
+    ]
+  where
+    same_all : (v : Version) (club : AreOfClub v Meta content)
+        → changes.AreSame (schema_of v) content (tables_at v club.state)
+    same_all First club = (
+      club.same Meta tt (omega arith),
+      (
+        club.same Members tt (omega arith),
+        (
+          club.same Events tt (omega arith),
+          (
+            club.same Challenges tt (omega arith),
+            (
+              club.same Moves tt (omega arith),
+              (
+                club.same Games tt (omega arith),
+                (club.same Seen tt (omega arith), (club.same Scores tt (omega arith), tt)),
+              ),
+            ),
+          ),
+        ),
+      ),
+    )
+    same_all Current club = (
+      club.same Meta tt (omega arith),
+      (
+        club.same Members tt (omega arith),
+        (
+          club.same Events tt (omega arith),
+          (
+            club.same Challenges tt (omega arith),
+            (
+              club.same Moves tt (omega arith),
+              (
+                club.same Games tt (omega arith),
+                (
+                  club.same Seen tt (omega arith),
+                  (club.same Scores tt (omega arith), (club.same EventRules tt (omega arith), tt)),
+                ),
+              ),
+            ),
+          ),
+        ),
+      ),
+    )

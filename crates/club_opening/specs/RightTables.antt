@@ -1,0 +1,180 @@
+-- When the rows of a table are those of a legal club, where those of the tables before it are, and what a fault says then.
+use Rattle.std.specs.Prelude.{◌≡◌, ◌≢◌, ◌⊎◌, ◌<◌, ◌≤◌, ◌^◌, ℕ, List, length, map, Option, Some, IsTrue}
+use Rattle.sqlite.specs.Effect.{Database}
+use Rattle.sqlite.specs.Order.{Row, column}
+use Rattle.sqlite_rules.specs.Lists.{Has}
+use Rattle.store_tables.specs.Cells.{event_cells, game_cells}
+use Rattle.store_tables.specs.Changes.{HaveSame}
+use Rattle.store_tables.specs.Content.{Keeps}
+use Rattle.store_tables.specs.Contents.{Content}
+use Rattle.store_tables.specs.Contents as of_schema
+use Rattle.store_tables.specs.Tables.{schema_of, scores}
+use Rattle.store_tables.specs.declared.names.Table.{Table}
+use Rattle.store_tables.specs.declared.names.Table.TheVariants.{Members, Events, EventRules, Challenges, Moves}
+use Rattle.store_tables.specs.declared.names.Table.TheVariants.{Games, Seen, Scores, Meta}
+use Rattle.store_tables.specs.declared.names.Version.{Version}
+use Rattle.store_tables.specs.declared.names.Version.TheVariants.{First}
+use Rattle.store_tables.specs.declared.rows.EventRow.{EventRow}
+use Rattle.store_tables.specs.declared.rows.Rows.{Rows}
+use Rattle.club_rows.specs.Club.{ClubState, IsClub, both_games, tables}
+use Rattle.club_rows.specs.EachOnce.{AreEachOnce}
+use Rattle.club_rows.specs.Scores.{scores_in}
+use Rattle.club_rows.specs.FirstSchema.{IsClubOf, tables_at}
+use Rattle.club_rows.specs.Tables.{challenge_row, event_row, number, numbered_from, row_of_game}
+use Rattle.club_core.specs.declared.challenges.Challenge.{Challenge}
+use Rattle.club_core.specs.declared.challenges.Standing.TheVariants.{Accepted}
+use Rattle.club_core.specs.Challenges.{goes_by, pairing_for}
+use Rattle.club_core.specs.LegalState.{AreApart, Each}
+use Rattle.club_core.specs.Seats.{Pairing}
+use Rattle.club_requests.specs.Limits.{is_challenge_number}
+use Rattle.club_audit.specs.Audit.{AreApartGames, HasPeople, until}
+use Rattle.club_audit.specs.ChallengeAudit.{AreChallenges}
+use Rattle.club_audit.specs.Standings.{AreGamesOf}
+use Rattle.club_audit.specs.FirstWrong.{order}
+use Rattle.club_opening.specs.Blames.{HasTypes, HoldsNone}
+use Rattle.club_opening.specs.Examined.{NoneIsLeft, WereFound}
+use Rattle.club_opening.specs.Places.{last_moment}
+use Rattle.club_opening.specs.declared.fault.OpenFault.{OpenFault}
+use Rattle.club_opening.specs.declared.fault.OpenFault.TheVariants.{Damaged}
+
+-- ---- when a table is right
+
+-- the rows of a table
+abbrev pub rows_in : Table → Content → List Row
+rows_in Members content = content 1
+rows_in Events content = content 4
+rows_in EventRules content = content 16
+rows_in Challenges content = content 6
+rows_in Moves content = content 8
+rows_in Games content = content 10
+rows_in Seen content = content 12
+rows_in Scores content = content 14
+rows_in Meta content = content 0
+
+-- the schema of the version has this table
+abbrev pub HasTable : Table → Version → Type 0
+HasTable EventRules First = ⊥
+HasTable t version = Unit {0}
+
+-- Some legal club of this version has the rows of this table, and those of each table before it.
+pub record AreOfClub (version : Version) (t : Table) (content : Content) : Type 0 where
+  pub state : ClubState
+  pub legal : IsClubOf version state
+  pub same : (u : Table) → HasTable u version → order u ≤ order t
+      → HaveSame (rows_in u content) (rows_in u (tables_at version state))
+
+-- one of the rows has this id
+abbrev pub HasId : List Row → ℕ → Type 0
+HasId rows id = (row : Row) × Has rows row × (column row 0 ≡ number id)
+
+-- One of the rows of games has this id, and is of this event and of these players, each on this side.
+pub record HasGame (games : List Row) (id : ℕ) (pairing : Pairing) : Type 0 where
+  pub row : Row
+  pub there : Has games row
+  pub id_is : column row 0 ≡ number id
+  pub event_is : column row 2 ≡ number pairing.event
+  pub first_is : column row 3 ≡ number pairing.first
+  pub second_is : column row 4 ≡ number pairing.second
+
+-- The challenge names members, an event and, where it was accepted, a game of an id of 32 bits, all of which there are.
+pub record IsChallengeIn (content : Content) (c : Challenge) : Type 0 where
+  pub number : IsTrue (is_challenge_number c.number)
+  pub member : HasId (content 1) c.member
+  pub other : HasId (content 1) c.other
+  pub apart : c.member ≢ c.other
+  pub event : HasId (content 4) c.event
+  pub game : (id : ℕ) → c.standing ≡ Accepted id → (id < 2 ^ 32) × HasGame (content 10) id (pairing_for c)
+
+-- The rows of challenges are those of such challenges, and no two of one member have one number.
+pub record HaveChallenges (content : Content) : Type 0 where
+  pub challenges : List Challenge
+  pub same : HaveSame (content 6) (map challenge_row challenges)
+  pub each : Each (IsChallengeIn content) challenges
+  pub numbers : AreApart goes_by challenges
+
+-- The table is right: its rows are those of a legal club, where those of the tables before it are.
+abbrev pub IsRight : Table → Version → Content → Type 0
+IsRight Challenges version content = HaveChallenges content
+IsRight t version content = AreOfClub version t content
+
+-- ---- which is named
+
+-- the moves, the games and the positions
+abbrev pub IsOfPlay : Table → Type 0
+IsOfPlay t = (order Challenges < order t) × (order t < order Scores)
+
+-- Each table before the named one is right, and the named one is not. Where moves, games or positions are named it is
+-- said only that the tables up to the challenges are right. That the challenges before it are right is said where the
+-- rows of games have the types of their columns.
+pub record IsFirstIn (version : Version) (content : Content) (t : Table) : Type 0 where
+  pub before : (u : Table) → order u < order t → (IsOfPlay t → order u ≤ order Challenges)
+      → (u ≡ Challenges → HasTypes Games content) → IsRight u version content
+  pub named : ¬ IsOfPlay t → ¬ IsRight t version content
+
+-- A table that is called damaged is so, in whatever content the database may hold.
+abbrev pub NamesFirst : Database → OpenFault → Type 0
+NamesFirst db fault = (t : Table) → fault ≡ Damaged t → (version : Version) (content : Content)
+    → of_schema.Holds (schema_of version) db content → IsFirstIn version content t
+
+-- ---- one after another
+
+-- no other table than this one is called damaged, and its rows are those of no legal club
+abbrev pub NamesWrong : Table → Database → OpenFault → Type 0
+NamesWrong table db fault = (t : Table) → fault ≡ Damaged t → (t ≡ table) × HoldsNone db (IsRight table)
+
+-- no other table than those of moves, games and positions is called damaged
+abbrev pub NamesPlayed : OpenFault → Type 0
+NamesPlayed fault = (t : Table) → fault ≡ Damaged t → IsOfPlay t
+
+-- nor is another one wrong, but `meta`
+abbrev pub IsLater : Option Table → Type 0
+IsLater wrong = (t : Table) → wrong ≡ Some t → IsOfPlay t ⊎ (t ≡ Meta)
+
+-- no other table than the challenges is called damaged, and those that were read are no legal club's
+abbrev pub NamesChallenges : Rows → OpenFault → Type 0
+NamesChallenges rows fault = (t : Table) → fault ≡ Damaged t
+    → (t ≡ Challenges) × ((cs : List Challenge) → ¬ AreChallenges cs rows)
+
+-- a legal club with these games has the rows of scores
+pub record HasScores (rows : Rows) (content : Content) : Type 0 where
+  pub state : ClubState
+  pub legal : IsClub state
+  pub games : map game_cells rows.games.items ≡ numbered_from (row_of_game both_games state.events) 1 state.games
+  pub same : HaveSame (content 14) (tables state 14)
+
+-- no other table than the scores is called damaged, and their rows are those of no legal club with these games
+abbrev pub NamesScores : Rows → Database → OpenFault → Type 0
+NamesScores rows db fault = (t : Table) → fault ≡ Damaged t
+    → (t ≡ Scores) × HoldsNone db (λ version content. HasScores rows content)
+
+-- Whatever the last moment is: these games, with the rows of moves and of positions, are those of a club, and no row is
+-- another's.
+pub record ArePlayed (rows : Rows) (db : Database) : Type 0 where
+  pub apart : AreApartGames rows.games.items
+  pub found : (s : ClubState) → HasPeople s rows
+      → WereFound (until last_moment s) rows.games.items db.trees (length rows.games.items)
+  pub none_left : (s : ClubState) → HasPeople s rows → NoneIsLeft db.trees (length rows.games.items)
+
+-- the rows of scores are those of these games
+pub record AreScored (rows : Rows) (db : Database) : Type 0 where
+  pub scored : List Row
+  pub keeps : Keeps (scores 14) db.trees scored
+  pub are : (s : ClubState) → AreGamesOf s rows.games.items → AreEachOnce scored (scores_in both_games s.games)
+
+-- a table after the challenges, where these are right: one of play; or the scores, where those of play are right; or
+-- `meta`, where the scores are right, too
+abbrev pub IsNamedAfter : Rows → Database → Table → Type 0
+IsNamedAfter rows db t = IsOfPlay t
+    ⊎ (((t ≡ Scores) × ArePlayed rows db × HoldsNone db (λ version content. HasScores rows content))
+    ⊎ ((t ≡ Meta) × ArePlayed rows db × AreScored rows db))
+
+-- what a fault says of the rows that were read and of those of moves, positions and scores
+abbrev pub NamesExamined : Rows → Database → OpenFault → Type 0
+NamesExamined rows db fault = (t : Table) → fault ≡ Damaged t
+    → ((t ≡ Challenges) × ((cs : List Challenge) → ¬ AreChallenges cs rows))
+    ⊎ (((cs : List Challenge) × AreChallenges cs rows) × IsNamedAfter rows db t)
+
+-- these are the rows of the events of each club whose events the database may hold
+abbrev pub TellsEvents : List EventRow → Database → Type 0
+TellsEvents rows db = (version : Version) (content : Content) → of_schema.Holds (schema_of version) db content
+    → (s : ClubState) → HaveSame (content 4) (tables s 4) → map event_cells rows ≡ numbered_from event_row 1 s.events
