@@ -67,7 +67,8 @@ pub challenges_are : (s : ClubState) (rows : List ChallengeRow) (all : List Chal
 challenges_are s rows all same is up = record {
   there = λ x has.
       let row = subst (λ l. Has l (challenge_row x)) (sym is) (mapped_has challenge_row all x has) in
-      let (y, had, alike) = mapped_had challenge_row s.challenges (challenge_row x) (same.there (challenge_row x) row) in
+      let (y, had, alike) = mapped_had challenge_row s.challenges (challenge_row x)
+      (same.there (challenge_row x) row) in
       subst (Has s.challenges) (sym (challenges-alike x y alike)) had;
   back = λ x has.
       let row = same.back (challenge_row x) (mapped_has challenge_row s.challenges x has) in

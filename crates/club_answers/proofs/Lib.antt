@@ -1,4 +1,7 @@
+mod BoardLemmas
 mod ChallengeOrder
 mod OverdueLemmas
+mod RecordLemmas
+mod RecordsFound
 mod ShownLemmas
 mod ToldRows

@@ -1,5 +1,6 @@
 -- What the rows of games tell.
-use Rattle.std.proofs.Common.{◌≡◌, ℕ, ◌+◌, ◌≤◌, suc, zero, List, [], ◌∷◌, ◌++◌, length, map, drop, pos, Option, Some, None}
+use Rattle.std.proofs.Common.{◌≡◌, ℕ, ◌+◌, ◌≤◌, suc, zero, List, [], ◌∷◌, ◌++◌, length, map, drop, pos, Option, Some}
+use Rattle.std.proofs.Common.{None}
 use Rattle.std.proofs.Common.{refl, ap, sym, ◌∙◌, arith, append-nil}
 use Rattle.std.specs.Prelude.{ℤ, slice_get, string_bytes}
 use Rattle.std.specs.Option.{option_map}
@@ -73,7 +74,8 @@ over_is rules turn (Some end) (Some e) (Some r) end_is score_is =
 -- ---- one game
 
 -- what was read of a row
-pub record AreRead (row : GameRecord) (numbers : Numbers) (told : ToldGame) (end score : Option (String Global)) : Type 0
+pub record AreRead (row : GameRecord) (numbers : Numbers) (told : ToldGame) (end score : Option (String Global)) :
+    Type 0
   where
     pub numbers_are : HasNumbers row numbers
     pub id_is : told.id ≡ numbers.id
@@ -156,26 +158,27 @@ drop_here [] k x at = cc
 drop_here (y ∷ ys) zero x at = let e : y ≡ x = cc in ap (λ z. z ∷ ys) e
 drop_here (y ∷ ys) (suc k) x at = drop_here ys k x at
 
-module _ (s : ClubState) (rows : List GameRecord) (same : map game_cells rows ≡ numbered_from (game_in s) 1 s.games) where
-  pub told_more : (is_club : IsClub s) (k : ℕ) (row : GameRecord) → slice_get rows k ≡ Some row
-      → (games after : List ToldGame) (told : ToldGame)
-      → all_by games ++ told_from s (1 + k) (drop k s.games) ≡ told_games s → after ≡ games ++ told ∷ []
-      → TellsOf row told → all_by after ++ told_from s (1 + (k + 1)) (drop (k + 1) s.games) ≡ told_games s
-  told_more is_club k row at games after told before grown tells =
-      let (game, stands, cells) = numbered_at (game_in s) game_cells 1 rows s.games same k row at in
-      let is = tells s (1 + k) game (is_club.games k game stands) cells in
-      let next : k + 1 ≡ suc k = omega arith in
-      let id : 1 + (k + 1) ≡ suc (1 + k) = omega arith in
-      (λ i. all_by (grown i) ++ told_from s (id i) (drop (next i) s.games))
-      ∙ (told_push told_by games told (told_from s (suc (1 + k)) (drop (suc k) s.games))
-      ∙ (ap (λ t. all_by games ++ (t ∷ told_from s (suc (1 + k)) (drop (suc k) s.games))) is
-      ∙ (ap (λ l. all_by games ++ told_from s (1 + k) l) (sym (drop_here s.games k game stands)) ∙ before)))
+module _ (s : ClubState) (rows : List GameRecord) (same : map game_cells rows ≡ numbered_from (game_in s) 1 s.games)
+  where
+    pub told_more : (is_club : IsClub s) (k : ℕ) (row : GameRecord) → slice_get rows k ≡ Some row
+        → (games after : List ToldGame) (told : ToldGame)
+        → all_by games ++ told_from s (1 + k) (drop k s.games) ≡ told_games s → after ≡ games ++ told ∷ []
+        → TellsOf row told → all_by after ++ told_from s (1 + (k + 1)) (drop (k + 1) s.games) ≡ told_games s
+    told_more is_club k row at games after told before grown tells =
+        let (game, stands, cells) = numbered_at (game_in s) game_cells 1 rows s.games same k row at in
+        let is = tells s (1 + k) game (is_club.games k game stands) cells in
+        let next : k + 1 ≡ suc k = omega arith in
+        let id : 1 + (k + 1) ≡ suc (1 + k) = omega arith in
+        (λ i. all_by (grown i) ++ told_from s (id i) (drop (next i) s.games))
+        ∙ (told_push told_by games told (told_from s (suc (1 + k)) (drop (suc k) s.games))
+        ∙ (ap (λ t. all_by games ++ (t ∷ told_from s (suc (1 + k)) (drop (suc k) s.games))) is
+        ∙ (ap (λ l. all_by games ++ told_from s (1 + k) l) (sym (drop_here s.games k game stands)) ∙ before)))
 
-  pub told_all : (k : ℕ) (games : List ToldGame) → length rows ≤ k
-      → all_by games ++ told_from s (1 + k) (drop k s.games) ≡ told_games s → all_by games ≡ told_games s
-  told_all k games past whole =
-      let count : length rows ≡ length s.games = sym (length-map rows game_cells)
-      ∙ (ap length same ∙ numbered_length (game_in s) 1 s.games) in
-      let none : drop k s.games ≡ [] = drop_all k s.games (omega (arith, past, count)) in
-      sym (append-nil (all_by games))
-      ∙ (ap (λ l. all_by games ++ told_from s (1 + k) l) (sym none) ∙ whole)
+    pub told_all : (k : ℕ) (games : List ToldGame) → length rows ≤ k
+        → all_by games ++ told_from s (1 + k) (drop k s.games) ≡ told_games s → all_by games ≡ told_games s
+    told_all k games past whole =
+        let count : length rows ≡ length s.games = sym (length-map rows game_cells)
+        ∙ (ap length same ∙ numbered_length (game_in s) 1 s.games) in
+        let none : drop k s.games ≡ [] = drop_all k s.games (omega (arith, past, count)) in
+        sym (append-nil (all_by games))
+        ∙ (ap (λ l. all_by games ++ told_from s (1 + k) l) (sym none) ∙ whole)

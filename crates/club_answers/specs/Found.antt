@@ -1,15 +1,21 @@
 -- What was found of what is to be shown.
-use Rattle.std.specs.Prelude.{◌≡◌, ℕ, List, string_bytes}
+use Rattle.std.specs.Prelude.{◌≡◌, ℕ, List, true, string_bytes}
+use Rattle.std.specs.List.{list_any}
+use Rattle.std.specs.declared.alloc.Global.{Global}
+use Rattle.std.specs.declared.string.String.{String}
+use Rattle.club_rules.specs.declared.names.GameKind.{GameKind}
 use Rattle.club_requests.specs.declared.refusals.Refusal.{Refusal}
 use Rattle.club_core.specs.Answer.{members_of, events_of}
+use Rattle.club_core.specs.Events.{event_kind, has_event_name}
 use Rattle.club_rows.specs.Club.{ClubState}
 use Rattle.club_questions.specs.declared.questions.Question.{Question}
 use Rattle.club_questions.specs.declared.questions.Question.TheVariants as question
 use Rattle.club_lists.specs.ToldViews.{all_by}
+use Rattle.club_answers.specs.EventRecords.{ids_in}
 use Rattle.club_answers.specs.Games.{moment_in, told_games}
 use Rattle.club_answers.specs.Shown.{IsRefused, IsText}
 use Rattle.club_answers.specs.declared.found.Found.{Found}
-use Rattle.club_answers.specs.declared.found.Found.TheVariants.{Text, Refused, Record}
+use Rattle.club_answers.specs.declared.found.Found.TheVariants.{Text, Refused, Record, Records}
 use Rattle.club_answers.specs.declared.read.ClubRead.{ClubRead}
 
 -- a text that is so, or a refusal that is
@@ -17,12 +23,22 @@ abbrev pub IsFoundAs : (List ℕ → Type 0) → (Refusal → Type 0) → Found 
 IsFoundAs IsThere IsNot (Text text) = IsThere (string_bytes text)
 IsFoundAs IsThere IsNot (Refused refusal) = IsNot refusal
 IsFoundAs IsThere IsNot (Record game) = ⊥
+IsFoundAs IsThere IsNot (Records kind ids) = ⊥
 
--- what is shown to a question, but for a record, which is written later
+-- the records of an event are asked for, whose game and whose games' ids are these
+pub record AsksRecords (s : ClubState) (asked : Question) (kind : GameKind) (ids : List ℕ) : Type 0 where
+  pub name : String Global
+  pub asked_is : asked ≡ question.EventRecords name
+  pub there : list_any (has_event_name (string_bytes name)) s.events ≡ true
+  pub kind_is : kind ≡ event_kind s.events (string_bytes name)
+  pub ids_are : ids ≡ ids_in s (string_bytes name)
+
+-- what is shown to a question, but for records, which are written later
 abbrev pub IsFound : ClubState → (moment : ℕ) → Question → Found → Type 0
 IsFound s moment asked (Text text) = IsText s moment asked (string_bytes text)
 IsFound s moment asked (Refused refusal) = IsRefused s asked refusal
 IsFound s moment asked (Record game) = asked ≡ question.Record game
+IsFound s moment asked (Records kind ids) = AsksRecords s asked kind ids.items
 
 -- what was read is the club's
 pub record IsReadOf (s : ClubState) (moment : ℕ) (club : ClubRead) : Type 0 where

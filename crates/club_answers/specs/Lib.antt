@@ -1,7 +1,10 @@
+pub mod Boards
 pub mod Challenges
+pub mod EventRecords
 pub mod Found
 pub mod Games
 pub mod Overdue
+pub mod Records
 pub mod Rows
 pub mod Shown
 pub mod Writing

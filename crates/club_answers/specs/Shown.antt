@@ -3,33 +3,30 @@ use Rattle.std.specs.Prelude.{◌≡◌, ◌⊎◌, ℕ, List, [], ◌∷◌, �
 use Rattle.std.specs.Prelude.{codes, string_bytes, true, false}
 use Rattle.std.specs.Io.KnownBytes.{Appends}
 use Rattle.record_writer.specs.Pieces.{AppendsSome}
-use Rattle.club_rules.specs.GameRules.{GameRules}
 use Rattle.club_requests.specs.declared.refusals.Refusal.{Refusal}
 use Rattle.club_requests.specs.declared.refusals.Refusal.TheVariants.{UnknownEvent, UnknownGame, UnknownKey}
-use Rattle.club_core.specs.Game.{Game}
-use Rattle.club_core.specs.State.{draughts, shogi, place}
-use Rattle.club_exports.specs.Title.{Title, timed}
-use Rattle.club_exports.specs.CsaRecords.{IsCsaText}
-use Rattle.club_exports.specs.PdnRecords.{IsPdnText}
-use Rattle.club_rows.specs.Club.{ClubGame, ClubState, both_games}
+use Rattle.club_core.specs.State.{place}
+use Rattle.club_rows.specs.Club.{ClubGame, ClubState}
 use Rattle.club_changes.specs.Stored.{AreLegalRows}
 use Rattle.club_views.specs.CrossTable.{AreTableRows}
-use Rattle.club_views.specs.Exported.{AreNamesOf, IsTitleOf}
-use Rattle.club_views.specs.declared.exported.Names.{Names}
 use Rattle.club_questions.specs.declared.questions.Listing.{Listing}
 use Rattle.club_questions.specs.declared.questions.Question.{Question}
 use Rattle.club_questions.specs.declared.questions.Question.TheVariants.{LegalMoves, CrossTable, Record}
 use Rattle.club_questions.specs.declared.questions.Question.TheVariants.{Members, Events, Games}
 use Rattle.club_questions.specs.declared.questions.Question.TheVariants.{Mine, Inviting, EventGames, ClockOf}
+use Rattle.club_questions.specs.declared.questions.Question.TheVariants.{Board, EventRecords}
 use Rattle.club_lists.specs.Lines.{member_lines, event_lines, AreGameLines}
 use Rattle.club_lists.specs.Listing.{listing_refusal}
 use Rattle.club_lists.specs.Clock.{clock_text}
 use Rattle.club_lists.specs.Shows.{event_games_text, inviting_text, mine_text, name_by}
 use Rattle.club_core.specs.declared.challenges.Challenge.{Challenge}
-use Rattle.club_core.specs.Events.{has_event_name}
+use Rattle.club_core.specs.Events.{event_kind, has_event_name}
 use Rattle.std.specs.List.{list_any}
+use Rattle.club_answers.specs.Boards.{IsBoardText}
 use Rattle.club_answers.specs.Challenges.{AreChallengesOf}
+use Rattle.club_answers.specs.EventRecords.{AreEventRecords, BeginsRecords, ids_in}
 use Rattle.club_answers.specs.Games.{moment_in, told_games, told_of}
+use Rattle.club_answers.specs.Records.{IsRecordAt}
 
 -- each line, with its end
 abbrev pub lined : List (List ℕ) → List ℕ
@@ -55,25 +52,6 @@ IsTableText s name text = AreLines (AreTableRows s name) text
 -- the club has no event of this name
 abbrev pub IsNoEvent : ClubState → List ℕ → Refusal → Type 0
 IsNoEvent s name refusal = AreTableRows s name None × (refusal ≡ UnknownEvent)
-
--- ---- the record of a game
-
--- the record of a game with these names, by what its format says of the title and of each move with its seconds
-abbrev pub IsRecord : {P M E T : Type 0} → GameRules P M E T → (Title E → List (M × ℕ) → List ℕ → Type 0) → Names
-    → Game M → List ℕ → Type 0
-IsRecord {E = E} rules IsText names game text =
-    (title : Title E) × IsTitleOf rules names game title × IsText title (timed game.start game.entries) text
-
--- the same in the format of its kind
-abbrev pub IsRecordOf : Names → ClubGame → List ℕ → Type 0
-IsRecordOf names (draughts game) text = IsRecord both_games.draughts IsPdnText names game text
-IsRecordOf names (shogi game) text = IsRecord both_games.shogi IsCsaText names game text
-
--- the record of the game of this number
-abbrev pub IsRecordAt : ClubState → ℕ → List ℕ → Type 0
-IsRecordAt s id text =
-    (game : ClubGame) × (place s.games id ≡ Some game) × (names : Names) × AreNamesOf s game names
-    × IsRecordOf names game text
 
 -- ---- lists
 
@@ -124,6 +102,18 @@ IsClockText s moment id text =
     (game : ClubGame) × (place s.games id ≡ Some game)
     × (text ≡ clock_text s.members (moment_in s moment) (told_of s id game))
 
+-- ---- the records of an event
+
+-- all of them, where there is such an event
+abbrev pub IsRecordsText : ClubState → List ℕ → List ℕ → Type 0
+IsRecordsText s name text = (list_any (has_event_name name) s.events ≡ true) × AreEventRecords s name text
+
+-- what a writer has of them, wherever it stopped
+abbrev pub HasRecordsSome : ClubState → List ℕ → Option (List ℕ) → Option (List ℕ) → Type 0
+HasRecordsSome s name before now =
+    (list_any (has_event_name name) s.events ≡ true)
+    × BeginsRecords s (event_kind s.events name) (ids_in s name) before now
+
 -- ---- what is shown
 
 -- the text that a question is shown at a moment
@@ -138,6 +128,8 @@ IsText s moment (Mine key) text = IsMineText s moment (string_bytes key) text
 IsText s moment (Inviting key) text = IsInvitingText s (string_bytes key) text
 IsText s moment (EventGames name) text = IsEventGamesText s (string_bytes name) text
 IsText s moment (ClockOf game) text = IsClockText s moment game text
+IsText s moment (Board game letters) text = IsBoardText s moment game letters text
+IsText s moment (EventRecords name) text = IsRecordsText s (string_bytes name) text
 
 -- why there is none
 abbrev pub IsRefused : ClubState → Question → Refusal → Type 0
@@ -151,6 +143,8 @@ IsRefused s (Mine key) refusal = IsNoKey s (string_bytes key) refusal
 IsRefused s (Inviting key) refusal = IsNoKey s (string_bytes key) refusal
 IsRefused s (EventGames name) refusal = IsNoEventNamed s (string_bytes name) refusal
 IsRefused s (ClockOf game) refusal = IsNoGame s game refusal
+IsRefused s (Board game letters) refusal = IsNoGame s game refusal
+IsRefused s (EventRecords name) refusal = IsNoEventNamed s (string_bytes name) refusal
 
 -- what a question is shown at a moment
 abbrev pub IsShown : ClubState → (moment : ℕ) → Question → Result (List ℕ) Refusal → Type 0
@@ -165,7 +159,12 @@ HasShown s moment question None before now =
     (text : List ℕ) × IsShown s moment question (Ok text) × Appends before now text
 HasShown s moment question (Some refusal) before now = IsShown s moment question (Err refusal) × (now ≡ before)
 
+-- a beginning of a text that is shown was added; of the records of an event a beginning of the first so many
+abbrev pub BeginsShown : ClubState → (moment : ℕ) → Question → Option (List ℕ) → Option (List ℕ) → Type 0
+BeginsShown s moment (EventRecords name) before now = HasRecordsSome s (string_bytes name) before now
+BeginsShown s moment question before now =
+    (text : List ℕ) × IsShown s moment question (Ok text) × AppendsSome before now text
+
 -- wherever it stopped, the writer has what it held, or with it a beginning of a text that is shown
 abbrev pub HasShownSome : ClubState → (moment : ℕ) → Question → Option (List ℕ) → Option (List ℕ) → Type 0
-HasShownSome s moment question before now =
-    (now ≡ before) ⊎ ((text : List ℕ) × IsShown s moment question (Ok text) × AppendsSome before now text)
+HasShownSome s moment question before now = (now ≡ before) ⊎ BeginsShown s moment question before now

@@ -13,6 +13,7 @@ ghost use Rattle.club_answers.specs.Shown.{HasShown, HasShownSome};
 ghost use Rattle.club_answers.specs.Writing.{IsWritten};
 
 use crate::found::{Found, find_shown};
+use crate::records::write_records;
 use clocks::Moment;
 use club_questions::Question;
 use club_requests::Refusal;
@@ -58,7 +59,8 @@ fn write_record<S: Alter, W: Write>(
 }
 
 /// Writes what a question is shown at a moment, or answers why there is nothing to show: then nothing was written.
-/// Wherever it stops, the writer has a beginning of the text.
+/// Wherever it stops, the writer has a beginning of the text; of the records of an event a beginning of the first so
+/// many.
 pub fn answer<S: Alter, W: Write>(
     alloc: Global,
     conn: &mut Connection<S>,
@@ -81,5 +83,6 @@ pub fn answer<S: Alter, W: Write>(
         Found::Text(text) => write_text(text.as_str(), writer),
         Found::Refused(refusal) => Ok(Some(refusal)),
         Found::Record(game) => write_record(alloc, conn, game, writer),
+        Found::Records(kind, ids) => write_records(alloc, conn, kind, &ids, writer),
     }
 }

@@ -10,15 +10,16 @@ ghost use Rattle.club_rows.specs.Club.{ClubState, IsClub, tables};
 ghost use Rattle.club_questions.specs.declared.questions.Question.TheVariants as question;
 ghost use Rattle.club_answers.specs.Found.{IsFound, IsFoundAs};
 ghost use Rattle.club_answers.specs.Shown.{lined, IsLegalText, IsNoGame, IsTableText, IsNoEvent, IsMembersText};
-ghost use Rattle.club_answers.specs.Shown.{IsEventsText, IsGamesText, IsNoList};
 
-use crate::read::read_club;
-use crate::shows::{clock, event_games, inviting, mine};
+use crate::boards::board;
+use crate::lists::of_lists;
+use crate::shows::{clock, mine};
 use clocks::Moment;
-use club_lists::{events_text, games_text, listing_refusal, members_text};
-use club_questions::{Listing, Question};
+use club_lists::members_text;
+use club_questions::Question;
 use club_reads::{CallFault, all_members};
 use club_requests::Refusal;
+use club_rules::GameKind;
 use club_views::{legal_of, table_of};
 use sqlite::{Alter, Connection};
 use std::alloc::{AllocError, Global};
@@ -32,6 +33,8 @@ pub(crate) enum Found {
     Refused(Refusal),
     /// The record of a game, if there is one of this number, which is written a row at a time.
     Record(u64),
+    /// The records of the games of these ids, all of this kind, which are written so one after another.
+    Records(GameKind, Vec<u32>),
 }
 
 // Lines as one text, each with its end.
@@ -96,54 +99,6 @@ fn members<S: Alter>(alloc: Global, conn: &mut Connection<S>) -> Result<Found, C
     Ok(Found::Text(text))
 }
 
-// The events of the club.
-fn events<S: Alter>(
-    alloc: Global,
-    conn: &mut Connection<S>,
-    moment: Moment,
-) -> Result<Found, CallFault>
-    ensures reads { OnlyReads (state S.Store conn.old) (state S.Store conn.new) }
-    ensures kept { HasCleanDisk (state S.Store conn.new) → OnOk result (KeepsContent (state S.Store conn.old)
-        (state S.Store conn.new)) }
-    ensures found { HasCleanDisk (state S.Store conn.new) → IfOk result (λ found. (s : ClubState) → IsClub s →
-        IsExactly (tables s) (state S.Store conn.old) → IsFoundAs (IsEventsText s) (λ refusal. ⊥) found) }
-{
-    let club = read_club(alloc, conn, moment)?;
-    let text = events_text(alloc, &club.events, &club.games)?;
-    Ok(Found::Text(text))
-}
-
-// The games that are listed.
-fn games<S: Alter>(
-    alloc: Global,
-    conn: &mut Connection<S>,
-    listing: &Listing,
-    moment: Moment,
-) -> Result<Found, CallFault>
-    ensures reads { OnlyReads (state S.Store conn.old) (state S.Store conn.new) }
-    ensures kept { HasCleanDisk (state S.Store conn.new) → OnOk result (KeepsContent (state S.Store conn.old)
-        (state S.Store conn.new)) }
-    ensures found { HasCleanDisk (state S.Store conn.new) → IfOk result (λ found. (s : ClubState) → IsClub s →
-        IsExactly (tables s) (state S.Store conn.old) →
-        IsFoundAs (IsGamesText s moment listing.now) (IsNoList s listing.now) found) }
-{
-    let club = read_club(alloc, conn, moment)?;
-    match listing_refusal(listing, &club.members, &club.events) {
-        Some(refusal) => Ok(Found::Refused(refusal)),
-        None => {
-            let text = games_text(
-                alloc,
-                listing,
-                &club.members,
-                &club.events,
-                &club.games,
-                club.moment,
-            )?;
-            Ok(Found::Text(text))
-        }
-    }
-}
-
 /// Finds what is to be shown to a question at a moment.
 pub(crate) fn find_shown<S: Alter>(
     alloc: Global,
@@ -162,11 +117,13 @@ pub(crate) fn find_shown<S: Alter>(
         Question::CrossTable(name) => cross_table(alloc, conn, name.as_str()),
         Question::Record(game) => Ok(Found::Record(*game)),
         Question::Members => members(alloc, conn),
-        Question::Events => events(alloc, conn, moment),
-        Question::Games(listing) => games(alloc, conn, listing, moment),
+        Question::Events => of_lists(alloc, conn, question, moment),
+        Question::Games(_) => of_lists(alloc, conn, question, moment),
         Question::Mine(key) => mine(alloc, conn, key.as_str(), moment),
-        Question::Inviting(key) => inviting(alloc, conn, key.as_str(), moment),
-        Question::EventGames(name) => event_games(alloc, conn, name.as_str(), moment),
+        Question::Inviting(_) => of_lists(alloc, conn, question, moment),
+        Question::EventGames(_) => of_lists(alloc, conn, question, moment),
         Question::ClockOf(game) => clock(alloc, conn, *game, moment),
+        Question::Board { game, letters } => board(alloc, conn, *game, *letters, moment),
+        Question::EventRecords(_) => of_lists(alloc, conn, question, moment),
     }
 }

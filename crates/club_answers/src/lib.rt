@@ -3,11 +3,14 @@
 #![tactic(auto)]
 
 mod answers;
+mod boards;
 mod challenges;
 mod found;
 mod games;
 pub mod laws;
+mod lists;
 mod read;
+mod records;
 mod shows;
 
 pub use answers::answer;

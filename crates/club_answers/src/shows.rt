@@ -1,4 +1,4 @@
-//! What members are shown as JSON.
+//! What members are shown as JSON of their own games and of a game's clock.
 
 ghost use Rattle.std.specs.Prelude.{IfOk, OnOk};
 ghost use Rattle.sqlite.specs.State.{HasCleanDisk};
@@ -8,15 +8,14 @@ ghost use Rattle.store_tables.specs.Reading.{OnlyReads};
 ghost use Rattle.store_sql.specs.Read.{KeepsContent};
 ghost use Rattle.club_rows.specs.Club.{ClubState, IsClub, tables};
 ghost use Rattle.club_answers.specs.Found.{IsFoundAs};
-ghost use Rattle.club_answers.specs.Shown.{IsClockText, IsEventGamesText, IsInvitingText, IsMineText, IsNoEventNamed};
-ghost use Rattle.club_answers.specs.Shown.{IsNoGame, IsNoKey};
+ghost use Rattle.club_answers.specs.Shown.{IsClockText, IsMineText, IsNoGame, IsNoKey};
 
 use crate::challenges::all_challenges;
 use crate::found::Found;
 use crate::games::told_in;
 use crate::read::read_club;
 use clocks::Moment;
-use club_lists::{clock_text, event_games_text, inviting_text, is_event, mine_text, name_by};
+use club_lists::{clock_text, mine_text, name_by};
 use club_reads::{CallFault, all_members, last_moment, stored_game};
 use club_requests::Refusal;
 use sqlite::{Alter, Connection};
@@ -50,52 +49,6 @@ pub(crate) fn mine<S: Alter>(
         &challenges,
         &club.games,
     )?;
-    Ok(Found::Text(text))
-}
-
-/// The events, and the members whom the one who has a key may challenge.
-pub(crate) fn inviting<S: Alter>(
-    alloc: Global,
-    conn: &mut Connection<S>,
-    key: &str,
-    moment: Moment,
-) -> Result<Found, CallFault>
-    ensures reads { OnlyReads (state S.Store conn.old) (state S.Store conn.new) }
-    ensures kept { HasCleanDisk (state S.Store conn.new) → OnOk result (KeepsContent (state S.Store conn.old)
-        (state S.Store conn.new)) }
-    ensures found { HasCleanDisk (state S.Store conn.new) → IfOk result (λ found. (s : ClubState) → IsClub s →
-        IsExactly (tables s) (state S.Store conn.old) →
-        IsFoundAs (IsInvitingText s key.now) (IsNoKey s key.now) found) }
-{
-    let club = read_club(alloc, conn, moment)?;
-    match name_by(&club.members, key) {
-        Some(_) => {
-            let text = inviting_text(alloc, key, &club.members, &club.events)?;
-            Ok(Found::Text(text))
-        }
-        None => Ok(Found::Refused(Refusal::UnknownKey)),
-    }
-}
-
-/// The games of the event of a name.
-pub(crate) fn event_games<S: Alter>(
-    alloc: Global,
-    conn: &mut Connection<S>,
-    name: &str,
-    moment: Moment,
-) -> Result<Found, CallFault>
-    ensures reads { OnlyReads (state S.Store conn.old) (state S.Store conn.new) }
-    ensures kept { HasCleanDisk (state S.Store conn.new) → OnOk result (KeepsContent (state S.Store conn.old)
-        (state S.Store conn.new)) }
-    ensures found { HasCleanDisk (state S.Store conn.new) → IfOk result (λ found. (s : ClubState) → IsClub s →
-        IsExactly (tables s) (state S.Store conn.old) →
-        IsFoundAs (IsEventGamesText s name.now) (IsNoEventNamed s name.now) found) }
-{
-    let club = read_club(alloc, conn, moment)?;
-    if !is_event(&club.events, name) {
-        return Ok(Found::Refused(Refusal::UnknownEvent));
-    }
-    let text = event_games_text(alloc, &club.members, &club.events, name, &club.games)?;
     Ok(Found::Text(text))
 }
 

@@ -3,6 +3,7 @@ use Rattle.std.proofs.Common.{◌≡◌, ◌+◌, ◌<◌, ℕ, suc, List, [], �
 use Rattle.std.proofs.Common.{refl, ap, sym, ◌∙◌, arith}
 use Rattle.std.specs.Prelude.{filter, if◌then◌else◌}
 use Rattle.std.proofs.Math.Seq.{drop-cons}
+use Rattle.std.proofs.lemmas.List.{map-id}
 
 text_push : {A B : Type 0} (f : A → B) (xs : List A) (x : A) (ys : List B) → map f (xs ++ x ∷ []) ++ ys
     ≡ map f xs ++ (f x ∷ ys)
@@ -14,11 +15,13 @@ module _ {A B C S : Type 0} (text : S → C) (line : B → C) (test : B → Bool
   picked xs = map line (filter test (map told xs))
 
   picked_in : (x : A) (xs : List A) → test (told x) ≡ true → picked (x ∷ xs) ≡ line (told x) ∷ picked xs
-  picked_in x xs passes = ap (λ b. map line (if b then told x ∷ filter test (map told xs) else filter test (map told xs)))
+  picked_in x xs passes = ap
+      (λ b. map line (if b then told x ∷ filter test (map told xs) else filter test (map told xs)))
       passes
 
   picked_out : (x : A) (xs : List A) → test (told x) ≡ false → picked (x ∷ xs) ≡ picked xs
-  picked_out x xs fails = ap (λ b. map line (if b then told x ∷ filter test (map told xs) else filter test (map told xs)))
+  picked_out x xs fails = ap
+      (λ b. map line (if b then told x ∷ filter test (map told xs) else filter test (map told xs)))
       fails
 
   module _ (xs : List A) (k : ℕ) (x : A) (within : k < length xs) (is : x ≡ get_or xs k x) where
@@ -42,6 +45,26 @@ module _ {A B C S : Type 0} (text : S → C) (line : B → C) (test : B → Bool
     one_left done before fails =
         ap (λ l. map text done ++ l) (sym (picked_out x (drop (k + 1) xs) fails))
         ∙ (ap (λ l. map text done ++ picked l) (sym here) ∙ before)
+
+-- values of those that pass a test, as they are
+module _ {A B S : Type 0} (line : B → S) (test : B → Bool) (told : A → B) (xs : List A) (k : ℕ) (x : A)
+    (within : k < length xs) (is : x ≡ get_or xs k x) where
+  abbrev whole : List A → List S
+  whole l = map line (filter test (map told l))
+
+  pub one_kept : (done after : List S) (part : S) → done ++ whole (drop k xs) ≡ whole xs → test (told x) ≡ true
+      → part ≡ line (told x) → after ≡ done ++ part ∷ [] → after ++ whole (drop (k + 1) xs) ≡ whole xs
+  one_kept done after part before passes same grown =
+      ap (λ l. l ++ whole (drop (k + 1) xs)) (sym (map-id after))
+      ∙ one_picked (λ s. s) line test told xs k x within is done after part
+      (ap (λ l. l ++ whole (drop k xs)) (map-id done) ∙ before) passes same grown
+
+  pub one_passed : (done : List S) → done ++ whole (drop k xs) ≡ whole xs → test (told x) ≡ false
+      → done ++ whole (drop (k + 1) xs) ≡ whole xs
+  one_passed done before fails =
+      ap (λ l. l ++ whole (drop (k + 1) xs)) (sym (map-id done))
+      ∙ one_left (λ s. s) line test told xs k x within is done
+      (ap (λ l. l ++ whole (drop k xs)) (map-id done) ∙ before) fails
 
 -- the texts of all of them
 module _ {A B C S : Type 0} (text : S → C) (line : B → C) (told : A → B) where

@@ -38,5 +38,6 @@ clock_text members moment told =
     ++ (counted (codes ",") (codes "moment") moment
     ++ (field (codes ",") (codes "now") (two (left_now moment First told) (left_now moment Second told))
     ++ (counted (codes ",") (codes "since") told.clocks.since
-    ++ (field (codes ",") (codes "turn") (quoted_or_null (while_running told (Some (player_name members told.turn told))))
+    ++ (field (codes ",") (codes "turn")
+    (quoted_or_null (while_running told (Some (player_name members told.turn told))))
     ++ codes "}"))))))

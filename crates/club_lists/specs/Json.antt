@@ -1,5 +1,5 @@
--- JSON with no blanks. Names, keys and results have no letter that JSON escapes: a name is letters, digits, '.', '_' and
--- '-' (`is_name`), so each stands between its quotes as it is. The keys of an object stand in the order of the alphabet.
+-- JSON with no blanks. Names and results have no letter that JSON escapes: a name is letters, digits, '.', '_' and '-'
+-- (`is_name`), so each stands between its quotes as it is. The keys of an object stand in the order of the alphabet.
 use Rattle.std.specs.Prelude.{ℕ, Bool, true, false, List, [], ◌∷◌, ◌++◌, Option, Some, None, codes, decimal}
 
 unfoldable pub quoted : List ℕ → List ℕ

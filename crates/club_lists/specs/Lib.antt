@@ -1,5 +1,7 @@
+pub mod Board
 pub mod Clock
 pub mod Dates
+pub mod EventRecords
 pub mod Json
 pub mod Lines
 pub mod Listing

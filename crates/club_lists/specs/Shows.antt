@@ -1,5 +1,6 @@
 -- What members are shown of a club as JSON.
-use Rattle.std.specs.Prelude.{ℕ, ◌++◌, ◌&&◌, ◌||◌, List, [], ◌∷◌, map, filter, Bool, true, false, not, Option, Some, None}
+use Rattle.std.specs.Prelude.{ℕ, ◌++◌, ◌&&◌, ◌||◌, List, [], ◌∷◌, map, filter, Bool, true, false, not, Option, Some}
+use Rattle.std.specs.Prelude.{None}
 use Rattle.std.specs.Prelude.{codes, if◌then◌else◌}
 use Rattle.std.specs.Option.{option_map}
 use Rattle.std.specs.Str.{bytes_eq}

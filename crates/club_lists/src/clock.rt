@@ -65,8 +65,8 @@ fn is_running_side(side: Side, game: &ToldGame) -> bool
     }
 }
 
-// The seconds that First has left at this moment.
-fn first_now(game: &ToldGame, moment: Moment) -> u64
+/// The seconds that First has left at this moment.
+pub(crate) fn first_now(game: &ToldGame, moment: Moment) -> u64
     ensures { result ≡ left_now moment First (told_by game.now) }
 {
     if is_running_side(Side::First, game) {
@@ -76,8 +76,8 @@ fn first_now(game: &ToldGame, moment: Moment) -> u64
     game.left_first
 }
 
-// The seconds that Second has left at this moment.
-fn second_now(game: &ToldGame, moment: Moment) -> u64
+/// The seconds that Second has left at this moment.
+pub(crate) fn second_now(game: &ToldGame, moment: Moment) -> u64
     ensures { result ≡ left_now moment Second (told_by game.now) }
 {
     if is_running_side(Side::Second, game) {

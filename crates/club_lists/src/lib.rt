@@ -1,8 +1,10 @@
 //! The texts of lists: the members, the events and the games of a club, a line each. No rows.
 #![tactic(auto)]
 
+pub mod board;
 pub mod clock;
 pub mod dates;
+pub mod event_records;
 mod json;
 pub mod lines;
 pub mod listing;
@@ -10,7 +12,9 @@ pub mod mine;
 pub mod shows;
 pub mod told;
 
+pub use board::{BoardView, board_text};
 pub use clock::clock_text;
+pub use event_records::{event_game_ids, event_kind};
 pub use lines::{events_text, games_text, members_text};
 pub use listing::{is_event, listing_refusal};
 pub use mine::mine_text;

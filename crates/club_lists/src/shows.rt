@@ -4,7 +4,8 @@ ghost use Rattle.std.specs.Prelude.{◌≡◌, ◌++◌, None, Some, IfOk, IfSom
 ghost use Rattle.std.specs.Option.{option_map};
 ghost use Rattle.club_core.specs.Answer.{event_of, events_of, member_of, members_of};
 ghost use Rattle.club_lists.specs.Json.{quoted_or_null};
-ghost use Rattle.club_lists.specs.Shows.{event_data, event_game_text, event_game_texts, event_games_text, inviting_text};
+ghost use Rattle.club_lists.specs.Shows.{event_data, event_game_text, event_game_texts, event_games_text};
+ghost use Rattle.club_lists.specs.Shows.{inviting_text};
 ghost use Rattle.club_lists.specs.Shows.{is_of_event, is_other, is_own, name_by, offerer, other_texts, own_game_text};
 ghost use Rattle.club_lists.specs.Shows.{own_game_back, own_game_front, own_game_texts};
 ghost use Rattle.club_lists.specs.ToldViews.{all_by, told_by};
@@ -72,8 +73,8 @@ fn event_game_text(alloc: Global, members: &[Member], game: &ToldGame) -> Result
     Ok(text)
 }
 
-// Whether the game is of the event of this name.
-fn is_of_event(events: &[Event], name: &str, game: &ToldGame) -> bool
+/// Whether the game is of the event of this name.
+pub(crate) fn is_of_event(events: &[Event], name: &str, game: &ToldGame) -> bool
     ensures { result ≡ is_of_event (events_of events.now) name.now (told_by game.now) }
 {
     event_name(events, game.event) == name

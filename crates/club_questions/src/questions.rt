@@ -45,4 +45,13 @@ pub enum Question {
     EventGames(String),
     /// The clock of the game of this number, as JSON.
     ClockOf(u64),
+    /// A game as a person looks at it: its players, their clocks, the board and the moves.
+    Board {
+        /// The number of the game.
+        game: u64,
+        /// Whether pieces of shogi are shown by letters, in place of their Japanese names.
+        letters: bool,
+    },
+    /// The records of all games of the event of this name, in the format of its kind.
+    EventRecords(String),
 }

@@ -1,12 +1,13 @@
-use Rattle.std.proofs.Common.{arith, subst, sym}
+use Rattle.std.proofs.Common.{arith, inr, subst, sym}
 use Rattle.std.proofs.lemmas.Result.{IfOk-weaker}
+use Rattle.record_writer.specs.Pieces.{AppendsSome}
 use Rattle.sqlite.specs.Held.{state}
 use Rattle.sqlite.specs.State.{HasCleanDisk}
 use Rattle.store_tables.specs.Tables.{club_schema}
 use Rattle.club_rows.specs.Club.{tables}
 use Rattle.club_answers.specs.Found.{IsFound}
 use Rattle.club_answers.specs.Shown.{HasShown, HasShownSome}
-use Rattle.club_answers.proofs.ShownLemmas.{keeps_then}
+use Rattle.club_answers.proofs.ShownLemmas.{keeps_then, records_shown, some_records_shown, text_begun}
 use Rattle.club_answers.proofs.answers.answer.Goals as goal
 
 pub returns-in-Record-clause-kept : goal.returns-in-Record-clause-kept
@@ -40,3 +41,40 @@ returns-in-Record-clause-begun g c clean s is_club k =
     (c.in_ok-found.ensures.found found s is_club k) in
     subst (λ q. HasShownSome s c.args.moment q before now) (sym asked)
     (c.write_record.ensures.begun clean s c.args.moment is_club kept)
+
+pub returns-in-Text-clause-begun : goal.returns-in-Text-clause-begun
+returns-in-Text-clause-begun g c clean s is_club k =
+    let is = subst (IsFound s c.args.moment c.args.question.now) c.in-Text.is
+    (c.in_ok-found.ensures.found clean s is_club k) in
+    let begun = subst
+    (λ t. AppendsSome (g.W.Write.contents c.args.writer.now) (g.W.Write.contents c.write_text.new.writer) t)
+    c.as_str.ensures.value c.write_text.ensures.begun in
+    inr (text_begun s c.args.moment c.args.question.now _ _ _ is begun)
+
+pub returns-in-Records-clause-kept : goal.returns-in-Records-clause-kept
+returns-in-Records-clause-kept g c clean =
+    let found : HasCleanDisk (state g.S.Store c.find_shown.new.conn) =
+    omega (arith, c.write_records.ensures.reads.clean) in
+    keeps_then _ (state g.S.Store c.args.conn.now) (state g.S.Store c.find_shown.new.conn)
+    (state g.S.Store c.write_records.new.conn) (c.in_ok-found.ensures.kept found) (c.write_records.ensures.kept clean)
+
+pub returns-in-Records-clause-shown : goal.returns-in-Records-clause-shown
+returns-in-Records-clause-shown g c clean =
+    let found : HasCleanDisk (state g.S.Store c.find_shown.new.conn) =
+    omega (arith, c.write_records.ensures.reads.clean) in
+    IfOk-weaker c.write_records.result _ _ (λ refusal told s is_club k.
+    let kept = c.in_ok-found.ensures.kept found club_schema (tables s) k in
+    let asks = subst (IsFound s c.args.moment c.args.question.now) c.in-Records.is
+    (c.in_ok-found.ensures.found found s is_club k) in
+    records_shown s c.args.moment c.args.question.now _ _ _ asks c.deref.ensures.value _ _ refusal
+    (told s is_club kept)) (c.write_records.ensures.written clean)
+
+pub returns-in-Records-clause-begun : goal.returns-in-Records-clause-begun
+returns-in-Records-clause-begun g c clean s is_club k =
+    let found : HasCleanDisk (state g.S.Store c.find_shown.new.conn) =
+    omega (arith, c.write_records.ensures.reads.clean) in
+    let kept = c.in_ok-found.ensures.kept found club_schema (tables s) k in
+    let asks = subst (IsFound s c.args.moment c.args.question.now) c.in-Records.is
+    (c.in_ok-found.ensures.found found s is_club k) in
+    some_records_shown s c.args.moment c.args.question.now _ _ _ asks c.deref.ensures.value _ _
+    (c.write_records.ensures.begun clean s is_club kept)

@@ -8,7 +8,8 @@ loop-row-preserved c s is_club same =
     let rows = c.args.rows.now in
     let k = c.loop-row.row-index in
     let row = c.row-item.result in
-    told_more s rows same is_club k row (slice_get_read rows (length rows) k row refl c.loop-row-test.true c.row-item.is)
+    told_more s rows same is_club k row
+    (slice_get_read rows (length rows) k row refl c.loop-row-test.true c.row-item.is)
     c.loop-row.games.items
     c.push.new.self.items _ (c.loop-row.invariant s is_club same) c.in_ok-push.ensures.items c.in_ok-told_in.ensures
 

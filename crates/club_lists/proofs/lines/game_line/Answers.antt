@@ -10,5 +10,6 @@ returns c =
     let told = told_by c.args.game.now in
     line_is (members_of c.args.members.now) (events_of c.args.events.now) told
     c.as_str.result.now c.game_text.result
-    (subst (StandsAs (members_of c.args.members.now) told told.over) (sym c.as_str.ensures.value) c.in_ok-stands.ensures)
+    (subst (StandsAs (members_of c.args.members.now) told told.over) (sym c.as_str.ensures.value)
+    c.in_ok-stands.ensures)
     c.game_text.ensures

@@ -13,7 +13,8 @@ loop-game-preserved c =
     let next : suc k ≡ k + 1 = omega arith in
     ahead_more (members_of c.args.members.now) (events_of c.args.events.now) c.args.listing.now c.args.moment games
     (drop k games) (drop (k + 1) games) game (string_bytes c.loop-game.text) (string_bytes c.in_ok-part.part) _
-    (drop-cons games k game c.loop-game-test.true ∙ (λ i. sym c.game-item.is i ∷ drop (next i) games)) c.in_ok-part.ensures (search rules) c.loop-game.invariant
+    (drop-cons games k game c.loop-game-test.true ∙ (λ i. sym c.game-item.is i ∷ drop (next i) games))
+    c.in_ok-part.ensures (search rules) c.loop-game.invariant
 
 pub returns : goal.returns
 returns c =

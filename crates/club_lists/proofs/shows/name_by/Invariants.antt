@@ -4,4 +4,5 @@ use Rattle.club_lists.specs.Shows.{name_by}
 use Rattle.club_lists.proofs.shows.name_by.Given as goal
 
 abbrev pub invariant-loop-member : goal.invariant-loop-member
-invariant-loop-member l = name_by l.key (members_of (drop l.member-index l.members)) ≡ name_by l.key (members_of l.members)
+invariant-loop-member l =
+    name_by l.key (members_of (drop l.member-index l.members)) ≡ name_by l.key (members_of l.members)

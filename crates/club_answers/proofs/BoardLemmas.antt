@@ -1,0 +1,36 @@
+-- What is shown of a game's board.
+use Rattle.std.proofs.Common.{◌≡◌, ℕ, List, map, Option, Some, None, refl, ap, sym, ◌∙◌, subst}
+use Rattle.std.specs.Prelude.{string_bytes}
+use Rattle.std.specs.Option.{option_map}
+use Rattle.club_core.specs.Events.{Event}
+use Rattle.club_core.specs.Members.{Member}
+use Rattle.club_core.specs.State.{draughts, shogi, place}
+use Rattle.club_rows.specs.Club.{ClubGame, ClubState}
+use Rattle.club_lists.specs.Listing.{event_name, member_name}
+use Rattle.club_views.specs.Viewed.{IsPlayedIn, IsViewed, IsViewOf}
+use Rattle.club_views.specs.declared.viewed.Played.{Played}
+use Rattle.club_views.specs.declared.viewed.ViewedGame.{ViewedGame}
+use Rattle.club_answers.specs.Boards.{moves_in}
+
+pub event_is : (event : Option Event) (name : List ℕ) → Some name ≡ option_map (λ e. e.name) event
+    → name ≡ event_name event
+event_is None name is = cc
+event_is (Some event) name is = let same : name ≡ event.name = cc in same
+
+pub member_is : (member : Option Member) (name : List ℕ) → Some name ≡ option_map (λ m. m.name) member
+    → name ≡ member_name member
+member_is None name is = cc
+member_is (Some member) name is = let same : name ≡ member.name = cc in same
+
+pub moves_are : (s : ClubState) (game : ClubGame) (played : Played) → IsPlayedIn s game played
+    → map (λ t. string_bytes t) played.moves.items ≡ moves_in game
+moves_are s (draughts game) played is = is.moves
+moves_are s (shogi game) played is = is.moves
+
+-- the view is of the game that stands at that number
+pub view_is : (s : ClubState) (id : ℕ) (game : ClubGame) (viewed : ViewedGame) → place s.games id ≡ Some game
+    → IsViewed s id (Some viewed) → IsViewOf s game viewed
+view_is s id game viewed at (other, there, is) =
+    let same : ◌≡◌ {A = Option ClubGame} (Some other) (Some game) = sym there ∙ at in
+    let one : other ≡ game = cc in
+    subst (λ g. IsViewOf s g viewed) one is

@@ -1,0 +1,28 @@
+-- The record of a game of the club.
+use Rattle.std.specs.Prelude.{◌≡◌, ℕ, List, Some}
+use Rattle.club_rules.specs.GameRules.{GameRules}
+use Rattle.club_core.specs.Game.{Game}
+use Rattle.club_core.specs.State.{draughts, shogi, place}
+use Rattle.club_exports.specs.Title.{Title, timed}
+use Rattle.club_exports.specs.CsaRecords.{IsCsaText}
+use Rattle.club_exports.specs.PdnRecords.{IsPdnText}
+use Rattle.club_rows.specs.Club.{ClubGame, ClubState, both_games}
+use Rattle.club_views.specs.Exported.{AreNamesOf, IsTitleOf}
+use Rattle.club_views.specs.declared.exported.Names.{Names}
+
+-- the record of a game with these names, by what its format says of the title and of each move with its seconds
+abbrev pub IsRecord : {P M E T : Type 0} → GameRules P M E T → (Title E → List (M × ℕ) → List ℕ → Type 0) → Names
+    → Game M → List ℕ → Type 0
+IsRecord {E = E} rules IsText names game text =
+    (title : Title E) × IsTitleOf rules names game title × IsText title (timed game.start game.entries) text
+
+-- the same in the format of its kind
+abbrev pub IsRecordOf : Names → ClubGame → List ℕ → Type 0
+IsRecordOf names (draughts game) text = IsRecord both_games.draughts IsPdnText names game text
+IsRecordOf names (shogi game) text = IsRecord both_games.shogi IsCsaText names game text
+
+-- the record of the game of this number
+abbrev pub IsRecordAt : ClubState → ℕ → List ℕ → Type 0
+IsRecordAt s id text =
+    (game : ClubGame) × (place s.games id ≡ Some game) × (names : Names) × AreNamesOf s game names
+    × IsRecordOf names game text

@@ -1,0 +1,158 @@
+//! A game of the club as a person looks at it.
+
+ghost use Rattle.std.specs.Prelude.{◌≡◌, ℕ, Some, IfOk, OnOk, string_bytes};
+ghost use Rattle.sqlite.specs.State.{HasCleanDisk};
+ghost use Rattle.sqlite.specs.Held.{state};
+ghost use Rattle.store_tables.specs.Club.{IsExactly};
+ghost use Rattle.store_tables.specs.Reading.{OnlyReads};
+ghost use Rattle.store_sql.specs.Read.{KeepsContent};
+ghost use Rattle.club_rules.specs.declared.names.GameKind.TheVariants as kinds;
+ghost use Rattle.club_core.specs.State.{place};
+ghost use Rattle.club_rows.specs.Club.{ClubGame, ClubState, IsClub, tables};
+ghost use Rattle.club_changes.specs.Stored.{IsStoredGame};
+ghost use Rattle.club_lists.specs.Board.{board_by};
+ghost use Rattle.club_answers.specs.Boards.{board_of, diagram_of, shogi_diagram, IsBoardText};
+ghost use Rattle.club_answers.specs.Found.{IsFoundAs};
+ghost use Rattle.club_answers.specs.Shown.{IsNoGame};
+
+use crate::found::Found;
+use crate::games::told_in;
+use clocks::Moment;
+use club_changes::StoredGame;
+use club_games::{Draughts, Shogi};
+use club_lists::{BoardView, board_text};
+use club_reads::{CallFault, last_moment, stored_game, view};
+use club_requests::Refusal;
+use club_rules::GameKind;
+use club_views::view_of;
+use diagrams::{Memory, write_bod, write_draughts, write_shogi};
+use sqlite::{Alter, Connection};
+use squares::SPos;
+use std::alloc::Global;
+
+// The diagram of the last position of a game of draughts.
+fn draughts_diagram<S: Alter>(
+    alloc: Global,
+    conn: &mut Connection<S>,
+    stored: &StoredGame,
+    letters: bool,
+) -> Result<String, CallFault>
+    ensures reads { OnlyReads (state S.Store conn.old) (state S.Store conn.new) }
+    ensures kept { HasCleanDisk (state S.Store conn.new) → OnOk result (KeepsContent (state S.Store conn.old)
+        (state S.Store conn.new)) }
+    ensures shown { HasCleanDisk (state S.Store conn.new) → IfOk result (λ text. (s : ClubState) (id : ℕ)
+        (game : ClubGame) → IsClub s → place s.games id ≡ Some game → IsStoredGame s id game stored.now →
+        stored.now.kind ≡ kinds.Draughts → IsExactly (tables s) (state S.Store conn.old) →
+        string_bytes text ≡ diagram_of letters game) }
+{
+    let view = view::<Draughts, S>(alloc, conn, stored)?;
+    let text = write_draughts(alloc, &view.position)?;
+    Ok(text)
+}
+
+// A position of shogi, by letters or as Japanese programs write it.
+fn shogi_text(alloc: Global, position: &SPos, letters: bool) -> Result<String, Memory>
+    ensures { IfOk result (λ text. string_bytes text ≡ shogi_diagram letters position.now) }
+{
+    if letters {
+        return write_shogi(alloc, position);
+    }
+    write_bod(alloc, position)
+}
+
+// The diagram of the last position of a game of shogi.
+fn shogi_diagram<S: Alter>(
+    alloc: Global,
+    conn: &mut Connection<S>,
+    stored: &StoredGame,
+    letters: bool,
+) -> Result<String, CallFault>
+    ensures reads { OnlyReads (state S.Store conn.old) (state S.Store conn.new) }
+    ensures kept { HasCleanDisk (state S.Store conn.new) → OnOk result (KeepsContent (state S.Store conn.old)
+        (state S.Store conn.new)) }
+    ensures shown { HasCleanDisk (state S.Store conn.new) → IfOk result (λ text. (s : ClubState) (id : ℕ)
+        (game : ClubGame) → IsClub s → place s.games id ≡ Some game → IsStoredGame s id game stored.now →
+        stored.now.kind ≡ kinds.Shogi → IsExactly (tables s) (state S.Store conn.old) →
+        string_bytes text ≡ diagram_of letters game) }
+{
+    let view = view::<Shogi, S>(alloc, conn, stored)?;
+    let text = shogi_text(alloc, &view.position, letters)?;
+    Ok(text)
+}
+
+// The diagram of the last position of a game.
+fn diagram_in<S: Alter>(
+    alloc: Global,
+    conn: &mut Connection<S>,
+    stored: &StoredGame,
+    letters: bool,
+) -> Result<String, CallFault>
+    ensures reads { OnlyReads (state S.Store conn.old) (state S.Store conn.new) }
+    ensures kept { HasCleanDisk (state S.Store conn.new) → OnOk result (KeepsContent (state S.Store conn.old)
+        (state S.Store conn.new)) }
+    ensures shown { HasCleanDisk (state S.Store conn.new) → IfOk result (λ text. (s : ClubState) (id : ℕ)
+        (game : ClubGame) → IsClub s → place s.games id ≡ Some game → IsStoredGame s id game stored.now →
+        IsExactly (tables s) (state S.Store conn.old) → string_bytes text ≡ diagram_of letters game) }
+{
+    match stored.kind {
+        GameKind::Draughts => draughts_diagram(alloc, conn, stored, letters),
+        GameKind::Shogi => shogi_diagram(alloc, conn, stored, letters),
+    }
+}
+
+// What is shown of a game beside what lists tell of it.
+fn board_in<S: Alter>(
+    alloc: Global,
+    conn: &mut Connection<S>,
+    stored: &StoredGame,
+    letters: bool,
+) -> Result<BoardView, CallFault>
+    ensures reads { OnlyReads (state S.Store conn.old) (state S.Store conn.new) }
+    ensures kept { HasCleanDisk (state S.Store conn.new) → OnOk result (KeepsContent (state S.Store conn.old)
+        (state S.Store conn.new)) }
+    ensures shown { HasCleanDisk (state S.Store conn.new) → IfOk result (λ board. (s : ClubState) (id : ℕ)
+        (game : ClubGame) → IsClub s → place s.games id ≡ Some game → IsStoredGame s id game stored.now →
+        IsExactly (tables s) (state S.Store conn.old) → board_by board ≡ board_of s letters game) }
+{
+    let diagram = diagram_in(alloc, conn, stored, letters)?;
+    let viewed = view_of(alloc, conn, u64::from(stored.id))?;
+    match viewed {
+        Some(viewed) => Ok(BoardView {
+            kind: stored.kind,
+            event: viewed.event,
+            first: viewed.first,
+            second: viewed.second,
+            diagram,
+            moves: viewed.played.moves,
+        }),
+        None => Err(CallFault::Store),
+    }
+}
+
+/// A game as a person looks at it, pieces of shogi by letters or as Japanese programs write them.
+pub(crate) fn board<S: Alter>(
+    alloc: Global,
+    conn: &mut Connection<S>,
+    game: u64,
+    letters: bool,
+    moment: Moment,
+) -> Result<Found, CallFault>
+    ensures reads { OnlyReads (state S.Store conn.old) (state S.Store conn.new) }
+    ensures kept { HasCleanDisk (state S.Store conn.new) → OnOk result (KeepsContent (state S.Store conn.old)
+        (state S.Store conn.new)) }
+    ensures found { HasCleanDisk (state S.Store conn.new) → IfOk result (λ found. (s : ClubState) → IsClub s →
+        IsExactly (tables s) (state S.Store conn.old) →
+        IsFoundAs (IsBoardText s moment game letters) (IsNoGame s game) found) }
+{
+    let last = last_moment(alloc, conn)?;
+    let stored = stored_game(alloc, conn, game)?;
+    match stored {
+        Some(stored) => {
+            let told = told_in(&stored.row)?;
+            let shown = board_in(alloc, conn, &stored, letters)?;
+            let text = board_text(alloc, &told, &shown, moment.later(last))?;
+            Ok(Found::Text(text))
+        }
+        None => Ok(Found::Refused(Refusal::UnknownGame)),
+    }
+}

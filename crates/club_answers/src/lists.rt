@@ -1,0 +1,128 @@
+//! What is shown of the members, the events and the games of a club, which are read alike for each of these questions.
+
+ghost use Rattle.std.specs.Prelude.{ℕ, IfOk, OnOk};
+ghost use Rattle.sqlite.specs.State.{HasCleanDisk};
+ghost use Rattle.sqlite.specs.Held.{state};
+ghost use Rattle.store_tables.specs.Club.{IsExactly};
+ghost use Rattle.store_tables.specs.Reading.{OnlyReads};
+ghost use Rattle.store_sql.specs.Read.{KeepsContent};
+ghost use Rattle.club_rows.specs.Club.{ClubState, IsClub, tables};
+ghost use Rattle.club_questions.specs.declared.questions.Question.TheVariants as question;
+ghost use Rattle.club_answers.specs.Found.{IsFound, IsFoundAs, IsReadOf};
+ghost use Rattle.club_answers.specs.Shown.{IsEventGamesText, IsEventsText, IsGamesText, IsInvitingText};
+ghost use Rattle.club_answers.specs.Shown.{IsNoEventNamed, IsNoKey, IsNoList};
+
+use crate::found::Found;
+use crate::read::{ClubRead, read_club};
+use clocks::Moment;
+use club_lists::{
+    event_game_ids, event_games_text, event_kind, events_text, games_text, inviting_text, is_event,
+    listing_refusal, name_by,
+};
+use club_questions::{Listing, Question};
+use club_reads::CallFault;
+use club_requests::Refusal;
+use sqlite::{Alter, Connection};
+use std::alloc::Global;
+
+// The events.
+fn events(alloc: Global, club: &ClubRead) -> Result<Found, CallFault>
+    ensures { IfOk result (λ found. (s : ClubState) (moment : ℕ) → IsReadOf s moment club.now →
+        IsFoundAs (IsEventsText s) (λ refusal. ⊥) found) }
+{
+    let text = events_text(alloc, &club.events, &club.games)?;
+    Ok(Found::Text(text))
+}
+
+// The games that are listed.
+fn games(alloc: Global, club: &ClubRead, listing: &Listing) -> Result<Found, CallFault>
+    ensures { IfOk result (λ found. (s : ClubState) (moment : ℕ) → IsReadOf s moment club.now →
+        IsFoundAs (IsGamesText s moment listing.now) (IsNoList s listing.now) found) }
+{
+    match listing_refusal(listing, &club.members, &club.events) {
+        Some(refusal) => Ok(Found::Refused(refusal)),
+        None => {
+            let text = games_text(
+                alloc,
+                listing,
+                &club.members,
+                &club.events,
+                &club.games,
+                club.moment,
+            )?;
+            Ok(Found::Text(text))
+        }
+    }
+}
+
+// The events, and the members whom the one who has a key may challenge.
+fn inviting(alloc: Global, club: &ClubRead, key: &str) -> Result<Found, CallFault>
+    ensures { IfOk result (λ found. (s : ClubState) (moment : ℕ) → IsReadOf s moment club.now →
+        IsFoundAs (IsInvitingText s key.now) (IsNoKey s key.now) found) }
+{
+    match name_by(&club.members, key) {
+        Some(_) => {
+            let text = inviting_text(alloc, key, &club.members, &club.events)?;
+            Ok(Found::Text(text))
+        }
+        None => Ok(Found::Refused(Refusal::UnknownKey)),
+    }
+}
+
+// The games of the event of a name.
+fn event_games(alloc: Global, club: &ClubRead, name: &str) -> Result<Found, CallFault>
+    ensures { IfOk result (λ found. (s : ClubState) (moment : ℕ) → IsReadOf s moment club.now →
+        IsFoundAs (IsEventGamesText s name.now) (IsNoEventNamed s name.now) found) }
+{
+    if !is_event(&club.events, name) {
+        return Ok(Found::Refused(Refusal::UnknownEvent));
+    }
+    let text = event_games_text(alloc, &club.members, &club.events, name, &club.games)?;
+    Ok(Found::Text(text))
+}
+
+// The games of the event of a name whose records are to be written.
+fn event_records(alloc: Global, club: &ClubRead, name: &String) -> Result<Found, CallFault>
+    ensures { IfOk result (λ found. (s : ClubState) (moment : ℕ) → IsReadOf s moment club.now →
+        IsFound s moment (question.EventRecords name.now) found) }
+{
+    if !is_event(&club.events, name.as_str()) {
+        return Ok(Found::Refused(Refusal::UnknownEvent));
+    }
+    let ids = event_game_ids(alloc, &club.events, name.as_str(), &club.games)?;
+    let kind = event_kind(&club.events, name.as_str());
+    Ok(Found::Records(kind, ids))
+}
+
+// What is shown of a club that was read; no other questions are answered so.
+fn shown_of(alloc: Global, club: &ClubRead, question: &Question) -> Result<Found, CallFault>
+    ensures { IfOk result (λ found. (s : ClubState) (moment : ℕ) → IsReadOf s moment club.now →
+        IsFound s moment question.now found) }
+{
+    match question {
+        Question::Events => events(alloc, club),
+        Question::Games(listing) => games(alloc, club, listing),
+        Question::Inviting(key) => inviting(alloc, club, key.as_str()),
+        Question::EventGames(name) => event_games(alloc, club, name.as_str()),
+        Question::EventRecords(name) => event_records(alloc, club, name),
+        _ => Err(CallFault::Store),
+    }
+}
+
+/// What is shown of the members, the events and the games of a club; no other questions are answered so.
+pub(crate) fn of_lists<S: Alter>(
+    alloc: Global,
+    conn: &mut Connection<S>,
+    question: &Question,
+    moment: Moment,
+) -> Result<Found, CallFault>
+    ensures reads { OnlyReads (state S.Store conn.old) (state S.Store conn.new) }
+    ensures kept { HasCleanDisk (state S.Store conn.new) → OnOk result (KeepsContent (state S.Store conn.old)
+        (state S.Store conn.new)) }
+    ensures found { HasCleanDisk (state S.Store conn.new) → IfOk result (λ found. (s : ClubState) → IsClub s →
+        IsExactly (tables s) (state S.Store conn.old) → IsFound s moment question.now found) }
+{
+    let club = read_club(alloc, conn, moment)?;
+    let found = shown_of(alloc, &club, question)?;
+    Ok(found)
+}

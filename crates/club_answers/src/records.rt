@@ -1,0 +1,102 @@
+//! The records of an event, written one after another.
+
+ghost use Rattle.std.specs.Prelude.{◌≡◌, ℕ, List, IfOk, OnOk};
+ghost use Rattle.std.specs.Io.KnownBytes.{Appends};
+ghost use Rattle.record_writer.specs.Pieces.{AppendsSome};
+ghost use Rattle.sqlite.specs.State.{HasCleanDisk};
+ghost use Rattle.sqlite.specs.Held.{state};
+ghost use Rattle.store_tables.specs.Club.{IsExactly};
+ghost use Rattle.store_tables.specs.Reading.{OnlyReads};
+ghost use Rattle.club_rows.specs.Club.{ClubState, IsClub, tables};
+ghost use Rattle.club_views.specs.Exported.{KeepsUnlessCalled};
+ghost use Rattle.club_answers.specs.EventRecords.{opening, BeginsRecords};
+ghost use Rattle.club_answers.specs.Writing.{AddsRecord, BeginsRecord, HasRecords};
+
+use club_reads::CallFault;
+use club_requests::Refusal;
+use club_rules::GameKind;
+use club_views::{Stopped, export_of};
+use record_writer::write_piece;
+use sqlite::{Alter, Connection};
+use std::alloc::Global;
+use std::io::Write;
+
+// What parts a record from the one before it.
+fn opening(is_first: bool, kind: GameKind) -> &'static str
+    ensures { result.now ≡ opening is_first kind }
+{
+    if is_first {
+        return "";
+    }
+    match kind {
+        GameKind::Draughts => "\n",
+        GameKind::Shogi => "/\n",
+    }
+}
+
+// Writes what stands before a record.
+fn write_front<W: Write>(front: &str, writer: &mut W) -> Result<(), Stopped>
+    ensures written { OnOk result (Appends (W.contents writer.old) (W.contents writer.new) front.now) }
+    ensures begun { AppendsSome (W.contents writer.old) (W.contents writer.new) front.now }
+{
+    match write_piece(writer, front.as_bytes()) {
+        Ok(()) => Ok(()),
+        Err(_) => Err(Stopped::Output),
+    }
+}
+
+// Writes a text and the record of a game behind it.
+fn write_behind<S: Alter, W: Write>(
+    alloc: Global,
+    conn: &mut Connection<S>,
+    front: &str,
+    id: u32,
+    writer: &mut W,
+) -> Result<(), Stopped>
+    ensures reads { OnlyReads (state S.Store conn.old) (state S.Store conn.new) }
+    ensures kept { HasCleanDisk (state S.Store conn.new) →
+        KeepsUnlessCalled result (state S.Store conn.old) (state S.Store conn.new) }
+    ensures written { HasCleanDisk (state S.Store conn.new) → OnOk result ((s : ClubState) → IsClub s →
+        IsExactly (tables s) (state S.Store conn.old) →
+        AddsRecord s id front.now (W.contents writer.old) (W.contents writer.new)) }
+    ensures begun { HasCleanDisk (state S.Store conn.new) → (s : ClubState) → IsClub s →
+        IsExactly (tables s) (state S.Store conn.old) →
+        BeginsRecord s id front.now (W.contents writer.old) (W.contents writer.new) }
+{
+    write_front(front, writer)?;
+    match export_of(alloc, conn, u64::from(id), writer) {
+        Ok(true) => Ok(()),
+        Ok(false) => Err(Stopped::Call(CallFault::Store)),
+        Err(stopped) => Err(stopped),
+    }
+}
+
+/// Writes the records of the games of these ids, all of this kind, one after another. Wherever it stops, the writer has
+/// a beginning of the first so many.
+pub(crate) fn write_records<S: Alter, W: Write>(
+    alloc: Global,
+    conn: &mut Connection<S>,
+    kind: GameKind,
+    ids: &[u32],
+    writer: &mut W,
+) -> Result<Option<Refusal>, Stopped>
+    ensures reads { OnlyReads (state S.Store conn.old) (state S.Store conn.new) }
+    ensures kept { HasCleanDisk (state S.Store conn.new) →
+        KeepsUnlessCalled result (state S.Store conn.old) (state S.Store conn.new) }
+    ensures written { HasCleanDisk (state S.Store conn.new) → IfOk result (λ refusal. (s : ClubState) → IsClub s →
+        IsExactly (tables s) (state S.Store conn.old) →
+        HasRecords s kind ids.now refusal (W.contents writer.old) (W.contents writer.new)) }
+    ensures begun { HasCleanDisk (state S.Store conn.new) → (s : ClubState) → IsClub s →
+        IsExactly (tables s) (state S.Store conn.old) →
+        BeginsRecords s kind ids.now (W.contents writer.old) (W.contents writer.new) }
+{
+    let mut is_first = true;
+    for id in ids {
+        match write_behind(alloc, conn, opening(is_first, kind), *id, writer) {
+            Ok(()) => {}
+            Err(stopped) => return Err(stopped),
+        }
+        is_first = false;
+    }
+    Ok(None)
+}

@@ -1,0 +1,98 @@
+-- A game as a person looks at it: its players, whose turn it is and what each has left, the board, and the moves.
+use Rattle.std.specs.Prelude.{ℕ, suc, ◌+◌, ◌-◌, ◌/◌, ◌%◌, ◌==◌, List, [], ◌∷◌, ◌++◌, length, map, Bool, true, false}
+use Rattle.std.specs.Prelude.{Option, Some, None, codes, decimal, nat_lt, string_bytes, if◌then◌else◌}
+use Rattle.squares.specs.declared.sides.Side.{Side}
+use Rattle.squares.specs.declared.sides.Side.TheVariants.{First, Second}
+use Rattle.club_rules.specs.declared.names.GameKind.{GameKind}
+use Rattle.club_rules.specs.declared.names.GameKind.TheVariants.{Draughts, Shogi}
+use Rattle.club_lists.specs.Clock.{left_now}
+use Rattle.club_lists.specs.Told.{Over, Told}
+use Rattle.club_lists.specs.declared.board.BoardView.{BoardView}
+
+-- the kind of a game, the names of its event and of its players, the diagram of its last position, and its moves as they
+-- are written
+pub record Board : Type 0 where
+  pub kind : GameKind
+  pub event : List ℕ
+  pub first : List ℕ
+  pub second : List ℕ
+  pub diagram : List ℕ
+  pub moves : List (List ℕ)
+
+abbrev pub board_by : BoardView → Board
+board_by view = record {
+  kind = view.kind;
+  event = string_bytes view.event;
+  first = string_bytes view.first;
+  second = string_bytes view.second;
+  diagram = string_bytes view.diagram;
+  moves = map (λ t. string_bytes t) view.moves.items;
+}
+
+-- ---- the lines before the diagram
+
+-- `Game ID EVENT: FIRST - SECOND`
+abbrev pub heading : ℕ → Board → List ℕ
+heading id board =
+    codes "Game " ++ (decimal id ++ (codes " " ++ (board.event ++ (codes ": " ++ (board.first ++ (codes " - "
+    ++ (board.second ++ codes "\n")))))))
+
+-- W for White and B for Black: First is White in draughts, and Black in shogi
+abbrev pub side_letter : GameKind → Side → List ℕ
+side_letter Draughts First = codes "W"
+side_letter Draughts Second = codes "B"
+side_letter Shogi First = codes "B"
+side_letter Shogi Second = codes "W"
+
+-- `SIDE to move, ply PLIES, FIRST SECONDS, SECOND SECONDS`, with what each has left at this moment
+abbrev pub turn_line : ℕ → Told → Board → List ℕ
+turn_line moment told board =
+    side_letter board.kind told.turn ++ (codes " to move, ply " ++ (decimal told.plies ++ (codes ", " ++ (board.first
+    ++ (codes " " ++ (decimal (left_now moment First told) ++ (codes ", " ++ (board.second ++ (codes " "
+    ++ (decimal (left_now moment Second told) ++ codes "\n"))))))))))
+
+-- `ended NAME RESULT`
+abbrev pub ended_line : Over → List ℕ
+ended_line over = codes "ended " ++ (over.end ++ (codes " " ++ (over.result ++ codes "\n")))
+
+abbrev pub standing_line : ℕ → Told → Board → Option Over → List ℕ
+standing_line moment told board None = turn_line moment told board
+standing_line moment told board (Some over) = ended_line over
+
+-- ---- the moves
+
+-- A move after so many plies: in draughts White's stands after the number of the two moves, `1. 32-28`; in shogi each
+-- stands after its own, `1. 7g7f`.
+abbrev pub move_text : GameKind → ℕ → List ℕ → List ℕ
+move_text Draughts plies text = if plies % 2 == 0 then decimal (plies / 2 + 1) ++ (codes ". " ++ text) else text
+move_text Shogi plies text = decimal (plies + 1) ++ (codes ". " ++ text)
+
+-- what parts a text of so many columns from what a line has: nothing where it has nothing, a blank where both fit 72
+-- columns, and else the line's end
+abbrev pub gap : (filled wide : ℕ) → List ℕ
+gap filled wide = if filled == 0 then [] else if nat_lt wide (72 - filled) then codes " " else codes "\n"
+
+-- the columns that the line has with it
+abbrev pub filled_with : (filled wide : ℕ) → ℕ
+filled_with filled wide =
+    if filled == 0 then wide else if nat_lt wide (72 - filled) then filled + 1 + wide else wide
+
+-- the end of a line that has something
+abbrev pub line_end : ℕ → List ℕ
+line_end filled = if filled == 0 then [] else codes "\n"
+
+-- the moves after so many plies, in a line that has so many columns already
+abbrev pub moves_from : GameKind → (plies filled : ℕ) → List (List ℕ) → List ℕ
+moves_from kind plies filled [] = line_end filled
+moves_from kind plies filled (text ∷ texts) =
+    gap filled (length (move_text kind plies text))
+    ++ (move_text kind plies text
+    ++ moves_from kind (suc plies) (filled_with filled (length (move_text kind plies text))) texts)
+
+-- ---- all of it
+
+-- the game of which this is told, at a moment
+abbrev pub board_text : ℕ → Told → Board → List ℕ
+board_text moment told board =
+    heading told.id board
+    ++ (standing_line moment told board told.over ++ (board.diagram ++ moves_from board.kind 0 0 board.moves))

@@ -1,0 +1,44 @@
+//! The games of an event whose records are written.
+
+ghost use Rattle.std.specs.Prelude.{◌≡◌, IfOk};
+ghost use Rattle.club_core.specs.Answer.{events_of};
+ghost use Rattle.club_core.specs.Events.{event_kind};
+ghost use Rattle.club_lists.specs.EventRecords.{event_game_ids};
+ghost use Rattle.club_lists.specs.ToldViews.{all_by};
+
+use crate::shows::is_of_event;
+use crate::told::ToldGame;
+use club_core::Event;
+use club_rules::GameKind;
+use std::alloc::{AllocError, Global};
+
+/// The game that is played in the event of this name; draughts where there is none.
+pub fn event_kind(events: &[Event], name: &str) -> GameKind
+    ensures { result ≡ event_kind (events_of events.now) name.now }
+{
+    for event in events {
+        if event.name.as_str() == name {
+            return event.game;
+        }
+    }
+    GameKind::Draughts
+}
+
+/// The ids of the games of the event of this name, in their order.
+pub fn event_game_ids(
+    alloc: Global,
+    events: &[Event],
+    name: &str,
+    games: &[ToldGame],
+) -> Result<Vec<u32>, AllocError>
+    ensures { IfOk result (λ ids. ids.items ≡ event_game_ids (events_of events.now) name.now (all_by games.now)) }
+{
+    let mut ids = Vec::new(alloc);
+    for game in games {
+        if !is_of_event(events, name, game) {
+            continue;
+        }
+        ids.push(game.id)?;
+    }
+    Ok(ids)
+}
