@@ -1,4 +1,4 @@
--- What stands, and what a stop leaves, where members made requests in turn.
+-- What stands, and what a stop leaves, where members and the officer made requests in turn.
 use Rattle.std.proofs.Common.{◌≡◌, ◌⊎◌, ◌≤◌, ℕ, List, [], ◌∷◌, ◌++◌, Bool, false, refl, sym, subst, inl}
 use Rattle.std.proofs.Common.{inr}
 use Rattle.std.proofs.Common.{append_assoc}
@@ -7,6 +7,7 @@ use Rattle.sqlite.specs.State.{State, HasCleanDisk}
 use Rattle.sqlite.specs.Tree.{Trees}
 use Rattle.store_tables.specs.Reading.{OnlyReads}
 use Rattle.club_requests.specs.Limits.{last_moment}
+use Rattle.club_core.specs.Answer.{command_of}
 use Rattle.club_core.specs.State.{Request}
 use Rattle.club_rows.specs.Club.{ClubState}
 use Rattle.store.specs.Histories.{Chapter, IsReachable, IsHistory, cut_session}
@@ -15,9 +16,22 @@ use Rattle.store.proofs.Proved.{taken_session, one_leads, one_cut}
 use Rattle.club_desk.specs.Served.{served}
 use Rattle.club_desk.specs.Standing.{IsServed, IsLeft, MayLeave}
 use Rattle.club_desk.specs.Repeats.{stands_at}
-use Rattle.club_desk.specs.Turns.{IsTurn, IsTurnOf, AreTurns, IsWhole, AreWhole, IsHistoryOn, IsReachableOn}
+use Rattle.club_desk.specs.Turns.{IsTurn, IsOrder, IsTurnOf, AreTurns, IsWhole, AreWhole, IsHistoryOn, IsReachableOn}
+use Rattle.http_port.specs.declared.orders.Errand.{Errand}
+use Rattle.http_port.specs.declared.orders.Errand.TheVariants as errand
+use Rattle.http_port.specs.Orders.{HasObeyed, order, state_after}
 use Rattle.http_port.specs.Visits.{HasActed, HasServed}
+use Rattle.http_head.specs.Request.{Seen}
+use Rattle.http_desk.specs.Desk.{state_behind}
 use Rattle.club_desk.proofs.NextLemmas.{seen_next}
+
+-- a member asks, or the officer
+abbrev IsAsked : Request → Type 0
+IsAsked request = IsTurn request ⊎ IsOrder request
+
+asked_within : (request : Request) → IsAsked request → request.moment ≤ last_moment
+asked_within request (inl turn) = turn.within
+asked_within request (inr given) = given.within
 
 turns_more : (turns : List Chapter) (chapter : Chapter) → AreTurns turns → IsTurnOf chapter
     → AreTurns (turns ++ chapter ∷ [])
@@ -87,8 +101,8 @@ module _ (keeps : KeepsClub) (sessions : List Chapter) (old : State) (on : IsHis
         };
       }
 
-  goes : (shut : Bool) (now : State) (request : Request) → IsTurn request → IsServed shut now (club_next before request)
-      → IsHistoryOn sessions now
+  goes : (shut : Bool) (now : State) (request : Request) → IsAsked request
+      → IsServed shut now (club_next before request) → IsHistoryOn sessions now
   goes shut now request turn is =
       let one = taken_session before request in
       let P : List Chapter → Type 0 = λ xs. IsHistory xs now in
@@ -106,23 +120,54 @@ module _ (keeps : KeepsClub) (sessions : List Chapter) (old : State) (on : IsHis
       }
 
   next_stands : (shut : Bool) (now : State) (t : ClubState) → (t ≡ before)
-      ⊎ ((request : Request) × IsTurn request × (t ≡ club_next before request)) → IsServed shut now t
+      ⊎ ((request : Request) × IsAsked request × (t ≡ club_next before request)) → IsServed shut now t
       → IsHistoryOn sessions now
   next_stands shut now t (inl same) is = stays shut now (let P : ClubState → Type 0 = λ u. IsServed shut now u in
       subst P same is)
   next_stands shut now t (inr done) is = goes shut now done.0 done.1
       (let P : ClubState → Type 0 = λ u. IsServed shut now u in subst P done.2 is)
 
+  asked_next : (t : ClubState) → (t ≡ before)
+      ⊎ ((request : Request) × IsTurn request × (t ≡ club_next before request)) → (t ≡ before)
+      ⊎ ((request : Request) × IsAsked request × (t ≡ club_next before request))
+  asked_next t (inl same) = inl same
+  asked_next t (inr done) = inr (done.0, inl done.1, done.2)
+
+  behind_seen : (moment : ℕ) (within : moment ≤ last_moment) (seen : Seen)
+      → (state_behind served before moment seen ≡ before) ⊎ ((request : Request) × IsAsked request
+      × (state_behind served before moment seen ≡ club_next before request))
+  behind_seen moment within seen = asked_next _ (seen_next before moment within seen)
+
+  -- what is behind an errand of the officer's
+  behind_errand : (moment : ℕ) (within : moment ≤ last_moment) (given : Errand)
+      → (state_after served before moment given ≡ before) ⊎ ((request : Request) × IsAsked request
+      × (state_after served before moment given ≡ club_next before request))
+  behind_errand moment within (errand.Question question) = inl refl
+  behind_errand moment within (errand.Command command) =
+      let is_order : IsOrder (order (command_of command) moment) =
+      record { command = command_of command; is = refl; within = within } in
+      inr (order (command_of command) moment, inr is_order, refl)
+
   -- no call has failed so far
   pub acted_stands : (shut : Bool) (now : State) (moment : ℕ) (bytes : List ℕ) → moment ≤ last_moment → shut ≡ false
       → HasActed served (IsServed shut now) (IsLeft shut now) before moment bytes → IsHistoryOn sessions now
   acted_stands shut now moment bytes within ready (inl is) = stays shut now is
   acted_stands shut now moment bytes within ready (inr done) = elim done.2 [
-    | inl is ↦ next_stands shut now _ (seen_next before moment within done.0) is
+    | inl is ↦ next_stands shut now _ (behind_seen moment within done.0) is
     | inr left ↦ elim (left.stands ready) [
       | inl is ↦ stays shut now is
-      | inr is ↦ next_stands shut now _ (seen_next before moment within done.0) is
+      | inr is ↦ next_stands shut now _ (behind_seen moment within done.0) is
     ]
+  ]
+
+  pub obeyed_stands : (shut : Bool) (now : State) (moment : ℕ) (given : Errand) → moment ≤ last_moment → shut ≡ false
+      → HasObeyed served (IsServed shut now) (IsLeft shut now) before moment given → IsHistoryOn sessions now
+  obeyed_stands shut now moment given within ready (inl is) = stays shut now is
+  obeyed_stands shut now moment given within ready (inr (inl is)) =
+      next_stands shut now _ (behind_errand moment within given) is
+  obeyed_stands shut now moment given within ready (inr (inr left)) = elim (left.stands ready) [
+    | inl is ↦ stays shut now is
+    | inr is ↦ next_stands shut now _ (behind_errand moment within given) is
   ]
 
   stays_led : (now : State) → MayLeave now before before → IsReachableOn sessions now
@@ -139,7 +184,7 @@ module _ (keeps : KeepsClub) (sessions : List Chapter) (old : State) (on : IsHis
         };
       }
 
-  cut_led : (now : State) (request : Request) → IsTurn request → MayLeave now before (club_next before request)
+  cut_led : (now : State) (request : Request) → IsAsked request → MayLeave now before (club_next before request)
       → IsReachableOn sessions now
   cut_led now request turn left =
       let one = cut_session request in
@@ -150,11 +195,11 @@ module _ (keeps : KeepsClub) (sessions : List Chapter) (old : State) (on : IsHis
             let P : List Chapter → Type 0 = λ xs. IsReachable xs db in
             subst P (append_assoc sessions on.turns (one ∷ []))
             (one_cut on.stands.from before (sessions ++ on.turns) request db on.stands.leads on.stands.legal
-            (keeps before request turn.within on.stands.legal) (left db may));
+            (keeps before request (asked_within request turn) on.stands.legal) (left db may));
       }
 
   next_led : (now : State) (t : ClubState) → (t ≡ before)
-      ⊎ ((request : Request) × IsTurn request × (t ≡ club_next before request)) → MayLeave now before t
+      ⊎ ((request : Request) × IsAsked request × (t ≡ club_next before request)) → MayLeave now before t
       → IsReachableOn sessions now
   next_led now t (inl same) left = stays_led now (let P : ClubState → Type 0 = λ u. MayLeave now before u in
       subst P same left)
@@ -166,11 +211,19 @@ module _ (keeps : KeepsClub) (sessions : List Chapter) (old : State) (on : IsHis
       → HasActed served (IsServed shut now) (IsLeft shut now) before moment bytes → IsReachableOn sessions now
   acted_led shut now moment bytes within (inl is) = stands_led sessions now (stays shut now is)
   acted_led shut now moment bytes within (inr done) = elim done.2 [
-    | inl is ↦ stands_led sessions now (next_stands shut now _ (seen_next before moment within done.0) is)
-    | inr left ↦ next_led now _ (seen_next before moment within done.0) left.leaves
+    | inl is ↦ stands_led sessions now (next_stands shut now _ (behind_seen moment within done.0) is)
+    | inr left ↦ next_led now _ (behind_seen moment within done.0) left.leaves
   ]
 
--- a connection over the desk, of whatever moment
+  pub obeyed_led : (shut : Bool) (now : State) (moment : ℕ) (given : Errand) → moment ≤ last_moment
+      → HasObeyed served (IsServed shut now) (IsLeft shut now) before moment given → IsReachableOn sessions now
+  obeyed_led shut now moment given within (inl is) = stands_led sessions now (stays shut now is)
+  obeyed_led shut now moment given within (inr (inl is)) =
+      stands_led sessions now (next_stands shut now _ (behind_errand moment within given) is)
+  obeyed_led shut now moment given within (inr (inr left)) =
+      next_led now _ (behind_errand moment within given) left.leaves
+
+-- a connection over the desk, or an order of the officer's, of whatever moment
 abbrev pub Acted : Bool → State → ClubState → Type 0
 Acted shut now s = HasServed served (IsServed shut now) (IsLeft shut now) s
 
@@ -182,11 +235,17 @@ module _ (keeps : KeepsClub) (sessions : List Chapter) (old_shut : Bool) (old : 
   pub turn_stands : (shut : Bool) (now : State) → shut ≡ false
       → ((s : ClubState) → IsServed old_shut old s → Acted shut now s) → IsHistoryOn sessions now
   turn_stands shut now is_open acts =
-      let (moment, within, bytes, acted) = acts on.stands.after served_before in
-      acted_stands keeps sessions old on shut now moment bytes within is_open acted
+      let (moment, within, done) = acts on.stands.after served_before in
+      elim done [
+        | inl acted ↦ acted_stands keeps sessions old on shut now moment acted.0 within is_open acted.1
+        | inr obeyed ↦ obeyed_stands keeps sessions old on shut now moment obeyed.0 within is_open obeyed.1
+      ]
 
   pub turn_led : (shut : Bool) (now : State) → ((s : ClubState) → IsServed old_shut old s → Acted shut now s)
       → IsReachableOn sessions now
   turn_led shut now acts =
-      let (moment, within, bytes, acted) = acts on.stands.after served_before in
-      acted_led keeps sessions old on shut now moment bytes within acted
+      let (moment, within, done) = acts on.stands.after served_before in
+      elim done [
+        | inl acted ↦ acted_led keeps sessions old on shut now moment acted.0 within acted.1
+        | inr obeyed ↦ obeyed_led keeps sessions old on shut now moment obeyed.0 within obeyed.1
+      ]

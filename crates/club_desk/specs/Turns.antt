@@ -1,10 +1,10 @@
--- Requests that members make at the desk, each a session of its own.
-use Rattle.std.specs.Prelude.{◌≡◌, ◌≤◌, ℕ, true, List, [], ◌∷◌, ◌++◌, ⊤}
+-- Requests that are made at the desk, by members and, over its door, by the officer, each a session of its own.
+use Rattle.std.specs.Prelude.{◌≡◌, ◌≤◌, ◌⊎◌, ℕ, true, List, [], ◌∷◌, ◌++◌, ⊤}
 use Rattle.sqlite.specs.Tree.{Trees}
 use Rattle.sqlite.specs.State.{State}
 use Rattle.club_requests.specs.Limits.{last_moment}
 use Rattle.club_core.specs.State.{Command, add_member, add_event, seat, import_record, on_game, sweep}
-use Rattle.club_core.specs.State.{open_challenge, withdraw_challenge, answer_challenge, Request, key_holder}
+use Rattle.club_core.specs.State.{open_challenge, withdraw_challenge, answer_challenge, Request, key_holder, officer}
 use Rattle.store.specs.Histories as history
 use Rattle.store.specs.Histories.{Chapter, IsReachable, IsHistory}
 
@@ -28,9 +28,16 @@ pub record IsTurn (request : Request) : Type 0 where
   pub is : request ≡ record { who = key_holder key; command = command; moment = request.moment }
   pub within : request.moment ≤ last_moment
 
--- a session of one request, which is such a command
+-- the officer gives a command, whichever it is
+pub record IsOrder (request : Request) : Type 0 where
+  pub command : Command
+  pub is : request ≡ record { who = officer; command = command; moment = request.moment }
+  pub within : request.moment ≤ last_moment
+
+-- a session of one request, which is such a command of a member's or of the officer's
 abbrev pub IsTurnOf : Chapter → Type 0
-IsTurnOf (history.served session) = (request : Request) × IsTurn request × (session.requests ≡ request ∷ [])
+IsTurnOf (history.served session) =
+    (request : Request) × (IsTurn request ⊎ IsOrder request) × (session.requests ≡ request ∷ [])
 IsTurnOf (history.upgraded answered) = ⊥
 
 abbrev pub AreTurns : List Chapter → Type 0

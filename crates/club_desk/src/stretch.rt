@@ -59,9 +59,9 @@ fn fault_behind(has_failed: bool) -> Option<ClubFault>
 
 /// Takes over the club of a connection that was just opened, serves it until the desk is to give way, and gives the
 /// connection back: with the fault that further connections are to be told, where the club was not taken over or a
-/// call on it failed. Sessions that led to what the opening found lead, with commands of members added, each
-/// a session of its own, to whatever a stop leaves; where no fault is told, none of these was cut off. Tables that are
-/// not taken over are blamed, and stay as they were found.
+/// call on it failed. Sessions that led to what the opening found lead, with commands of members and of the officer
+/// added, each a session of its own, to whatever a stop leaves; where no fault is told, none of these was cut off.
+/// Tables that are not taken over are blamed, and stay as they were found.
 pub fn serve_stretch<S: Alter, V: Visits>(
     alloc: Global,
     conn: Connection<S>,

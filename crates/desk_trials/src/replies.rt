@@ -6,7 +6,7 @@ use club_requests::{
     OutsideEnd, Refusal, Who, Withdraw,
 };
 use http_bodies::GameShown;
-use http_desk::{Closed, ClubFault, DeskFault, ServedClub, answer};
+use http_desk::{Closed, ClubFault, DeskFault, Routes, ServedClub, answer};
 use http_port::{Countdown, Deadline, serve_one};
 use squares::Score;
 use std::alloc::Global;
@@ -234,7 +234,11 @@ fn begins_and_ends<R: Abort + AllocGlobal, C: ServedClub>(
         assert!(rt; false);
         return 0;
     };
-    let reply = match answer(rt.alloc(), club, bytes, moment) {
+    let Ok(routes) = Routes::new(rt.alloc()) else {
+        assert!(rt; false);
+        return 0;
+    };
+    let reply = match answer(rt.alloc(), &routes, club, bytes, moment) {
         Ok(reply) => reply,
         Err(_) => {
             assert!(rt; false);
@@ -365,6 +369,7 @@ impl Countdown for Calls {
 #[test]
 fn a_slow_peer_is_given_up(rt: HostRuntime) -> Result<(), Fail> {
     let alloc = rt.alloc();
+    let routes = Routes::new(alloc)?;
     let Some(moment) = Moment::new(1000) else {
         return Ok(());
     };
@@ -375,6 +380,7 @@ fn a_slow_peer_is_given_up(rt: HostRuntime) -> Result<(), Fail> {
     let mut reader = Deadline::new(slow, Calls { left: 50 });
     let done = serve_one(
         alloc,
+        &routes,
         Vec::new(alloc),
         &mut reader,
         &mut reply,
@@ -388,6 +394,7 @@ fn a_slow_peer_is_given_up(rt: HostRuntime) -> Result<(), Fail> {
     let mut writer = Deadline::new(&mut reply, Calls { left: 1 });
     let done = serve_one(
         alloc,
+        &routes,
         Vec::new(alloc),
         &mut in_time,
         &mut writer,
@@ -402,6 +409,7 @@ fn a_slow_peer_is_given_up(rt: HostRuntime) -> Result<(), Fail> {
 #[test]
 fn a_reply_that_is_lost_is_given_again(rt: HostRuntime) -> Result<(), Fail> {
     let alloc = rt.alloc();
+    let routes = Routes::new(alloc)?;
     let Some(moment) = Moment::new(1000) else {
         return Ok(());
     };
@@ -410,6 +418,7 @@ fn a_reply_that_is_lost_is_given_again(rt: HostRuntime) -> Result<(), Fail> {
     let mut reader = bytes.as_slice();
     let done = serve_one(
         alloc,
+        &routes,
         Vec::new(alloc),
         &mut reader,
         &mut undisturbed,
@@ -426,6 +435,7 @@ fn a_reply_that_is_lost_is_given_again(rt: HostRuntime) -> Result<(), Fail> {
         let mut reader = bytes.as_slice();
         let done = serve_one(
             alloc,
+            &routes,
             Vec::new(alloc),
             &mut reader,
             &mut part,
@@ -438,6 +448,7 @@ fn a_reply_that_is_lost_is_given_again(rt: HostRuntime) -> Result<(), Fail> {
         let mut reader = bytes.as_slice();
         let done = serve_one(
             alloc,
+            &routes,
             Vec::new(alloc),
             &mut reader,
             &mut again,

@@ -12,7 +12,7 @@ ghost use Rattle.http_desk.specs.DeskViews.{answer_view, IsShutBy};
 use crate::commands::{serve_command, turn_given, withdrawal};
 use crate::faults::{ClubFault, DeskFault};
 use crate::pages::{serve_game, serve_legal, serve_question};
-use crate::routes::{Asked, asked_of, text_of};
+use crate::routes::{Asked, Routes, text_of};
 use crate::served::ServedClub;
 use clocks::Moment;
 use club_requests::Refusal as ClubRefusal;
@@ -21,7 +21,6 @@ use http_bodies::{
     shown_reply,
 };
 use http_head::{Request, Seen, read_request};
-use matchit::InsertError;
 use std::alloc::{AllocError, Global};
 
 /// What a reply shows.
@@ -58,17 +57,6 @@ impl From<AllocError> for Fault {
     ghost from_gives = { λ _ given. given ≡ Memory };
 
     fn from(_error: AllocError) -> Fault {
-        Fault::Memory
-    }
-}
-
-impl From<InsertError> for Fault {
-    ghost use Rattle.std.specs.Prelude.{◌≡◌};
-    ghost use Rattle.http_desk.specs.declared.desk.Fault.TheVariants.{Memory};
-
-    ghost from_gives = { λ _ given. given ≡ Memory };
-
-    fn from(_error: InsertError) -> Fault {
         Fault::Memory
     }
 }
@@ -214,6 +202,7 @@ fn serve_asked<C: ServedClub>(
 #[tactic(auto, unfolding(crate::specs::Desk::serve, crate::specs::Desk::shut_serve))]
 fn serve<C: ServedClub>(
     alloc: Global,
+    routes: &Routes,
     club: &mut C,
     request: &Request<'_>,
     moment: Moment,
@@ -225,7 +214,7 @@ fn serve<C: ServedClub>(
         ServesDue C.club (C.Stands club.new) (C.Leaves club.new) answer_view s
         (serve C.club s moment (request_view request.now)) result }
 {
-    let asked = asked_of(alloc, request.target)?;
+    let asked = routes.asked_of(request.target);
     serve_asked(alloc, club, request, asked, moment)
 }
 
@@ -243,6 +232,7 @@ fn answer_reply(alloc: Global, answer: Shown, without_body: bool) -> Result<Vec<
 // The reply to a whole request.
 fn reply_whole<C: ServedClub>(
     alloc: Global,
+    routes: &Routes,
     club: &mut C,
     request: &Request<'_>,
     moment: Moment,
@@ -256,7 +246,7 @@ fn reply_whole<C: ServedClub>(
         RepliesTo C.club (C.Stands club.new) (C.Leaves club.new) (λ v. v.items) s moment without_body
         (whole (request_view request.now)) result }
 {
-    match serve(alloc, club, request, moment) {
+    match serve(alloc, routes, club, request, moment) {
         Ok(answer) => {
             let reply = answer_reply(alloc, answer, without_body)?;
             Ok(reply)
@@ -272,6 +262,7 @@ fn reply_whole<C: ServedClub>(
 // The reply to what bytes amount to.
 fn reply<C: ServedClub>(
     alloc: Global,
+    routes: &Routes,
     club: &mut C,
     seen: Seen<'_>,
     moment: Moment,
@@ -291,7 +282,7 @@ fn reply<C: ServedClub>(
             let reply = refusal_reply(alloc, Refusal::Head(refusal), without_body)?;
             Ok(reply)
         }
-        Seen::Whole(request) => reply_whole(alloc, club, &request, moment, without_body),
+        Seen::Whole(request) => reply_whole(alloc, routes, club, &request, moment, without_body),
     }
 }
 
@@ -299,6 +290,7 @@ fn reply<C: ServedClub>(
 /// and no bytes where there is none yet. A club that is shut by a fault tells it to every request that comes to it.
 pub fn answer<C: ServedClub>(
     alloc: Global,
+    routes: &Routes,
     club: &mut C,
     bytes: &[u8],
     moment: Moment,
@@ -311,6 +303,6 @@ pub fn answer<C: ServedClub>(
         Answers C.club (C.Stands club.new) (C.Leaves club.new) (λ v. v.items) s moment bytes.now result }
 {
     let reading = read_request(bytes);
-    let reply = reply(alloc, club, reading.seen, moment, reading.asks_head)?;
+    let reply = reply(alloc, routes, club, reading.seen, moment, reading.asks_head)?;
     Ok(reply)
 }

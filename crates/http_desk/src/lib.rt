@@ -14,4 +14,5 @@ pub mod served;
 pub use closed::Closed;
 pub use desk::answer;
 pub use faults::{ClubFault, DeskFault};
+pub use routes::Routes;
 pub use served::ServedClub;

@@ -15,6 +15,7 @@ use http_bodies::Method;
 use http_head::number_of;
 use matchit::{InsertError, Router};
 use std::alloc::Global;
+use std::marker::Model;
 
 /// The pages of the desk, each with a path of its own.
 #[derive(Clone, Copy, Debug, PartialEq, Eq)]
@@ -147,8 +148,8 @@ pub fn path_of(target: &[u8]) -> Option<&[u8]>
     None
 }
 
-// The routes of the desk.
-fn routes(alloc: Global) -> Result<Router<Page>, InsertError>
+// The table of the desk's routes.
+fn table(alloc: Global) -> Result<Router<Page>, InsertError>
     ensures { IfOk result (λ router. router ≡ routes) }
 {
     let mut router = Router::new(alloc);
@@ -173,14 +174,54 @@ fn routes(alloc: Global) -> Result<Router<Page>, InsertError>
     Ok(router)
 }
 
-// The page of a path.
-fn page_of(alloc: Global, path: &str) -> Result<Option<Page>, InsertError>
-    ensures { IfOk result (λ page. page ≡ page_of path.now) }
-{
-    let router = routes(alloc)?;
-    match router.at(path) {
-        Ok(found) => Ok(Some(*found.value)),
-        Err(_) => Ok(None),
+/// The routes of the desk, made once.
+#[derive(Drop)]
+pub struct Routes {
+    router: Router<Page>,
+}
+
+impl Model for Routes {
+    ghost use Rattle.std.specs.Prelude.{◌≡◌};
+    ghost use Rattle.matchit.specs.Rows.{RowsOf};
+    ghost use Rattle.matchit.specs.Router.{RouteOf};
+    ghost use Rattle.http_desk.specs.declared.routes.Page.{Page};
+    ghost use Rattle.http_desk.specs.Routes.{routes};
+
+    ghost Value = { RowsOf (RouteOf Page) };
+
+    ghost view = { λ r. r.router };
+
+    ghost invariant = { λ r. r.router ≡ routes };
+}
+
+impl Routes {
+    /// The routes.
+    pub fn new(alloc: Global) -> Result<Routes, InsertError> {
+        let router = table(alloc)?;
+        Ok(Routes { router })
+    }
+
+    // The page of a path.
+    fn page_of(&self, path: &str) -> Option<Page>
+        ensures { result ≡ page_of path.now }
+    {
+        match self.router.at(path) {
+            Ok(found) => Some(*found.value),
+            Err(_) => None,
+        }
+    }
+
+    /// What a target asks for.
+    pub fn asked_of<'t>(&self, target: &'t [u8]) -> Option<Asked<'t>>
+        ensures { option_map asked_view result ≡ asked_of target.now }
+    {
+        let Some(path) = path_of(target) else {
+            return None;
+        };
+        let Some(text) = text_of(path) else {
+            return None;
+        };
+        asked_of_page(self.page_of(text), path)
     }
 }
 
@@ -362,18 +403,4 @@ fn asked_of_page<'p>(page: Option<Page>, path: &'p [u8]) -> Option<Asked<'p>>
         },
         Some(Page::Answer) => answer_asked(path),
     }
-}
-
-/// What a target asks for.
-pub fn asked_of(alloc: Global, target: &[u8]) -> Result<Option<Asked<'_>>, InsertError>
-    ensures { IfOk result (λ asked. option_map asked_view asked ≡ asked_of target.now) }
-{
-    let Some(path) = path_of(target) else {
-        return Ok(None);
-    };
-    let Some(text) = text_of(path) else {
-        return Ok(None);
-    };
-    let page = page_of(alloc, text)?;
-    Ok(asked_of_page(page, path))
 }

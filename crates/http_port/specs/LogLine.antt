@@ -1,6 +1,7 @@
 -- The line that is written of a connection: moment, method, path and status. The key that was shown is no part of it.
+-- And the line of an order of the officer's: moment, `officer`, its word, and the status with which that ends.
 use Rattle.std.specs.Prelude.{◌≡◌, ◌⊎◌, ◌++◌, ◌+◌, ◌-◌, ◌^◌, ℕ, List, [], Option, Some, None, Result, Ok, Err, codes, decimal}
-use Rattle.std.specs.Prelude.{take, min, nat_lt, option_and_then, if◌then◌else◌}
+use Rattle.std.specs.Prelude.{Bool, take, min, nat_lt, option_and_then, if◌then◌else◌}
 use Rattle.std.specs.Char.{is_ascii_graphic}
 use Rattle.std.specs.Io.KnownBytes.{Appends}
 use Rattle.std.specs.List.{list_all}
@@ -9,6 +10,15 @@ use Rattle.http_bodies.specs.Reply.{status_in}
 use Rattle.http_desk.specs.Routes.{path_of, text_of}
 use Rattle.http_desk.specs.declared.faults.DeskFault.{DeskFault}
 use Rattle.http_desk.specs.declared.faults.DeskFault.TheVariants.{Memory, Read, Write}
+use Rattle.club_requests.specs.declared.requests.Command.{Command as Given}
+use Rattle.club_requests.specs.declared.requests.Command.TheVariants as command
+use Rattle.club_rules.specs.declared.records.RecordFormat.{RecordFormat}
+use Rattle.club_rules.specs.declared.records.RecordFormat.TheVariants.{Pdn, Csa}
+use Rattle.http_port.specs.declared.orders.Errand.{Errand}
+use Rattle.http_port.specs.declared.orders.Errand.TheVariants.{Command, Question}
+use Rattle.http_port.specs.declared.orders.OrderFault.{OrderFault}
+use Rattle.http_port.specs.declared.log_lines.Noted.{Noted}
+use Rattle.http_port.specs.declared.log_lines.Noted.TheVariants.{Call, Order}
 use Rattle.http_port.specs.declared.serve.Exchange.{Exchange}
 
 -- the most bytes that are shown of a method
@@ -53,32 +63,68 @@ abbrev pub fault_line_written : ℕ → DeskFault → List ℕ
 fault_line_written moment fault = decimal moment ++ (codes " - - " ++ (fault_written fault ++ codes "\n"))
 
 -- the line of what the bytes of a connection amount to and of its reply, or of why there was none
-abbrev pub IsLineOf : ℕ → Result Exchange DeskFault → List ℕ → Type 0
-IsLineOf moment (Ok done) line = (seen : Seen) × Sees done.bytes.items seen
+abbrev pub IsCallLine : ℕ → Result Exchange DeskFault → List ℕ → Type 0
+IsCallLine moment (Ok done) line = (seen : Seen) × Sees done.bytes.items seen
     × (line ≡ line_written moment (method_written seen) (path_written seen) (status_in done.reply.items))
-IsLineOf moment (Err fault) line = line ≡ fault_line_written moment fault
+IsCallLine moment (Err fault) line = line ≡ fault_line_written moment fault
 
 -- how many lines were left out since the last one that was written, where there are such
 abbrev pub left_out_written : ℕ → ℕ → List ℕ
 left_out_written moment count =
     if nat_lt 0 count then decimal moment ++ (codes " - - " ++ (decimal count ++ codes " left out\n")) else []
 
--- what is written of a connection: its line behind the number of those that were left out, or at a fault nothing or a
--- beginning of that
-abbrev pub IsLogged : {U : Type 0} → ℕ → ℕ → Result Exchange DeskFault → Option (List ℕ) → Option (List ℕ)
-    → Result U DeskFault → Type 0
-IsLogged left_out moment done before now (Ok u) = (line : List ℕ) × IsLineOf moment done line
+-- ---- an order of the officer's
+
+abbrev pub import_word : RecordFormat → List ℕ
+import_word Pdn = codes "import-pdn"
+import_word Csa = codes "import-csa"
+
+abbrev pub command_word : Given → List ℕ
+command_word (command.AddMember given) = codes "member"
+command_word (command.AddEvent given) = codes "event"
+command_word (command.Seat given) = codes "seat"
+command_word (command.Import given) = import_word given.format
+command_word (command.OnGame given) = codes "move"
+command_word command.Sweep = codes "sweep"
+command_word (command.Challenge given) = codes "-"
+command_word (command.Withdraw given) = codes "-"
+command_word (command.Answer given) = codes "-"
+
+-- the word by which it is ordered; one of the many words that only ask is a question
+abbrev pub word_of : Errand → List ℕ
+word_of (Command given) = command_word given
+word_of (Question asked) = codes "question"
+
+abbrev pub order_status : Result Bool OrderFault → List ℕ
+order_status (Ok done) = if done then codes "0" else codes "1"
+order_status (Err fault) = codes "-"
+
+abbrev pub order_line_written : ℕ → List ℕ → Result Bool OrderFault → List ℕ
+order_line_written moment word done =
+    decimal moment ++ (codes " officer " ++ (word ++ (codes " " ++ (order_status done ++ codes "\n"))))
+
+-- ---- what is written
+
+-- a line of what a line is written of
+abbrev pub IsLineOf : ℕ → Noted → List ℕ → Type 0
+IsLineOf moment (Call done) line = IsCallLine moment done.now line
+IsLineOf moment (Order errand done) line = line ≡ order_line_written moment (word_of errand.now) done
+
+-- what is written of it: its line behind the number of those that were left out, or at a fault nothing or a beginning
+-- of that
+abbrev pub IsLogged : {U : Type 0} → ℕ → ℕ → Noted → Option (List ℕ) → Option (List ℕ) → Result U DeskFault → Type 0
+IsLogged left_out moment noted before now (Ok u) = (line : List ℕ) × IsLineOf moment noted line
     × Appends before now (left_out_written moment left_out ++ line)
-IsLogged left_out moment done before now (Err fault) = (now ≡ before)
-    ⊎ ((line : List ℕ) × (n : ℕ) × IsLineOf moment done line
+IsLogged left_out moment noted before now (Err fault) = (now ≡ before)
+    ⊎ ((line : List ℕ) × (n : ℕ) × IsLineOf moment noted line
     × Appends before now (take n (left_out_written moment left_out ++ line)))
 
 -- a line was written, and none is left out any more
-abbrev pub IsNoted : ℕ → ℕ → ℕ → Result Exchange DeskFault → Option (List ℕ) → Option (List ℕ) → Type 0
-IsNoted left_out left_now moment done before now =
-    (left_now ≡ 0) × IsLogged {U = Unit {0}} left_out moment done before now (Ok tt)
+abbrev pub IsNoted : ℕ → ℕ → ℕ → Noted → Option (List ℕ) → Option (List ℕ) → Type 0
+IsNoted left_out left_now moment noted before now =
+    (left_now ≡ 0) × IsLogged {U = Unit {0}} left_out moment noted before now (Ok tt)
 
 -- a line was left out, and is counted
-abbrev pub IsLeftOut : ℕ → ℕ → ℕ → Result Exchange DeskFault → Option (List ℕ) → Option (List ℕ) → Type 0
-IsLeftOut left_out left_now moment done before now = (left_now ≡ min (left_out + 1) (2 ^ 64 - 1))
-    × ((fault : DeskFault) × IsLogged {U = Unit {0}} left_out moment done before now (Err fault))
+abbrev pub IsLeftOut : ℕ → ℕ → ℕ → Noted → Option (List ℕ) → Option (List ℕ) → Type 0
+IsLeftOut left_out left_now moment noted before now = (left_now ≡ min (left_out + 1) (2 ^ 64 - 1))
+    × ((fault : DeskFault) × IsLogged {U = Unit {0}} left_out moment noted before now (Err fault))

@@ -1,4 +1,4 @@
--- What connections do to a club, whatever their bytes are.
+-- What those who come to the desk do to a club: by connections, whatever their bytes are, and by the officer's orders.
 use Rattle.std.specs.Prelude.{◌⊎◌, ◌≤◌, ◌++◌, ℕ, List, Result, Ok, Err}
 use Rattle.club_requests.specs.Limits.{last_moment}
 use Rattle.http_desk.specs.declared.faults.DeskFault.{DeskFault}
@@ -6,6 +6,8 @@ use Rattle.http_desk.specs.Desk.{Answers, state_behind}
 use Rattle.http_desk.specs.Served.{Club}
 use Rattle.http_head.specs.Request.{Seen, Sees}
 use Rattle.http_port.specs.declared.serve.Exchange.{Exchange}
+use Rattle.http_port.specs.declared.orders.Errand.{Errand}
+use Rattle.http_port.specs.Orders.{HasObeyed}
 
 -- the reply is that to the bytes that were heard
 abbrev pub IsAnswered : {S : Type 0} → Club S → (S → Type 0) → (S → S → Type 0) → S → ℕ → Result Exchange DeskFault
@@ -27,7 +29,9 @@ abbrev pub HasActedOn : {S : Type 0} → Club S → (S → Type 0) → (S → S 
 HasActedOn club stands leaves s moment heard =
     (further : List ℕ) × HasActed club stands leaves s moment (heard ++ further)
 
--- one connection was served at a moment that there is
+-- one connection was served, or one order of the officer's done, at a moment that there is
 abbrev pub HasServed : {S : Type 0} → Club S → (S → Type 0) → (S → S → Type 0) → S → Type 0
 HasServed club stands leaves s =
-    (moment : ℕ) × (moment ≤ last_moment) × (bytes : List ℕ) × HasActed club stands leaves s moment bytes
+    (moment : ℕ) × (moment ≤ last_moment)
+    × (((bytes : List ℕ) × HasActed club stands leaves s moment bytes)
+    ⊎ ((errand : Errand) × HasObeyed club stands leaves s moment errand))

@@ -1,17 +1,21 @@
 //! Those who come to a port of this machine. Sockets and clocks are read here, and what they give is not proved.
 
-ghost use Rattle.http_port.specs.Visits.{HasActedOn};
+ghost use Rattle.http_port.specs.Orders.{HasObeyed};
+ghost use Rattle.http_port.specs.Visits.{HasActedOn, HasServed};
 
 use crate::caller::{Caller, Replying, hear_at, silent_at, take_out, timed};
+use crate::door::{DOOR, Door, Ordered};
 use crate::heard::{Come, Heard};
+use crate::hold::{gives_way, idle_after};
 use crate::leaving::{LEAVING_SECONDS, Leaving};
-use crate::log_lines::Log;
+use crate::log_lines::{Log, Noted};
+use crate::orders::{OrderFault, serve_order};
 use crate::outlet::Outlet;
 use crate::serve::{Exchange, serve_one};
 use crate::times::clock;
 use crate::visit::Visits;
 use clocks::Moment;
-use http_desk::{Closed, ClubFault, DeskFault, ServedClub};
+use http_desk::{Closed, ClubFault, DeskFault, Routes, ServedClub};
 use mio::unix::SourceFd;
 use mio::{Events, Interest, Poll, Token};
 use std::alloc::Global;
@@ -32,11 +36,12 @@ const LISTENER: usize = 0;
 // How long the desk waits where a call fails that is to tell who has come.
 const PAUSE_MILLISECONDS: u64 = 10;
 
-// How long the desk holds the club while nobody is to be served.
-const IDLE_MILLISECONDS: u64 = 1000;
-
-// How long the desk holds the club at most, while one comes after another.
+// How long the desk holds the club at most, while one comes after another, where nobody can ask for the file. So often
+// it sees whether its door still stands, where it has one.
 const HELD_SECONDS: u64 = 2;
+
+// How long the file is lent to one who asks for it at most: longer than a word takes over a large club.
+const LENT_SECONDS: u64 = 15;
 
 // The seconds within which a whole request is to come, of the time in which the desk hears.
 const REQUEST_SECONDS: u64 = 10;
@@ -71,6 +76,7 @@ fn stir(callers: &mut Vec<Caller>, events: &Events<Global>) -> bool {
 fn reply<C: ServedClub>(
     rt: &HostRuntime,
     alloc: Global,
+    routes: &Routes,
     stream: &TcpStream,
     heard: Vec<u8>,
     limit: Duration,
@@ -83,8 +89,31 @@ fn reply<C: ServedClub>(
 {
     let mut reader = timed(rt, stream, limit);
     let mut writer = Replying::new(rt, stream, Duration::from_secs(WRITE_SECONDS));
-    let done = serve_one(alloc, heard, &mut reader, &mut writer, club, moment);
+    let done = serve_one(alloc, routes, heard, &mut reader, &mut writer, club, moment);
     done
+}
+
+// The next one who is to be served.
+#[derive(Drop)]
+enum Visit {
+    // A member, or who else has come to the port.
+    Call(Caller),
+    // The officer.
+    Order(Ordered),
+    Nobody,
+}
+
+// Does what one orders, and tells it what that was answered. Who is told nothing does it by itself.
+fn obey<C: ServedClub>(alloc: Global, ordered: &Ordered, club: &mut C) -> Result<bool, OrderFault>
+    ensures clean { C.IsClean club.new → C.IsClean club.old }
+    ensures obeys { C.IsClean club.new → (s : C.State) → C.Stands club.old s →
+        HasObeyed C.club (C.Stands club.new) (C.Leaves club.new) s ordered.now.moment ordered.now.errand }
+{
+    let limit = Some(Duration::from_secs(WRITE_SECONDS));
+    let stream = &ordered.stream;
+    let _waits = stream.set_nonblocking(false).is_ok() && stream.set_write_timeout(limit).is_ok();
+    let mut writer = stream;
+    serve_order(alloc, &mut writer, club, &ordered.errand, ordered.moment)
 }
 
 /// How those who come are served.
@@ -103,6 +132,7 @@ pub struct Terms {
 pub struct Callers<'a> {
     rt: &'a HostRuntime,
     listener: TcpListener,
+    routes: Routes,
     now: Option<Moment>,
     log: Option<Log<Outlet<'a>>>,
     // Tells when someone comes, and when something comes of those who have.
@@ -127,6 +157,12 @@ pub struct Callers<'a> {
     held_since: Option<Instant>,
     // How long the club is held while nobody is to be served.
     idle: Duration,
+    // When the club was begun to be opened, until that is done.
+    begun: Option<Instant>,
+    // How many of those who waited while the club was opened are still to be served.
+    owed: usize,
+    // The door by which others ask for the file.
+    door: Option<Door<'a>>,
 }
 
 impl<'a> Callers<'a> {
@@ -142,6 +178,9 @@ impl<'a> Callers<'a> {
             Token(LISTENER),
             Interest::READABLE,
         )?;
+        let Ok(routes) = Routes::new(rt.alloc()) else {
+            return Err(io::Error::from(ErrorKind::OutOfMemory));
+        };
         let log = if terms.is_logged {
             Some(Log::new(Outlet::new(rt)?))
         } else {
@@ -150,6 +189,7 @@ impl<'a> Callers<'a> {
         Ok(Callers {
             rt,
             listener,
+            routes,
             now: terms.now,
             log,
             poll,
@@ -164,6 +204,9 @@ impl<'a> Callers<'a> {
             last_look: None,
             held_since: None,
             idle: Duration::ZERO,
+            begun: None,
+            owed: 0,
+            door: None,
         })
     }
 
@@ -172,15 +215,75 @@ impl<'a> Callers<'a> {
         self.last_look = None;
         self.tick();
         for _ in 0..u64::MAX {
-            if !self.ready.is_empty() {
+            if self.is_awaited() {
                 return true;
             }
             if self.is_done() {
                 return false;
             }
             self.look(Duration::from_secs(REQUEST_SECONDS));
+            let _lent = self.lend();
         }
         false
+    }
+
+    /// Opens the door beside a file, by which others ask for it. Where there can be none, the desk gives the file up
+    /// every two seconds.
+    pub fn open_door(&mut self, file: &str) {
+        self.door = Door::open(self.rt, file, &self.poll).ok();
+    }
+
+    /// Whether others can ask for the file.
+    pub fn has_door(&self) -> bool {
+        self.door.is_some()
+    }
+
+    /// Shuts the door, and takes its socket away.
+    pub fn close_door(&mut self) {
+        if let Some(door) = &self.door {
+            door.close();
+        }
+        self.door = None;
+    }
+
+    /// Lends the file, which the desk has given up, to the one who asks for it first: whether somebody did. Those who
+    /// come are heard until it is given back, for fifteen seconds at most.
+    pub fn lend(&mut self) -> bool {
+        if !self.is_asked_for_file() {
+            return false;
+        }
+        if let Some(door) = &mut self.door {
+            door.let_in(&self.poll);
+        }
+        self.hear_beside_guest();
+        if let Some(door) = &mut self.door {
+            door.take_leave();
+        }
+        true
+    }
+
+    // Hears those who come while the file is lent.
+    fn hear_beside_guest(&mut self) {
+        let mut left = Duration::from_secs(LENT_SECONDS);
+        self.last_look = None;
+        self.tick();
+        for _ in 0..u64::MAX {
+            if left.is_zero() || self.last_look.is_none() || !self.has_guest() {
+                return;
+            }
+            let passed = self.look(left);
+            left = left.saturating_sub(passed);
+        }
+    }
+
+    // Whether the file is lent, and the one who has it is there.
+    fn has_guest(&self) -> bool {
+        self.door.as_ref().is_some_and(|door| door.has_guest())
+    }
+
+    // Whether somebody asks for the file.
+    fn is_asked_for_file(&self) -> bool {
+        self.door.as_ref().is_some_and(|door| door.is_asked())
     }
 
     /// Hears those who come for so long, while the club is not held: false where no one more is to be heard or served.
@@ -213,12 +316,25 @@ impl<'a> Callers<'a> {
 
     /// Whether someone is to be served.
     pub fn is_awaited(&self) -> bool {
-        !self.ready.is_empty()
+        !self.ready.is_empty() || self.has_order()
+    }
+
+    // Whether the officer orders something.
+    fn has_order(&self) -> bool {
+        self.door.as_ref().is_some_and(|door| door.has_order())
+    }
+
+    // The next order, if there is one.
+    fn take_order(&mut self) -> Option<Ordered> {
+        match &mut self.door {
+            Some(door) => door.next_order(),
+            None => None,
+        }
     }
 
     /// The club is held anew, from when the next one is looked for. What has passed until then is nobody's time.
     pub fn begin(&mut self) {
-        self.begin_for(Duration::from_millis(IDLE_MILLISECONDS));
+        self.begin_for(idle_after(Duration::ZERO));
     }
 
     /// Those are served who are to be served now: nobody is waited for.
@@ -230,7 +346,27 @@ impl<'a> Callers<'a> {
     fn begin_for(&mut self, idle: Duration) {
         self.held_since = None;
         self.last_look = None;
+        self.owed = 0;
+        self.begun = Instant::now(self.rt).ok();
         self.idle = idle;
+    }
+
+    // The club has been opened: the longer that took, the longer it is held while nobody is to be served. Who has
+    // waited for that is served before the file is given up again.
+    fn end_opening(&mut self) {
+        let (Some(begun), Some(now)) = (self.begun, self.last_look) else {
+            return;
+        };
+        self.begun = None;
+        self.owed = self.ready.len();
+        if self.has_door() && !self.idle.is_zero() {
+            self.idle = idle_after(now.duration_since(begun));
+        }
+    }
+
+    // Whether the club is to be given up for one who asks for it: after the present request.
+    fn gives_way(&self) -> bool {
+        gives_way(self.is_asked_for_file(), self.owed, self.ready.len())
     }
 
     // Whether no one more is to be heard or served, and nothing more to be read off.
@@ -256,20 +392,31 @@ impl<'a> Callers<'a> {
         passed
     }
 
-    // What is left of the time for which the club may be held.
+    // What is left of the time for which the club may be held. A desk that can be asked for the file holds it on as
+    // long as its door stands.
     fn hold_left(&mut self) -> Duration {
         let Some(now) = self.last_look else {
             return Duration::ZERO;
         };
-        match self.held_since {
-            Some(since) => {
-                Duration::from_secs(HELD_SECONDS).saturating_sub(now.duration_since(since))
-            }
-            None => {
-                self.held_since = Some(now);
-                Duration::from_secs(HELD_SECONDS)
-            }
+        let held = match self.held_since {
+            Some(since) => now.duration_since(since),
+            None => Duration::ZERO,
+        };
+        let left = Duration::from_secs(HELD_SECONDS).saturating_sub(held);
+        if self.held_since.is_none() || (left.is_zero() && self.can_be_asked()) {
+            self.held_since = Some(now);
+            return Duration::from_secs(HELD_SECONDS);
         }
+        left
+    }
+
+    // Whether others can still ask for the file. A door that was taken away is given up, and another may be opened.
+    fn can_be_asked(&mut self) -> bool {
+        let stands = self.door.as_ref().is_some_and(|door| door.stands());
+        if !stands {
+            self.door = None;
+        }
+        stands
     }
 
     // Whether as many are heard as may be.
@@ -334,12 +481,23 @@ impl<'a> Callers<'a> {
         if stir(&mut self.hearing, &self.events) {
             self.may_come = true;
         }
+        self.hear_door();
         let passed = self.tick();
         self.hear_all();
         self.let_in();
         self.give_up();
         self.leaving.read_off(self.heard_for);
         passed
+    }
+
+    // Hears those who have come to ask for the file.
+    fn hear_door(&mut self) {
+        let has_come = self.events.iter().any(|event| event.token() == DOOR);
+        if let Some(door) = &mut self.door {
+            if has_come {
+                door.hear(&self.poll);
+            }
+        }
     }
 
     // Hears those of whom something has come.
@@ -475,24 +633,32 @@ impl<'a> Callers<'a> {
     }
 
     // The next one who is to be served, if there is one before the desk is to give way.
-    fn next_ready(&mut self) -> Option<Caller> {
-        let mut idle = self.idle;
+    fn next_visit(&mut self) -> Visit {
         self.tick();
+        self.end_opening();
+        if self.is_awaited() {
+            self.look(Duration::ZERO);
+        }
+        let mut idle = self.idle;
         for _ in 0..u64::MAX {
             let left = self.hold_left();
-            if left.is_zero() {
-                return None;
+            if left.is_zero() || self.gives_way() {
+                return Visit::Nobody;
             }
-            if !self.ready.is_empty() {
-                return take_out(&mut self.ready, 0);
+            if let Some(ordered) = self.take_order() {
+                return Visit::Order(ordered);
+            }
+            if let Some(caller) = take_out(&mut self.ready, 0) {
+                self.owed = self.owed.saturating_sub(1);
+                return Visit::Call(caller);
             }
             if idle.is_zero() || self.is_done() {
-                return None;
+                return Visit::Nobody;
             }
             let passed = self.look(left.min(idle));
             idle = idle.saturating_sub(passed);
         }
-        None
+        Visit::Nobody
     }
 
     // The moment that counts now.
@@ -507,6 +673,33 @@ impl<'a> Callers<'a> {
         };
         if let Some(moment) = self.moment() {
             self.serve_caller(self.rt.alloc(), caller, limit, &mut nothing, moment);
+        }
+    }
+
+    // Serves one at the moment that counts now, if there is one.
+    fn serve_call<C: ServedClub>(&mut self, alloc: Global, caller: Caller, club: &mut C)
+        ensures clean { C.IsClean club.new → C.IsClean club.old }
+        ensures acts { C.IsClean club.new → (s : C.State) → C.Stands club.old s →
+            HasServed C.club (C.Stands club.new) (C.Leaves club.new) s }
+    {
+        let Some(moment) = self.moment() else {
+            return;
+        };
+        let _within = moment.seconds();
+        let limit = Duration::from_secs(WRITE_SECONDS);
+        self.serve_caller(alloc, caller, limit, club, moment);
+    }
+
+    // Does what one orders, and writes a line of it where that is wanted.
+    fn serve_ordered<C: ServedClub>(&mut self, alloc: Global, ordered: &Ordered, club: &mut C)
+        ensures clean { C.IsClean club.new → C.IsClean club.old }
+        ensures acts { C.IsClean club.new → (s : C.State) → C.Stands club.old s →
+            HasServed C.club (C.Stands club.new) (C.Leaves club.new) s }
+    {
+        let _within = ordered.moment.seconds();
+        let done = obey(alloc, ordered, club);
+        if let Some(log) = &mut self.log {
+            log.note(alloc, ordered.moment, Noted::Order(&ordered.errand, done));
         }
     }
 
@@ -532,6 +725,7 @@ impl<'a> Callers<'a> {
         let done = reply(
             self.rt,
             alloc,
+            &self.routes,
             &stream,
             heard.into_bytes(),
             limit,
@@ -542,7 +736,7 @@ impl<'a> Callers<'a> {
             self.take_leave(stream, is_early);
         }
         if let Some(log) = &mut self.log {
-            log.note(alloc, moment, &done);
+            log.note(alloc, moment, Noted::Call(&done));
         }
     }
 
@@ -558,16 +752,16 @@ impl<'a> Callers<'a> {
 
 impl Visits for Callers<'_> {
     fn serve_next<C: ServedClub>(&mut self, alloc: Global, club: &mut C) -> bool {
-        let caller = match self.next_ready() {
-            Some(caller) => caller,
-            None => return false,
-        };
-        let Some(moment) = self.moment() else {
-            return true;
-        };
-        let _within = moment.seconds();
-        let limit = Duration::from_secs(WRITE_SECONDS);
-        self.serve_caller(alloc, caller, limit, club, moment);
-        true
+        match self.next_visit() {
+            Visit::Call(caller) => {
+                self.serve_call(alloc, caller, club);
+                true
+            }
+            Visit::Order(ordered) => {
+                self.serve_ordered(alloc, &ordered, club);
+                true
+            }
+            Visit::Nobody => false,
+        }
     }
 }

@@ -1,22 +1,36 @@
-//! The line that is written of a connection: moment, method, path and status. No key stands in it.
+//! The line that is written of a connection: moment, method, path and status. No key stands in it. And that of an order
+//! of the officer's: moment, `officer`, its word and the status with which that ends.
 
 ghost use Rattle.std.specs.Prelude.{◌≡◌, ◌⊎◌, ◌++◌, ℕ, List, IfOk, option_map, option_and_then, string_bytes, take};
 ghost use Rattle.std.specs.Char.{is_ascii_graphic};
 ghost use Rattle.std.specs.List.{list_all};
 ghost use Rattle.http_head.specs.Request.{Seen as SeenIn, Sees};
 ghost use Rattle.http_desk.specs.Routes.{path_of};
-ghost use Rattle.http_port.specs.LogLine.{IsLineOf, IsLogged, fault_line_written, fault_written, line_written};
+ghost use Rattle.http_port.specs.LogLine.{IsCallLine, IsLineOf, fault_line_written, fault_written, line_written};
+ghost use Rattle.http_port.specs.LogLine.{IsLeftOut, IsLogged, IsNoted};
 ghost use Rattle.http_port.specs.LogLine.{method_limit, method_written, or_mark, path_written, shown, left_out_written};
-ghost use Rattle.http_port.specs.LogLine.{IsLeftOut, IsNoted};
+ghost use Rattle.http_port.specs.LogLine.{command_word, import_word, order_line_written, order_status, word_of};
 
+use crate::orders::{Errand, OrderFault};
 use crate::serve::{Exchange, write_reply};
 use clocks::Moment;
+use club_requests::Command;
+use club_rules::RecordFormat;
 use http_bodies::status_of;
 use http_desk::DeskFault;
 use http_desk::routes::{path_of, text_of};
 use http_head::{Seen, read_request};
 use std::alloc::{AllocError, Global};
 use std::io::Write;
+
+/// What a line is written of.
+#[derive(Clone, Copy)]
+pub(crate) enum Noted<'n> {
+    /// A connection.
+    Call(&'n Result<Exchange, DeskFault>),
+    /// An order of the officer's, and whether it was done or refused.
+    Order(&'n Errand, Result<bool, OrderFault>),
+}
 
 // Whether bytes are printable ASCII alone, with no blank.
 fn is_graphic(bytes: &[u8]) -> bool
@@ -100,12 +114,12 @@ fn unserved_line(alloc: Global, seconds: u64, fault: DeskFault) -> Result<String
 }
 
 // The line of a connection.
-fn line_of(
+fn call_line(
     alloc: Global,
     moment: Moment,
     done: &Result<Exchange, DeskFault>,
 ) -> Result<String, AllocError>
-    ensures { IfOk result (λ line. IsLineOf moment done.now (string_bytes line)) }
+    ensures { IfOk result (λ line. IsCallLine moment done.now (string_bytes line)) }
 {
     let seconds = moment.seconds();
     match done {
@@ -128,33 +142,104 @@ fn left_out_line(alloc: Global, seconds: u64, count: u64) -> Result<String, Allo
     }
 }
 
-// The line of a connection, behind the number of those that were left out.
+// The word by which a record is imported.
+fn import_word(format: RecordFormat) -> &'static str
+    ensures { result.now ≡ import_word format }
+{
+    match format {
+        RecordFormat::Pdn => "import-pdn",
+        RecordFormat::Csa => "import-csa",
+    }
+}
+
+// The word by which a command is ordered: the officer gives no challenges.
+fn command_word(command: &Command) -> &'static str
+    ensures { result.now ≡ command_word command.now }
+{
+    match command {
+        Command::AddMember(_) => "member",
+        Command::AddEvent(_) => "event",
+        Command::Seat(_) => "seat",
+        Command::Import(given) => import_word(given.format),
+        Command::OnGame(_) => "move",
+        Command::Sweep => "sweep",
+        Command::Challenge(_) => "-",
+        Command::Withdraw(_) => "-",
+        Command::Answer(_) => "-",
+    }
+}
+
+// The word by which something is ordered; those that only ask are a question.
+fn word_of(errand: &Errand) -> &'static str
+    ensures { result.now ≡ word_of errand.now }
+{
+    match errand {
+        Errand::Command(command) => command_word(command),
+        Errand::Question(_) => "question",
+    }
+}
+
+// The status with which the word of an order ends, where it was told.
+fn order_status(done: Result<bool, OrderFault>) -> &'static str
+    ensures { result.now ≡ order_status done }
+{
+    match done {
+        Ok(true) => "0",
+        Ok(false) => "1",
+        Err(_) => "-",
+    }
+}
+
+// The line of an order.
+fn order_line(
+    alloc: Global,
+    moment: Moment,
+    errand: &Errand,
+    done: Result<bool, OrderFault>,
+) -> Result<String, AllocError>
+    ensures { IfOk result (λ line. string_bytes line ≡ order_line_written moment (word_of errand.now) done) }
+{
+    let (seconds, word) = (moment.seconds(), word_of(errand));
+    format!(in alloc; "{seconds} officer {word} {}\n", order_status(done))
+}
+
+// The line of what one is written of.
+fn line_of(alloc: Global, moment: Moment, noted: Noted<'_>) -> Result<String, AllocError>
+    ensures { IfOk result (λ line. IsLineOf moment noted.entry (string_bytes line)) }
+{
+    match noted {
+        Noted::Call(done) => call_line(alloc, moment, done),
+        Noted::Order(errand, done) => order_line(alloc, moment, errand, done),
+    }
+}
+
+// The line of what one is written of, behind the number of those that were left out.
 fn text_of_line(
     alloc: Global,
     left_out: u64,
     moment: Moment,
-    done: &Result<Exchange, DeskFault>,
+    noted: Noted<'_>,
 ) -> Result<String, AllocError>
-    ensures { IfOk result (λ text. (line : List ℕ) × IsLineOf moment done.now line ×
+    ensures { IfOk result (λ text. (line : List ℕ) × IsLineOf moment noted.entry line ×
         (string_bytes text ≡ left_out_written moment left_out ++ line)) }
 {
-    let line = line_of(alloc, moment, done)?;
+    let line = line_of(alloc, moment, noted)?;
     let told = left_out_line(alloc, moment.seconds(), left_out)?;
     format!(in alloc; "{told}{line}")
 }
 
-// Writes the line of a connection behind the number of those that were left out, or where the writer fails a beginning
-// of that.
-pub(crate) fn log_line<W: Write>(
+// Writes the line of what one is written of behind the number of those that were left out, or where the writer fails a
+// beginning of that.
+fn log_line<W: Write>(
     alloc: Global,
     writer: &mut W,
     left_out: u64,
     moment: Moment,
-    done: &Result<Exchange, DeskFault>,
+    noted: Noted<'_>,
 ) -> Result<(), DeskFault>
-    ensures { IsLogged left_out moment done.now (W.contents writer.old) (W.contents writer.new) result }
+    ensures { IsLogged left_out moment noted.entry (W.contents writer.old) (W.contents writer.new) result }
 {
-    let text = text_of_line(alloc, left_out, moment, done)?;
+    let text = text_of_line(alloc, left_out, moment, noted)?;
     match write_reply(writer, text.as_bytes()) {
         Ok(()) => Ok(()),
         Err(fault) => Err(fault),
@@ -178,13 +263,13 @@ impl<W: Write> Log<W> {
         }
     }
 
-    /// Writes the line of a connection, or leaves it out and counts it.
-    pub(crate) fn note(&mut self, alloc: Global, moment: Moment, done: &Result<Exchange, DeskFault>)
-        ensures { IsNoted self.old.left_out self.new.left_out moment done.now (W.contents self.old.writer)
-            (W.contents self.new.writer) ⊎ IsLeftOut self.old.left_out self.new.left_out moment done.now
+    /// Writes a line, or leaves it out and counts it.
+    pub(crate) fn note(&mut self, alloc: Global, moment: Moment, noted: Noted<'_>)
+        ensures { IsNoted self.old.left_out self.new.left_out moment noted.entry (W.contents self.old.writer)
+            (W.contents self.new.writer) ⊎ IsLeftOut self.old.left_out self.new.left_out moment noted.entry
             (W.contents self.old.writer) (W.contents self.new.writer) }
     {
-        match log_line(alloc, &mut self.writer, self.left_out, moment, done) {
+        match log_line(alloc, &mut self.writer, self.left_out, moment, noted) {
             Ok(()) => self.left_out = 0,
             Err(_) => self.left_out = self.left_out.saturating_add(1),
         }

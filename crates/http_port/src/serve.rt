@@ -6,7 +6,7 @@ ghost use Rattle.http_port.specs.Serving.{Serving, ShutServing};
 ghost use Rattle.http_port.specs.Visits.{HasActedOn, IsAnswered};
 
 use clocks::Moment;
-use http_desk::{DeskFault, ServedClub, answer};
+use http_desk::{DeskFault, Routes, ServedClub, answer};
 use http_head::{TakeFault, is_interrupted, take_in};
 use std::alloc::Global;
 use std::io::{Read, Write};
@@ -54,6 +54,7 @@ pub fn write_reply<W: Write>(writer: &mut W, bytes: &[u8]) -> Result<(), DeskFau
 /// to them.
 pub fn serve_one<R: Read, W: Write, C: ServedClub>(
     alloc: Global,
+    routes: &Routes,
     heard: Vec<u8>,
     reader: &mut R,
     writer: &mut W,
@@ -82,7 +83,7 @@ pub fn serve_one<R: Read, W: Write, C: ServedClub>(
         Err(TakeFault::Memory) => return Err(DeskFault::Memory),
         Err(TakeFault::Read) => return Err(DeskFault::Read),
     };
-    let reply = match answer(alloc, club, &bytes, moment) {
+    let reply = match answer(alloc, routes, club, &bytes, moment) {
         Ok(reply) => reply,
         Err(fault) => return Err(fault),
     };

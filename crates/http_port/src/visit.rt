@@ -7,8 +7,8 @@ use std::alloc::Global;
 
 /// Those who come to the desk.
 pub trait Visits {
-    /// Serves the next connection over the club, if there is one before the desk is to give way. Whatever its peer
-    /// sends, the club does what some bytes ask for at some moment, once, or nothing.
+    /// Serves the next one who comes over the club, if there is one before the desk is to give way. Whatever a peer
+    /// sends, the club does what some bytes ask for at some moment, once, or what the officer orders, or nothing.
     fn serve_next<C: ServedClub>(&mut self, alloc: Global, club: &mut C) -> bool
         ensures clean { C.IsClean club.new → C.IsClean club.old }
         ensures acts { C.IsClean club.new → (s : C.State) → C.Stands club.old s →

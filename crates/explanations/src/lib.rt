@@ -1,0 +1,7 @@
+//! What a refusal or a fault means, in words for the person who gave the order.
+#![tactic(auto)]
+
+pub mod causes;
+mod texts;
+
+pub use causes::{Explanation, Fault, WrongValue, refused};
