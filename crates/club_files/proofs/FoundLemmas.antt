@@ -21,7 +21,7 @@ use Rattle.club_orders.specs.declared.report.Report.{Report}
 use Rattle.club_orders.specs.declared.report.Report.TheVariants.{Ready, Sound, Answered, Shown, Unwritten}
 use Rattle.club_orders.specs.declared.report.Report.TheVariants.{Unopened, Stopped, InUse, NotOpened, NoMoment, Unread}
 use Rattle.club_orders.specs.declared.report.Report.TheVariants.{Listening, Unbound, NoMemory, Upgraded}
-use Rattle.club_orders.specs.declared.report.Report.TheVariants.{AlreadyUpgraded}
+use Rattle.club_orders.specs.declared.report.Report.TheVariants.{AlreadyUpgraded, Batched}
 use Rattle.club_orders.specs.Report.{IfUnopened, IfVerify, IsCarriedOver}
 use Rattle.club_opening.specs.Refused.{HoldClub, IsKept, IsRefusal}
 use Rattle.club_orders.specs.Refused.{IfTakesOver, IfUpgrade, IsUpgradeRefusal}
@@ -39,6 +39,7 @@ if_verify (task.Request command) goes is = tt
 if_verify (task.Ask question) goes is = tt
 if_verify task.Verify goes is = goes is
 if_verify task.Upgrade goes is = tt
+if_verify (task.Batch batch) goes is = tt
 
 pub verify_under : (P Q : Type 0) (t : Task) → (P → IfVerify t Q) → IfVerify t (P → Q)
 verify_under P Q task.Init is = tt
@@ -46,6 +47,7 @@ verify_under P Q (task.Request command) is = tt
 verify_under P Q (task.Ask question) is = tt
 verify_under P Q task.Verify is = is
 verify_under P Q task.Upgrade is = tt
+verify_under P Q (task.Batch batch) is = tt
 
 pub if_takes_over : {P Q : Type 0} (t : Task) → (P → Q) → IfTakesOver t P → IfTakesOver t Q
 if_takes_over task.Init goes is = tt
@@ -53,6 +55,7 @@ if_takes_over (task.Request command) goes is = goes is
 if_takes_over (task.Ask question) goes is = goes is
 if_takes_over task.Verify goes is = goes is
 if_takes_over task.Upgrade goes is = tt
+if_takes_over (task.Batch batch) goes is = goes is
 
 pub if_upgrade : {P Q : Type 0} (t : Task) → (P → Q) → IfUpgrade t P → IfUpgrade t Q
 if_upgrade task.Init goes is = tt
@@ -60,6 +63,7 @@ if_upgrade (task.Request command) goes is = tt
 if_upgrade (task.Ask question) goes is = tt
 if_upgrade task.Verify goes is = tt
 if_upgrade task.Upgrade goes is = goes is
+if_upgrade (task.Batch batch) goes is = tt
 
 pub if_unopened : (P Q : OpenFault → Type 0) (report : Report) → ((fault : OpenFault) → P fault → Q fault)
     → IfUnopened report P → IfUnopened report Q
@@ -68,6 +72,7 @@ if_unopened P Q Sound goes is = tt
 if_unopened P Q Upgraded goes is = tt
 if_unopened P Q AlreadyUpgraded goes is = tt
 if_unopened P Q (Answered outcome) goes is = tt
+if_unopened P Q (Batched batched) goes is = tt
 if_unopened P Q Shown goes is = tt
 if_unopened P Q Unwritten goes is = tt
 if_unopened P Q (Unopened fault) goes is = goes fault is

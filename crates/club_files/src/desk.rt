@@ -28,9 +28,10 @@ use store::holds_exactly;
 /// program uses them, which is said at once and not waited for, takes the club over, serves those who come until the
 /// desk is to give way, and closes. Gives the fault that further ones are to be told, or why the files were not opened;
 /// and the files where they were. Where sessions led to whatever an opening finds in the files, they lead, with
-/// commands of members added, to whatever an opening finds in them after it, of whatever a stop leaves; where no fault
-/// is told, none of these was cut off. Files that are not taken over are blamed for it, and later openings find in them
-/// what this one found; those that are taken over are a club's, and of a club's files only a call that failed is told.
+/// commands of members and of the officer added, to whatever an opening finds in them after it, of whatever a stop
+/// leaves; where no fault is told, none of these was cut off. Files that are not taken over are blamed for it, and
+/// later openings find in them what this one found; those that are taken over are a club's, and of a club's files only
+/// a call that failed is told.
 pub fn stretch<S: Again, V: Visits>(
     rt: &HostRuntime,
     file: &str,

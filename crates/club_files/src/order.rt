@@ -14,7 +14,8 @@ ghost use Rattle.club_words.specs.declared.words.Task.TheVariants.{Init};
 ghost use Rattle.club_opening.specs.declared.fault.OpenFault.TheVariants.{Foreign};
 ghost use Rattle.club_orders.specs.declared.report.Report.TheVariants.{InUse, NotOpened, Sound, Unopened};
 ghost use Rattle.club_files.specs.declared.places.Purpose.TheVariants.{Making};
-ghost use Rattle.club_orders.specs.Report.{given, Answers, IfRequest, IfAsk, IfVerify};
+ghost use Rattle.club_orders.specs.Batches.{AnswersBatch};
+ghost use Rattle.club_orders.specs.Report.{given, Answers, IfRequest, IfAsk, IfBatch, IfVerify};
 ghost use Rattle.club_orders.specs.Report.{Shows, IsPassed, IsBegun, task_sessions};
 ghost use Rattle.club_orders.specs.Report.{IfUnopened, IsRepeated, OnlyUnopened, writes};
 ghost use Rattle.club_orders.specs.Refused.{IfTakesOver, IfUpgrade, IsOlder};
@@ -43,12 +44,12 @@ fn purpose_of(task: &Task) -> Purpose
 
 /// Does what is ordered, at that moment, over the files of the order's path, which hold at first what `S` stands for:
 /// opens them as soon as no other program uses them, which it waits for up to five seconds; makes a club, gives the
-/// club that stands there a command of the officer's, asks it a question and writes what that is shown to `out`, tests
-/// that the rows are a club's or carries them over to schema 2; and closes. Gives what it came to, and the files where
-/// they were opened.
+/// club that stands there a command of the officer's, or orders in turn, asks it a question and writes what that is
+/// shown to `out`, tests that the rows are a club's or carries them over to schema 2; and closes. Gives what it came to,
+/// and the files where they were opened.
 ///
-/// Where sessions led to whatever an opening finds in the files, they lead, with this command as one more, to whatever
-/// an opening finds in them after it, of whatever a stop leaves. Where they were new, and a club was to be made, no
+/// Where sessions led to whatever an opening finds in the files, they lead, with this command or these orders as one
+/// more, to whatever an opening finds in them after it, of whatever a stop leaves. Where they were new, and a club was to be made, no
 /// session leads to that, or there is no table still. The answer is the machine's, what is shown is the club's, and a
 /// club's files are found sound. Files that are found sound are a club's; those that are not taken as a club's are
 /// blamed for it, and later openings find in them what this one found. Only a question writes to `out`.
@@ -69,6 +70,9 @@ pub fn obey<S: Again, W: Write>(
         (s : ClubState) → AreFilesOf s (image_at S.Start) →
         IfRequest order.entry.now.task (λ command. Answers result.0 (λ outcome.
         outcome_of outcome ≡ answered (club_step s (given command moment))))) }
+    ensures given { IfSome result.1 (λ store. IsClean (store_view store) →
+        (s : ClubState) → AreFilesOf s (image_at S.Start) →
+        IfBatch order.entry.now.task (λ batch. AnswersBatch s moment batch result.0)) }
     ensures asked { IfSome result.1 (λ store. IsClean (store_view store) →
         (s : ClubState) → AreFilesOf s (image_at S.Start) →
         IfAsk order.entry.now.task (λ question.

@@ -1,2 +1,4 @@
+pub mod Batches
 pub mod Report
+pub mod Explained
 pub mod Refused

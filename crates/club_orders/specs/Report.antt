@@ -32,17 +32,20 @@ use Rattle.club_orders.specs.declared.report.Report.{Report}
 use Rattle.club_orders.specs.declared.report.Report.TheVariants.{Ready, Sound, Answered, Shown, Unwritten}
 use Rattle.club_orders.specs.declared.report.Report.TheVariants.{Unopened, Stopped, InUse, NotOpened, NoMoment, Unread}
 use Rattle.club_orders.specs.declared.report.Report.TheVariants.{Listening, Unbound, NoMemory, Upgraded}
-use Rattle.club_orders.specs.declared.report.Report.TheVariants.{AlreadyUpgraded}
+use Rattle.club_orders.specs.declared.report.Report.TheVariants.{AlreadyUpgraded, Batched}
+use Rattle.club_orders.specs.Batches.{batch_sessions, batch_status, fault_line}
+use Rattle.club_words.specs.declared.batches.Batch.{Batch}
 use Rattle.club_words.specs.declared.words.Task.{Task}
 use Rattle.club_words.specs.declared.words.Task.TheVariants as task
 
--- what is printed of an order, beside what a question was shown
+-- what is printed of an order, beside what a question was shown, and of a batch beside the lines of its orders
 abbrev pub report_text : Report → List ℕ
 report_text Ready = codes "ready\n"
 report_text Sound = codes "sound\n"
 report_text Upgraded = codes "upgraded\n"
 report_text AlreadyUpgraded = codes "repeated upgrade\n"
 report_text (Answered outcome) = outcome_text outcome ++ codes "\n"
+report_text (Batched batched) = fault_line batched.fault
 report_text Shown = []
 report_text Unwritten = codes "store 77 Output\n"
 report_text (Unopened fault) = codes "store " ++ open_fault_text fault ++ codes "\n"
@@ -67,6 +70,7 @@ report_status Sound = 0
 report_status Upgraded = 0
 report_status AlreadyUpgraded = 0
 report_status (Answered outcome) = outcome_status outcome
+report_status (Batched batched) = batch_status batched
 report_status Shown = 0
 report_status Unwritten = 3
 report_status (Unopened fault) = 3
@@ -115,6 +119,7 @@ upgrade_of _ = upgraded false
 abbrev pub task_sessions : Task → ℕ → Report → List Chapter
 task_sessions (task.Request command) moment report = request_sessions (given command moment) report
 task_sessions task.Upgrade moment report = upgrade_of report ∷ []
+task_sessions (task.Batch batch) moment report = batch_sessions batch.requests.items report
 task_sessions _ moment report = []
 
 -- the command was answered so, or a call of the database failed or memory was refused
@@ -129,6 +134,10 @@ Answers _ Holds = ⊥
 abbrev pub IfRequest : Task → (Command → Type 0) → Type 0
 IfRequest (task.Request command) Holds = Holds command
 IfRequest _ Holds = ⊤
+
+abbrev pub IfBatch : Task → (Batch → Type 0) → Type 0
+IfBatch (task.Batch batch) Holds = Holds batch
+IfBatch _ Holds = ⊤
 
 abbrev pub IfAsk : Task → (Question → Type 0) → Type 0
 IfAsk (task.Ask question) Holds = Holds question

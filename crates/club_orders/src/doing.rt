@@ -12,12 +12,14 @@ ghost use Rattle.club_rows.specs.Club.{ClubState, IsClub, tables};
 ghost use Rattle.club_changes.specs.Steps.{club_step};
 ghost use Rattle.store.specs.Histories.{IsReachable, upgraded};
 ghost use Rattle.club_words.specs.declared.words.Task.TheVariants.{Init};
-ghost use Rattle.club_orders.specs.Report.{given, Answers, ask_report, IfRequest, IfAsk, IfVerify, IfUnopened};
+ghost use Rattle.club_orders.specs.Batches.{AnswersBatch};
+ghost use Rattle.club_orders.specs.Report.{given, Answers, ask_report, IfRequest, IfAsk, IfBatch, IfVerify, IfUnopened};
 ghost use Rattle.club_orders.specs.Report.{IsCarriedOver, IsRepeated, OnlyUnopened, upgrade_of};
 ghost use Rattle.club_orders.specs.Report.{Shows, IsPassed, IsBegun, request_sessions, task_sessions, writes};
 ghost use Rattle.club_opening.specs.Refused.{HoldClub, IsKept, IsRefusal};
 ghost use Rattle.club_orders.specs.Refused.{HasFirst, IfTakesOver, IfUpgrade, IsOlder, IsUpgradeRefusal};
 
+use crate::batch::give_batch;
 use crate::report::Report;
 use clocks::Moment;
 use club_questions::Question;
@@ -220,10 +222,10 @@ fn verify<S: Alter>(alloc: Global, conn: Connection<S>) -> (Report, Connection<S
 }
 
 /// Does what is asked for over a connection that was just opened, at that moment, and gives the connection back:
-/// makes a club, gives the club that stands there a command of the officer's, asks it a question and writes what that
+/// makes a club, gives the club that stands there a command of the officer's, or orders in turn, asks it a question and writes what that
 /// is shown to `out`, tests that the rows are those of a club, or carries a club of schema 1 over to schema 2; every
-/// other word refuses schema 1 by its number. The answer is the machine's. Sessions that led to what the opening found lead, with this request as one more, to
-/// whatever a stop leaves; where there was no table, and a club was to be made, none led to it, or there is no table
+/// other word refuses schema 1 by its number. The answer is the machine's. Sessions that led to what the opening found
+/// lead, with this request or these orders as one more, to whatever a stop leaves; where there was no table, and a club was to be made, none led to it, or there is no table
 /// still. Tables that are not taken as a club's are blamed for it, and stay as they were found; those that are found
 /// sound are a club's.
 pub fn act<S: Alter, W: Write>(
@@ -247,6 +249,9 @@ pub fn act<S: Alter, W: Write>(
         (s : ClubState) → IsClub s → Leaves (tables s) (state S.Store conn).committed.trees →
         IfRequest task.now (λ command. Answers result.0 (λ outcome.
         outcome_of outcome ≡ answered (club_step s (given command moment)))) }
+    ensures given { HasCleanDisk (state S.Store result.1) → Opens (state S.Store conn) → IsLive (state S.Store conn) →
+        (s : ClubState) → IsClub s → Leaves (tables s) (state S.Store conn).committed.trees →
+        IfBatch task.now (λ batch. AnswersBatch s moment batch result.0) }
     ensures asked { HasCleanDisk (state S.Store result.1) → Opens (state S.Store conn) → IsLive (state S.Store conn) →
         (s : ClubState) → IsClub s → Leaves (tables s) (state S.Store conn).committed.trees →
         IfAsk task.now (λ question. Shows s moment question (W.contents out.old) (W.contents out.new) result.0) }
@@ -286,5 +291,6 @@ pub fn act<S: Alter, W: Write>(
         Task::Ask(question) => ask(alloc, conn, question, moment, out),
         Task::Verify => verify(alloc, conn),
         Task::Upgrade => carry(alloc, conn),
+        Task::Batch(batch) => give_batch(alloc, conn, batch, moment),
     }
 }

@@ -4,6 +4,7 @@ ghost use Rattle.std.specs.Prelude.{◌≡◌, ◌≢◌, ◌⊎◌, ◌++◌, �
 ghost use Rattle.std.specs.Io.KnownBytes.{Appends};
 ghost use Rattle.club_orders.specs.Report.{report_status, report_text, IsFaultTold};
 
+use crate::batched::{Batched, write_fault};
 use crate::written::write_out;
 use club_requests::Outcome;
 use std::alloc::AllocError;
@@ -29,6 +30,8 @@ pub enum Report {
     Ready,
     /// A command was answered.
     Answered(Outcome),
+    /// Orders were given in turn, up to the first fault.
+    Batched(Batched),
     /// The rows of the file are those of a club.
     Sound,
     /// The file was of schema 1, and is now of schema 2.
@@ -72,6 +75,7 @@ impl Report {
             Report::Answered(Outcome::Accepted(_)) => DONE,
             Report::Answered(Outcome::Repeated(_)) => DONE,
             Report::Answered(Outcome::Refused(_)) => REFUSED,
+            Report::Batched(batched) => batched.status(),
             Report::Shown => DONE,
             Report::Unwritten => FAULT,
             Report::Unopened(_) => FAULT,
@@ -87,7 +91,8 @@ impl Report {
     }
 }
 
-// Adds the report to a text: what was done, why it was refused, or after `store` the number and name of the fault.
+// Adds the report to a text: what was done, why it was refused, or after `store` the number and name of the fault. Of a
+// batch it is the fault that ended it, if one did.
 fn write_report(text: &mut String, report: &Report) -> Result<(), AllocError>
     ensures { OnOk result (string_bytes text.new ≡ string_bytes text.old ++ report_text report.now) }
 {
@@ -97,6 +102,7 @@ fn write_report(text: &mut String, report: &Report) -> Result<(), AllocError>
         Report::Upgraded => writeln!(text, "upgraded"),
         Report::AlreadyUpgraded => writeln!(text, "repeated upgrade"),
         Report::Answered(outcome) => writeln!(text, "{outcome}"),
+        Report::Batched(batched) => write_fault(text, &batched.fault),
         Report::Shown => Ok(()),
         Report::Unwritten => writeln!(text, "store 77 Output"),
         Report::Unopened(fault) => writeln!(text, "store {fault}"),
@@ -111,8 +117,8 @@ fn write_report(text: &mut String, report: &Report) -> Result<(), AllocError>
     }
 }
 
-// Says that a line could not be made, or not be printed.
-fn unprinted<E: Write>(err: &mut E, line: &str) -> u8
+/// Says that a line could not be made, or not be printed.
+pub(crate) fn unprinted<E: Write>(err: &mut E, line: &str) -> u8
     ensures status { result ≡ 3 }
     ensures told { (n : ℕ) × Appends (E.contents err.old) (E.contents err.new) (take n line.now) }
 {
@@ -121,7 +127,7 @@ fn unprinted<E: Write>(err: &mut E, line: &str) -> u8
 }
 
 /// Prints a report: what was done to the standard output, a refusal or a fault to the standard error. What a question is
-/// shown stands there before, and nothing more is printed. Gives the status, which is that of a fault where the line
+/// shown stands there before, and nothing more is printed; the lines of a batch are printed by `print_batch`. Gives the status, which is that of a fault where the line
 /// could not be made or written. `line` is empty, and has the room that was set aside for it.
 pub fn print<O: Write, E: Write>(line: String, report: &Report, out: &mut O, err: &mut E) -> u8
     requires { string_bytes line ≡ [] }

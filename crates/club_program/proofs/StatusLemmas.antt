@@ -6,13 +6,23 @@ use Rattle.club_orders.specs.declared.report.Report.{Report}
 use Rattle.club_orders.specs.declared.report.Report.TheVariants.{Ready, Sound, Answered, Shown, Unwritten}
 use Rattle.club_orders.specs.declared.report.Report.TheVariants.{Unopened, Stopped, InUse, NotOpened, NoMoment, Unread}
 use Rattle.club_orders.specs.declared.report.Report.TheVariants.{Listening, Unbound, NoMemory, Upgraded}
-use Rattle.club_orders.specs.declared.report.Report.TheVariants.{AlreadyUpgraded}
+use Rattle.club_orders.specs.declared.report.Report.TheVariants.{AlreadyUpgraded, Batched}
+use Rattle.club_orders.specs.Batches.{batch_status, is_refused, status_of}
+use Rattle.club_orders.specs.declared.batched.Batched as batch_report
 use Rattle.club_orders.specs.Report.{outcome_status, report_status}
+use Rattle.store.specs.declared.fault.StoreFault.{StoreFault}
+use Rattle.std.specs.Prelude.{Bool, true, false, Option, Some, None}
+use Rattle.std.specs.List.{list_any}
 
 outcome_small : (o : Outcome) → outcome_status o ≤ 3
 outcome_small (outcome.Accepted answer) = omega (arith)
 outcome_small (outcome.Repeated answer) = omega (arith)
 outcome_small (outcome.Refused refusal) = omega (arith)
+
+pub batch_small : (fault : Option StoreFault) (any_refused : Bool) → status_of fault any_refused ≤ 3
+batch_small (Some fault) any_refused = omega (arith)
+batch_small None true = omega (arith)
+batch_small None false = omega (arith)
 
 status_small : (report : Report) → report_status report ≤ 3
 status_small Ready = omega (arith)
@@ -20,6 +30,7 @@ status_small Sound = omega (arith)
 status_small Upgraded = omega (arith)
 status_small AlreadyUpgraded = omega (arith)
 status_small (Answered o) = outcome_small o
+status_small (Batched batched) = batch_small batched.fault (list_any is_refused batched.outcomes.items)
 status_small Shown = omega (arith)
 status_small Unwritten = omega (arith)
 status_small (Unopened fault) = omega (arith)
@@ -31,6 +42,14 @@ status_small Unread = omega (arith)
 status_small (Listening port) = omega (arith)
 status_small Unbound = omega (arith)
 status_small NoMemory = omega (arith)
+
+-- what `print_batch` gives
+pub batch_printed_small : (batched : batch_report.Batched) (status : ℕ)
+    → (status ≡ batch_status batched) ⊎ (status ≡ 3) → status ≤ 3
+batch_printed_small batched status (inl is) =
+    let P : ℕ → Type 0 = λ n. n ≤ 3 in
+    subst P (sym is) (batch_small batched.fault (list_any is_refused batched.outcomes.items))
+batch_printed_small batched status (inr is) = omega (arith, is)
 
 -- what `print` gives
 pub printed_small : (report : Report) (status : ℕ) → (status ≡ report_status report) ⊎ (status ≡ 3) → status ≤ 3

@@ -1,7 +1,8 @@
-//! The record of a game that an import takes.
+//! The texts that orders take: the record of a game, and the orders of a batch.
 
 ghost use Rattle.std.specs.Prelude.{◌≡◌, IfOk, IfSome, take};
 
+use club_batches::BATCH_BYTES;
 use club_orders::Report;
 use club_words::Order;
 use std::fs::File;
@@ -10,32 +11,49 @@ use std::io::{ErrorKind, Read};
 // The bytes of a record that are looked at: one more than it may have, so that a longer one is seen to be.
 const RECORD_BYTES: u64 = 65_537;
 
-// Reads a record to its end, or as far as it is looked at.
-fn read_bytes<I: Read + Drop>(rt: &HostRuntime, input: I) -> Result<Vec<u8>, Report>
-    ensures { IfOk result (λ read. IfSome (I.remaining input) (λ bytes. read.items ≡ take 65537 bytes)) }
+// The same of the orders of a batch.
+const ORDERS_BYTES: u64 = BATCH_BYTES as u64 + 1;
+
+// Reads so many bytes, or all where there are fewer.
+fn read_bytes<I: Read + Drop>(rt: &HostRuntime, input: I, most: u64) -> Result<Vec<u8>, Report>
+    ensures { IfOk result (λ read. IfSome (I.remaining input) (λ bytes. read.items ≡ take most bytes)) }
 {
     let mut bytes = Vec::new(rt.alloc());
-    match input.take(RECORD_BYTES).read_to_end(&mut bytes) {
+    match input.take(most).read_to_end(&mut bytes) {
         Ok(_) => Ok(bytes),
         Err(error) if error.kind() == ErrorKind::OutOfMemory => Err(Report::NoMemory),
         Err(_) => Err(Report::Unread),
     }
 }
 
+// Reads so many bytes of a file, or of the standard input.
+fn read_path(rt: &HostRuntime, path: &str, most: u64) -> Result<Vec<u8>, Report> {
+    if path == "-" {
+        return read_bytes(rt, rt.stdin(), most);
+    }
+    match File::open(rt, path) {
+        Ok(file) => read_bytes(rt, file, most),
+        Err(_) => Err(Report::Unread),
+    }
+}
+
+/// The text of a record.
+pub(crate) fn read_record(rt: &HostRuntime, path: &str) -> Result<Vec<u8>, Report> {
+    read_path(rt, path, RECORD_BYTES)
+}
+
+/// The text of the orders of a batch.
+pub(crate) fn read_batch(rt: &HostRuntime, path: &str) -> Result<Vec<u8>, Report> {
+    read_path(rt, path, ORDERS_BYTES)
+}
+
 /// The text of the record that an import asks for.
 pub(crate) fn record_in(rt: &HostRuntime, order: &Order) -> Result<Option<Vec<u8>>, Report> {
-    let Some(path) = &order.record else {
-        return Ok(None);
-    };
-    if path.as_str() == "-" {
-        let text = read_bytes(rt, rt.stdin())?;
-        return Ok(Some(text));
-    }
-    match File::open(rt, path.as_str()) {
-        Ok(file) => {
-            let text = read_bytes(rt, file)?;
+    match &order.record {
+        Some(path) => {
+            let text = read_record(rt, path.as_str())?;
             Ok(Some(text))
         }
-        Err(_) => Err(Report::Unread),
+        None => Ok(None),
     }
 }

@@ -4,12 +4,12 @@ ghost use Rattle.std.specs.Prelude.{◌≤◌};
 
 use crate::course::{Course, course_of, lasts};
 use crate::orders::done;
-use crate::printing::{explain, print_report, print_without_room};
+use crate::printing::{print_report, print_without_room};
 use club_files::{give_up, stretch};
 use club_orders::{DONE, Report};
 use club_words::{Order, Service, Task};
 use http_desk::ClubFault;
-use http_port::{Callers, Terms, serve_closed};
+use http_port::{Callers, Leave, Terms, ask_for, serve_closed};
 use sqlite_disk::Wary;
 use std::alloc::AllocError;
 use std::time::Duration;
@@ -20,12 +20,25 @@ const GIVEN_UP_MILLISECONDS: u64 = 200;
 // How long is waited before files that another program has are asked for again.
 const AGAIN_MILLISECONDS: u64 = 100;
 
-// How often they are asked for before those who come are told that they cannot be had: for five seconds, in which a
-// word is done. From then on each is told at once.
-const PATIENCE: u32 = 50;
+// How often they are asked for before those who come are told that they cannot be had: for a second, since a word asks
+// for them and has been waited for. From then on each is told at once.
+const PATIENCE: u32 = 10;
+
+// Asks another desk for the files, if one holds them; where there is none, this one's door is opened.
+fn ask_or_open(rt: &HostRuntime, file: &str, callers: &mut Callers<'_>) -> Option<Leave> {
+    if callers.has_door() {
+        return None;
+    }
+    let leave = ask_for(rt, file);
+    if leave.is_none() {
+        callers.open_door(file);
+    }
+    leave
+}
 
 // A stretch over the files, unless another program has them.
 fn serve_stretch(rt: &HostRuntime, file: &str, callers: &mut Callers<'_>) -> Course {
+    let _leave = ask_or_open(rt, file, callers);
     callers.begin();
     course_of(give_up(stretch(rt, file, Wary, callers)))
 }
@@ -49,7 +62,16 @@ fn hear(callers: &mut Callers<'_>, tries: u32) -> bool {
     if tries > 0 {
         return callers.hear(Duration::from_millis(AGAIN_MILLISECONDS));
     }
+    if callers.is_awaited() && !callers.has_door() {
+        return callers.hear(Duration::from_millis(GIVEN_UP_MILLISECONDS));
+    }
     callers.await_next()
+}
+
+// Leaves the files to the one who asks for them, or for a while to whoever takes them: false where no one more is to be
+// served.
+fn give_way(callers: &mut Callers<'_>) -> bool {
+    callers.lend() || callers.hear(Duration::from_millis(GIVEN_UP_MILLISECONDS))
 }
 
 // Serves as many as are to be let in, over a file.
@@ -62,7 +84,7 @@ fn serve(rt: &HostRuntime, file: &str, callers: &mut Callers<'_>) {
         match serve_stretch(rt, file, callers) {
             Course::GoesOn => {
                 tries = 0;
-                if !callers.hear(Duration::from_millis(GIVEN_UP_MILLISECONDS)) {
+                if !give_way(callers) {
                     return;
                 }
             }
@@ -77,7 +99,15 @@ fn serve(rt: &HostRuntime, file: &str, callers: &mut Callers<'_>) {
                 tries = tries.saturating_add(1);
             }
         }
+        let _lent = callers.lend();
     }
+}
+
+// Prints what was come to of a service.
+fn told(rt: &HostRuntime, service: &Service, report: &Report) -> u8
+    ensures { result ≤ 3 }
+{
+    print_report(rt, &Task::Verify, report, service.explains)
 }
 
 // Listens on the port of a service, says so, and serves those who come.
@@ -91,11 +121,14 @@ fn listen(rt: &HostRuntime, service: &Service) -> u8
     };
     let mut callers = match Callers::listen(rt, service.port, terms) {
         Ok(callers) => callers,
-        Err(_) => return print_report(rt, &Report::Unbound),
+        Err(_) => return told(rt, service, &Report::Unbound),
     };
-    let status = print_report(rt, &Report::Listening(service.port));
+    let status = told(rt, service, &Report::Listening(service.port));
     if status == DONE {
-        serve(rt, service.file.as_str(), &mut callers);
+        let file = service.file.as_str();
+        callers.open_door(file);
+        serve(rt, file, &mut callers);
+        callers.close_door();
     }
     status
 }
@@ -107,30 +140,20 @@ fn test_of(rt: &HostRuntime, service: &Service) -> Result<Order, AllocError> {
         now: service.now,
         task: Task::Verify,
         record: None,
+        explains: service.explains,
     })
 }
 
-// Prints why a file is not served over, with an explanation where one is asked for.
-fn print_fault(rt: &HostRuntime, report: &Report, explains: bool) -> u8
-    ensures { result ≤ 3 }
-{
-    let status = print_report(rt, report);
-    if explains {
-        explain(rt, report);
-    }
-    status
-}
-
 /// Serves over a file, if it is a club's.
-pub(crate) fn run_service(rt: &HostRuntime, service: &Service, explains: bool) -> u8
+pub(crate) fn run_service(rt: &HostRuntime, service: &Service) -> u8
     ensures { result ≤ 3 }
 {
     let order = match test_of(rt, service) {
         Ok(order) => order,
-        Err(_) => return print_without_room(rt),
+        Err(_) => return print_without_room(rt, &Task::Verify, service.explains),
     };
     match done(rt, &order) {
         Report::Sound => listen(rt, service),
-        report => print_fault(rt, &report, explains),
+        report => told(rt, service, &report),
     }
 }

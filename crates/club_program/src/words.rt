@@ -17,59 +17,25 @@ pub(crate) fn given_words(rt: &HostRuntime) -> Result<Vec<String>, BadWords> {
     Ok(words.collect(rt.alloc())?)
 }
 
-// Whether a word stands at a place.
-fn stands_at(words: &[String], at: usize, wanted: &str) -> bool {
-    match words.get(at) {
-        Some(word) => word.as_str() == wanted,
-        None => false,
-    }
-}
-
-// The place at which the words before the file go on behind a `--now`, where one stands there.
-fn behind_now(words: &[String]) -> usize {
-    match words.get(1) {
-        Some(word) if word.as_str() == "--now" => 3,
-        Some(word) if word.as_str().starts_with("--now=") => 2,
-        _ => 1,
-    }
-}
-
-// The place of a `--explain` that stands before the file, first of all or behind a `--now`.
-fn explain_at(words: &[String]) -> Option<usize> {
-    if stands_at(words, 1, "--explain") {
-        return Some(1);
-    }
-    let at = behind_now(words);
-    if stands_at(words, at, "--explain") {
-        Some(at)
-    } else {
-        None
-    }
-}
-
-/// Takes a `--explain` that stands before the file out of the words: whether there was one.
-pub(crate) fn take_explain(words: &mut Vec<String>) -> bool {
-    let Some(at) = explain_at(words.as_slice()) else {
-        return false;
-    };
-    if at < words.len() {
-        let _taken = words.remove(at);
-    }
-    true
-}
-
 // The words as texts.
 fn texts<'a>(rt: &HostRuntime, words: &'a [String]) -> Result<Vec<&'a str>, AllocError> {
     words.iter().map(|word| word.as_str()).collect(rt.alloc())
 }
 
-// The place of a `--` that stands before the file.
+// How many words an option takes that stands at a place before the file; none where there is no such option.
+fn option_words(words: &[&str], at: usize) -> usize {
+    match words.get(at) {
+        Some(word) if *word == "--now" => 2,
+        Some(word) if word.starts_with("--now=") || *word == "--explain" => 1,
+        _ => 0,
+    }
+}
+
+// The place of a `--` that stands before the file, behind both options at most.
 fn dashes_at(words: &[&str]) -> Option<usize> {
-    let at = match words.get(1) {
-        Some(word) if *word == "--now" => 3,
-        Some(word) if word.starts_with("--now=") => 2,
-        _ => 1,
-    };
+    let first: usize = 1;
+    let second = first.saturating_add(option_words(words, first));
+    let at = second.saturating_add(option_words(words, second));
     match words.get(at) {
         Some(word) if *word == "--" => Some(at),
         _ => None,

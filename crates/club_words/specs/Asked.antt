@@ -1,9 +1,9 @@
 -- What the program's words ask for, by the texts that the parser found of them.
 use Rattle.std.specs.Prelude.{◌≡◌, ◌⊎◌, ◌<◌, ◌≤◌, ◌^◌, ℕ, Bool, List, [], Option, Some, None, option_map, unwrap_or}
-use Rattle.std.specs.Prelude.{codes, string_bytes, if◌then◌else◌, ◌||◌, true, false}
+use Rattle.std.specs.Prelude.{codes, string_bytes, if◌then◌else◌, ◌||◌, true, false, map}
 use Rattle.std.specs.Str.{bytes_eq}
 use Rattle.std.specs.Str.Parse.{IsNumeral, digits_value, without_leading_plus}
-use Rattle.clap.specs.Words.{first_value, one_text}
+use Rattle.clap.specs.Words.{first_value, matched_of, one_text, raw_values}
 use Rattle.clap.specs.declared.parser.matches.Found.{Found}
 use Rattle.club_rules.specs.declared.names.GameKind.{GameKind}
 use Rattle.club_rules.specs.declared.names.GameKind.TheVariants.{Draughts, Shogi}
@@ -18,10 +18,14 @@ use Rattle.club_words.specs.declared.words.Task.{Task}
 use Rattle.club_questions.specs.declared.questions.Listing.{Listing}
 use Rattle.club_questions.specs.declared.questions.Question.{Question}
 use Rattle.club_questions.specs.declared.questions.Question.TheVariants.{LegalMoves, CrossTable, Record, Members}
-use Rattle.club_questions.specs.declared.questions.Question.TheVariants.{Events, Games}
+use Rattle.club_questions.specs.declared.questions.Question.TheVariants.{Events, Games, Board}
+use Rattle.club_questions.specs.declared.questions.Question.TheVariants.{EventRecords}
 use Rattle.club_questions.specs.declared.questions.Which.{Which}
 use Rattle.club_questions.specs.declared.questions.Which.TheVariants.{All, Running, Overdue}
-use Rattle.club_words.specs.declared.words.Task.TheVariants.{Init, Request, Ask, Upgrade, Verify}
+use Rattle.club_words.specs.declared.words.Task.TheVariants.{Init, Request, Ask, Upgrade, Verify, Batch}
+use Rattle.club_words.specs.declared.batches.BatchWords.{BatchWords}
+use Rattle.club_words.specs.declared.batches.Line.{Line}
+use Rattle.club_words.specs.declared.batches.RoundRobin.{RoundRobin}
 use Rattle.club_words.specs.declared.words.Order.{Order}
 use Rattle.club_words.specs.declared.words.Service.{Service}
 use Rattle.club_words.specs.declared.words.Words.{Words}
@@ -30,6 +34,10 @@ use Rattle.club_words.specs.declared.words.Words.TheVariants as words
 -- the text of a word: empty where there is none
 abbrev pub text_in : Found → List ℕ → List ℕ
 text_in found name = unwrap_or (first_value found name) []
+
+-- the texts of a word that may stand several times
+abbrev pub texts_in : Found → List ℕ → List (List ℕ)
+texts_in found name = unwrap_or (option_map raw_values (matched_of found name)) []
 
 -- digits, perhaps behind a plus, of a number that fits 64 bits
 abbrev pub IsWhole : List ℕ → Type 0
@@ -126,21 +134,31 @@ AsksQuestion name found (Record game) = (name ≡ codes "export") × IsNumberIn 
 AsksQuestion name found Members = name ≡ codes "members"
 AsksQuestion name found Events = name ≡ codes "events"
 AsksQuestion name found (Games listing) = (name ≡ codes "games") × AreListed found listing
+AsksQuestion name found (Board game letters) = (name ≡ codes "show") × IsNumberIn found (codes "GAME") 0 game
+    × IsFlagIn found (codes "LETTERS") letters
+AsksQuestion name found (EventRecords event) = (name ≡ codes "export-event")
+    × (string_bytes event ≡ text_in found (codes "EVENT"))
 AsksQuestion name found _ = ⊥
 
--- the subcommand of this name asks for this
+-- the subcommand of this name asks for this; the orders of a batch are read later
 abbrev pub AsksTask : List ℕ → Found → Task → Type 0
 AsksTask name found Init = name ≡ codes "init"
 AsksTask name found (Ask question) = AsksQuestion name found question
 AsksTask name found Verify = name ≡ codes "verify"
 AsksTask name found Upgrade = name ≡ codes "upgrade"
 AsksTask name found (Request command) = AsksCommand name found command
+AsksTask name found (Batch batch) = ⊥
 
 -- where the record of an import is read from
 abbrev pub record_word : List ℕ → Found → Option (List ℕ)
 record_word name found =
     if bytes_eq name (codes "import-pdn") || bytes_eq name (codes "import-csa")
     then Some (text_in found (codes "RECORD")) else None
+
+-- the order that a line of a batch gives
+pub record AsksLine (name : List ℕ) (found : Found) (line : Line) : Type 0 where
+  pub command : AsksCommand name found line.command
+  pub from : option_map string_bytes line.«record» ≡ record_word name found
 
 -- ---- all words: those before the name of a subcommand, and its own
 
@@ -149,6 +167,7 @@ pub record AsksOrder (all : Found) (name : List ℕ) (found : Found) (order : Or
   pub now : IsMomentIn all order.now
   pub task : AsksTask name found order.task
   pub from : option_map string_bytes order.record ≡ record_word name found
+  pub explains : IsFlagIn all (codes "EXPLAIN") order.explains
 
 pub record AsksService (all found : Found) (service : Service) : Type 0 where
   pub file : string_bytes service.file ≡ text_in all (codes "FILE")
@@ -156,7 +175,26 @@ pub record AsksService (all found : Found) (service : Service) : Type 0 where
   pub port : IsNumberIn found (codes "PORT") 0 service.port
   pub count : IsNumberIn found (codes "COUNT") 18446744073709551615 service.count
   pub log : IsFlagIn found (codes "LOG") service.log
+  pub explains : IsFlagIn all (codes "EXPLAIN") service.explains
+
+pub record AsksBatch (all found : Found) (given : BatchWords) : Type 0 where
+  pub file : string_bytes given.file ≡ text_in all (codes "FILE")
+  pub now : IsMomentIn all given.now
+  pub orders : string_bytes given.orders ≡ text_in found (codes "ORDERS")
+  pub explains : IsFlagIn all (codes "EXPLAIN") given.explains
+
+pub record AsksRoundRobin (all found : Found) (given : RoundRobin) : Type 0 where
+  pub file : string_bytes given.file ≡ text_in all (codes "FILE")
+  pub now : IsMomentIn all given.now
+  pub double : IsFlagIn found (codes "DOUBLE") given.is_double
+  pub dry : IsFlagIn found (codes "DRY") given.is_dry
+  pub prefix : string_bytes given.prefix ≡ text_in found (codes "PREFIX")
+  pub event : string_bytes given.event ≡ text_in found (codes "EVENT")
+  pub names : map string_bytes given.names.items ≡ texts_in found (codes "NAME")
+  pub explains : IsFlagIn all (codes "EXPLAIN") given.explains
 
 abbrev pub Asks : Found → List ℕ → Found → Words → Type 0
 Asks all name found (words.Order order) = AsksOrder all name found order
 Asks all name found (words.Serve service) = (name ≡ codes "serve") × AsksService all found service
+Asks all name found (words.Batch batch) = (name ≡ codes "batch") × AsksBatch all found batch
+Asks all name found (words.RoundRobin games) = (name ≡ codes "round-robin") × AsksRoundRobin all found games

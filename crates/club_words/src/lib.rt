@@ -1,6 +1,9 @@
 //! An officer's words, read as an order.
 #![tactic(auto)]
 
+pub mod batches;
+mod parser;
 pub mod words;
 
-pub use words::{BadWords, Order, Service, Task, Words, read_words};
+pub use batches::{Batch, BatchWords, Line, RoundRobin, read_line};
+pub use words::{BadWords, Order, Service, Task, Words, read_words, with_text};

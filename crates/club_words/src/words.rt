@@ -2,13 +2,15 @@
 
 ghost use Rattle.std.specs.Prelude.{◌≡◌, IfOk, IfSome, Some, codes, map, option_map, string_bytes};
 ghost use Rattle.clap.specs.Words.{first_value, found_of};
-ghost use Rattle.club_words.specs.Asked.{Asks, AsksCommand, AsksImport, AsksService, AsksTask};
-ghost use Rattle.club_words.specs.Asked.{AreListed, AreShownOf, IsMomentIn, IsNumberIn, game_word, record_word};
-ghost use Rattle.club_words.specs.Asked.{text_in, which_of};
+ghost use Rattle.club_words.specs.Asked.{Asks, AsksCommand, AsksImport, AsksQuestion, AsksService, AsksTask};
+ghost use Rattle.club_words.specs.Asked.{AreListed, AreShownOf, IsFlagIn, IsMomentIn, IsNumberIn, game_word};
+ghost use Rattle.club_words.specs.Asked.{record_word, text_in, which_of};
 ghost use Rattle.club_words.specs.Imports.{with_text, task_with};
 
+use crate::batches::{Batch, BatchWords, RoundRobin, batch_of, round_robin_of};
+use crate::parser::club_words;
+use clap::ArgMatches;
 use clap::error::ErrorKind;
-use clap::{Arg, ArgAction, ArgMatches, value_parser};
 use clocks::Moment;
 use club_questions::{Listing, Question, Which};
 use club_requests::{AddEvent, AddMember, Command, GameCommand, Import, OnGame, Seat};
@@ -28,6 +30,8 @@ pub enum Task {
     Verify,
     /// Carry the file over from schema 1 to schema 2.
     Upgrade,
+    /// Give the club orders of the officer's, one after another.
+    Batch(Batch),
 }
 
 /// A file, the moment that is to count if the words give one, and what to do.
@@ -38,10 +42,12 @@ pub struct Order {
     pub task: Task,
     /// Where an import's text is read from: a path, or `-` for the standard input. The task has no text of its own.
     pub record: Option<String>,
+    /// Whether a refusal and a fault are explained on a second line.
+    pub explains: bool,
 }
 
-// The command with that text, if it is an import.
-fn with_text(command: Command, text: Vec<u8>) -> Command
+/// The command with that text, if it is an import.
+pub fn with_text(command: Command, text: Vec<u8>) -> Command
     ensures { result ≡ with_text text command }
 {
     match command {
@@ -64,12 +70,14 @@ impl Order {
         ensures task { result.task ≡ task_with text self.task }
         ensures file { result.file ≡ self.file }
         ensures now { result.now ≡ self.now }
+        ensures explains { result.explains ≡ self.explains }
     {
         let Order {
             file,
             now,
             task,
             record,
+            explains,
         } = self;
         let task = match task {
             Task::Request(command) => Task::Request(with_text(command, text)),
@@ -80,6 +88,7 @@ impl Order {
             now,
             task,
             record,
+            explains,
         }
     }
 }
@@ -96,6 +105,8 @@ pub struct Service {
     pub count: u64,
     /// Whether each connection is written down.
     pub log: bool,
+    /// Whether a fault is explained on a second line.
+    pub explains: bool,
 }
 
 /// What the program's words say.
@@ -103,6 +114,8 @@ pub struct Service {
 pub enum Words {
     Order(Order),
     Serve(Service),
+    Batch(BatchWords),
+    RoundRobin(RoundRobin),
 }
 
 /// Words that are no order.
@@ -110,6 +123,8 @@ pub enum Words {
 pub enum BadWords {
     /// What the parser says of them; its help, too.
     Text(String),
+    /// The line that answers `--version`.
+    Version(String),
     /// Memory was refused.
     Memory,
 }
@@ -120,289 +135,12 @@ impl From<AllocError> for BadWords {
     }
 }
 
-// The games that an event may have.
-static GAMES: [&str; 2] = ["draughts", "shogi"];
-
-// What a name may be: of a member, of an event, or the key of a game.
-const A_NAME: &str = "1 to 24 letters, digits, '.', '_' or '-'";
-
-// A positional word that has to be there.
-fn word<'a>(alloc: Global, name: &'a str, help: &'a str) -> Arg<'a> {
-    Arg::new(alloc, name)
-        .help(help)
-        .required(true)
-        .action(ArgAction::Set)
-}
-
-// A positional whole number that has to be there.
-fn number<'a>(alloc: Global, name: &'a str, help: &'a str) -> Arg<'a> {
-    word(alloc, name, help).value_parser(value_parser!(u64))
-}
-
-fn member_words<'a>(alloc: Global) -> Result<clap::Command<'a>, AllocError> {
-    clap::Command::new(alloc, "member")
-        .about("Adds a member, with the key that the member will show")
-        .arg(word(alloc, "NAME", A_NAME))?
-        .arg(word(
-            alloc,
-            "KEY",
-            "The member's secret: 8 to 64 letters and digits",
-        ))
-}
-
-fn event_words<'a>(alloc: Global) -> Result<clap::Command<'a>, AllocError> {
-    clap::Command::new(alloc, "event")
-        .about(
-            "Adds an event; each player starts with BUDGET seconds and gains INCREMENT at each move",
-        )
-        .arg(word(alloc, "NAME", A_NAME))?
-        .arg(word(alloc, "GAME", "The game that is played in the event").value_parser(
-            GAMES.as_slice(),
-        ))?
-        .arg(number(
-            alloc,
-            "BUDGET",
-            "Seconds that each player starts with: 1 to 31536000, as 86400 for a day",
-        ))?
-        .arg(number(
-            alloc,
-            "INCREMENT",
-            "Seconds that a player gains at each move: 0 to 2592000",
-        ))
-}
-
-fn seat_words<'a>(alloc: Global) -> Result<clap::Command<'a>, AllocError> {
-    clap::Command::new(alloc, "seat")
-        .about("Starts a game of an event between two members, under a key")
-        .arg(word(alloc, "KEY", A_NAME))?
-        .arg(word(alloc, "EVENT", "The event's name"))?
-        .arg(word(
-            alloc,
-            "FIRST",
-            "The member who moves first: White in draughts, Black in shogi",
-        ))?
-        .arg(word(alloc, "SECOND", "The other member"))
-}
-
-// The words of an import, but for the part of the record.
-fn import_words<'a>(
-    alloc: Global,
-    name: &'a str,
-    about: &'a str,
-) -> Result<clap::Command<'a>, AllocError> {
-    clap::Command::new(alloc, name)
-        .about(about)
-        .arg(word(alloc, "KEY", A_NAME))?
-        .arg(word(alloc, "EVENT", "The event's name"))?
-        .arg(word(
-            alloc,
-            "FIRST",
-            "The member who moved first: White in draughts, Black in shogi",
-        ))?
-        .arg(word(alloc, "SECOND", "The other member"))?
-        .arg(word(
-            alloc,
-            "RECORD",
-            "The file of the record, of at most 65536 bytes; '-' is the standard input",
-        ))
-}
-
-// The words of an import of shogi.
-fn import_csa_words<'a>(alloc: Global) -> Result<clap::Command<'a>, AllocError> {
-    let part = Arg::new(alloc, "N")
-        .long("part")
-        .help("Which of the records in the file: 1, if it is not given, for the first")
-        .action(ArgAction::Set)
-        .value_parser(value_parser!(u64));
-    let words = import_words(
-        alloc,
-        "import-csa",
-        "Adds an ended game of an event of shogi from a CSA record, under a key",
-    )?;
-    words.arg(part)
-}
-
-fn move_words<'a>(alloc: Global) -> Result<clap::Command<'a>, AllocError> {
-    clap::Command::new(alloc, "move")
-        .about("Plays a move for the side whose ply it is")
-        .arg(number(alloc, "GAME", "The game's number, as 'seat' printed it"))?
-        .arg(number(
-            alloc,
-            "PLY",
-            "The number of the move in the game, both sides counted: 1 for the first",
-        ))?
-        .arg(word(
-            alloc,
-            "TEXT",
-            "The move: in draughts 32-28, or 28x19 for a capture; in shogi 7g7f, 8h2b+ or P*5e",
-        ))
-}
-
-fn legal_words<'a>(alloc: Global) -> Result<clap::Command<'a>, AllocError> {
-    clap::Command::new(alloc, "legal")
-        .about("Lists the legal moves of a game, a line each; nothing where it has ended")
-        .arg(number(alloc, "GAME", "The game's number, as 'seat' printed it"))
-}
-
-fn export_words<'a>(alloc: Global) -> Result<clap::Command<'a>, AllocError> {
-    clap::Command::new(alloc, "export")
-        .about("Writes a game as a record: draughts in PDN, shogi in CSA")
-        .arg(number(alloc, "GAME", "The game's number, as 'seat' printed it"))
-}
-
-fn table_words<'a>(alloc: Global) -> Result<clap::Command<'a>, AllocError> {
-    clap::Command::new(alloc, "table")
-        .about(
-            "Shows the cross table of an event: who has an ended game in it, by points, wins and id",
-        )
-        .arg(word(alloc, "EVENT", "The event's name"))
-}
-
-// An option that narrows a list by a name.
-fn narrowed<'a>(alloc: Global, id: &'a str, long: &'a str, help: &'a str) -> Arg<'a> {
-    Arg::new(alloc, id)
-        .long(long)
-        .value_name("NAME")
-        .help(help)
-        .action(ArgAction::Set)
-}
-
-fn games_words<'a>(alloc: Global) -> Result<clap::Command<'a>, AllocError> {
-    let running = Arg::new(alloc, "RUNNING")
-        .long("running")
-        .help("Only games that have not ended")
-        .action(ArgAction::SetTrue)
-        .conflicts_with("OVERDUE")?;
-    let overdue = Arg::new(alloc, "OVERDUE")
-        .long("overdue")
-        .help("Only games that 'sweep' would end: the side to move has used up its time")
-        .action(ArgAction::SetTrue);
-    clap::Command::new(alloc, "games")
-        .about(
-            "Lists the games, a line each: who plays whom, and until when a move is due or how it ended",
-        )
-        .arg(narrowed(alloc, "EVENT", "event", "Only games of this event"))?
-        .arg(narrowed(alloc, "MEMBER", "member", "Only games of this member"))?
-        .arg(running)?
-        .arg(overdue)
-}
-
-fn serve_words<'a>(alloc: Global) -> Result<clap::Command<'a>, AllocError> {
-    let log = Arg::new(alloc, "LOG")
-        .long("log")
-        .help("Writes a line for each connection: moment, method, path and status, and no key")
-        .action(ArgAction::SetTrue);
-    let count = Arg::new(alloc, "COUNT")
-        .long("count")
-        .help("Ends after so many connections")
-        .action(ArgAction::Set)
-        .value_parser(value_parser!(u64));
-    clap::Command::new(alloc, "serve")
-        .about("Answers members over HTTP, one connection after another")
-        .arg(log)?
-        .arg(count)?
-        .arg(word(alloc, "PORT", "The port of 127.0.0.1 on which it listens").value_parser(
-            value_parser!(u64).range(1..=65_535),
-        ))
-}
-
-// The program with the moment and the file that may come before its words.
-fn program<'a>(alloc: Global) -> Result<clap::Command<'a>, AllocError> {
-    let now = Arg::new(alloc, "SECONDS")
-        .long("now")
-        .help("The moment that counts, in Unix seconds, in place of the machine's clock")
-        .action(ArgAction::Set)
-        .value_parser(value_parser!(u64).range(0..=253_402_300_799));
-    clap::Command::new(alloc, "club")
-        .about(
-            "Keeps a club's games of draughts and shogi in one file.\n\
-             Status: 0 done, 1 refused, 2 bad words (and help), 3 a fault",
-        )
-        .subcommand_required(true)
-        .arg(now)?
-        .arg(word(
-            alloc,
-            "FILE",
-            "The club's file; beside it may lie FILE-wal, which belongs to it",
-        ))
-}
-
-// The command with that word more, which may not have been made for want of memory.
-fn with<'a>(
-    command: clap::Command<'a>,
-    word: Result<clap::Command<'a>, AllocError>,
-) -> Result<clap::Command<'a>, AllocError> {
-    command.subcommand(word?)
-}
-
-// With the words that make a club and bring in what it is to have.
-fn with_entries<'a>(
-    alloc: Global,
-    program: clap::Command<'a>,
-) -> Result<clap::Command<'a>, AllocError> {
-    let init = clap::Command::new(alloc, "init").about(
-        "Makes the tables of a club in an empty file",
-    );
-    let program = with(program, Ok(init))?;
-    let program = with(program, member_words(alloc))?;
-    let program = with(program, event_words(alloc))?;
-    let program = with(program, seat_words(alloc))?;
-    let import_pdn = import_words(
-        alloc,
-        "import-pdn",
-        "Adds an ended game of an event of draughts from a PDN record, under a key",
-    );
-    with(with(program, import_pdn)?, import_csa_words(alloc))
-}
-
-// With the words on games that are played, and those that end games by time.
-fn with_games<'a>(
-    alloc: Global,
-    program: clap::Command<'a>,
-) -> Result<clap::Command<'a>, AllocError> {
-    let sweep = clap::Command::new(alloc, "sweep").about(
-        "Ends by time every running game whose side to move has used more seconds than it has left",
-    );
-    let program = with(program, move_words(alloc))?;
-    let program = with(program, Ok(sweep))?;
-    let program = with(program, legal_words(alloc))?;
-    with(program, export_words(alloc))
-}
-
-// With the words that show what the club has, and serve it.
-fn with_views<'a>(
-    alloc: Global,
-    program: clap::Command<'a>,
-) -> Result<clap::Command<'a>, AllocError> {
-    let members = clap::Command::new(alloc, "members").about(
-        "Lists the members, a line each, without their keys",
-    );
-    let events = clap::Command::new(alloc, "events").about(
-        "Lists the events, a line each, with how many games each has and how many of them run",
-    );
-    let verify = clap::Command::new(alloc, "verify").about(
-        "Reads and replays the whole file, and says that it is sound, or which table is damaged",
-    );
-    let upgrade = clap::Command::new(alloc, "upgrade").about(
-        "Carries a file of schema 1 over to schema 2, which has the rules of events; copy both files first",
-    );
-    let program = with(program, table_words(alloc))?;
-    let program = with(program, Ok(members))?;
-    let program = with(program, Ok(events))?;
-    let program = with(program, games_words(alloc))?;
-    let program = with(program, Ok(verify))?;
-    let program = with(program, Ok(upgrade))?;
-    with(program, serve_words(alloc))
-}
-
-// The program's words, as the parser takes them and help shows them.
-fn club_words<'a>(alloc: Global) -> Result<clap::Command<'a>, AllocError> {
-    let program = with_entries(alloc, program(alloc)?)?;
-    with_views(alloc, with_games(alloc, program)?)
-}
-
 // A copy of a word that has to be there.
-fn text(alloc: Global, matches: &ArgMatches<'_>, name: &str) -> Result<String, AllocError>
+pub(crate) fn text(
+    alloc: Global,
+    matches: &ArgMatches<'_>,
+    name: &str,
+) -> Result<String, AllocError>
     ensures { IfOk result (λ text. string_bytes text ≡ text_in (found_of matches.now) name.now) }
 {
     String::from_str(alloc, matches.get_str(name).unwrap_or(""))
@@ -452,7 +190,7 @@ fn game_of(matches: &ArgMatches<'_>) -> Option<GameKind>
 }
 
 // Words that the parser passed and that are no order: it is not to be, and it does nothing.
-fn unknown(alloc: Global, name: &str) -> Result<BadWords, AllocError> {
+pub(crate) fn unknown(alloc: Global, name: &str) -> Result<BadWords, AllocError> {
     Ok(BadWords::Text(format!(in alloc; "error: unknown word '{name}'\n")?))
 }
 
@@ -544,7 +282,7 @@ fn import_csa_of(alloc: Global, words: &ArgMatches<'_>) -> Result<Command, Alloc
 }
 
 // Where the text of an import is read from.
-fn record_of(
+pub(crate) fn record_of(
     alloc: Global,
     name: &str,
     words: &ArgMatches<'_>,
@@ -559,7 +297,11 @@ fn record_of(
 }
 
 // The command that the words of a subcommand give the club.
-fn command_of(alloc: Global, name: &str, words: &ArgMatches<'_>) -> Result<Command, BadWords>
+pub(crate) fn command_of(
+    alloc: Global,
+    name: &str,
+    words: &ArgMatches<'_>,
+) -> Result<Command, BadWords>
     ensures { IfOk result (AsksCommand name.now (found_of words.now)) }
 {
     match name {
@@ -607,6 +349,16 @@ fn listing_of(alloc: Global, words: &ArgMatches<'_>) -> Result<Listing, AllocErr
     })
 }
 
+// The board that the words ask for.
+fn board_of(words: &ArgMatches<'_>) -> Question
+    ensures { AsksQuestion (codes "show") (found_of words.now) result }
+{
+    Question::Board {
+        game: number_of(words, "GAME"),
+        letters: words.get_flag("LETTERS"),
+    }
+}
+
 // What the words of a subcommand ask for.
 fn task_of(alloc: Global, name: &str, words: &ArgMatches<'_>) -> Result<Task, BadWords>
     ensures { IfOk result (AsksTask name.now (found_of words.now)) }
@@ -615,6 +367,8 @@ fn task_of(alloc: Global, name: &str, words: &ArgMatches<'_>) -> Result<Task, Ba
         "init" => Ok(Task::Init),
         "legal" => Ok(Task::Ask(Question::LegalMoves(number_of(words, "GAME")))),
         "export" => Ok(Task::Ask(Question::Record(number_of(words, "GAME")))),
+        "show" => Ok(Task::Ask(board_of(words))),
+        "export-event" => Ok(Task::Ask(Question::EventRecords(text(alloc, words, "EVENT")?))),
         "table" => Ok(Task::Ask(Question::CrossTable(text(alloc, words, "EVENT")?))),
         "members" => Ok(Task::Ask(Question::Members)),
         "events" => Ok(Task::Ask(Question::Events)),
@@ -626,11 +380,12 @@ fn task_of(alloc: Global, name: &str, words: &ArgMatches<'_>) -> Result<Task, Ba
 }
 
 // What the parser says of words that it refuses.
-fn refused(alloc: Global, error: &clap::Error) -> BadWords {
+pub(crate) fn refused(alloc: Global, error: &clap::Error) -> BadWords {
     if error.kind() == ErrorKind::OutOfMemory {
         return BadWords::Memory;
     }
     match error.to_string(alloc) {
+        Ok(text) if error.kind() == ErrorKind::DisplayVersion => BadWords::Version(text),
         Ok(text) => BadWords::Text(text),
         Err(_) => BadWords::Memory,
     }
@@ -653,17 +408,25 @@ fn service_of(
         port,
         count: number_or(words, "COUNT", u64::MAX),
         log: words.get_flag("LOG"),
+        explains: is_explained(all),
     })
 }
 
 // The moment that the words give.
-fn moment_of(all: &ArgMatches<'_>) -> Option<Moment>
+pub(crate) fn moment_of(all: &ArgMatches<'_>) -> Option<Moment>
     ensures { IsMomentIn (found_of all.now) result }
 {
     match all.get_one::<u64>("SECONDS") {
         Some(seconds) => Moment::new(seconds),
         None => None,
     }
+}
+
+// Whether the words ask for explanations.
+pub(crate) fn is_explained(all: &ArgMatches<'_>) -> bool
+    ensures { IsFlagIn (found_of all.now) (codes "EXPLAIN") result }
+{
+    all.get_flag("EXPLAIN")
 }
 
 // What the words of a subcommand ask for.
@@ -675,8 +438,11 @@ fn words_of(
 ) -> Result<Words, BadWords>
     ensures { IfOk result (Asks (found_of all.now) name.now (found_of words.now)) }
 {
-    if name == "serve" {
-        return Ok(Words::Serve(service_of(alloc, all, words)?));
+    match name {
+        "serve" => return Ok(Words::Serve(service_of(alloc, all, words)?)),
+        "batch" => return Ok(Words::Batch(batch_of(alloc, all, words)?)),
+        "round-robin" => return Ok(Words::RoundRobin(round_robin_of(alloc, all, words)?)),
+        _ => {}
     }
     let task = task_of(alloc, name, words)?;
     let record = record_of(alloc, name, words)?;
@@ -685,6 +451,7 @@ fn words_of(
         now: moment_of(all),
         task,
         record,
+        explains: is_explained(all),
     }))
 }
 

@@ -28,6 +28,15 @@ returns-clause-answer g c clean s are =
     c.act-report.ensures.answer after opened.0 opened.1 s are.legal
     (are.finds _ (record { holds = here.holds; reads = here.reads }))
 
+pub returns-clause-given : goal.returns-clause-given
+returns-clause-given g c clean s are =
+    let after = was_clean _ _ c.close.ensures.clean clean in
+    let before = was_clean _ _ c.act-report.ensures.clean after in
+    let opened = c.in-Ok.ensures.opened before in
+    let here = c.in-Ok.ensures.found before in
+    c.act-report.ensures.given after opened.0 opened.1 s are.legal
+    (are.finds _ (record { holds = here.holds; reads = here.reads }))
+
 pub returns-clause-led : goal.returns-clause-led
 returns-clause-led g c clean sessions led left may found finds =
     let after = was_clean _ _ c.close.ensures.clean clean in

@@ -1,0 +1,8 @@
+//! The orders of a batch as text, and those that seat a round robin.
+#![tactic(auto)]
+
+pub mod orders;
+pub mod seats;
+
+pub use orders::{BATCH_BYTES, Numbered, batch_for, push_order, read_orders};
+pub use seats::{Unseated, seat_lines, seats_of};

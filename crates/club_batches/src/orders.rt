@@ -1,0 +1,168 @@
+//! The orders of a batch, read from a text.
+
+ghost use Rattle.std.specs.Prelude.{◌≡◌, ◌++◌, ◌∷◌, [], IfOk, OnOk};
+ghost use Rattle.club_batches.specs.Orders.{order_at};
+
+use clocks::Moment;
+use club_questions::Question;
+use club_requests::{Command, Request, Who};
+use club_words::{BadWords, Batch, Line, read_line};
+use std::alloc::{AllocError, Global};
+
+/// The most bytes of a text of orders.
+pub const BATCH_BYTES: usize = 1_048_576;
+
+/// The most orders of a batch.
+const MOST_ORDERS: usize = 10_000;
+
+/// An order of a batch, with the number of its line. Lines are numbered from 1.
+#[derive(Debug, Drop)]
+pub struct Numbered {
+    pub number: u64,
+    pub line: Line,
+}
+
+// Why a line is no order.
+fn bad_line(alloc: Global, number: u64, why: &str) -> BadWords {
+    match format!(in alloc; "error: line {number}: {why}") {
+        Ok(text) => BadWords::Text(text),
+        Err(_) => BadWords::Memory,
+    }
+}
+
+// What the parser says of the words of a line, without its own `error: `.
+fn bad_words(alloc: Global, number: u64, bad: &BadWords) -> BadWords {
+    match bad {
+        BadWords::Text(text) => {
+            let text = text.as_str();
+            bad_line(alloc, number, text.strip_prefix("error: ").unwrap_or(text))
+        }
+        // No line is asked for the version.
+        BadWords::Version(text) => bad_line(alloc, number, text.as_str()),
+        BadWords::Memory => BadWords::Memory,
+    }
+}
+
+// Why bytes are no text, of which those before a place are.
+fn no_text(alloc: Global, bytes: &[u8], place: usize) -> BadWords {
+    let before = bytes.get(..place).unwrap_or(bytes);
+    let ends = before.iter().filter(|byte| **byte == b'\n').count();
+    bad_line(
+        alloc,
+        (ends as u64).saturating_add(1),
+        "a word is not UTF-8\n",
+    )
+}
+
+// Whether a line has no order: it is empty, or begins with a `#`.
+fn is_passed_over(line: &str) -> bool {
+    line.starts_with('#') || line.trim().is_empty()
+}
+
+// Whether a line imports a record that is not in a file.
+fn reads_input(line: &Line) -> bool {
+    match &line.record {
+        Some(path) => path.as_str() == "-",
+        None => false,
+    }
+}
+
+// The words of a line, behind the program's own name.
+fn words_of<'a>(alloc: Global, line: &'a str) -> Result<Vec<&'a str>, AllocError> {
+    let mut words = Vec::new(alloc);
+    words.push("club")?;
+    for word in line.split_ascii_whitespace() {
+        words.push(word)?;
+    }
+    Ok(words)
+}
+
+// The order of a line.
+fn order_of(alloc: Global, number: u64, line: &str) -> Result<Numbered, BadWords>
+    ensures { IfOk result (λ order. order.number ≡ number) }
+{
+    let words = words_of(alloc, line)?;
+    match read_line(alloc, words.as_slice()) {
+        Ok(line) if reads_input(&line) => Err(bad_line(
+            alloc,
+            number,
+            "the record of a line is a file\n",
+        )),
+        Ok(line) => Ok(Numbered { number, line }),
+        Err(bad) => Err(bad_words(alloc, number, &bad)),
+    }
+}
+
+// Adds the order of a line, if it has one.
+fn push_line(
+    alloc: Global,
+    orders: &mut Vec<Numbered>,
+    number: u64,
+    line: &str,
+) -> Result<(), BadWords> {
+    if is_passed_over(line) {
+        return Ok(());
+    }
+    if orders.len() >= MOST_ORDERS {
+        return Err(bad_line(alloc, number, "a batch has at most 10000 orders\n"));
+    }
+    let order = order_of(alloc, number, line)?;
+    match orders.push(order) {
+        Ok(()) => Ok(()),
+        Err(_) => Err(BadWords::Memory),
+    }
+}
+
+/// The orders of a text, a line each. Empty lines and those that begin with a `#` are passed over; the end of a line is
+/// LF or CRLF. The first line that is no order is refused with its number, and a text that is too long as a whole.
+pub fn read_orders(alloc: Global, bytes: &[u8]) -> Result<Vec<Numbered>, BadWords> {
+    if bytes.len() > BATCH_BYTES {
+        let text = String::from_str(alloc, "error: a batch has at most 1048576 bytes\n")?;
+        return Err(BadWords::Text(text));
+    }
+    let text = match std::str::from_utf8(bytes) {
+        Ok(text) => text,
+        Err(error) => return Err(no_text(alloc, bytes, error.valid_up_to())),
+    };
+    let mut orders = Vec::new(alloc);
+    let mut number: u64 = 0;
+    for line in text.lines() {
+        number = number.saturating_add(1);
+        push_line(alloc, &mut orders, number, line)?;
+    }
+    Ok(orders)
+}
+
+/// A batch of no orders so far, before which these questions are asked.
+pub fn batch_for(alloc: Global, questions: Vec<Question>) -> Batch
+    ensures questions { result.questions ≡ questions }
+    ensures numbers { result.numbers.items ≡ [] }
+    ensures requests { result.requests.items ≡ [] }
+{
+    Batch {
+        questions,
+        numbers: Vec::new(alloc),
+        requests: Vec::new(alloc),
+    }
+}
+
+/// Adds an order of the officer's to a batch, at that moment, under a number.
+pub fn push_order(
+    batch: &mut Batch,
+    number: u64,
+    command: Command,
+    moment: Moment,
+) -> Result<(), AllocError>
+    ensures numbers { OnOk result (batch.new.numbers.items ≡ batch.old.numbers.items ++ number ∷ []) }
+    ensures requests { OnOk result (batch.new.requests.items ≡
+        batch.old.requests.items ++ order_at command moment ∷ []) }
+    ensures questions { OnOk result (batch.new.questions ≡ batch.old.questions) }
+{
+    batch.numbers.push(number)?;
+    batch.requests.push(Request {
+        who: Who::Officer,
+        command,
+        moment,
+    })?;
+    Ok(())
+}

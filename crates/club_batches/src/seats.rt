@@ -1,0 +1,238 @@
+//! The orders that seat a round robin.
+
+ghost use Rattle.std.specs.Prelude.{◌≡◌, ◌++◌, None, Some, false, IfOk, OnOk, length, map, string_bytes};
+ghost use Rattle.std.specs.List.{list_any};
+ghost use Rattle.club_core.specs.Answer.{command_of, request_of};
+ghost use Rattle.pairings.specs.Table.{all_games};
+ghost use Rattle.club_batches.specs.Seats.{asked_name, has_twice, is_same, key_of, line_of, name_at, numbers_to};
+ghost use Rattle.club_batches.specs.Seats.{seat_command, seat_line, seat_lines, seat_request};
+
+use crate::orders::{batch_for, push_order};
+use clocks::Moment;
+use club_questions::{Listing, Question, Which};
+use club_requests::{Command, Refusal, Request, Seat, is_name};
+use club_words::{Batch, RoundRobin};
+use pairings::{Pairing, rounds};
+use std::alloc::{AllocError, Global};
+
+/// The most players of a round robin.
+const MOST_PLAYERS: usize = 32;
+
+/// The fewest.
+const FEWEST_PLAYERS: usize = 2;
+
+/// Why nobody is to be seated.
+#[derive(Debug, Drop)]
+pub enum Unseated {
+    Refused(Refusal),
+    Memory,
+}
+
+impl From<AllocError> for Unseated {
+    fn from(_refused: AllocError) -> Unseated {
+        Unseated::Memory
+    }
+}
+
+// Whether two names are the same.
+fn is_same(one: &String, other: &String) -> bool
+    ensures { result ≡ is_same one.now other.now }
+{
+    one.as_str() == other.as_str()
+}
+
+// Whether a name is one of those.
+fn is_among(name: &String, names: &[String]) -> bool
+    ensures { result ≡ list_any (is_same name.now) names.now }
+{
+    names.iter().any(|other| is_same(name, other))
+}
+
+// Whether some name stands twice.
+fn has_twice(names: &[String]) -> bool
+    ensures { result ≡ has_twice names.now }
+{
+    for (place, name) in names.iter().enumerate() {
+        if is_among(name, &names[place + 1..]) {
+            return true;
+        }
+    }
+    false
+}
+
+// The question whether a member has the name: else it is refused.
+fn question_for(alloc: Global, name: &str) -> Result<Question, AllocError>
+    ensures { IfOk result (λ question. asked_name question ≡ Some name.now) }
+{
+    Ok(Question::Games(Listing {
+        event: None,
+        member: Some(String::from_str(alloc, name)?),
+        which: Which::All,
+    }))
+}
+
+// The question of each name.
+fn questions_for(alloc: Global, names: &[String]) -> Result<Vec<Question>, AllocError>
+    ensures { IfOk result (λ questions. map asked_name questions.items ≡
+        map (λ name. Some (string_bytes name)) names.now) }
+{
+    let mut questions = Vec::new(alloc);
+    for name in names {
+        questions.push(question_for(alloc, name.as_str())?)?;
+    }
+    Ok(questions)
+}
+
+// The key of a game of the table.
+fn key_of(alloc: Global, prefix: &str, game: Pairing) -> Result<String, AllocError>
+    ensures { IfOk result (λ key. string_bytes key ≡ key_of prefix.now game) }
+{
+    let round = game.round;
+    let board = game.board;
+    format!(in alloc; "{prefix}{round}.{board}")
+}
+
+// A copy of the name of a player.
+fn name_of(alloc: Global, names: &[String], player: u32) -> Result<String, AllocError>
+    ensures { IfOk result (λ name. string_bytes name ≡ name_at (map string_bytes names.now) player) }
+{
+    match names.get((player as usize).saturating_sub(1)) {
+        Some(name) => String::from_str(alloc, name.as_str()),
+        None => Ok(String::new(alloc)),
+    }
+}
+
+// The order that seats a game of the table.
+fn seat_of(alloc: Global, robin: &RoundRobin, game: Pairing) -> Result<Command, AllocError>
+    ensures { IfOk result (λ command. command_of command ≡ seat_command robin.entry.now game) }
+{
+    Ok(Command::Seat(Seat {
+        key: key_of(alloc, robin.prefix.as_str(), game)?,
+        event: robin.event.clone()?,
+        first: name_of(alloc, robin.names.as_slice(), game.first)?,
+        second: name_of(alloc, robin.names.as_slice(), game.second)?,
+    }))
+}
+
+// Whether each name may be a member's.
+fn are_names(names: &[String]) -> bool {
+    names.iter().all(|name| is_name(name.as_str()))
+}
+
+// Why nobody is to be seated, if it shows without the club: an event that there cannot be, or a name that no member can
+// have or that stands twice.
+fn refusal_of(robin: &RoundRobin) -> Option<Refusal>
+    ensures { result ≡ None → has_twice robin.entry.now.names.items ≡ false }
+{
+    if !is_name(robin.event.as_str()) {
+        return Some(Refusal::UnknownEvent);
+    }
+    if has_twice(robin.names.as_slice()) {
+        return Some(Refusal::BadValue);
+    }
+    if !are_names(robin.names.as_slice()) {
+        return Some(Refusal::BadValue);
+    }
+    None
+}
+
+// Whether the keys of all games may be keys.
+fn are_keys(alloc: Global, prefix: &str, games: &[Pairing]) -> Result<bool, AllocError> {
+    for game in games {
+        let key = key_of(alloc, prefix, *game)?;
+        if !is_name(key.as_str()) {
+            return Ok(false);
+        }
+    }
+    Ok(true)
+}
+
+// The orders that seat the games, numbered from 1.
+fn seated(
+    alloc: Global,
+    robin: &RoundRobin,
+    games: &[Pairing],
+    questions: Vec<Question>,
+    moment: Moment,
+) -> Result<Batch, AllocError>
+    ensures requests { IfOk result (λ batch. map request_of batch.requests.items ≡
+        map (seat_request robin.entry.now moment) games.now) }
+    ensures numbers { IfOk result (λ batch. batch.numbers.items ≡ numbers_to (length games.now)) }
+    ensures questions { IfOk result (λ batch. batch.questions ≡ questions) }
+{
+    let mut batch = batch_for(alloc, questions);
+    let mut number: u64 = 0;
+    for game in games {
+        number += 1;
+        push_order(&mut batch, number, seat_of(alloc, robin, *game)?, moment)?;
+    }
+    Ok(batch)
+}
+
+/// The orders that seat a round robin at a moment, a seat for each game of the Berger table, round after round, numbered
+/// from 1; before them it is asked whether each name is a member's. Refuses names that stand twice or that no member can
+/// have, keys that are none, and more or fewer players than a table has.
+pub fn seats_of(alloc: Global, robin: &RoundRobin, moment: Moment) -> Result<Batch, Unseated>
+    ensures requests { IfOk result (λ batch. map request_of batch.requests.items ≡
+        map (seat_request robin.entry.now moment)
+        (all_games (length robin.entry.now.names.items) robin.entry.now.is_double)) }
+    ensures numbers { IfOk result (λ batch. batch.numbers.items ≡
+        numbers_to (length (all_games (length robin.entry.now.names.items) robin.entry.now.is_double))) }
+    ensures questions { IfOk result (λ batch. map asked_name batch.questions.items ≡
+        map (λ name. Some (string_bytes name)) robin.entry.now.names.items) }
+    ensures apart { IfOk result (λ batch. has_twice robin.entry.now.names.items ≡ false) }
+{
+    let players = robin.names.as_slice().len();
+    if players < FEWEST_PLAYERS || players > MOST_PLAYERS {
+        return Err(Unseated::Refused(Refusal::BadValue));
+    }
+    match refusal_of(robin) {
+        Some(refusal) => return Err(Unseated::Refused(refusal)),
+        None => {}
+    }
+    let games = rounds(alloc, players as u32, robin.is_double)?;
+    if !are_keys(alloc, robin.prefix.as_str(), games.as_slice())? {
+        return Err(Unseated::Refused(Refusal::BadValue));
+    }
+    let questions = questions_for(alloc, robin.names.as_slice())?;
+    Ok(seated(alloc, robin, games.as_slice(), questions, moment)?)
+}
+
+// The line of a seat, as a batch takes it.
+fn push_seat_line(lines: &mut String, seat: &Seat) -> Result<(), AllocError>
+    ensures { OnOk result (string_bytes lines.new ≡ string_bytes lines.old ++ seat_line seat.now) }
+{
+    let key = seat.key.as_str();
+    let event = seat.event.as_str();
+    let first = seat.first.as_str();
+    let second = seat.second.as_str();
+    writeln!(lines, "seat {key} {event} {first} {second}")
+}
+
+// The line of an order, if it is a seat.
+fn push_line(lines: &mut String, command: &Command) -> Result<(), AllocError>
+    ensures { OnOk result (string_bytes lines.new ≡ string_bytes lines.old ++ line_of command.now) }
+{
+    match command {
+        Command::Seat(seat) => push_seat_line(lines, seat),
+        _ => Ok(()),
+    }
+}
+
+// The seats among orders as lines.
+fn lines_of(alloc: Global, requests: &[Request]) -> Result<String, AllocError>
+    ensures { IfOk result (λ lines. string_bytes lines ≡ seat_lines requests.now) }
+{
+    let mut lines = String::new(alloc);
+    for request in requests {
+        push_line(&mut lines, &request.command)?;
+    }
+    Ok(lines)
+}
+
+/// The seats of a batch as lines that a batch takes.
+pub fn seat_lines(alloc: Global, batch: &Batch) -> Result<String, AllocError>
+    ensures { IfOk result (λ lines. string_bytes lines ≡ seat_lines batch.now.requests.items) }
+{
+    lines_of(alloc, batch.requests.as_slice())
+}

@@ -1,0 +1,33 @@
+-- A second line behind the first.
+use Rattle.std.proofs.Common.{◌≡◌, ℕ, List, take, Option, Bool, subst}
+use Rattle.std.proofs.KnownBytes.{Appends-trans}
+use Rattle.std.specs.Io.KnownBytes.{Appends}
+use Rattle.club_words.specs.declared.words.Task.{Task}
+use Rattle.club_orders.specs.declared.report.Report.{Report}
+use Rattle.club_orders.specs.Report.{report_text, IsFaultTold}
+use Rattle.club_orders.specs.Explained.{explained_at, second_line, IsFaultExplained, IsRefusalExplained}
+
+-- a beginning of the second line is written behind what stands there
+abbrev pub IsBehind : Bool → Task → Report → (status : ℕ) → Option (List ℕ) → Option (List ℕ) → Type 0
+IsBehind explains task report status before now =
+    (n : ℕ) × Appends before now (take n (second_line explains (explained_at status task report)))
+
+pub refusal_explained : (a b c : Option (List ℕ)) (explains : Bool) (task : Task) (report : Report) (status : ℕ)
+    → status ≡ 1 → Appends a b (report_text report) → IsBehind explains task report status b c
+    → IsRefusalExplained explains task report a c
+refusal_explained a b c explains task report status is first behind =
+    let second = subst (λ s. IsBehind explains task report s b c) is behind in
+    record { more = second.0; written = Appends-trans a b c _ _ first second.1 }
+
+pub fault_explained : (a b c : Option (List ℕ)) (explains : Bool) (task : Task) (report : Report) (status : ℕ)
+    → status ≡ 3 → IsFaultTold report a b → IsBehind explains task report status b c
+    → IsFaultExplained explains task report a c
+fault_explained a b c explains task report status is told behind =
+    let second = subst (λ s. IsBehind explains task report s b c) is behind in
+    record {
+      text = told.text;
+      is_text = told.is_text;
+      count = told.count;
+      more = second.0;
+      written = Appends-trans a b c _ _ told.written second.1;
+    }

@@ -1,0 +1,80 @@
+-- Questions that are asked of a club in turn, before orders are given to it.
+use Rattle.std.proofs.Common.{◌≡◌, ◌⊎◌, inl, inr, ℕ, ◌≤◌, List, ◌∷◌, length, map, take, Option, Some, None, refl, sym}
+use Rattle.std.proofs.Common.{ap, subst, ◌∙◌, Result, Ok}
+use Rattle.std.specs.Prelude.{IfSome}
+use Rattle.sqlite.specs.State.{State}
+use Rattle.club_requests.specs.declared.refusals.Refusal.{Refusal}
+use Rattle.club_questions.specs.declared.questions.Question.{Question}
+use Rattle.club_answers.specs.Shown.{HasShown}
+use Rattle.club_rows.specs.Club.{ClubState}
+use Rattle.store.specs.Asking.{KeepsUnlessFault}
+use Rattle.store_tables.specs.Contents.{Content}
+use Rattle.store_tables.specs.Club.{IsExactly}
+use Rattle.store.specs.declared.fault.AskFault.{AskFault}
+use Rattle.store.specs.declared.fault.AskFault.TheVariants as ask_fault
+use Rattle.store.specs.declared.fault.StoreFault.{StoreFault}
+use Rattle.store.specs.declared.fault.StoreFault.TheVariants as store_fault
+use Rattle.store.specs.Runs.{club_outcomes}
+use Rattle.club_requests.specs.declared.requests.Request.{Request}
+use Rattle.club_core.specs.Answer.{answered, outcome_of, request_of}
+use Rattle.club_words.specs.declared.batches.Batch.{Batch}
+use Rattle.club_orders.specs.declared.batched.Batched.{Batched}
+use Rattle.club_orders.specs.Batches.{AreAsked, AreGiven, IsAsked}
+
+pub asked_of : (s : ClubState) (moment : ℕ) (question : Question) (before now : Option (List ℕ))
+    (refusal : Option Refusal) → HasShown s moment question refusal before now → IsAsked s moment question refusal
+asked_of s moment question before now None shown = (shown.0, shown.1)
+asked_of s moment question before now (Some why) shown = shown.0
+
+-- a question that was answered changes nothing
+pub kept_of : (answered : Result (Option Refusal) AskFault) (refusal : Option Refusal) (old new : State)
+    → answered ≡ Ok refusal → KeepsUnlessFault answered old new → (content : Content) → IsExactly content old
+    → IsExactly content new
+kept_of answered refusal old new is kept content here =
+    (subst (λ r. KeepsUnlessFault {A = Option Refusal} r old new) is kept) _ content here
+
+-- the fault of a club that was open
+pub of_club : (fault : StoreFault) → (ask_fault.Club fault ≡ ask_fault.Output)
+    ⊎ ((ask_fault.Club fault ≡ ask_fault.Club store_fault.Store)
+    ⊎ (ask_fault.Club fault ≡ ask_fault.Club store_fault.Memory))
+    → (fault ≡ store_fault.Store) ⊎ (fault ≡ store_fault.Memory)
+of_club fault (inl e) = absurd (let x = e in cc)
+of_club fault (inr (inl e)) = inl (let x = e in cc)
+of_club fault (inr (inr e)) = inr (let x = e in cc)
+
+-- whatever is told of the questions that are left holds of all
+abbrev pub AskedOn : ClubState → (moment : ℕ) → (all left : List Question) → Type 0
+AskedOn s moment all left = (refusal : Option Refusal) → AreAsked s moment left refusal
+    → AreAsked s moment all refusal
+
+module _ (s : ClubState) (moment : ℕ) (all left next : List Question) (question : Question) where
+  pub asked_more : left ≡ question ∷ next → IsAsked s moment question None → AskedOn s moment all left
+      → AskedOn s moment all next
+  asked_more at one on refusal rest =
+      on refusal (subst (λ l. AreAsked s moment l refusal) (sym at) (inl (one, rest)))
+
+  pub asked_last : (why : Refusal) → left ≡ question ∷ next → IsAsked s moment question (Some why)
+      → AskedOn s moment all left → AreAsked s moment all (Some why)
+  asked_last why at one on =
+      on (Some why) (subst (λ l. AreAsked s moment l (Some why)) (sym at) (inr (why, one, refl)))
+
+-- orders that were given as a run of these requests
+module _ (s : ClubState) (batch : Batch) (batched : Batched) (requests : List Request)
+    (at : requests ≡ batch.requests.items) where
+  pub given_of : batched.numbers.items ≡ batch.numbers.items
+      → length batched.outcomes.items ≤ length requests
+      → map outcome_of batched.outcomes.items ≡ map answered
+      (club_outcomes s (map request_of (take (length batched.outcomes.items) requests)))
+      → (batched.fault ≡ None → length batched.outcomes.items ≡ length requests)
+      → IfSome batched.fault (λ fault. (fault ≡ store_fault.Store) ⊎ (fault ≡ store_fault.Memory))
+      → AreGiven s batch batched
+  given_of numbers within outcomes whole fault =
+      let Within : List Request → Type 0 = λ rs. length batched.outcomes.items ≤ length rs in
+      record {
+        numbers = numbers;
+        within = subst Within at within;
+        outcomes = outcomes
+            ∙ ap (λ rs. map answered (club_outcomes s (map request_of (take (length batched.outcomes.items) rs)))) at;
+        whole = λ none. whole none ∙ ap length at;
+        fault = fault;
+      }

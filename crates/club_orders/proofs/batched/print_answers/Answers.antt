@@ -1,0 +1,40 @@
+use Rattle.std.proofs.Common.{◌≡◌, ◌<◌, ◌+◌, suc, ◌∷◌, drop, length, sym, ◌∙◌, arith}
+use Rattle.std.proofs.lemmas.Bool.{ltb-true}
+use Rattle.std.proofs.Math.Seq.{drop-cons}
+use Rattle.club_orders.proofs.PrintedLemmas.{line_at, no_outcome, up_to_all, up_to_next, up_to_part}
+use Rattle.club_orders.proofs.batched.print_answers.Goals as goal
+
+pub returns-in-Err-clause-begun : goal.returns-in-Err-clause-begun
+returns-in-Err-clause-begun g c =
+    let numbers = c.args.numbers.now in
+    let outcomes = c.args.outcomes.now in
+    let k = c.loop-place.place in
+    let next : suc k ≡ k + 1 = omega arith in
+    let within : k < length numbers = ltb-true k (length numbers) (sym c.in-Some.ensures.lookup.0) in
+    up_to_part _ _ _ _ c.loop-place.invariant _ _ _
+    (line_at numbers (drop (k + 1) numbers) outcomes (drop (k + 1) outcomes) k c.in-Some.number.now
+    c.index-outcomes-place.result
+    (drop-cons numbers k _ within ∙ (λ i. sym c.in-Some.ensures.lookup.1 i ∷ drop (next i) numbers))
+    (drop-cons outcomes k c.index-outcomes-place.result c.loop-place-test.true
+    ∙ (λ i. sym c.index-outcomes-place.is i ∷ drop (next i) outcomes)))
+    c.in-Err.ensures.begun
+
+pub loop-place-preserved : goal.loop-place-preserved
+loop-place-preserved g c =
+    let numbers = c.args.numbers.now in
+    let outcomes = c.args.outcomes.now in
+    let k = c.loop-place.place in
+    let next : suc k ≡ k + 1 = omega arith in
+    let within : k < length numbers = ltb-true k (length numbers) (sym c.in-Some.ensures.lookup.0) in
+    up_to_next _ _ _ _ c.loop-place.invariant _ _ _
+    (line_at numbers (drop (k + 1) numbers) outcomes (drop (k + 1) outcomes) k c.in-Some.number.now
+    c.index-outcomes-place.result
+    (drop-cons numbers k _ within ∙ (λ i. sym c.in-Some.ensures.lookup.1 i ∷ drop (next i) numbers))
+    (drop-cons outcomes k c.index-outcomes-place.result c.loop-place-test.true
+    ∙ (λ i. sym c.index-outcomes-place.is i ∷ drop (next i) outcomes)))
+    c.in-Ok.ensures.whole
+
+pub returns-clause-whole : goal.returns-clause-whole
+returns-clause-whole g c =
+    up_to_all _ _ _ _ c.loop-place.invariant
+    (no_outcome c.args.numbers.now c.args.outcomes.now c.loop-place.place c.loop-place-test.false)

@@ -1,0 +1,130 @@
+-- A batch: questions that are asked first, and orders that are given to a club in turn up to the first fault. What is
+-- printed of it, and what it is to the club.
+use Rattle.std.specs.Prelude.{◌≡◌, ◌⊎◌, ◌≤◌, ℕ, Bool, true, false, List, [], ◌∷◌, ◌++◌, length, map, take, decimal}
+use Rattle.std.specs.Prelude.{Option, Some, None, IsSome, IfSome, codes, ⊤}
+use Rattle.std.specs.List.{list_any}
+use Rattle.std.specs.Io.KnownBytes.{Appends}
+use Rattle.club_requests.specs.declared.answers.Outcome.{Outcome}
+use Rattle.club_requests.specs.declared.answers.Outcome.TheVariants as outcome
+use Rattle.club_requests.specs.declared.refusals.Refusal.{Refusal}
+use Rattle.club_requests.specs.declared.requests.Request.{Request}
+use Rattle.club_requests.specs.AnswerText.{outcome_text}
+use Rattle.club_core.specs.Answer.{answered, outcome_of, request_of}
+use Rattle.club_rows.specs.Club.{ClubState}
+use Rattle.club_questions.specs.declared.questions.Question.{Question}
+use Rattle.club_answers.specs.Shown.{IsRefused, IsText}
+use Rattle.club_opening.specs.declared.fault.OpenFault.TheVariants as open_fault
+use Rattle.store.specs.declared.fault.StoreFault.{StoreFault}
+use Rattle.store.specs.declared.fault.StoreFault.TheVariants as store_fault
+use Rattle.store.specs.FaultText.{store_fault_text}
+use Rattle.store.specs.Histories.{Chapter, session_of}
+use Rattle.store.specs.Runs.{club_outcomes}
+use Rattle.club_words.specs.declared.batches.Batch.{Batch}
+use Rattle.club_orders.specs.declared.batched.Batched.{Batched}
+use Rattle.club_orders.specs.declared.report.Report.{Report}
+use Rattle.club_orders.specs.declared.report.Report.TheVariants as report
+
+-- ---- what is printed
+
+-- the line of an order that was answered: its number, and its outcome
+abbrev pub answer_line : ℕ → Outcome → List ℕ
+answer_line number outcome = decimal number ++ (codes " " ++ (outcome_text outcome ++ codes "\n"))
+
+-- such a line for each outcome, with the number that stands at its place
+abbrev pub answer_lines : List ℕ → List Outcome → List ℕ
+answer_lines [] outcomes = []
+answer_lines (number ∷ numbers) [] = []
+answer_lines (number ∷ numbers) (outcome ∷ outcomes) = answer_line number outcome ++ answer_lines numbers outcomes
+
+abbrev pub lines_of : Batched → List ℕ
+lines_of batched = answer_lines batched.numbers.items batched.outcomes.items
+
+abbrev pub fault_text : StoreFault → List ℕ
+fault_text fault = codes "store " ++ store_fault_text fault ++ codes "\n"
+
+abbrev pub fault_line : Option StoreFault → List ℕ
+fault_line None = []
+fault_line (Some fault) = fault_text fault
+
+abbrev pub is_refused : Outcome → Bool
+is_refused (outcome.Accepted answer) = false
+is_refused (outcome.Repeated answer) = false
+is_refused (outcome.Refused refusal) = true
+
+-- 3 where a fault ended the batch, else 1 where some order was refused
+abbrev pub status_of : Option StoreFault → Bool → ℕ
+status_of (Some fault) any_refused = 3
+status_of None true = 1
+status_of None false = 0
+
+abbrev pub batch_status : Batched → ℕ
+batch_status batched = status_of batched.fault (list_any is_refused batched.outcomes.items)
+
+-- a text, or where the writer failed a beginning of it, was written
+pub record IsBegunWith (before now : Option (List ℕ)) (text : List ℕ) : Type 0 where
+  pub front : List ℕ
+  pub rest : List ℕ
+  pub is : text ≡ front ++ rest
+  pub written : Appends before now front
+
+-- it is told why a batch ended, or that memory was refused for that
+pub record IsFaultToldOf (fault : StoreFault) (before now : Option (List ℕ)) : Type 0 where
+  pub text : List ℕ
+  pub is_text : (text ≡ fault_text fault) ⊎ (text ≡ codes "store 75 Memory\n")
+  pub count : ℕ
+  pub written : Appends before now (take count text)
+
+-- it is told that a line could not be made, or not be written
+pub record IsUnprinted (before now : Option (List ℕ)) : Type 0 where
+  pub text : List ℕ
+  pub is_text : (text ≡ codes "store 75 Memory\n") ⊎ (text ≡ codes "store 77 Output\n")
+  pub count : ℕ
+  pub written : Appends before now (take count text)
+
+-- What is told of a batch with the status of a fault: the one that ended it, behind the lines of all orders that were
+-- answered; or that a beginning of these is all that could be printed.
+abbrev pub IsBatchTold : Batched → (out out_now err err_now : Option (List ℕ)) → Type 0
+IsBatchTold batched out out_now err err_now =
+    (Appends out out_now (lines_of batched) × IfSome batched.fault (λ fault. IsFaultToldOf fault err err_now)
+    × IsSome batched.fault)
+    ⊎ (IsBegunWith out out_now (lines_of batched) × IsUnprinted err err_now)
+
+-- ---- what it is to the club
+
+-- there is a text that the question is shown, or it is refused
+abbrev pub IsAsked : ClubState → (moment : ℕ) → Question → Option Refusal → Type 0
+IsAsked s moment question None = (text : List ℕ) × IsText s moment question text
+IsAsked s moment question (Some why) = IsRefused s question why
+
+-- none of the questions is refused, or the first that is is refused so
+abbrev pub AreAsked : ClubState → (moment : ℕ) → List Question → Option Refusal → Type 0
+AreAsked s moment [] refusal = refusal ≡ None
+AreAsked s moment (question ∷ questions) refusal =
+    (IsAsked s moment question None × AreAsked s moment questions refusal)
+    ⊎ ((why : Refusal) × IsAsked s moment question (Some why) × (refusal ≡ Some why))
+
+-- The orders were given to the club in turn, all of them or those up to a fault, and their outcomes are the machine's.
+pub record AreGiven (s : ClubState) (batch : Batch) (batched : Batched) : Type 0 where
+  pub numbers : batched.numbers.items ≡ batch.numbers.items
+  pub within : length batched.outcomes.items ≤ length batch.requests.items
+  pub outcomes : map outcome_of batched.outcomes.items ≡ map answered
+      (club_outcomes s (map request_of (take (length batched.outcomes.items) batch.requests.items)))
+  pub whole : batched.fault ≡ None → length batched.outcomes.items ≡ length batch.requests.items
+  pub fault : IfSome batched.fault (λ fault. (fault ≡ store_fault.Store) ⊎ (fault ≡ store_fault.Memory))
+
+-- No question is refused, and the orders were given; or one is, and none was. Or a call of the database failed or memory
+-- was refused before the first order.
+abbrev pub AnswersBatch : ClubState → (moment : ℕ) → Batch → Report → Type 0
+AnswersBatch s moment batch (report.Batched batched) =
+    AreAsked s moment batch.questions.items None × AreGiven s batch batched
+AnswersBatch s moment batch (report.Answered (outcome.Refused refusal)) =
+    AreAsked s moment batch.questions.items (Some refusal)
+AnswersBatch s moment batch (report.Unopened fault) = (fault ≡ open_fault.Store) ⊎ (fault ≡ open_fault.Memory)
+AnswersBatch s moment batch (report.Stopped fault) = (fault ≡ store_fault.Store) ⊎ (fault ≡ store_fault.Memory)
+AnswersBatch s moment batch _ = ⊥
+
+-- the orders are one session, up to the fault where one ended them; where none was given there is no session
+abbrev pub batch_sessions : List Request → Report → List Chapter
+batch_sessions requests (report.Batched batched) =
+    session_of requests (record { outcomes = batched.outcomes; fault = batched.fault }) ∷ []
+batch_sessions requests _ = []

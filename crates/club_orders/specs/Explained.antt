@@ -1,0 +1,123 @@
+-- What a report is about, and what is printed of it where explanations are asked for.
+use Rattle.std.specs.Prelude.{◌≡◌, ℕ, ◌==◌, List, [], ◌++◌, take, Option, Some, None, Bool, true, false}
+use Rattle.std.specs.Prelude.{if◌then◌else◌, pos, negsuc, ℤ}
+use Rattle.std.specs.Io.KnownBytes.{Appends}
+use Rattle.club_questions.specs.declared.questions.Question.{Question}
+use Rattle.club_questions.specs.declared.questions.Question.TheVariants.{Games}
+use Rattle.club_requests.specs.declared.refusals.Refusal.{Refusal}
+use Rattle.club_requests.specs.declared.refusals.Refusal.TheVariants.{BadValue}
+use Rattle.club_requests.specs.declared.answers.Outcome.{Outcome}
+use Rattle.club_requests.specs.declared.answers.Outcome.TheVariants as outcome
+use Rattle.club_words.specs.declared.words.Task.{Task}
+use Rattle.club_words.specs.declared.words.Task.TheVariants as task
+use Rattle.club_opening.specs.declared.fault.OpenFault.{OpenFault}
+use Rattle.club_opening.specs.declared.fault.OpenFault.TheVariants as open_fault
+use Rattle.store.specs.declared.fault.StoreFault.{StoreFault}
+use Rattle.store.specs.declared.fault.StoreFault.TheVariants as store_fault
+use Rattle.explanations.specs.Causes.{refusal_explained}
+use Rattle.explanations.specs.Lines.{line_of}
+use Rattle.explanations.specs.declared.causes.Explanation.{Explanation}
+use Rattle.explanations.specs.declared.causes.Explanation.TheVariants as explanation
+use Rattle.explanations.specs.declared.causes.Fault.{Fault}
+use Rattle.explanations.specs.declared.causes.Fault.TheVariants as fault
+use Rattle.explanations.specs.declared.causes.WrongValue.TheVariants.{ListedMember}
+use Rattle.club_orders.specs.declared.report.Report.{Report}
+use Rattle.club_orders.specs.declared.report.Report.TheVariants.{Ready, Sound, Answered, Shown, Unwritten}
+use Rattle.club_orders.specs.declared.report.Report.TheVariants.{Unopened, Stopped, InUse, NotOpened, NoMoment, Unread}
+use Rattle.club_orders.specs.declared.report.Report.TheVariants.{Listening, Unbound, NoMemory, Upgraded}
+use Rattle.club_orders.specs.declared.report.Report.TheVariants.{AlreadyUpgraded, Batched}
+use Rattle.club_orders.specs.Report.{report_status, report_text, IsFaultText}
+
+-- of the games of a member who is none
+abbrev pub games_explained : Refusal → Explanation
+games_explained BadValue = explanation.Value ListedMember
+games_explained refusal = explanation.Refusal refusal
+
+abbrev pub question_explained : Question → Refusal → Explanation
+question_explained (Games listing) refusal = games_explained refusal
+question_explained question refusal = explanation.Refusal refusal
+
+-- why a task is refused
+abbrev pub task_explained : Task → Refusal → Explanation
+task_explained (task.Request command) refusal = refusal_explained refusal command
+task_explained (task.Ask question) refusal = question_explained question refusal
+task_explained _ refusal = explanation.Refusal refusal
+
+-- 70: a club is made where nothing stands, and else there has to be one
+abbrev pub foreign_explained : Task → Fault
+foreign_explained task.Init = fault.NotEmpty
+foreign_explained _ = fault.NoClub
+
+-- 71: schema 1 is that of earlier versions of the program
+abbrev pub schema_explained : ℤ → Fault
+schema_explained (pos n) = if n == 1 then fault.OlderSchema else fault.LaterSchema
+schema_explained (negsuc n) = fault.LaterSchema
+
+abbrev pub opening_explained : Task → OpenFault → Fault
+opening_explained task open_fault.Foreign = foreign_explained task
+opening_explained task (open_fault.Schema number) = schema_explained number
+opening_explained task (open_fault.Damaged table) = fault.Damaged
+opening_explained task open_fault.Store = fault.Store
+opening_explained task open_fault.Memory = fault.Memory
+
+abbrev pub stop_explained : StoreFault → Fault
+stop_explained store_fault.Store = fault.Store
+stop_explained store_fault.Reopen = fault.Reopen
+stop_explained store_fault.Memory = fault.Memory
+
+abbrev pub answer_explained : Task → Outcome → Option Explanation
+answer_explained task (outcome.Refused refusal) = Some (task_explained task refusal)
+answer_explained task _ = None
+
+-- a refusal and a fault have an explanation, and what was done has none
+abbrev pub report_explained : Task → Report → Option Explanation
+report_explained task (Answered outcome) = answer_explained task outcome
+report_explained task (Unopened fault) = Some (explanation.Fault (opening_explained task fault))
+report_explained task (Stopped fault) = Some (explanation.Fault (stop_explained fault))
+report_explained task Unwritten = Some (explanation.Fault fault.NoOutput)
+report_explained task InUse = Some (explanation.Fault fault.InUse)
+report_explained task NotOpened = Some (explanation.Fault fault.NotOpened)
+report_explained task NoMoment = Some (explanation.Fault fault.NoClock)
+report_explained task Unread = Some (explanation.Fault fault.NoRecord)
+report_explained task Unbound = Some (explanation.Fault fault.NoPort)
+report_explained task NoMemory = Some (explanation.Fault fault.Memory)
+report_explained task Ready = None
+report_explained task Sound = None
+report_explained task Upgraded = None
+report_explained task AlreadyUpgraded = None
+report_explained task Shown = None
+report_explained task (Batched batched) = None
+report_explained task (Listening port) = None
+
+-- the line of a report could not be made, or where it was done not be written
+abbrev pub lost_explained : Report → Fault
+lost_explained report = if report_status report == 0 then fault.NoOutput else fault.Memory
+
+-- where the program ends with the report's own status the report is explained, and else that its line was lost
+abbrev pub explained_at : (status : ℕ) → Task → Report → Option Explanation
+explained_at status task report =
+    if status == report_status report then report_explained task report
+    else Some (explanation.Fault (lost_explained report))
+
+abbrev pub second_line : (explains : Bool) → Option Explanation → List ℕ
+second_line true (Some e) = line_of e
+second_line true None = []
+second_line false e = []
+
+-- the line of the refusal, and behind it its explanation where that is asked for, or where the writer fails a beginning
+-- of that
+pub record IsRefusalExplained (explains : Bool) (task : Task) (report : Report) (before now : Option (List ℕ)) : Type 0
+  where
+    pub more : ℕ
+    pub written : Appends before now
+        (report_text report ++ take more (second_line explains (explained_at 1 task report)))
+
+-- the same of a fault, where the first line may be a beginning, too
+pub record IsFaultExplained (explains : Bool) (task : Task) (report : Report) (before now : Option (List ℕ)) : Type 0
+  where
+    pub text : List ℕ
+    pub is_text : IsFaultText report text
+    pub count : ℕ
+    pub more : ℕ
+    pub written : Appends before now
+        (take count text ++ take more (second_line explains (explained_at 3 task report)))

@@ -1,0 +1,145 @@
+//! Orders that are given to a club in turn.
+
+ghost use Rattle.std.specs.Prelude.{◌≡◌, ◌≤◌, ◌⊎◌, ◌++◌, false, IfOk, IfErr, OnOk};
+ghost use Rattle.sqlite.specs.State.{HasCleanDisk, Opens, IsLive};
+ghost use Rattle.sqlite.specs.Held.{state};
+ghost use Rattle.sqlite_trees.specs.View.{doubt};
+ghost use Rattle.store_tables.specs.Club.{IsExactly, Leaves};
+ghost use Rattle.store_tables.specs.Reading.{OnlyReads};
+ghost use Rattle.club_rows.specs.Club.{ClubState, IsClub, tables};
+ghost use Rattle.store.specs.Histories.{IsHistory, IsReachable};
+ghost use Rattle.club_opening.specs.Refused.{IsRefusal};
+ghost use Rattle.club_orders.specs.Batches.{batch_sessions, AnswersBatch, AreAsked, IsAsked};
+ghost use Rattle.club_orders.specs.Refused.{HasFirst, IsOlder};
+ghost use Rattle.club_orders.specs.Report.{IfUnopened, OnlyUnopened};
+
+use crate::batched::Batched;
+use crate::report::Report;
+use clocks::Moment;
+use club_questions::Question;
+use club_requests::{Outcome, Refusal};
+use club_words::Batch;
+use sqlite::{Alter, Connection};
+use std::alloc::Global;
+use std::io::sink;
+use store::{
+    AskFault, Club, Run, StoreFault, adopt, holds_exactly, holds_what_sessions_left,
+    leaves_what_sessions_left,
+};
+
+// Why a question is refused, if it is. What it is shown is written nowhere.
+fn refusal_of<S: Alter>(
+    alloc: Global,
+    club: &mut Club<S>,
+    question: &Question,
+    moment: Moment,
+) -> Result<Option<Refusal>, StoreFault>
+    requires { club.old.needs_reopening ≡ false }
+    ensures ready { OnOk result (club.new.needs_reopening ≡ false) }
+    ensures named { IfErr result (λ fault. (fault ≡ StoreFault.Store) ⊎ (fault ≡ StoreFault.Memory)) }
+    ensures reads { OnlyReads (state S.Store club.old.connection) (state S.Store club.new.connection) }
+    ensures kept { HasCleanDisk (state S.Store club.new.connection) → OnOk result ((content : _) →
+        IsExactly content (state S.Store club.old.connection) →
+        IsExactly content (state S.Store club.new.connection)) }
+    ensures asked { HasCleanDisk (state S.Store club.new.connection) → IfOk result (λ refusal. (s : ClubState) →
+        IsClub s → IsExactly (tables s) (state S.Store club.old.connection) → IsAsked s moment question.now refusal) }
+{
+    match club.ask(alloc, question, moment, &mut sink()) {
+        Ok(refusal) => Ok(refusal),
+        Err(AskFault::Club(fault)) => Err(fault),
+        // A sink takes whatever is written to it, so this is not to be.
+        Err(AskFault::Output) => Err(StoreFault::Store),
+    }
+}
+
+// Why the first of the questions that are refused is, if one is.
+fn refusal_among<S: Alter>(
+    alloc: Global,
+    club: &mut Club<S>,
+    questions: &[Question],
+    moment: Moment,
+) -> Result<Option<Refusal>, StoreFault>
+    requires { club.old.needs_reopening ≡ false }
+    ensures ready { OnOk result (club.new.needs_reopening ≡ false) }
+    ensures named { IfErr result (λ fault. (fault ≡ StoreFault.Store) ⊎ (fault ≡ StoreFault.Memory)) }
+    ensures reads { OnlyReads (state S.Store club.old.connection) (state S.Store club.new.connection) }
+    ensures kept { HasCleanDisk (state S.Store club.new.connection) → OnOk result ((content : _) →
+        IsExactly content (state S.Store club.old.connection) →
+        IsExactly content (state S.Store club.new.connection)) }
+    ensures asked { HasCleanDisk (state S.Store club.new.connection) → IfOk result (λ refusal. (s : ClubState) →
+        IsClub s → IsExactly (tables s) (state S.Store club.old.connection) →
+        AreAsked s moment questions.now refusal) }
+{
+    for question in questions {
+        match refusal_of(alloc, club, question, moment) {
+            Ok(None) => {}
+            Ok(Some(refusal)) => return Ok(Some(refusal)),
+            Err(fault) => return Err(fault),
+        }
+    }
+    Ok(None)
+}
+
+// Asks the questions of a batch, and where none is refused gives the club its orders, up to the first fault.
+fn give<S: Alter>(alloc: Global, club: &mut Club<S>, batch: &Batch, moment: Moment) -> Report
+    requires { club.old.needs_reopening ≡ false }
+    ensures taken { IfUnopened result (λ fault. ⊥) }
+    ensures clean { doubt (state S.Store club.old.connection).is_clean ≤ doubt
+        (state S.Store club.new.connection).is_clean }
+    ensures answer { HasCleanDisk (state S.Store club.new.connection) → (s : ClubState) → IsClub s →
+        IsExactly (tables s) (state S.Store club.old.connection) → AnswersBatch s moment batch.now result }
+    ensures led { HasCleanDisk (state S.Store club.new.connection) → (sessions : _) →
+        IsHistory sessions (state S.Store club.old.connection) →
+        (db : _) → (state S.Store club.new.connection).may_leave db →
+        IsReachable (sessions ++ batch_sessions batch.now.requests.items result) db }
+{
+    // The numbers come first, so that no outcome is lost for want of memory.
+    let numbers = match Vec::from_slice(alloc, batch.numbers.as_slice()) {
+        Ok(numbers) => numbers,
+        Err(_) => return Report::Stopped(StoreFault::Memory),
+    };
+    match refusal_among(alloc, club, batch.questions.as_slice(), moment) {
+        Ok(None) => {}
+        Ok(Some(refusal)) => return Report::Answered(Outcome::Refused(refusal)),
+        Err(fault) => return Report::Stopped(fault),
+    }
+    let Run { outcomes, fault } = club.session(alloc, batch.requests.as_slice());
+    Report::Batched(Batched {
+        numbers,
+        outcomes,
+        fault,
+    })
+}
+
+/// Gives the club that stands there the orders of a batch, in turn, up to the first fault.
+pub(crate) fn give_batch<S: Alter>(
+    alloc: Global,
+    conn: Connection<S>,
+    batch: &Batch,
+    moment: Moment,
+) -> (Report, Connection<S>)
+    requires { conn.in_transaction ≡ false }
+    ensures idle { result.1.in_transaction ≡ false }
+    ensures clean { doubt (state S.Store conn).is_clean ≤ doubt (state S.Store result.1).is_clean }
+    ensures answer { HasCleanDisk (state S.Store result.1) → Opens (state S.Store conn) → IsLive (state S.Store conn) →
+        (s : ClubState) → IsClub s → Leaves (tables s) (state S.Store conn).committed.trees →
+        AnswersBatch s moment batch.now result.0 }
+    ensures refuses { HasCleanDisk (state S.Store result.1) →
+        IfUnopened result.0 (IsRefusal (state S.Store conn) (state S.Store result.1)) }
+    ensures older { HasCleanDisk (state S.Store result.1) → Opens (state S.Store conn) → IsLive (state S.Store conn) →
+        (s : ClubState) → HasFirst s (state S.Store conn).committed.trees → OnlyUnopened result.0 IsOlder }
+    ensures led { HasCleanDisk (state S.Store result.1) → Opens (state S.Store conn) → IsLive (state S.Store conn) →
+        (sessions : _) → IsReachable sessions (state S.Store conn).committed.trees →
+        (db : _) → (state S.Store result.1).may_leave db →
+        IsReachable (sessions ++ batch_sessions batch.now.requests.items result.0) db }
+{
+    holds_exactly(&conn);
+    holds_what_sessions_left(&conn);
+    leaves_what_sessions_left(&conn);
+    let mut club = match adopt(alloc, conn) {
+        Ok(club) => club,
+        Err(unopened) => return (Report::Unopened(unopened.fault), unopened.conn),
+    };
+    let report = give(alloc, &mut club, batch, moment);
+    (report, club.into_connection())
+}

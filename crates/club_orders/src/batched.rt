@@ -1,0 +1,182 @@
+//! What orders that were given in turn came to, and how it is printed.
+
+ghost use Rattle.std.specs.Prelude.{◌≡◌, ◌≢◌, ◌⊎◌, ◌++◌, [], OnOk, string_bytes};
+ghost use Rattle.std.specs.Io.KnownBytes.{Appends};
+ghost use Rattle.std.specs.List.{list_any};
+ghost use Rattle.club_orders.specs.Batches.{answer_line, answer_lines, batch_status, fault_line, is_refused};
+ghost use Rattle.club_orders.specs.Batches.{lines_of, IsBatchTold, IsBegunWith, IsFaultToldOf};
+
+use crate::report::{DONE, FAULT, REFUSED, unprinted};
+use crate::written::write_out;
+use club_requests::Outcome;
+use std::alloc::AllocError;
+use std::io::Write;
+use store::StoreFault;
+
+/// What orders that were given in turn came to.
+#[derive(Debug, Drop)]
+pub struct Batched {
+    /// The number of each order, also of those that were not answered.
+    pub numbers: Vec<u64>,
+    /// The outcomes of those that were answered, in their order.
+    pub outcomes: Vec<Outcome>,
+    /// The fault after which no order more was given, if there was one.
+    pub fault: Option<StoreFault>,
+}
+
+// Why the lines of a batch are not all printed.
+enum Unprinted {
+    // No memory was to be had for a line.
+    Memory,
+    // The writer failed.
+    Output,
+}
+
+impl From<AllocError> for Unprinted {
+    fn from(_refused: AllocError) -> Unprinted {
+        Unprinted::Memory
+    }
+}
+
+fn is_refused(outcome: &Outcome) -> bool
+    ensures { result ≡ is_refused outcome.now }
+{
+    match outcome {
+        Outcome::Accepted(_) => false,
+        Outcome::Repeated(_) => false,
+        Outcome::Refused(_) => true,
+    }
+}
+
+fn any_refused(outcomes: &[Outcome]) -> bool
+    ensures { result ≡ list_any is_refused outcomes.now }
+{
+    outcomes.iter().any(|outcome| is_refused(outcome))
+}
+
+impl Batched {
+    /// The status that the program ends with.
+    pub fn status(&self) -> u8
+        ensures { result ≡ batch_status self.now }
+    {
+        match self.fault {
+            Some(_) => return FAULT,
+            None => {}
+        }
+        if any_refused(self.outcomes.as_slice()) {
+            return REFUSED;
+        }
+        DONE
+    }
+}
+
+/// Adds the line of a fault, if there is one, to a text.
+pub(crate) fn write_fault(text: &mut String, fault: &Option<StoreFault>) -> Result<(), AllocError>
+    ensures { OnOk result (string_bytes text.new ≡ string_bytes text.old ++ fault_line fault.now) }
+{
+    match fault {
+        Some(fault) => writeln!(text, "store {fault}"),
+        None => Ok(()),
+    }
+}
+
+// Makes a text the line of an order that was answered.
+fn write_answer(line: &mut String, number: u64, outcome: &Outcome) -> Result<(), AllocError>
+    ensures { OnOk result (string_bytes line.new ≡ answer_line number outcome.now) }
+{
+    line.clear();
+    writeln!(line, "{number} {outcome}")
+}
+
+// Prints the line of an order that was answered.
+fn print_answer<O: Write>(
+    line: &mut String,
+    number: u64,
+    outcome: &Outcome,
+    out: &mut O,
+) -> Result<(), Unprinted>
+    ensures whole { OnOk result (Appends (O.contents out.old) (O.contents out.new) (answer_line number outcome.now)) }
+    ensures begun { IsBegunWith (O.contents out.old) (O.contents out.new) (answer_line number outcome.now) }
+{
+    match write_answer(line, number, outcome) {
+        Ok(()) => {}
+        Err(_) => return Err(Unprinted::Memory),
+    }
+    if write_out(out, line.as_bytes()) {
+        Ok(())
+    } else {
+        Err(Unprinted::Output)
+    }
+}
+
+// Prints the lines of the orders that were answered.
+fn print_answers<O: Write>(
+    line: &mut String,
+    numbers: &[u64],
+    outcomes: &[Outcome],
+    out: &mut O,
+) -> Result<(), Unprinted>
+    ensures whole { OnOk result (Appends (O.contents out.old) (O.contents out.new)
+        (answer_lines numbers.now outcomes.now)) }
+    ensures begun { IsBegunWith (O.contents out.old) (O.contents out.new) (answer_lines numbers.now outcomes.now) }
+{
+    for (place, outcome) in outcomes.iter().enumerate() {
+        let number = match numbers.get(place) {
+            Some(number) => *number,
+            None => return Ok(()),
+        };
+        match print_answer(line, number, outcome, out) {
+            Ok(()) => {}
+            Err(unprinted) => return Err(unprinted),
+        }
+    }
+    Ok(())
+}
+
+// Tells the fault that ended a batch.
+fn tell_fault<E: Write>(line: String, fault: &StoreFault, err: &mut E) -> u8
+    ensures status { result ≡ 3 }
+    ensures told { IsFaultToldOf fault.now (E.contents err.old) (E.contents err.new) }
+{
+    let mut line = line;
+    line.clear();
+    match writeln!(line, "store {fault}") {
+        Ok(()) => {}
+        Err(_) => return unprinted(err, "store 75 Memory\n"),
+    }
+    let _is_told = write_out(err, line.as_bytes());
+    FAULT
+}
+
+/// Prints a batch: a line for each order that was answered, in turn, with its number and its outcome, to the standard
+/// output; then the fault, if one ended it, to the standard error. Gives the status: 0 where nothing was refused, 1
+/// where some order was, 3 at a fault, also where a line could not be made or written. `line` has the room that was set
+/// aside for a line.
+pub fn print_batch<O: Write, E: Write>(
+    line: String,
+    batched: &Batched,
+    out: &mut O,
+    err: &mut E,
+) -> u8
+    ensures status { (result ≡ batch_status batched.now) ⊎ (result ≡ 3) }
+    ensures printed { result ≢ 3 → Appends (O.contents out.old) (O.contents out.new) (lines_of batched.now) }
+    ensures quiet { result ≢ 3 → err.new ≡ err.old }
+    ensures told { result ≡ 3 → IsBatchTold batched.now (O.contents out.old) (O.contents out.new)
+        (E.contents err.old) (E.contents err.new) }
+{
+    let mut line = line;
+    match print_answers(
+        &mut line,
+        batched.numbers.as_slice(),
+        batched.outcomes.as_slice(),
+        out,
+    ) {
+        Ok(()) => {}
+        Err(Unprinted::Memory) => return unprinted(err, "store 75 Memory\n"),
+        Err(Unprinted::Output) => return unprinted(err, "store 77 Output\n"),
+    }
+    match &batched.fault {
+        Some(fault) => tell_fault(line, fault, err),
+        None => batched.status(),
+    }
+}

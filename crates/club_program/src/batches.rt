@@ -1,0 +1,157 @@
+//! Orders in turn: those of a text, and those that seat a round robin.
+
+ghost use Rattle.std.specs.Prelude.{◌≤◌};
+
+use crate::orders::run_order;
+use crate::printing::{print_report, print_text, refuse_words};
+use crate::records::{read_batch, read_record};
+use clocks::Moment;
+use club_batches::{Numbered, Unseated, batch_for, push_order, read_orders, seat_lines, seats_of};
+use club_orders::Report;
+use club_requests::Outcome;
+use club_words::{BadWords, Batch, BatchWords, Line, Order, RoundRobin, Task, with_text};
+use http_port::clock;
+use std::alloc::AllocError;
+
+// Why a batch is not begun.
+enum Unbegun {
+    // The orders are none.
+    Words(BadWords),
+    // Something else.
+    Report(Report),
+}
+
+impl From<AllocError> for Unbegun {
+    fn from(_refused: AllocError) -> Unbegun {
+        Unbegun::Report(Report::NoMemory)
+    }
+}
+
+impl From<BadWords> for Unbegun {
+    fn from(bad: BadWords) -> Unbegun {
+        Unbegun::Words(bad)
+    }
+}
+
+impl From<Report> for Unbegun {
+    fn from(report: Report) -> Unbegun {
+        Unbegun::Report(report)
+    }
+}
+
+impl From<Unseated> for Unbegun {
+    fn from(unseated: Unseated) -> Unbegun {
+        match unseated {
+            Unseated::Refused(refusal) => Unbegun::Report(Report::Answered(Outcome::Refused(
+                refusal,
+            ))),
+            Unseated::Memory => Unbegun::Report(Report::NoMemory),
+        }
+    }
+}
+
+// Adds an order to a batch, once its record was read.
+fn add_order(
+    rt: &HostRuntime,
+    batch: &mut Batch,
+    order: Numbered,
+    moment: Moment,
+) -> Result<(), Unbegun> {
+    let Numbered { number, line } = order;
+    let Line { command, record } = line;
+    let command = match record {
+        Some(path) => with_text(command, read_record(rt, path.as_str())?),
+        None => command,
+    };
+    push_order(batch, number, command, moment)?;
+    Ok(())
+}
+
+// The orders of a text at a moment, with the records that they import.
+fn batch_in(rt: &HostRuntime, path: &str, moment: Moment) -> Result<Batch, Unbegun> {
+    let text = read_batch(rt, path)?;
+    let orders = read_orders(rt.alloc(), text.as_slice())?;
+    let mut batch = batch_for(rt.alloc(), Vec::new(rt.alloc()));
+    for order in orders {
+        add_order(rt, &mut batch, order, moment)?;
+    }
+    Ok(batch)
+}
+
+// The moment that words give, or that of the machine's clock.
+fn moment_for(rt: &HostRuntime, now: Option<Moment>) -> Result<Moment, Unbegun> {
+    match now.or(clock(rt)) {
+        Some(moment) => Ok(moment),
+        None => Err(Unbegun::Report(Report::NoMoment)),
+    }
+}
+
+// The order to do a batch over a file.
+fn order_for(file: String, moment: Moment, batch: Batch, explains: bool) -> Order {
+    Order {
+        file,
+        now: Some(moment),
+        task: Task::Batch(batch),
+        record: None,
+        explains,
+    }
+}
+
+// The order that the words of a batch give.
+fn batch_order(rt: &HostRuntime, words: BatchWords) -> Result<Order, Unbegun> {
+    let moment = moment_for(rt, words.now)?;
+    let batch = batch_in(rt, words.orders.as_str(), moment)?;
+    Ok(order_for(words.file, moment, batch, words.explains))
+}
+
+// The batch that seats a round robin.
+fn seats_at(rt: &HostRuntime, robin: &RoundRobin) -> Result<(Moment, Batch), Unbegun> {
+    let moment = moment_for(rt, robin.now)?;
+    let batch = seats_of(rt.alloc(), robin, moment)?;
+    Ok((moment, batch))
+}
+
+// Prints why a batch is not begun, with an explanation where one is asked for.
+fn print_unbegun(rt: &HostRuntime, unbegun: Unbegun, explains: bool) -> u8
+    ensures { result ≤ 3 }
+{
+    match unbegun {
+        Unbegun::Words(bad) => refuse_words(rt, bad),
+        Unbegun::Report(report) => print_report(rt, &Task::Verify, &report, explains),
+    }
+}
+
+/// Does the orders that the words read, in turn.
+pub(crate) fn run_batch(rt: &HostRuntime, words: BatchWords) -> u8
+    ensures { result ≤ 3 }
+{
+    let explains = words.explains;
+    match batch_order(rt, words) {
+        Ok(order) => run_order(rt, &order),
+        Err(unbegun) => print_unbegun(rt, unbegun, explains),
+    }
+}
+
+// Prints the seats of a batch as lines that a batch takes.
+fn print_seats(rt: &HostRuntime, batch: &Batch, explains: bool) -> u8
+    ensures { result ≤ 3 }
+{
+    match seat_lines(rt.alloc(), batch) {
+        Ok(lines) => print_text(rt, lines.as_str()),
+        Err(_) => print_report(rt, &Task::Verify, &Report::NoMemory, explains),
+    }
+}
+
+/// Seats a round robin, or prints its seats.
+pub(crate) fn run_round_robin(rt: &HostRuntime, robin: RoundRobin) -> u8
+    ensures { result ≤ 3 }
+{
+    let (moment, batch) = match seats_at(rt, &robin) {
+        Ok(seats) => seats,
+        Err(unbegun) => return print_unbegun(rt, unbegun, robin.explains),
+    };
+    if robin.is_dry {
+        return print_seats(rt, &batch, robin.explains);
+    }
+    run_order(rt, &order_for(robin.file, moment, batch, robin.explains))
+}
