@@ -48,13 +48,14 @@ class Request:
 
 
 def copied(old, new):
-    """Copies the files of a folder."""
+    """Copies the files of a folder, but no socket."""
     for name in os.listdir(old):
-        shutil.copyfile(f"{old}/{name}", f"{new}/{name}")
+        if os.path.isfile(f"{old}/{name}"):
+            shutil.copyfile(f"{old}/{name}", f"{new}/{name}")
 
 
 def files_in(folder):
-    return {it.name: it.read_bytes() for it in pathlib.Path(folder).iterdir()}
+    return {it.name: it.read_bytes() for it in pathlib.Path(folder).iterdir() if it.is_file()}
 
 
 @contextlib.contextmanager

@@ -225,7 +225,8 @@ kill "$desk"
 wait "$desk" 2> /dev/null
 desk=
 verdict 'the crowd was served' yes "$([ "$(wc -l < log)" -gt 6 ] && echo yes)"
-verdict 'none of the crowd was turned away' 0 "$(grep -c -v ' 200$' log)"
+verdict 'none of the crowd was turned away' 0 "$(grep -v ' officer ' log | grep -c -v ' 200$')"
+verdict "the officer's word is logged" 'officer seat 0' "$(grep ' officer ' log | cut -d' ' -f2-)"
 
 # Challenges: opened, repeated, withdrawn, refused, and one that is accepted and starts a game, which counts as any other.
 serves --count 36

@@ -21,9 +21,9 @@ DRAWN = 6  # subsets, and values of one byte, that are drawn by chance
 LINE = re.compile(r"\d+ +(\w+)\((.*)\) += (-?\d+|\?|0x[0-9a-f]+)(?: .*)?")
 TEXT = re.compile(r'"((?:\\x[0-9a-f]{2})*)"(\.\.\.)?')
 ANSWERS = b"accepted", b"repeated", b"ready", b"sound", b"HTTP/1."
-KNOWN = "openat close write pwrite64 ftruncate fsync fdatasync fcntl sendto mmap".split()
+KNOWN = "openat close write pwrite64 ftruncate fsync fdatasync fcntl sendto mmap unlink".split()
 # Calls that may change files as well. The program makes none of them; one that is made is told, and not passed over.
-OTHERS = """open creat writev pwritev pwritev2 truncate fallocate sync_file_range sync syncfs msync unlink unlinkat
+OTHERS = """open creat writev pwritev pwritev2 truncate fallocate sync_file_range sync syncfs msync unlinkat
 rename renameat renameat2 link linkat symlink symlinkat dup dup2 dup3 sendmsg sendfile copy_file_range splice
 io_uring_setup""".split()
 
@@ -136,6 +136,11 @@ class Recorder:
         self.note("sync", arguments)
 
     take_fdatasync = take_fsync
+
+    def take_unlink(self, arguments, _):
+        """The desk's socket is taken away, which holds nothing."""
+        if not text_in(arguments).endswith(b"-desk"):
+            raise Unknown(f"unlink({arguments[:200]})")
 
     def take_mmap(self, arguments, _):
         if "PROT_WRITE" in arguments and "MAP_SHARED" in arguments and self.name_of(arguments, 4) is not None:

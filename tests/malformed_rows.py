@@ -392,13 +392,13 @@ def change(chance, rows, is_loose):
 
 
 def loosened(base, file):
-    """A copy of a club whose tables take values of any type, and null anywhere."""
+    """A copy of a club whose tables take values of other types, and null only where a club's do."""
     shutil.copyfile(base, file)
     with contextlib.closing(opened(file)) as found:
         for table in COLUMNS:
             made_by, = found.execute("SELECT sql FROM sqlite_master WHERE name = ?", (table,)).fetchone()
             found.execute(f"ALTER TABLE {table} RENAME TO old_table")
-            found.execute(made_by.replace(" STRICT", "").replace(" NOT NULL", ""))
+            found.execute(made_by.replace(" STRICT", ""))
             found.execute(f"INSERT INTO {table} SELECT * FROM old_table")
             found.execute("DROP TABLE old_table")
 

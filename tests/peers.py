@@ -21,6 +21,8 @@ PROGRAM = str(pathlib.Path(sys.argv[1] if sys.argv[1:] else f"{__file__}/../../b
 ORDERS = "init", "member anna keyanna1", "member bert keybert2", "event cup draughts 86400 0", "seat g cup anna bert"
 SHOWN = b"GET /games/1 HTTP/1.1\r\nHost: a\r\nMember-Key: keyanna1\r\n\r\n"
 STORE = json.dumps({"error": 73, "name": "Store"}, separators=(",", ":"))
+HOLDERS = ("another program holds the file: a desk, a word that takes long, an open prompt of sqlite3 that has read it,"
+           " or a backup")
 bad = []
 
 
@@ -141,6 +143,9 @@ def held():
             began = time.monotonic()
             verdict("and others after it", {(503, STORE)}, {told(port, SHOWN) for _ in range(20)})
             verdict("are told at once", True, time.monotonic() - began < 5)
+            said = subprocess.run([PROGRAM, "--explain", "c.db", "verify"], capture_output=True, text=True)
+            verdict("a word that waited is told why", (3, "", f"store 73 Store\n{HOLDERS}\n"),
+                    (said.returncode, said.stdout, said.stderr))
         verdict("the file is free", 200, told(port, SHOWN)[0])
 
 

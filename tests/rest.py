@@ -182,6 +182,112 @@ def databases_of_others_are_left():
         verdict(f"a club on pages of {size} bytes", (0, "sound"), club(f"club{size}.db", "verify"))
 
 
+# what a table's text has, what another program wrote in its place, and what it did further
+FOREIGN = {
+    "a key without regard to case": ("games", "key TEXT UNIQUE", "key TEXT COLLATE NOCASE UNIQUE", ""),
+    "names without regard to case": ("members", "name TEXT", "name TEXT COLLATE NOCASE", ""),
+    "texts without regard to spaces": ("moves", "text TEXT", "text TEXT COLLATE RTRIM", ""),
+    "a check": ("members", "id INTEGER PRIMARY KEY", "id INTEGER PRIMARY KEY CHECK (id < 3)", ""),
+    "a check of the table": ("events", ") STRICT", ", CHECK (budget < 90000)) STRICT", ""),
+    "a key that is not unique": ("members", "key TEXT NOT NULL UNIQUE", "key TEXT NOT NULL", ""),
+    "a key that is not there": ("moves", ", PRIMARY KEY (game, ply)", "", ""),
+    "a key of fewer columns": ("moves", "(game, ply)", "(game)", ""),
+    "a key of more columns": ("challenges", "(member, number)", "(member, number, event)", ""),
+    "a key of a part of the rows": (
+        "members", "name TEXT NOT NULL UNIQUE", "name TEXT NOT NULL",
+        "CREATE UNIQUE INDEX more ON members (name) WHERE id > 1"),
+    "rows that another column numbers": (
+        "seen", "count INTEGER NOT NULL, first_ply INTEGER NOT NULL, PRIMARY KEY",
+        "count INTEGER PRIMARY KEY, first_ply INTEGER NOT NULL, UNIQUE", ""),
+    "rows that no column numbers": ("members", "id INTEGER PRIMARY KEY", "id INT PRIMARY KEY", ""),
+    "rows without numbers": ("scores", " STRICT", " WITHOUT ROWID", ""),
+    "a column that hides the numbers of rows": ("challenges", "game INTEGER,", "game INTEGER, rowid TEXT,", ""),
+    "NOT NULL that is not there": ("moves", "text TEXT NOT NULL", "text TEXT", ""),
+    "NOT NULL that ours has not": ("games", "key TEXT UNIQUE", "key TEXT NOT NULL UNIQUE", ""),
+    "UNIQUE that ours has not": ("games", "", "", "CREATE UNIQUE INDEX more ON games (event)"),
+    "UNIQUE without regard to case": ("members", "", "", "CREATE UNIQUE INDEX more ON members (name COLLATE NOCASE)"),
+    "a foreign key": ("seen", "game INTEGER", "game INTEGER REFERENCES games (id)", ""),
+    "a name that is kept as a number": (
+        "members", "name TEXT NOT NULL UNIQUE, key TEXT NOT NULL UNIQUE) STRICT",
+        "name INT NOT NULL UNIQUE, key TEXT NOT NULL UNIQUE)", ""),
+    "a budget that is kept as a float": ("events", "budget INTEGER", "budget REAL", ""),
+    "a generated column": ("members", "name TEXT", "more TEXT AS (name), name TEXT", ""),
+    "a further column that is wanted": ("challenges", "game INTEGER,", "game INTEGER, notes TEXT NOT NULL,", ""),
+    "a further column whose default is refused": (
+        "challenges", "game INTEGER,", "game INTEGER, notes INTEGER DEFAULT 'none',", ""),
+    "a further column whose default may fail": (
+        "challenges", "game INTEGER,", "game INTEGER, notes INTEGER DEFAULT (abs(-9223372036854775807 - 1)),", ""),
+    "a trigger": ("seen", "", "", "CREATE TRIGGER more AFTER INSERT ON moves BEGIN DELETE FROM seen; END"),
+    "a view": (
+        "seen", "", "", "ALTER TABLE scores RENAME TO kept; CREATE VIEW scores AS SELECT * FROM kept"),
+    "a table that is not there": ("seen", "", "", "DROP TABLE event_rules"),
+}
+TAKEN = {
+    "tables that are not strict": ("members", " STRICT", "", ""),
+    "types of other names": (
+        "members", "name TEXT NOT NULL UNIQUE, key TEXT NOT NULL UNIQUE) STRICT",
+        "name VARCHAR(30) NOT NULL UNIQUE, key CLOB NOT NULL UNIQUE)", ""),
+    "numbers of other names": (
+        "meta", "schema INTEGER NOT NULL, last INTEGER NOT NULL) STRICT",
+        "schema INT NOT NULL, last NUMERIC NOT NULL)", ""),
+    "no names of types": ("members", "name TEXT NOT NULL UNIQUE, key TEXT", "name ANY NOT NULL UNIQUE, key ANY", ""),
+    "names in capitals": ("members", "name TEXT", "NAME TEXT", ""),
+    "words of a column in another order": ("members", "name TEXT NOT NULL UNIQUE", "name TEXT UNIQUE NOT NULL", ""),
+    "columns in another order": ("seen", "count INTEGER NOT NULL, first_ply", "first_ply INTEGER NOT NULL, count", ""),
+    "a key in another order": ("moves", "(game, ply)", "(ply, game)", ""),
+    "a key that descends": ("moves", "(game, ply)", "(game, ply DESC)", ""),
+    "a key by an index": (
+        "moves", ", PRIMARY KEY (game, ply)", "", "CREATE UNIQUE INDEX more ON moves (game, ply)"),
+    "a further index": ("moves", "", "", "CREATE INDEX more ON moves (text)"),
+    "a further index without regard to case": ("moves", "", "", "CREATE INDEX more ON moves (text COLLATE NOCASE)"),
+    "a further unique index that refuses no row": (
+        "members", "", "", "CREATE UNIQUE INDEX more ON members (key, id); CREATE UNIQUE INDEX most ON members (id)"),
+    "a further column": ("members", "key TEXT NOT NULL UNIQUE", "key TEXT NOT NULL UNIQUE, notes TEXT", ""),
+    "a further column with a default": (
+        "moves", "position TEXT NOT NULL", "position TEXT NOT NULL, notes TEXT NOT NULL DEFAULT ''", ""),
+    "a default of a column of ours": ("games", "since INTEGER NOT NULL", "since INTEGER NOT NULL DEFAULT 0", ""),
+    "a key with another answer to a conflict, which the program does not give": (
+        "members", "key TEXT NOT NULL UNIQUE", "key TEXT NOT NULL UNIQUE ON CONFLICT REPLACE", ""),
+    "a further table that refers to ours": (
+        "members", "", "", "CREATE TABLE more (member INTEGER REFERENCES members (id))"),
+}
+
+
+def remade(table, old, new, further):
+    """A club with a game, one of whose tables was made anew by another text, with the same rows."""
+    seated("remade.db")
+    with contextlib.closing(sqlite3.connect("remade.db", isolation_level=None)) as found:
+        (text,) = found.execute("SELECT sql FROM sqlite_schema WHERE name = ?", (table,)).fetchone()
+        assert old in text, old
+        columns = ", ".join(row[1] for row in found.execute(f"PRAGMA table_info({table})"))
+        found.execute(f"ALTER TABLE {table} RENAME TO old")
+        found.execute(text.replace(old, new, 1) if old else text)
+        found.execute(f"INSERT INTO {table} ({columns}) SELECT {columns} FROM old")
+        found.execute("DROP TABLE old")
+        found.executescript(further)
+    file = "another.db"
+    for end in ("", "-wal"):
+        pathlib.Path(file + end).unlink(missing_ok=True)
+    shutil.move("remade.db", file)
+    pathlib.Path("remade.db-wal").unlink(missing_ok=True)
+    return file
+
+
+def tables_by_other_texts():
+    """Tables that another program made are a club's where they answer as a club's, and else foreign."""
+    for name, made in FOREIGN.items():
+        file = remade(*made)
+        before = rows(file)
+        verdict(name, (3, "store 70 Foreign"), club(file, "verify"))
+        verdict(f"a move over {name}", (3, "store 70 Foreign"), move(file, 1))
+        verdict(f"{name}: rows are as they were", before, rows(file))
+    for name, made in TAKEN.items():
+        file = remade(*made)
+        verdict(name, (0, "sound"), club(file, "verify"))
+        verdict(f"a member over {name}", (0, "accepted member 3"), club(file, "member", "cora", "keycora33"))
+        verdict(f"a move over {name}", (0, "accepted ply 1 32-28"), move(file, 1))
+
+
 def kept_as_the_file_is():
     """The log is made with the mode of the file, whoever makes it."""
     seated("group.db")
@@ -243,6 +349,7 @@ def main():
         only_init_makes_a_file()
         other_files_are_left()
         databases_of_others_are_left()
+        tables_by_other_texts()
         kept_as_the_file_is()
         moved_away_while_served()
     return int(bool(bad))

@@ -11,6 +11,8 @@ Without words the program is build/club, and the scripts are those of tests/scri
         `club --now 1000 c.db member anna keyanna1` ends with the status 0 and prints the text, in whose place `|`
         stands between lines: on standard output where the status is 0, else on standard error, and nothing on the
         other. After the status 2, of bad words, stands no text: something is said on standard error.
+    1000 c.db show 2 = 0 > board
+        The same, where what is printed is the text of that name, which may have `|` and blanks in front.
     club c.db verify = 0 sound
         The same with the words as they stand.
     text lost = "[Result \"0-2\"]\n" + "1. 32-28 19-23 0-2" + "\n" * 2
@@ -235,6 +237,10 @@ class Script:
             at, goes_on = term.end(), term[4]
         return found
 
+    def printed(self, written):
+        """The bytes of a text by its name, or of lines."""
+        return self.text(written[2:]) if written.startswith("> ") else lines_of(written)
+
     def start(self, words, **how):
         return subprocess.Popen([self.program, *words], cwd=self.folder, stderr=subprocess.PIPE, **how)
 
@@ -250,11 +256,11 @@ class Script:
             compare((2, b"", "something"), (process.returncode, out, "something" if err else "nothing"))
         else:
             shown, silent = (out, err) if status == "0" else (err, out)
-            compare((int(status), lines_of(text), b""), (process.returncode, shown, silent))
+            compare((int(status), self.printed(text), b""), (process.returncode, shown, silent))
 
     def check_full(self, line):
         asked, text = parted(line, " = ")
-        whole = lines_of(text)
+        whole = self.printed(text)
         if not whole:
             raise Unreadable("there is no text")
         for size in range(len(whole)):

@@ -24,6 +24,7 @@ import sys
 import tempfile
 import time
 
+import season_boards
 import season_club
 from clubs import HERE, QUICK, files_in
 from season_club import Challenge, Club, LAST_MOMENT, refusal
@@ -398,6 +399,12 @@ def swept(season):
     season.look("at the season's end", late + 2, [*season.filters()][::3])
     exported = {it.number: (0, season_club.record(it), "") for it in season.club.games}
     compare("records by the word", exported, {it: season.give(late, ["export", str(it)]) for it in exported})
+    for flags in [], ["--letters"]:
+        boards = {it.number: (0, season_boards.shown(it, late + 2, bool(flags)), "") for it in season.club.games}
+        compare(f"boards by the word {' '.join(flags)}", boards,
+                {it: season.give(late + 2, ["show", *flags, str(it)]) for it in boards})
+    events = {it: (0, season.club.event_records(it), "") for it in season.club.events}
+    compare("records of events by the word", events, {it: season.give(late, ["export-event", it]) for it in events})
     tables = {it: (0, season.club.table(it), "") for it in season.club.events}
     compare("cross tables by the word", tables, {it: season.give(late, ["table", it]) for it in tables})
     verdict("the club is sound", (0, "sound\n", ""), season.give(late, ["verify"]))
@@ -411,9 +418,12 @@ def refused(season):
     wrong = {"--event nobody": 52, "--member nobody": 65, "--event anna": 52, "--member autumn": 65,
              "--event Autumn": 52, "--event autumn --member nobody": 65, "--event nobody --member anna --running": 52,
              "--member nobody --overdue": 65, "--event nobody --member nobody": 52, "--event=": 52, "--member=": 65}
+    wrong = {f"games {it}": number for it, number in wrong.items()}
+    wrong |= {"show 0": 53, f"show {games + 1}": 53, f"show --letters {games + 1}": 53, "export-event winter": 52,
+              "export-event anna": 52, "export-event Autumn": 52}
     compare("words are refused", {it: (1, "", f"refused {number} {season_club.NAMES[number]}\n")
                                   for it, number in wrong.items()},
-            {it: season.give(now, ["games", *it.split()]) for it in wrong})
+            {it: season.give(now, it.split()) for it in wrong})
     paths = {"/events/winter/games": 52, "/events/anna/games": 52, f"/games/{games + 1}/clock": 53,
              "/games/0/clock": 53, "/games/999999999/record": 53, f"/games/{games + 1}/record": 53,
              "/games/0000000001/clock": 82, "/games/one/record": 82, "/games//clock": 82, "/events//games": 82,

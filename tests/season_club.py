@@ -195,6 +195,12 @@ class Club:
             lines.append(f"{rank:>3} {member:<24}" + "".join(f"{it:>6}" for it in cells))
         return lined(lines)
 
+    def event_records(self, name):
+        """The records of an event's games, by their numbers."""
+        event = self.event_of(name)
+        between = "\n" if event.game == "draughts" else "/\n"
+        return between.join(record(it) for it in self.games if it.event is event)
+
     # ---- routes
 
     def replied(self, member, path, now):

@@ -247,9 +247,25 @@ def lost_replies():
         verdict("each ply again, the game being over and the desk another", kept, again)
 
 
+def broken_requests():
+    """A request that a reset breaks off leaves the club as it was, and the desk goes on."""
+    seated("b.db")
+    body = json.dumps({"move": MOVES[0]})
+    head = "POST /games/1/moves/1 HTTP/1.1\r\nHost: a\r\nMember-Key: keyanna1\r\n"
+    whole = f"{head}Content-Length: {len(body)}\r\n\r\n{body}".encode()
+    with desk("b.db") as port:
+        for size in (1, len(head) // 2, len(whole) - len(body), len(whole) - 1):
+            with socket.create_connection(("127.0.0.1", port), 60) as peer:
+                peer.setsockopt(socket.SOL_SOCKET, socket.SO_LINGER, b"\1\0\0\0\0\0\0\0")
+                peer.sendall(whole[:size])
+        verdict("the game after requests that broke off", 0, json.loads(shown(port)[1])["ply"])
+        verdict("the move, which none of them made", 200, move(port, 1)[0])
+    verdict("the move is there once", (1, 1), one("b.db", "SELECT count(*), plies FROM moves, games"))
+
+
 def main():
     with tempfile.TemporaryDirectory() as room, contextlib.chdir(room):
-        for part in (moments, faults, full_disk, refused_memory, lost_replies):
+        for part in (moments, faults, full_disk, refused_memory, lost_replies, broken_requests):
             part()
     return int(bool(bad))
 

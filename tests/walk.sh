@@ -47,6 +47,18 @@ for row in sqlite3.connect(sys.argv[1]).execute(sys.argv[2]):
 }
 
 "$top/club" > /dev/null 2>&1 # builds it, where it is not built
+version=$("$top/build/club" --version)
+verdict 'club --version names a version' 'yes' "$([[ $version =~ ^club\ [0-9]+\.[0-9]+\.[0-9]+$ ]] && echo yes)"
+told=$("$top/club" --version)
+verdict 'the launcher tells it first, and the sum of the sources' \
+    "$version sources $(python3 "$top/tests/build.py" --stamp)" "$(head -n 2 <<< "$told" | paste -sd ' ')"
+if git -C "$top" rev-parse -q HEAD > /dev/null 2>&1; then
+    commit=$(sed -nE '3s/^commit ([0-9a-f]{40})(, and changes since)?$/\1/p' <<< "$told")
+    verdict 'and a commit from which the sources do not differ' '' \
+        "$([[ $told =~ since$ ]] || git -C "$top" diff --name-only "${commit:-none}" -- 'crates/*/src/*' 'crates/*/specs/*' \
+            'crates/*/proofs/*' crates.txt 2>&1)"
+fi
+
 at() { says "$1" "$2" --now 1000 c.db "${@:3}"; }
 at 3 'store 70 Foreign' member anna keyanna1
 at 3 'store 70 Foreign' verify
@@ -201,16 +213,23 @@ both 0 'repeated game 12' import-pdn evening2 autumn anna bert evening.pdn
 both 1 'refused 27 ResultDiffers' import-pdn turned autumn anna bert - < <(sed 's/Result "2-0"/Result "0-2"/' evening.pdn)
 both 1 'refused 53 UnknownGame' export 13
 both 0 'sound' verify
-begun() { # each beginning of the record that lacks a part of its last statement is refused
-    local left
-    for left in $(seq 0 $(($(wc -c < evening.pdn) - 2))); do
-        head -c "$left" evening.pdn > begun.pdn
-        if "$top/build/club" --now 1000 both.db import-pdn begun autumn anna bert begun.pdn > /dev/null 2>&1; then
-            echo "  $left bytes are a game" && return 1
+begun() { # begun WORD EVENT RECORD: each beginning of the record that lacks a part of its last statement is refused
+    local left status
+    for left in $(seq 0 $(($(wc -c < "$3") - 2))); do
+        head -c "$left" "$3" > begun
+        "$top/build/club" --now 1000 both.db "$1" begun "$2" anna bert begun > /dev/null 2>&1
+        status=$?
+        if [ "$status" -ne 1 ]; then
+            echo "not ok beginnings of $3: $left bytes end with status $status" && return 1
         fi
     done
+    echo "ok beginnings of $3"
 }
-if begun; then echo 'ok beginnings of a record'; else echo 'not ok beginnings of a record'; bad=1; fi
+printf 'V2.2\nPI\n+\n+7776FU,T12\n%%TORYO\n' > once.csa
+begun import-pdn autumn evening.pdn || bad=1
+begun import-csa fuji once.csa || bad=1
+both 0 'accepted game 13' import-csa once fuji anna bert once.csa
+both 0 'sound' verify
 
 # told FILE: all rows of all tables, as sqlite3 reads them.
 told() {

@@ -1,27 +1,20 @@
 //! What the lines of a script come to.
 
 use crate::clubs::{changed, copy_of, made, new_club, retaken, run, table, taken, told, upgraded};
-use crate::courses::whole_at_each_stop;
+use crate::courses::{Start, whole_at_each_stop};
 use crate::files::{begun, session, upgrade_in};
 use crate::held::Held;
-use crate::images::{Stop, empty_files};
+use crate::images::{Image, Stop, empty_files};
 use crate::report::Report;
 use crate::requests::request;
 use crate::rows::found;
 use crate::script::Line;
-use crate::stops::whole_or_none;
 use crate::upgrades::{told_upgrade, whole_or_old};
 use anyhow::{Context, Result, bail};
 use club_requests::Request;
 use sqlite::{Connection, Options};
 use std::alloc::{AllocError, Global};
 use store::{OpenFault, Run};
-
-// The request of a text that begins with its moment.
-fn read_request(alloc: Global, text: &str) -> Result<Request> {
-    let (seconds, asked) = text.split_once(' ').context("no request")?;
-    request(alloc, seconds, asked)
-}
 
 fn read_requests(alloc: Global, group: &[Line<'_>]) -> Result<Vec<Request>> {
     let mut requests = Vec::new(alloc);
@@ -47,11 +40,17 @@ fn told_run(alloc: Global, run: &Run) -> Result<Vec<String>> {
 }
 
 // Gives requests by one call. What is held after them, and what each comes to.
-fn give(alloc: Global, held: Held, requests: &[Request]) -> Result<(Held, Vec<String>)> {
+fn give(
+    alloc: Global,
+    held: Held,
+    requests: &[Request],
+    report: &mut Report,
+) -> Result<(Held, Vec<String>)> {
     match held {
-        Held::Stopped { frames } => {
-            let (texts, files) = whole_at_each_stop(alloc, requests, frames)?;
-            Ok((Held::Files(files), texts))
+        Held::Stopped { start, frames } => {
+            let whole = whole_at_each_stop(alloc, start, requests, frames)?;
+            report.add_stops(whole.stops);
+            Ok((Held::Files(whole.files), whole.outcomes))
         }
         Held::Files(files) => {
             let (run, files) = session(alloc, files, requests);
@@ -74,14 +73,15 @@ fn new_held(alloc: Global, place: &str) -> Result<Held> {
     match place {
         "" => Ok(Held::Club(new_club(alloc)?)),
         "in files" => new_files(alloc),
-        _ => stopped_held(place),
+        _ => stopped_held(Start::Nothing, place),
     }
 }
 
-// What is held where each call of the disk is to be the last.
-fn stopped_held(place: &str) -> Result<Held> {
+// What is held where requests to what stands there are to be stopped at each call of the disk.
+fn stopped_held(start: Start, place: &str) -> Result<Held> {
     let frames = place.strip_prefix("stopped ").context("no such place")?;
     Ok(Held::Stopped {
+        start,
         frames: frames.parse()?,
     })
 }
@@ -103,6 +103,14 @@ fn again(alloc: Global, held: Held) -> Result<Held> {
         }
         held => Ok(Held::Club(retaken(alloc, held.into_connection()?)?)),
     }
+}
+
+fn retaken_held(alloc: Global, held: Held, place: &str) -> Result<Held> {
+    if place.is_empty() {
+        return again(alloc, held);
+    }
+    let image = Image::written(alloc, &held.into_files()?)?;
+    stopped_held(Start::Club(image), place)
 }
 
 // What an opening of files says, which took a club or not.
@@ -157,20 +165,11 @@ fn upgrades(alloc: Global, held: Held) -> Result<(Held, String)> {
 }
 
 // What an upgrade comes to, which is stopped at each call of the disk.
-fn stop_upgrade(alloc: Global, held: Held) -> Result<(Held, String)> {
+fn stop_upgrade(alloc: Global, held: Held, report: &mut Report) -> Result<(Held, String)> {
     let files = held.into_files()?;
-    let told = whole_or_old(alloc, &files);
-    Ok((Held::Files(files), told?))
-}
-
-fn stop(alloc: Global, held: Held, text: &str) -> Result<(Held, String)> {
-    if text == "upgrade" {
-        return stop_upgrade(alloc, held);
-    }
-    let request = [read_request(alloc, text)?];
-    let files = held.into_files()?;
-    let outcome = whole_or_none(alloc, &files, &request);
-    Ok((Held::Files(files), outcome?))
+    let whole = whole_or_old(alloc, &files)?;
+    report.add_stops(whole.stops);
+    Ok((Held::Files(files), whole.told))
 }
 
 fn done(alloc: Global, held: Result<Held>) -> Result<(Held, String)> {
@@ -178,11 +177,16 @@ fn done(alloc: Global, held: Result<Held>) -> Result<(Held, String)> {
 }
 
 // What is held after a line that is no request, and what it comes to.
-fn answer(alloc: Global, held: Held, line: &Line<'_>) -> Result<(Held, String)> {
+fn answer(
+    alloc: Global,
+    held: Held,
+    line: &Line<'_>,
+    report: &mut Report,
+) -> Result<(Held, String)> {
     match line.word {
         "club" => done(alloc, new_held(alloc, line.asked)),
         "database" => done(alloc, empty_held(alloc, line.asked)),
-        "again" => done(alloc, again(alloc, held)),
+        "again" => done(alloc, retaken_held(alloc, held, line.asked)),
         "sql" => done(alloc, held.changed(alloc, line.asked)),
         "upgrades" => upgrades(alloc, held),
         "creates" => told(alloc, made(alloc, held.into_connection()?), "ready"),
@@ -190,7 +194,7 @@ fn answer(alloc: Global, held: Held, line: &Line<'_>) -> Result<(Held, String)> 
         "damage" => damage(alloc, held, line.asked),
         "rows" => select(alloc, held, line.asked),
         "table" => show_table(alloc, held, line.asked),
-        "stopped" => stop(alloc, held, line.asked),
+        "stopped" if line.asked == "upgrade" => stop_upgrade(alloc, held, report),
         _ => bail!("no line begins so"),
     }
 }
@@ -201,24 +205,30 @@ fn outcomes(
     held: Held,
     group: &[Line<'_>],
     is_alone: bool,
+    report: &mut Report,
 ) -> Result<(Held, Vec<String>)> {
-    let (held, texts) = give(alloc, held, &read_requests(alloc, group)?)?;
+    let (held, texts) = give(alloc, held, &read_requests(alloc, group)?, report)?;
     let held = if is_alone { again(alloc, held)? } else { held };
     Ok((held, texts))
 }
 
 // What is held after a group of lines, and what each comes to.
-fn answers(alloc: Global, held: Held, group: &[Line<'_>]) -> Result<(Held, Vec<String>)> {
+fn answers(
+    alloc: Global,
+    held: Held,
+    group: &[Line<'_>],
+    report: &mut Report,
+) -> Result<(Held, Vec<String>)> {
     let Some(first) = group.first() else {
         bail!("no line")
     };
     if first.is_request() {
-        return outcomes(alloc, held, group, first.is_alone);
+        return outcomes(alloc, held, group, first.is_alone, report);
     }
     if first.is_alone {
         bail!("only a request is alone");
     }
-    let (held, text) = answer(alloc, held, first)?;
+    let (held, text) = answer(alloc, held, first, report)?;
     Ok((held, vec![in alloc; text]?))
 }
 
@@ -246,7 +256,7 @@ pub fn take(
     group: &[Line<'_>],
     report: &mut Report,
 ) -> Result<Held, AllocError> {
-    match answers(alloc, held, group) {
+    match answers(alloc, held, group, report) {
         Ok((held, texts)) => {
             compare_all(alloc, group, &texts, report)?;
             Ok(held)

@@ -1,8 +1,8 @@
-//! A club from its making to its closing, stopped at each call of the disk, for each of the two files.
+//! A club from its making or its opening to its closing, stopped at each call of the disk, for each of the two files.
 
 use crate::files::{begun, rows_in, session, stopped};
 use crate::held::Disks;
-use crate::images::{ClubFile, Image, Stop, Stoppable, empty_files, stop_at_each};
+use crate::images::{ClubFile, Image, Stop, Stoppable, empty_files, stop_everywhere};
 use anyhow::{Context, Result, bail};
 use club_requests::{Outcome, Request};
 use sqlite::Options;
@@ -19,9 +19,34 @@ enum Done {
     Requests(usize),
 }
 
-/// Requests to a new club, what each comes to where nothing stops them, and the rows before the first and after each.
+/// What stands before a course.
+#[derive(Drop)]
+pub enum Start {
+    /// Nothing in either file: the course begins with the making of the club.
+    Nothing,
+    /// The files of a club.
+    Club(Image),
+}
+
+impl Start {
+    /// A club in files that stop so, or why none was made in them.
+    fn club(
+        &self,
+        alloc: Global,
+        stop: Stop,
+        options: Options,
+    ) -> Result<(Result<(), OpenFault>, Disks)> {
+        match self {
+            Start::Nothing => Ok(begun(alloc, empty_files(alloc, stop), options)),
+            Start::Club(image) => Ok((Ok(()), image.files(alloc, stop)?)),
+        }
+    }
+}
+
+/// Requests to a club, what each comes to where nothing stops them, and the rows before the first and after each.
 #[derive(Drop)]
 struct Course<'a> {
+    start: Start,
     requests: &'a [Request],
     /// How many frames of the log a commit finds that copies them into the database file.
     frames: usize,
@@ -53,10 +78,11 @@ impl<'a> Course<'a> {
     /// The course of requests that nothing stops, each a session of its own, and the files after them.
     fn unstopped(
         alloc: Global,
+        start: Start,
         requests: &'a [Request],
         frames: usize,
     ) -> Result<(Course<'a>, Disks)> {
-        let (made, files) = begun(alloc, empty_files(alloc, Stop::Never), Options::new(1));
+        let (made, files) = start.club(alloc, Stop::Never, Options::new(1))?;
         made?;
         let (mut outcomes, mut rows) = (Vec::new(alloc), Vec::new(alloc));
         let (first, mut files) = rows_in(alloc, files);
@@ -71,6 +97,7 @@ impl<'a> Course<'a> {
             files = left;
         }
         let course = Course {
+            start,
             requests,
             frames,
             outcomes,
@@ -88,7 +115,7 @@ impl<'a> Course<'a> {
 
     /// What is done until the stop, and the files that it leaves.
     fn stopped(&self, alloc: Global, stop: Stop) -> Result<(Done, Disks)> {
-        let (made, files) = begun(alloc, empty_files(alloc, stop), self.options());
+        let (made, files) = self.start.club(alloc, stop, self.options())?;
         match made {
             Ok(()) => {}
             Err(OpenFault::Store) => return Ok((Done::Nothing, files)),
@@ -175,16 +202,30 @@ impl Stoppable for Course<'_> {
     }
 }
 
-/// What each request to a new club comes to, and the files after them, if wherever a call of the log or of the database
-/// file is the last what is found is whole, and the rest goes on from there.
+/// A course that is whole wherever it is stopped.
+#[derive(Drop)]
+pub struct WholeCourse {
+    /// What each request comes to where nothing stops it.
+    pub outcomes: Vec<String>,
+    /// The files after them.
+    pub files: Disks,
+    /// At how many calls of the disk it was stopped.
+    pub stops: u64,
+}
+
+/// The course of requests, if wherever a call of the log or of the database file is the last what is found is whole, and
+/// the rest goes on from there.
 pub fn whole_at_each_stop(
     alloc: Global,
+    start: Start,
     requests: &[Request],
     frames: usize,
-) -> Result<(Vec<String>, Disks)> {
-    let (course, files) = Course::unstopped(alloc, requests, frames)?;
-    for file in [ClubFile::Log, ClubFile::Database] {
-        stop_at_each(alloc, &course, file)?;
-    }
-    Ok((course.outcomes, files))
+) -> Result<WholeCourse> {
+    let (course, files) = Course::unstopped(alloc, start, requests, frames)?;
+    let stops = stop_everywhere(alloc, &course)?;
+    Ok(WholeCourse {
+        outcomes: course.outcomes,
+        files,
+        stops,
+    })
 }

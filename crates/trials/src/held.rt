@@ -1,6 +1,7 @@
 //! What the lines of a script are about.
 
 use crate::clubs::{adopted, changed};
+use crate::courses::Start;
 use crate::files::changed_in;
 use anyhow::{Result, bail};
 use sqlite::{Connection, Files, MemStore};
@@ -22,8 +23,10 @@ pub enum Held {
     Database(Connection<MemStore>),
     /// The files of a club.
     Files(Disks),
-    /// A club that is to be made for the requests that follow, and stopped at each call of the disk.
+    /// A club for the requests that follow, which is to be stopped at each call of the disk.
     Stopped {
+        /// What stands before the first of them.
+        start: Start,
         /// How many frames of the log a commit finds that copies them into the database file.
         frames: usize,
     },

@@ -1,12 +1,10 @@
 //! The two files of a club as bytes, and the disks in memory on which they lie.
 
-use crate::files::rows_in;
 use crate::held::Disks;
 use anyhow::{Result, bail};
 use sqlite::Files;
 use sqlite_disk::{Crash, Disk, Fuse, Memory};
 use std::alloc::Global;
-use store_tables::Changes;
 
 /// The bytes of a database file and its log.
 #[derive(PartialEq, Drop)]
@@ -31,7 +29,7 @@ impl ClubFile {
         }
     }
 
-    pub fn name(self) -> &'static str {
+    fn name(self) -> &'static str {
         match self {
             ClubFile::Log => "log",
             ClubFile::Database => "database",
@@ -89,18 +87,25 @@ pub trait Stoppable {
     fn tried(&self, alloc: Global, file: ClubFile, calls: u64) -> Result<Option<bool>>;
 }
 
-/// Stops it at each call of the file, until it comes to its end without a stop.
-pub fn stop_at_each<T: Stoppable>(alloc: Global, trial: &T, file: ClubFile) -> Result<()> {
+/// Stops it at each call of the file, until it comes to its end without a stop. How many stops that were.
+fn stop_at_each<T: Stoppable>(alloc: Global, trial: &T, file: ClubFile) -> Result<u64> {
     let name = file.name();
     for calls in 0..MOST_CALLS {
         match trial.tried(alloc, file, calls) {
-            Ok(Some(true)) => return Ok(()),
+            Ok(Some(true)) => return Ok(calls),
             Ok(Some(false)) => {}
             Ok(None) => bail!("neither whole nor none after {calls} calls of the {name}"),
             Err(fault) => bail!("{fault} after {calls} calls of the {name}"),
         }
     }
     bail!("not at an end after any number of calls of the {name}")
+}
+
+/// Stops it at each call of the one file and then of the other. How many stops that were.
+pub fn stop_everywhere<T: Stoppable>(alloc: Global, trial: &T) -> Result<u64> {
+    let in_log = stop_at_each(alloc, trial, ClubFile::Log)?;
+    let in_database = stop_at_each(alloc, trial, ClubFile::Database)?;
+    Ok(in_log.saturating_add(in_database))
 }
 
 /// Files of which nothing was written yet.
@@ -141,11 +146,5 @@ impl Image {
             log: disk(alloc, &self.log, stop.log_calls())?,
             db: disk(alloc, &self.database, stop.database_calls())?,
         })
-    }
-
-    /// The rows that stand in them.
-    pub fn rows(&self, alloc: Global) -> Result<Changes> {
-        let (rows, _files) = rows_in(alloc, self.files(alloc, Stop::Never)?);
-        rows
     }
 }

@@ -13,7 +13,6 @@ mod report;
 mod requests;
 mod rows;
 mod script;
-mod stops;
 mod upgrades;
 
 use crate::held::Held;
@@ -38,11 +37,13 @@ fn reported(rt: &HostRuntime, text: &str) -> anyhow::Result<Report> {
     Ok(report)
 }
 
-// Whether every line of the script holds, which is printed.
+// Whether every line of the script holds, which is printed. How many stops were tried is no matter of the script, and is
+// told beside it.
 fn holds(rt: &HostRuntime) -> anyhow::Result<bool> {
     let text = read_script(rt)?;
     let report = reported(rt, text.as_str())?;
     println!(rt; "{}", report.told(rt.alloc())?.as_str())?;
+    eprintln!(rt; "{} stops", report.stops())?;
     Ok(report.holds())
 }
 

@@ -3,11 +3,12 @@
 use crate::script::Line;
 use std::alloc::{AllocError, Global};
 
-/// How many lines hold, and what is told of the others.
+/// How many lines hold, what is told of the others, and how many stops were tried.
 #[derive(Drop)]
 pub struct Report {
     holding: u64,
     differing: String,
+    stops: u64,
 }
 
 impl Report {
@@ -15,6 +16,7 @@ impl Report {
         Report {
             holding: 0,
             differing: String::new(alloc),
+            stops: 0,
         }
     }
 
@@ -32,6 +34,16 @@ impl Report {
         let (number, text, wanted) = (line.number, line.text, line.wanted);
         let told = format!(in alloc; "line {number}: {text}: wanted {wanted} .. got {got}\n")?;
         self.differing.push_str(told.as_str())
+    }
+
+    /// Takes down that something was stopped at so many calls of the disk.
+    pub fn add_stops(&mut self, stops: u64) {
+        self.stops = self.stops.saturating_add(stops);
+    }
+
+    /// At how many calls of the disk something was stopped.
+    pub fn stops(&self) -> u64 {
+        self.stops
     }
 
     /// Whether there are lines, and all of them hold.

@@ -2,7 +2,7 @@
 
 use crate::files::{rows_in, upgrade_in};
 use crate::held::Disks;
-use crate::images::{ClubFile, Image, Stop, Stoppable, stop_at_each};
+use crate::images::{ClubFile, Image, Stop, Stoppable, stop_everywhere};
 use anyhow::{Result, bail};
 use std::alloc::Global;
 use store::{OpenFault, Upgrade};
@@ -54,9 +54,17 @@ pub fn told_upgrade(alloc: Global, upgraded: Result<Upgrade, OpenFault>) -> Resu
     }
 }
 
-/// What an upgrade of the files comes to where nothing stops it, if wherever a call of the log or of the database file
-/// is the last what is found is whole.
-pub fn whole_or_old(alloc: Global, files: &Disks) -> Result<String> {
+/// An upgrade that is whole wherever it is stopped.
+#[derive(Drop)]
+pub struct WholeUpgrade {
+    /// What it comes to where nothing stops it.
+    pub told: String,
+    /// At how many calls of the disk it was stopped.
+    pub stops: u64,
+}
+
+/// The upgrade of the files, if wherever a call of the log or of the database file is the last what is found is whole.
+pub fn whole_or_old(alloc: Global, files: &Disks) -> Result<WholeUpgrade> {
     let image = Image::written(alloc, files)?;
     let (upgraded, left) = upgrade_in(alloc, image.files(alloc, Stop::Never)?);
     let (after, _files) = rows_in(alloc, left);
@@ -65,8 +73,6 @@ pub fn whole_or_old(alloc: Global, files: &Disks) -> Result<String> {
         image,
         after: after?,
     };
-    for file in [ClubFile::Log, ClubFile::Database] {
-        stop_at_each(alloc, &trial, file)?;
-    }
-    Ok(told)
+    let stops = stop_everywhere(alloc, &trial)?;
+    Ok(WholeUpgrade { told, stops })
 }
