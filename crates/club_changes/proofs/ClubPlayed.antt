@@ -53,7 +53,7 @@ use Rattle.club_rows.specs.Scores.{Meeting, meetings, meetings_in, scores_in}
 use Rattle.club_changes.proofs.PutSame.{same_by}
 use Rattle.club_changes.proofs.NextRows.{AreFew, play_next, change_next}
 use Rattle.club_changes.proofs.OutcomeLemmas.{none_decided, answered_mapped, same_content}
-use Rattle.club_changes.proofs.SameLemmas.{puts_changed}
+use Rattle.club_changes.proofs.ChangedLemmas.{puts_changed}
 use Rattle.club_changes.proofs.PlayedLemmas.{budget_most, since_within}
 
 -- ---- in a game of the club

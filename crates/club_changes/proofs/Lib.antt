@@ -1,5 +1,6 @@
 pub mod ChallengeRows
 pub mod ChallengedTables
+pub mod ChangedLemmas
 pub mod ClubPlayed
 pub mod FoundLemmas
 pub mod FoundMoves
@@ -13,5 +14,4 @@ pub mod PlayedLemmas
 pub mod Proved
 pub mod PutSame
 pub mod ReadRows
-pub mod SameLemmas
 pub mod SweptTables

@@ -39,7 +39,7 @@ use Rattle.club_rows.specs.Tables.{rows_of_seen}
 use Rattle.club_rows.proofs.Proved.{seen-start}
 use Rattle.club_changes.proofs.PutSame.{same_itself}
 use Rattle.club_changes.proofs.NextRows.{puts_all, puts, member_next, event_next, seat_next}
-use Rattle.club_changes.proofs.SameLemmas.{all_changed}
+use Rattle.club_changes.proofs.ChangedLemmas.{all_changed}
 
 pub same_content : (s : ClubState) → AreSame (tables s) (tables s)
 same_content s = (

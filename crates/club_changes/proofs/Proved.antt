@@ -20,5 +20,4 @@ pub use Rattle.club_changes.proofs.PutSame.{numbered_has, numbered_length, numbe
 pub use Rattle.club_changes.proofs.ReadRows.{all_read, first_is, first_mapped, member_read, none_mapped, one_more_of}
 pub use Rattle.club_changes.proofs.ReadRows.{one_more_read}
 pub use Rattle.club_changes.proofs.ReadRows.{placed, row_at_place, score_first}
-pub use Rattle.club_changes.proofs.SameLemmas.{exactly_same, leaves_same}
 pub use Rattle.club_changes.proofs.SweptTables.{member_refused}

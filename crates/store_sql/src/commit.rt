@@ -67,7 +67,10 @@ fn put_meta<S: Alter>(tx: &mut Transaction<'_, S>, changes: &Changes) -> Result<
 }
 
 /// Puts all of the rows, in a transaction that is open.
-fn put_changes<S: Alter>(tx: &mut Transaction<'_, S>, changes: &Changes) -> Result<(), Error>
+pub(crate) fn put_changes<S: Alter>(
+    tx: &mut Transaction<'_, S>,
+    changes: &Changes,
+) -> Result<(), Error>
     ensures same_reference { tx.new.conn.ghost_name ≡ tx.old.conn.ghost_name }
     ensures put { HasCleanDisk (state S.Store tx.new.conn.now) → IsTrue
         (state S.Store tx.old.conn.now).in_transaction → OnOk result (Steps (changed changes.now)

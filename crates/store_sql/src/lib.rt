@@ -3,6 +3,7 @@
 
 mod commit;
 mod fault;
+mod filled;
 mod keys;
 mod make;
 mod read;
@@ -13,6 +14,7 @@ mod wider;
 
 pub use commit::commit_changes;
 pub use fault::{CallFault, ReadFault, is_refused};
+pub use filled::create_filled;
 pub use keys::{
     ChallengeNumber, EventName, GameKey, MemberKey, MemberName, MovePly, Question, ScorePair,
     SeenPosition, find,

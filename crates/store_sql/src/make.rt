@@ -12,33 +12,10 @@ ghost use Rattle.store_tables.specs.Club.{IsExactly, Leaves};
 use crate::upsert::put_meta;
 use sqlite::{Alter, Connection, Error, Transaction};
 use store_tables::MetaRow;
-
-const CREATE_META: &str =
-    "CREATE TABLE meta (id INTEGER PRIMARY KEY, schema INTEGER NOT NULL, last INTEGER NOT NULL) STRICT";
-
-const CREATE_MEMBERS: &str =
-    "CREATE TABLE members (id INTEGER PRIMARY KEY, name TEXT NOT NULL UNIQUE, key TEXT NOT NULL UNIQUE) STRICT";
-
-const CREATE_EVENTS: &str =
-    "CREATE TABLE events (id INTEGER PRIMARY KEY, name TEXT NOT NULL UNIQUE, game INTEGER NOT NULL, budget INTEGER NOT NULL, increment INTEGER NOT NULL) STRICT";
-
-const CREATE_CHALLENGES: &str =
-    "CREATE TABLE challenges (member INTEGER NOT NULL, number INTEGER NOT NULL, event INTEGER NOT NULL, other INTEGER NOT NULL, first INTEGER NOT NULL, state INTEGER NOT NULL, game INTEGER, PRIMARY KEY (member, number)) STRICT";
-
-const CREATE_MOVES: &str =
-    "CREATE TABLE moves (game INTEGER NOT NULL, ply INTEGER NOT NULL, text TEXT NOT NULL, moment INTEGER NOT NULL, left INTEGER NOT NULL, position TEXT NOT NULL, PRIMARY KEY (game, ply)) STRICT";
-
-const CREATE_GAMES: &str =
-    "CREATE TABLE games (id INTEGER PRIMARY KEY, key TEXT UNIQUE, event INTEGER NOT NULL, first INTEGER NOT NULL, second INTEGER NOT NULL, start INTEGER NOT NULL, since INTEGER NOT NULL, plies INTEGER NOT NULL, left1 INTEGER NOT NULL, left2 INTEGER NOT NULL, offer_side INTEGER, offer_ply INTEGER, end TEXT, result TEXT, position TEXT NOT NULL, track_a INTEGER NOT NULL, track_b INTEGER NOT NULL) STRICT";
-
-const CREATE_SEEN: &str =
-    "CREATE TABLE seen (game INTEGER NOT NULL, position TEXT NOT NULL, count INTEGER NOT NULL, first_ply INTEGER NOT NULL, PRIMARY KEY (game, position)) STRICT";
-
-const CREATE_SCORES: &str =
-    "CREATE TABLE scores (event INTEGER NOT NULL, member INTEGER NOT NULL, opponent INTEGER NOT NULL, points INTEGER NOT NULL, wins INTEGER NOT NULL, draws INTEGER NOT NULL, losses INTEGER NOT NULL, PRIMARY KEY (event, member, opponent)) STRICT";
-
-pub(crate) const CREATE_EVENT_RULES: &str =
-    "CREATE TABLE event_rules (event INTEGER PRIMARY KEY, declares INTEGER NOT NULL) STRICT";
+use store_tables::creates::{
+    CREATE_CHALLENGES, CREATE_EVENT_RULES, CREATE_EVENTS, CREATE_GAMES, CREATE_MEMBERS,
+    CREATE_META, CREATE_MOVES, CREATE_SCORES, CREATE_SEEN,
+};
 
 /// Runs one text that makes a table.
 pub(crate) fn make<S: Alter>(tx: &mut Transaction<'_, S>, sql: &str) -> Result<(), Error>
@@ -100,7 +77,7 @@ fn make_last<S: Alter>(tx: &mut Transaction<'_, S>) -> Result<(), Error>
 }
 
 /// Makes the tables, with the row of `meta`, in a transaction that is open.
-fn create_inside<S: Alter>(tx: &mut Transaction<'_, S>) -> Result<(), Error>
+pub(crate) fn create_inside<S: Alter>(tx: &mut Transaction<'_, S>) -> Result<(), Error>
     ensures same_reference { tx.new.conn.ghost_name ≡ tx.old.conn.ghost_name }
     ensures filled { HasCleanDisk (state S.Store tx.new.conn.now) → IsTrue
         (state S.Store tx.old.conn.now).in_transaction → OnOk result (Fills (state S.Store tx.old.conn.now)

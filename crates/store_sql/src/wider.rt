@@ -12,10 +12,11 @@ ghost use Rattle.store_tables.specs.Tables.{club_schema, first_schema, IsClubSch
 ghost use Rattle.store_sql.specs.Widened.{WidensTo};
 
 use crate::fault::{ReadFault, is_refused};
-use crate::make::{CREATE_EVENT_RULES, make};
+use crate::make::make;
 use crate::texts::Select;
 use crate::upsert::{Put, put_all};
 use sqlite::{Alter, Connection, Error, Transaction, params};
+use store_tables::creates::CREATE_EVENT_RULES;
 use store_tables::{EventRuleRow, MetaRow};
 
 /// Makes the table of the rules of events and puts all rows, in a transaction that is open.

@@ -12,6 +12,7 @@ pub mod PutMeanings
 pub mod QueryLemmas
 pub mod ReadLemmas
 pub mod RowLemmas
+pub mod SameLemmas
 pub mod SchemaLemmas
 pub mod SelectMeanings
 pub mod StepLemmas

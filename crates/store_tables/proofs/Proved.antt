@@ -16,6 +16,10 @@ pub use Rattle.store_tables.proofs.SelectMeanings.{members_by_name_select, membe
 pub use Rattle.store_tables.proofs.SelectMeanings.{games_by_key_select}
 pub use Rattle.store_tables.proofs.SelectMeanings.{challenges_by_number_select, moves_by_ply_select}
 pub use Rattle.store_tables.proofs.SelectMeanings.{seen_by_position_select, scores_by_pair_select}
+-- Contents that are held alike, and tables of which no two rows have one key.
+pub use Rattle.store_tables.proofs.SameLemmas.{leaves_same, exactly_same}
+pub use Rattle.store_tables.proofs.UpsertLemmas.{same_rowid}
+pub use Rattle.store_tables.proofs.PutMeanings.{by_index}
 -- Lists of rows in the order of their ids.
 pub use Rattle.store_tables.proofs.IdLemmas.{in_order, one_list, places_rise}
 pub use Rattle.store_tables.proofs.OrderLemmas.{same_length, got}

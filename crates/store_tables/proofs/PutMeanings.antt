@@ -58,7 +58,7 @@ or_false true = refl
 or_false false = refl
 
 -- two rows with the key of a unique index have one rowid
-by_index : (schema : Schema) (table : Table) (index : Index) → Has schema.tables table → Has schema.indexes index
+pub by_index : (schema : Schema) (table : Table) (index : Index) → Has schema.tables table → Has schema.indexes index
     → guards index table ≡ true → (next : Trees) (r s : Row) (m n : ℤ) → KeepsRule Unique schema next
     → rowid r ≡ Int m → rowid s ≡ Int n → Has (next table.tree) r → Has (next table.tree) s
     → agree index.order index.columns r index.columns s ≡ true → n ≡ m

@@ -1,6 +1,7 @@
 //! The tables of a club: their rows as types, and what their texts of SQL mean.
 #![tactic(auto)]
 
+pub mod creates;
 mod ids;
 mod names;
 mod parse;

@@ -3,8 +3,7 @@ use Rattle.sqlite.specs.Held.{state}
 use Rattle.sqlite.specs.State.{HasCleanDisk}
 use Rattle.store_tables.specs.Tables.{club_schema, first_schema, schema_of}
 use Rattle.store_tables.specs.declared.names.Version.TheVariants.{First, Current}
-use Rattle.store_tables.proofs.Proved.{unchanged_exactly}
-use Rattle.club_changes.proofs.Proved.{exactly_same, leaves_same}
+use Rattle.store_tables.proofs.Proved.{unchanged_exactly, exactly_same, leaves_same}
 use Rattle.club_rows.specs.Club.{tables}
 use Rattle.club_rows.specs.FirstSchema.{first_tables}
 use Rattle.club_opening.specs.Versions.{IsExactlyClub}

@@ -6,7 +6,7 @@ use Rattle.store_tables.specs.Club.{IsExactly}
 use Rattle.store_tables.specs.Changed.{changed}
 use Rattle.club_rows.specs.Club.{tables}
 use Rattle.club_changes.specs.Steps.{request, club_next, changed_if, AreSame}
-use Rattle.club_changes.proofs.Proved.{exactly_same, leaves_same}
+use Rattle.store_tables.proofs.Proved.{exactly_same, leaves_same}
 use Rattle.store.proofs.LegalLemmas.{club_stays}
 use Rattle.store.proofs.HistoryLemmas.{one_stands, one_cut}
 use Rattle.store.proofs.club.Club.apply.Goals as goal

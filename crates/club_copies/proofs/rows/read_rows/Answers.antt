@@ -1,0 +1,26 @@
+use Rattle.std.proofs.Common.{arith}
+use Rattle.sqlite.specs.Held.{state}
+use Rattle.sqlite.specs.State.{HasCleanDisk}
+use Rattle.store_tables.specs.Tables.{club_schema}
+use Rattle.club_copies.proofs.rows.read_rows.Goals as goal
+
+pub returns-in-Ok-read_play-clause-rows : goal.returns-in-Ok-read_play-clause-rows
+returns-in-Ok-read_play-clause-rows g c clean content k =
+    let s1 = state g.S.Store c.read_meta.new.conn in
+    let s2 = state g.S.Store c.read_people.new.conn in
+    let clean2 : HasCleanDisk s2 = omega (arith, c.read_play.ensures.reads.clean, clean) in
+    let clean1 : HasCleanDisk s1 = omega (arith, c.read_people.ensures.reads.clean, clean2) in
+    let k1 = c.in-Ok.ensures.kept clean1 club_schema content k in
+    let k2 = c.in-Ok-read_people.ensures.kept clean2 club_schema content k1 in
+    c.joined.ensures content c.in-Ok.ensures.first (c.in-Ok.ensures.rows clean1 content k)
+    (c.in-Ok-read_people.ensures.rows clean2 content k1) (c.in-Ok-read_play.ensures.rows clean content k2)
+
+pub returns-in-Ok-read_play-clause-kept : goal.returns-in-Ok-read_play-clause-kept
+returns-in-Ok-read_play-clause-kept g c clean schema content k =
+    let s1 = state g.S.Store c.read_meta.new.conn in
+    let s2 = state g.S.Store c.read_people.new.conn in
+    let clean2 : HasCleanDisk s2 = omega (arith, c.read_play.ensures.reads.clean, clean) in
+    let clean1 : HasCleanDisk s1 = omega (arith, c.read_people.ensures.reads.clean, clean2) in
+    let k1 = c.in-Ok.ensures.kept clean1 schema content k in
+    let k2 = c.in-Ok-read_people.ensures.kept clean2 schema content k1 in
+    c.in-Ok-read_play.ensures.kept clean schema content k2

@@ -1,0 +1,39 @@
+-- The rows of all tables of a club, which are put into another database.
+use Rattle.std.specs.Prelude.{◌≡◌, pos, Some, map}
+use Rattle.store_tables.specs.Cells.{member_cells, event_cells, challenge_cells, move_cells, game_cells}
+use Rattle.store_tables.specs.Cells.{event_rule_cells, seen_cells, score_cells}
+use Rattle.store_tables.specs.Changed.{maybe_row}
+use Rattle.store_tables.specs.Changes.{HaveSame}
+use Rattle.store_tables.specs.Contents.{Content}
+use Rattle.store_tables.specs.declared.rows.Changes.{Changes}
+use Rattle.store_tables.specs.declared.rows.MetaRow.{MetaRow}
+use Rattle.club_copies.specs.declared.rows.People.{People}
+use Rattle.club_copies.specs.declared.rows.Play.{Play}
+
+-- These are all rows of members, events, rules of events and challenges, in whatever order.
+pub record ArePeople (rows : People) (content : Content) : Type 0 where
+  pub members : HaveSame (map member_cells rows.members.items) (content 1)
+  pub events : HaveSame (map event_cells rows.events.items) (content 4)
+  pub event_rules : HaveSame (map event_rule_cells rows.event_rules.items) (content 16)
+  pub challenges : HaveSame (map challenge_cells rows.challenges.items) (content 6)
+
+-- These are all rows of games, moves, positions and scores, in whatever order.
+pub record ArePlay (rows : Play) (content : Content) : Type 0 where
+  pub moves : HaveSame (map move_cells rows.moves.items) (content 8)
+  pub games : HaveSame (map game_cells rows.games.items) (content 10)
+  pub seen : HaveSame (map seen_cells rows.seen.items) (content 12)
+  pub scores : HaveSame (map score_cells rows.scores.items) (content 14)
+
+-- `meta` has its one row, and these are all rows of each table, in whatever order.
+pub record AreAll (rows : Changes) (content : Content) : Type 0 where
+  pub first : MetaRow
+  pub is_first : (rows.meta ≡ Some first) × (first.id ≡ pos 1)
+  pub meta : HaveSame (maybe_row rows.meta) (content 0)
+  pub members : HaveSame (map member_cells rows.members.items) (content 1)
+  pub events : HaveSame (map event_cells rows.events.items) (content 4)
+  pub event_rules : HaveSame (map event_rule_cells rows.event_rules.items) (content 16)
+  pub challenges : HaveSame (map challenge_cells rows.challenges.items) (content 6)
+  pub moves : HaveSame (map move_cells rows.moves.items) (content 8)
+  pub games : HaveSame (map game_cells rows.games.items) (content 10)
+  pub seen : HaveSame (map seen_cells rows.seen.items) (content 12)
+  pub scores : HaveSame (map score_cells rows.scores.items) (content 14)

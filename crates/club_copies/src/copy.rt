@@ -1,0 +1,64 @@
+//! The tables of a club made anew in another database.
+
+ghost use Rattle.std.specs.Prelude.{◌≡◌, ◌≢◌, ◌≤◌, ◌⊎◌, false, IfOk, IfErr, OnOk, OnErr, Err};
+ghost use Rattle.sqlite.specs.State.{HasCleanDisk};
+ghost use Rattle.sqlite.specs.Held.{state};
+ghost use Rattle.sqlite_trees.specs.View.{doubt};
+ghost use Rattle.store_tables.specs.Club.{IsExactly, Leaves};
+ghost use Rattle.store_tables.specs.Contents.{IsExactlyEmpty, IsEmpty};
+ghost use Rattle.store_tables.specs.Reading.{KeepsMay, OnlyReads};
+ghost use Rattle.store_tables.specs.Tables.{IsClubSchema};
+ghost use Rattle.store_sql.specs.Read.{KeepsContent};
+
+use crate::fault::CopyFault;
+use crate::rows::read_rows;
+use sqlite::{Alter, Connection};
+use std::alloc::Global;
+use store_sql::{CallFault, create_filled};
+
+/// What a fault of reading is to a copy.
+fn unread(fault: CallFault) -> CopyFault
+    ensures { result ≢ CopyFault.Copy }
+{
+    match fault {
+        CallFault::Store => CopyFault::Club,
+        CallFault::Memory => CopyFault::Memory,
+    }
+}
+
+/// Makes the tables of a club in an empty database, and puts all rows of the club into them, in one transaction with one
+/// commit. The club is read and stays as it is. After a fault the copy has no table or is whole, also after a stop; where
+/// the fault is not the copy's, nothing was done to it. A database where tables of a club stand is left as it is.
+pub fn copy_tables<S: Alter, T: Alter>(
+    alloc: Global,
+    club: &mut Connection<S>,
+    copy: &mut Connection<T>,
+) -> Result<(), CopyFault>
+    requires { copy.old.in_transaction ≡ false }
+    ensures reads { OnlyReads (state S.Store club.old) (state S.Store club.new) }
+    ensures kept { HasCleanDisk (state S.Store club.new) → OnOk result (KeepsContent (state S.Store club.old)
+        (state S.Store club.new)) }
+    ensures goes_on { HasCleanDisk (state S.Store club.new) → result ≡ Err CopyFault.Copy →
+        KeepsContent (state S.Store club.old) (state S.Store club.new) }
+    ensures idle { copy.new.in_transaction ≡ false }
+    ensures clean { doubt (state T.Store copy.old).is_clean ≤ doubt (state T.Store copy.new).is_clean }
+    ensures stored { HasCleanDisk (state S.Store club.new) → HasCleanDisk (state T.Store copy.new) →
+        OnOk result ((content : _) → IsExactly content (state S.Store club.old) →
+        IsExactlyEmpty (state T.Store copy.old) → IsExactly content (state T.Store copy.new)) }
+    ensures fault { HasCleanDisk (state S.Store club.new) → HasCleanDisk (state T.Store copy.new) →
+        OnErr result ((content : _) → IsExactly content (state S.Store club.old) →
+        IsExactlyEmpty (state T.Store copy.old) → (db : _) → (state T.Store copy.new).may_leave db →
+        IsEmpty db ⊎ Leaves content db) }
+    ensures untouched { IfErr result (λ e. e ≢ CopyFault.Copy → copy.new ≡ copy.old) }
+    ensures stands { HasCleanDisk (state T.Store copy.new) → IsClubSchema (state T.Store copy.old).now.schema →
+        IfOk result (λ _. ⊥) × KeepsMay (state T.Store copy.old) (state T.Store copy.new) }
+{
+    let rows = match read_rows(alloc, club) {
+        Ok(rows) => rows,
+        Err(fault) => return Err(unread(fault)),
+    };
+    match create_filled(copy, &rows) {
+        Ok(()) => Ok(()),
+        Err(_) => Err(CopyFault::Copy),
+    }
+}

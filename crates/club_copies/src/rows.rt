@@ -1,0 +1,192 @@
+//! The rows of all tables of a club.
+
+ghost use Rattle.std.specs.Prelude.{◌≡◌, ◌∷◌, [], None, Some, pos, IfOk, IfSome, OnOk, map};
+ghost use Rattle.sqlite.specs.State.{HasCleanDisk};
+ghost use Rattle.sqlite.specs.Held.{state};
+ghost use Rattle.store_tables.specs.Cells.{meta_cells};
+ghost use Rattle.store_tables.specs.Changes.{HaveSame};
+ghost use Rattle.store_tables.specs.Club.{IsExactly};
+ghost use Rattle.store_tables.specs.Reading.{OnlyReads};
+ghost use Rattle.store_sql.specs.Read.{KeepsContent};
+ghost use Rattle.club_copies.specs.Copies.{AreAll, ArePeople, ArePlay};
+
+use sqlite::{Alter, Connection};
+use std::alloc::Global;
+use store_sql::{CallFault, list};
+use store_tables::{
+    ChallengeRow, Changes, EventRow, EventRuleRow, GameRecord, MemberRow, MetaRow, MoveRow,
+    ScoreRow, SeenRow,
+};
+
+/// The rows of who is in a club, and in which events.
+#[derive(Drop)]
+pub(crate) struct People {
+    members: Vec<MemberRow>,
+    events: Vec<EventRow>,
+    event_rules: Vec<EventRuleRow>,
+    challenges: Vec<ChallengeRow>,
+}
+
+/// The rows of what was played.
+#[derive(Drop)]
+pub(crate) struct Play {
+    games: Vec<GameRecord>,
+    moves: Vec<MoveRow>,
+    seen: Vec<SeenRow>,
+    scores: Vec<ScoreRow>,
+}
+
+/// The row of `meta`, where it is the only one and has the id 1.
+fn only_row(rows: Vec<MetaRow>) -> Option<MetaRow>
+    ensures { IfSome result (λ first. (rows.items ≡ first ∷ []) × (first.id ≡ pos 1)) }
+{
+    let mut rows = rows;
+    let first = match rows.pop() {
+        Some(first) => first,
+        None => return None,
+    };
+    if !rows.is_empty() {
+        return None;
+    }
+    if first.id != 1 {
+        return None;
+    }
+    Some(first)
+}
+
+/// The row of `meta`. Where it has not the one row of a club, that is a fault, as a value of another type than its
+/// column.
+fn read_meta<S: Alter>(alloc: Global, conn: &mut Connection<S>) -> Result<MetaRow, CallFault>
+    ensures reads { OnlyReads (state S.Store conn.old) (state S.Store conn.new) }
+    ensures kept { HasCleanDisk (state S.Store conn.new) → OnOk result (KeepsContent (state S.Store conn.old)
+        (state S.Store conn.new)) }
+    ensures first { IfOk result (λ first. first.id ≡ pos 1) }
+    ensures rows { HasCleanDisk (state S.Store conn.new) → IfOk result (λ first. (content : _) → IsExactly content
+        (state S.Store conn.old) → HaveSame (meta_cells first ∷ []) (content 0)) }
+{
+    let rows = match list(alloc, conn) {
+        Ok(rows) => rows,
+        Err(fault) => return Err(fault),
+    };
+    match only_row(rows) {
+        Some(first) => Ok(first),
+        None => Err(CallFault::Store),
+    }
+}
+
+/// All rows of members, events, rules of events and challenges.
+fn read_people<S: Alter>(alloc: Global, conn: &mut Connection<S>) -> Result<People, CallFault>
+    ensures reads { OnlyReads (state S.Store conn.old) (state S.Store conn.new) }
+    ensures kept { HasCleanDisk (state S.Store conn.new) → OnOk result (KeepsContent (state S.Store conn.old)
+        (state S.Store conn.new)) }
+    ensures rows { HasCleanDisk (state S.Store conn.new) → IfOk result (λ found. (content : _) → IsExactly content
+        (state S.Store conn.old) → ArePeople found content) }
+{
+    let members = match list(alloc, conn) {
+        Ok(members) => members,
+        Err(fault) => return Err(fault),
+    };
+    let events = match list(alloc, conn) {
+        Ok(events) => events,
+        Err(fault) => return Err(fault),
+    };
+    let event_rules = match list(alloc, conn) {
+        Ok(event_rules) => event_rules,
+        Err(fault) => return Err(fault),
+    };
+    let challenges = match list(alloc, conn) {
+        Ok(challenges) => challenges,
+        Err(fault) => return Err(fault),
+    };
+    Ok(People {
+        members,
+        events,
+        event_rules,
+        challenges,
+    })
+}
+
+/// All rows of games, moves, positions and scores.
+fn read_play<S: Alter>(alloc: Global, conn: &mut Connection<S>) -> Result<Play, CallFault>
+    ensures reads { OnlyReads (state S.Store conn.old) (state S.Store conn.new) }
+    ensures kept { HasCleanDisk (state S.Store conn.new) → OnOk result (KeepsContent (state S.Store conn.old)
+        (state S.Store conn.new)) }
+    ensures rows { HasCleanDisk (state S.Store conn.new) → IfOk result (λ found. (content : _) → IsExactly content
+        (state S.Store conn.old) → ArePlay found content) }
+{
+    let games = match list(alloc, conn) {
+        Ok(games) => games,
+        Err(fault) => return Err(fault),
+    };
+    let moves = match list(alloc, conn) {
+        Ok(moves) => moves,
+        Err(fault) => return Err(fault),
+    };
+    let seen = match list(alloc, conn) {
+        Ok(seen) => seen,
+        Err(fault) => return Err(fault),
+    };
+    let scores = match list(alloc, conn) {
+        Ok(scores) => scores,
+        Err(fault) => return Err(fault),
+    };
+    Ok(Play {
+        games,
+        moves,
+        seen,
+        scores,
+    })
+}
+
+/// All rows that were read, as rows to be put.
+fn joined(meta: MetaRow, people: People, play: Play) -> Changes
+    ensures { (content : _) → meta.id ≡ pos 1 → HaveSame (meta_cells meta ∷ []) (content 0) →
+        ArePeople people content → ArePlay play content → AreAll result content }
+{
+    let People {
+        members,
+        events,
+        event_rules,
+        challenges,
+    } = people;
+    let Play {
+        games,
+        moves,
+        seen,
+        scores,
+    } = play;
+    Changes {
+        members,
+        events,
+        event_rules,
+        challenges,
+        games,
+        moves,
+        seen,
+        scores,
+        meta: Some(meta),
+    }
+}
+
+/// All rows of each table, as rows to be put into the tables of another database. A `meta` that has not the one row of
+/// a club is a fault, as a value of another type than its column.
+pub fn read_rows<S: Alter>(alloc: Global, conn: &mut Connection<S>) -> Result<Changes, CallFault>
+    ensures reads { OnlyReads (state S.Store conn.old) (state S.Store conn.new) }
+    ensures kept { HasCleanDisk (state S.Store conn.new) → OnOk result (KeepsContent (state S.Store conn.old)
+        (state S.Store conn.new)) }
+    ensures rows { HasCleanDisk (state S.Store conn.new) → IfOk result (λ found. (content : _) → IsExactly content
+        (state S.Store conn.old) → AreAll found content) }
+{
+    let meta = match read_meta(alloc, conn) {
+        Ok(meta) => meta,
+        Err(fault) => return Err(fault),
+    };
+    let people = match read_people(alloc, conn) {
+        Ok(people) => people,
+        Err(fault) => return Err(fault),
+    };
+    match read_play(alloc, conn) {
+        Ok(play) => Ok(joined(meta, people, play)),
+        Err(fault) => Err(fault),
+    }
+}

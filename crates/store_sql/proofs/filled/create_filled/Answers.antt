@@ -1,0 +1,71 @@
+use Rattle.std.proofs.Common.{◌≡◌, arith, rules, sym, subst}
+use Rattle.sqlite.specs.Tree.{Trees}
+use Rattle.sqlite.specs.Held.{state}
+use Rattle.sqlite.specs.State.{HasCleanDisk, Survives}
+use Rattle.sqlite.proofs.StateLemmas.{survives_then}
+use Rattle.sqlite.proofs.Callers.{survives_begin}
+use Rattle.store_tables.specs.Contents.{IsExactlyEmpty, opening}
+use Rattle.store_tables.specs.Changed.{changed}
+use Rattle.store_tables.specs.Club.{IsExactly, Leaves}
+use Rattle.store_tables.specs.Tables.{club_schema, IsClubSchema}
+use Rattle.store_tables.proofs.Proved.{commits, leaves_of}
+use Rattle.store_sql.proofs.filled.create_filled.Goals as goal
+
+pub returns-clause-stored : goal.returns-clause-stored
+returns-clause-stored g c clean k =
+    let end = c.commit.new.self.0 in
+    let same : end ≡ c.conn-2-1.given.0 = search rules in
+    let late : HasCleanDisk (state g.S.Store end) = search rules in
+    let begun = c.transaction-tx.ensures.begun in
+    let last = c.fill_inside.new.tx.conn.now in
+    let steps = c.in_ok-fill_inside.ensures.filled (omega (arith, c.commit.ensures.survives.clean)) (rw begun) in
+    let holds = (rw begun at steps.holds) k.now in
+    subst (λ h. IsExactly (changed c.args.changes.now opening) (state g.S.Store h)) same
+    (commits club_schema (changed c.args.changes.now opening) (state g.S.Store last) (state g.S.Store end) holds
+    (c.in_ok-commit.ensures.ok late).1 (λ db shown left. g.met.S.Store.settled end.store db shown left))
+
+pub returns-in_err-commit-clause-survives : goal.returns-in_err-commit-clause-survives
+returns-in_err-commit-clause-survives g c =
+    let old = c.args.conn.now in
+    let last = c.fill_inside.new.tx.conn.now in
+    let begun = c.transaction-tx.ensures.begun in
+    let P = λ (trees : Trees). (IsExactlyEmpty (state g.S.Store old) → Leaves (changed c.args.changes.now opening) trees)
+    × (IsClubSchema (state g.S.Store old).now.schema → ⊥) in
+    let whole = survives_then (state g.S.Store old) (state g.S.Store last) (state g.S.Store c.commit.new.self.0) _ _ P
+    (λ _ db none. absurd none)
+    (λ clean db is. (
+      λ k.
+          let steps = c.in_ok-fill_inside.ensures.filled (omega (arith, c.commit.ensures.survives.clean)) (rw begun)
+          in
+          subst (Leaves (changed c.args.changes.now opening)) (sym is)
+          (leaves_of club_schema (state g.S.Store last).now (changed c.args.changes.now opening) ((rw begun at steps.holds) k.now)),
+      λ has. c.in_ok-fill_inside.ensures.refuses (omega (arith, c.commit.ensures.survives.clean)) (rw begun)
+          (rw begun has),
+    ))
+    (survives_begin g.S.Store old (state g.S.Store last) _ (rw begun at c.fill_inside.ensures.survives))
+    c.commit.ensures.survives in
+    let same : c.commit.new.self.0 ≡ c.conn-2-1.given.0 = search rules in
+    subst (λ h. Survives (state g.S.Store old) (state g.S.Store h) P) same whole
+
+pub returns-clause-survives : goal.returns-clause-survives
+returns-clause-survives g c =
+    let old = c.args.conn.now in
+    let last = c.fill_inside.new.tx.conn.now in
+    let begun = c.transaction-tx.ensures.begun in
+    let P = λ (trees : Trees). (IsExactlyEmpty (state g.S.Store old) → Leaves (changed c.args.changes.now opening) trees)
+    × (IsClubSchema (state g.S.Store old).now.schema → ⊥) in
+    let whole = survives_then (state g.S.Store old) (state g.S.Store last) (state g.S.Store c.commit.new.self.0) _ _ P
+    (λ _ db none. absurd none)
+    (λ clean db is. (
+      λ k.
+          let steps = c.in_ok-fill_inside.ensures.filled (omega (arith, c.commit.ensures.survives.clean)) (rw begun)
+          in
+          subst (Leaves (changed c.args.changes.now opening)) (sym is)
+          (leaves_of club_schema (state g.S.Store last).now (changed c.args.changes.now opening) ((rw begun at steps.holds) k.now)),
+      λ has. c.in_ok-fill_inside.ensures.refuses (omega (arith, c.commit.ensures.survives.clean)) (rw begun)
+          (rw begun has),
+    ))
+    (survives_begin g.S.Store old (state g.S.Store last) _ (rw begun at c.fill_inside.ensures.survives))
+    c.commit.ensures.survives in
+    let same : c.commit.new.self.0 ≡ c.conn-2-1.given.0 = search rules in
+    subst (λ h. Survives (state g.S.Store old) (state g.S.Store h) P) same whole

@@ -1,0 +1,56 @@
+//! Making the tables in an empty database together with rows of theirs.
+
+ghost use Rattle.std.specs.Prelude.{◌≡◌, ◌≤◌, ◌⊎◌, false, IsTrue, IfOk, IfErr, OnOk, OnErr};
+ghost use Rattle.sqlite.specs.State.{HasCleanDisk, Survives};
+ghost use Rattle.sqlite.specs.Held.{state};
+ghost use Rattle.sqlite_trees.specs.View.{doubt};
+ghost use Rattle.store_tables.specs.Changed.{changed};
+ghost use Rattle.store_tables.specs.Club.{IsExactly, Leaves};
+ghost use Rattle.store_tables.specs.Contents.{IsExactlyEmpty, IsEmpty, opening};
+ghost use Rattle.store_tables.specs.Reading.{KeepsMay};
+ghost use Rattle.store_tables.specs.Tables.{IsClubSchema};
+ghost use Rattle.store_sql.specs.Filled.{FillsWith};
+
+use crate::commit::put_changes;
+use crate::make::create_inside;
+use sqlite::{Alter, Connection, Error, Transaction};
+use store_tables::Changes;
+
+/// Makes the tables, with the row of `meta`, and puts all of the rows over it, in a transaction that is open.
+fn fill_inside<S: Alter>(tx: &mut Transaction<'_, S>, changes: &Changes) -> Result<(), Error>
+    ensures same_reference { tx.new.conn.ghost_name ≡ tx.old.conn.ghost_name }
+    ensures filled { HasCleanDisk (state S.Store tx.new.conn.now) → IsTrue
+        (state S.Store tx.old.conn.now).in_transaction → OnOk result (FillsWith changes.now
+        (state S.Store tx.old.conn.now) (state S.Store tx.new.conn.now)) }
+    ensures refuses { HasCleanDisk (state S.Store tx.new.conn.now) → IsTrue
+        (state S.Store tx.old.conn.now).in_transaction → IsClubSchema (state S.Store tx.old.conn.now).now.schema →
+        IfOk result (λ _. ⊥) }
+    ensures survives { Survives (state S.Store tx.old.conn.now) (state S.Store tx.new.conn.now) (λ _. ⊥) }
+{
+    create_inside(tx)?;
+    put_changes(tx, changes)?;
+    Ok(())
+}
+
+/// Makes the tables in an empty database and puts all of the rows over those of a club with nothing in it, in one
+/// transaction with one commit: a stop leaves no table, or all of them with all rows. Where tables of a club stand
+/// nothing is made.
+pub fn create_filled<S: Alter>(conn: &mut Connection<S>, changes: &Changes) -> Result<(), Error>
+    requires { conn.old.in_transaction ≡ false }
+    ensures idle { conn.new.in_transaction ≡ false }
+    ensures clean { doubt (state S.Store conn.old).is_clean ≤ doubt (state S.Store conn.new).is_clean }
+    ensures stored { HasCleanDisk (state S.Store conn.new) → OnOk result (IsExactlyEmpty (state S.Store conn.old) →
+        IsExactly (changed changes.now opening) (state S.Store conn.new)) }
+    ensures fault { HasCleanDisk (state S.Store conn.new) → OnErr result (IsExactlyEmpty (state S.Store conn.old) →
+        (db : _) → (state S.Store conn.new).may_leave db → IsEmpty db ⊎ Leaves (changed changes.now opening) db) }
+    ensures stands { HasCleanDisk (state S.Store conn.new) → IsClubSchema (state S.Store conn.old).now.schema →
+        IfOk result (λ _. ⊥) × KeepsMay (state S.Store conn.old) (state S.Store conn.new) }
+    ensures survives { Survives (state S.Store conn.old) (state S.Store conn.new) (λ db. (IsExactlyEmpty
+        (state S.Store conn.old) → Leaves (changed changes.now opening) db) ×
+        (IsClubSchema (state S.Store conn.old).now.schema → ⊥)) }
+{
+    let mut tx = conn.transaction();
+    fill_inside(&mut tx, changes)?;
+    tx.commit()?;
+    Ok(())
+}
