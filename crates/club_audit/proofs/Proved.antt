@@ -2,6 +2,6 @@
 pub use Rattle.club_audit.proofs.AuditLemmas.{game-elsewhere, id-told, keys-in, keys-of, take-got}
 pub use Rattle.club_audit.proofs.ChallengeLemmas.{challenges-of, club-challenges}
 pub use Rattle.club_audit.proofs.FirstLemmas.{all-right, none-named}
-pub use Rattle.club_audit.proofs.GamePlaces.{club-right, right-club}
+pub use Rattle.club_audit.proofs.GamePlaces.{club-right, later-game, right-club}
 pub use Rattle.club_audit.proofs.PeopleLemmas.{events-count, members-count, ruled-of, rules-counted}
 pub use Rattle.club_audit.proofs.PlacedLemmas.{numbered-append, numbered-at, numbered-back, numbered-length}

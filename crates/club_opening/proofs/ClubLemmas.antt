@@ -262,7 +262,7 @@ rules_blamed events_rows rows old new of has read none = (EventRules, refl, by_v
         (rules_read s rows old new holds read))
 
 -- the rules of a club of schema 1, as rows that say 0
-undeclared_rules : (n : ℕ) (es : List Event) (rows : List EventRow)
+pub undeclared_rules : (n : ℕ) (es : List Event) (rows : List EventRow)
     → map event_cells rows ≡ numbered_from event_row n es
     → Each (λ e. e.terms.declares ≡ false) es → map undeclared_row rows ≡ numbered_from rule_row n es
 undeclared_rules n [] [] are none = refl

@@ -28,14 +28,16 @@ use Rattle.store_sql.specs.Read.{AreCounted, AreReadOf, beginning_with}
 use Rattle.club_rows.specs.Club.{both_games, ClubGame, ClubState, IsClub}
 use Rattle.club_rows.specs.FirstSchema.{IsClubOf}
 use Rattle.club_rows.specs.Tables.{numbered_from, row_of_game, rows_of_moves, rows_of_seen}
-use Rattle.club_audit.specs.Audit.{AreAllOf, HasPeople, until}
+use Rattle.club_audit.specs.Audit.{AreAllOf, AreApartGames, HasPeople, IsGameAt, until}
+use Rattle.club_audit.proofs.Proved.{keys-in}
 use Rattle.club_audit.specs.FirstWrong.{IsFirstWrong, Precedes, order}
 use Rattle.club_audit.specs.GameAudit.{IsRightAt}
 use Rattle.club_audit.proofs.Proved.{all-right, club-right, id-told, none-named, numbered-append, numbered-at}
 use Rattle.club_audit.proofs.Proved.{numbered-length, right-club, take-got}
 use Rattle.club_rows.proofs.Proved.{same-pos}
 use Rattle.club_opening.specs.Examined.{AreGamesFound, AreLeftAfter, IsFoundAs, IsGameFound, IsPlayExamined, NamesPlay}
-use Rattle.club_opening.specs.Examined.{AreScoresExamined, IsOf, IsPlayed, NoneIsLeft, WereFound, moves_in, past, seen_in}
+use Rattle.club_opening.specs.Examined.{AreScoresExamined, IsAfter, IsGameOf, IsOf, IsPlayed, NoneIsLeft, WereFound}
+use Rattle.club_opening.specs.Examined.{WerePlayed, moves_in, past, seen_in}
 use Rattle.club_opening.specs.Blames.{NamesTable}
 use Rattle.club_opening.specs.Places.{IsMomentOf, IsNoRegister, IsRegisterOf, last_moment}
 use Rattle.club_changes.specs.Steps.{HaveSame}
@@ -45,6 +47,9 @@ use Rattle.club_opening.proofs.BlameLemmas.{read_after}
 use Rattle.club_opening.proofs.GroupRows.{none_left, own_moves, own_seen, same_on, turned_same}
 use Rattle.club_opening.specs.Versions.{HoldsClub}
 use Rattle.club_opening.proofs.PastLemmas.{past_step}
+use Rattle.club_opening.specs.RightMoves.{GamesWrong, HasMovesOf, HaveMovesOf, MovesWrong, SeenWrong, beyond, id_at}
+use Rattle.club_opening.proofs.BeyondLemmas.{beyond_step, id_of_game, ids_apart, last_or, moves_gathered, none_beyond}
+use Rattle.club_opening.proofs.BeyondLemmas.{seen_owned}
 use Rattle.club_opening.proofs.StoredLemmas.{IsStored, club_of_version, stored_of}
 
 -- ---- wrong tables
@@ -52,6 +57,19 @@ use Rattle.club_opening.proofs.StoredLemmas.{IsStored, club_of_version, stored_o
 seen_precedes : (wrong : Option Table) → IsPlayed wrong → Precedes Seen wrong
 seen_precedes None played = tt
 seen_precedes (Some t) played = subst (λ (u : Table). order Seen < order u) (sym (played t refl)) (omega arith)
+
+-- where only `meta` is wrong, nothing is up to the games
+pub played_after : (wrong : Option Table) → IsPlayed wrong → IsAfter Games wrong
+played_after wrong played t is = subst (λ (u : Table). order Games < order u) (sym (played t is)) (omega arith)
+
+pub some_after : (table : Table) (wrong : Option Table) (named : Table) → wrong ≡ Some named → order table < order named
+    → IsAfter table wrong
+some_after table wrong named is low t other =
+    subst (λ (u : Table). order table < order u) (same_Some named t (sym is ∙ other)) low
+
+pub after_precedes : (table : Table) (wrong : Option Table) → IsAfter table wrong → Precedes table wrong
+after_precedes table None after = tt
+after_precedes table (Some t) after = after t refl
 
 last_table : (t : Table) → order Meta ≤ order t → t ≡ Meta
 last_table Members low = absurd (omega (arith, low))
@@ -123,12 +141,17 @@ module _ (rows : Rows) (place : ℕ) (game : GameRecord) (ms : List MoveRow) (ss
       two.once
 
   -- rows that were judged to be all those of a legal game
+  game_of : (s : ClubState) (g : ClubGame) → IsGameAt s (place + 1) game ms g → IsGameOf s (place + 1) game old.now.trees g
+  game_of s g at = record {
+    legal = at.legal;
+    row_is = at.row_is;
+    moves_are = same_on _ (map move_cells ms) _ (turned_same _ _ one.once) (same_by _ _ at.moves_are);
+  }
+
   found_as : (s : ClubState) (g : ClubGame) → AreAllOf s (place + 1) game ms ss g
       → IsFoundAs s (place + 1) game old.now.trees g
   found_as s g all = record {
-    legal = all.at.legal;
-    row_is = all.at.row_is;
-    moves_are = same_on _ (map move_cells ms) _ (turned_same _ _ one.once) (same_by _ _ all.at.moves_are);
+    game_is = game_of s g all.at;
     seen_are = same_on _ (map seen_cells ss) _ (turned_same _ _ seen_once) all.seen_are.same;
   }
 
@@ -172,6 +195,13 @@ module _ (rows : Rows) (place : ℕ) (game : GameRecord) (ms : List MoveRow) (ss
         let (g, all) = (first s people).before Seen (seen_precedes wrong played) in
         (g, found_as (until last_moment s) g all)
 
+    -- but for its positions, where no table up to the games is wrong
+    game_seated : IsAfter Games wrong → (s : ClubState) → HasPeople s rows → (g : ClubGame)
+        × IsGameOf (until last_moment s) (place + 1) game old.now.trees g
+    game_seated after s people =
+        let (low, g, at) = (first s people).before Games (after_precedes Games wrong after) in
+        (g, game_of (until last_moment s) g at)
+
     -- a table that is named is damaged
     game_blamed : slice_get rows.games.items place ≡ Some game → (t : Table) → wrong ≡ Some t
         → NamesPlay rows old.now (Damaged t)
@@ -199,33 +229,48 @@ module _ (rows : Rows) (place : ℕ) (game : GameRecord) (ms : List MoveRow) (ss
 
     -- what was judged of a game's rows
     pub game_found : slice_get rows.games.items place ≡ Some game
+        → (wrong ≡ Some Moves → (s : ClubState) → HasPeople s rows → MovesWrong rows old.now)
+        → (wrong ≡ Some Games → GamesWrong rows old.now) → (wrong ≡ Some Seen → SeenWrong rows old.now)
+        → (IsAfter Moves wrong → (s : ClubState) → HasPeople s rows → HasMovesOf rows (moves_in old.now.trees) game)
         → IsGameFound rows last place game (length ms) (length ss) wrong old new
-    game_found at = record {
+    game_found at moves_wrong games_wrong seen_wrong moves_right = record {
       same = unchanged_then old mid new one.same two.same;
       moves_number = sym (length-map ms move_cells) ∙ length_permutation _ (map move_cells ms) one.once;
       seen_number = sym (length-map ss seen_cells) ∙ length_permutation _ (map seen_cells ss) seen_once;
       found = game_found_as;
       played = game_played;
+      seated = game_seated;
+      moves_right = moves_right;
       blamed = game_blamed at;
+      moves_wrong = moves_wrong;
+      games_wrong = games_wrong;
+      seen_wrong = seen_wrong;
     }
 
 -- ---- one game after another
 
 -- of no game all are found
-none_found : (s : ClubState) (rows : List GameRecord) (db : Trees) → WereFound s rows db 0
-none_found s rows db = record {
+nothing_at : {A B : Type 0} (n : ℕ) (x : A) → slice_get [] n ≡ Some x → B
+nothing_at n x at = cc
+
+abbrev none_seated : (s : ClubState) (rows : List GameRecord) (db : Trees) → WerePlayed s rows db 0
+none_seated s rows db = record {
   games = [];
   number_of = refl;
-  legal = λ n x at. cc;
+  legal = λ n x at. nothing_at n x at;
   rows_are = refl;
-  moves_are = λ n g at. cc;
-  seen_are = λ n g at. cc;
+  moves_are = λ n g at. nothing_at n g at;
 }
 
+none_found : (s : ClubState) (rows : List GameRecord) (db : Trees) → WereFound s rows db 0
+none_found s rows db = record { played = none_seated s rows db; seen_are = λ n g at. cc }
+
 pub left_start : (rows : Rows) (last : Option ℕ) (ms ss : ℕ) (known : Option Table) (old : State)
-    → ((t : Table) → known ≡ Some t → IsNoRegister rows) → IsUnchanged old old → ms ≡ length (moves_in old.now.trees)
+    → ((t : Table) → known ≡ Some t → IsNoRegister rows) → (known ≡ Some Moves → ⊥)
+    → (known ≡ Some Games → ¬ AreApartGames rows.games.items) → (known ≡ Some Seen → ⊥) → IsUnchanged old old
+    → ms ≡ length (moves_in old.now.trees)
     → ss ≡ length (seen_in old.now.trees) → AreLeftAfter rows last 0 ms ss known old old
-left_start rows last ms ss known old none same one two = record {
+left_start rows last ms ss known old none other apart unseen same one two = record {
   same = same;
   found = λ free s of. none_found s rows.games.items old.now.trees;
   blamed = λ t is. (
@@ -236,13 +281,29 @@ left_start rows last ms ss known old none same one two = record {
   moves_left = λ free s of. one;
   seen_left = λ free s of. two;
   played = λ free s people. none_found (until last_moment s) rows.games.items old.now.trees;
+  seated = λ after s people. none_seated (until last_moment s) rows.games.items old.now.trees;
   moves_rest = λ free s people. one;
   seen_rest = λ free s people. two;
+  moves_wrong = λ named. absurd (other named);
+  games_wrong = λ named version content holds have.
+      let s = have.state in
+      let count = numbered-length game_cells _ 1 rows.games.items s.games have.games in
+      let most = have.legal.game_count in
+      apart named (record {
+        few = omega (arith, count, most);
+        keys = keys-in s s.games rows.games.items have.games have.legal.game_keys;
+      });
+  seen_wrong = λ named. absurd (unseen named);
+  moves_right = λ after s people n game low. absurd (omega (arith, low));
+  moves_beyond = λ ids. one;
+  seen_beyond = λ ids. two;
 }
 
-found_more : (s : ClubState) (rows : List GameRecord) (db : Trees) (k : ℕ) (row : GameRecord) → WereFound s rows db k
-    → slice_get rows k ≡ Some row → (g : ClubGame) × IsFoundAs s (k + 1) row db g → WereFound s rows db (k + 1)
-found_more s rows db k row was at (g, is) =
+-- one game more
+abbrev seated_more : (s : ClubState) (rows : List GameRecord) (db : Trees) (k : ℕ) (row : GameRecord)
+    → WerePlayed s rows db k → slice_get rows k ≡ Some row → (g : ClubGame) → IsGameOf s (k + 1) row db g
+    → WerePlayed s rows db (k + 1)
+seated_more s rows db k row was at g is =
     let place_is : 1 + length was.games ≡ k + 1 = ap (λ n. 1 + n) was.number_of ∙ next k in
     let id : row.id ≡ pos (k + 1) = id-told s (k + 1) row g is.row_is in
     record {
@@ -265,7 +326,17 @@ found_more s rows db k row was at (g, is) =
             subst₂ (λ z l. HaveSame (beginning_with z (moves_in db)) l) (id ∙ ap pos here)
             (λ i. rows_of_moves both_games s.events (here i) (same i)) is.moves_are
       ];
-      seen_are = λ n x there. elim (got-append was.games g n x there) [
+    }
+
+found_more : (s : ClubState) (rows : List GameRecord) (db : Trees) (k : ℕ) (row : GameRecord) → WereFound s rows db k
+    → slice_get rows k ≡ Some row → (g : ClubGame) × IsFoundAs s (k + 1) row db g → WereFound s rows db (k + 1)
+found_more s rows db k row was at (g, is) =
+    let games = was.played.games in
+    let place_is : 1 + length games ≡ k + 1 = ap (λ n. 1 + n) was.played.number_of ∙ next k in
+    let id : row.id ≡ pos (k + 1) = id-told s (k + 1) row g is.game_is.row_is in
+    record {
+      played = seated_more s rows db k row was.played at g is.game_is;
+      seen_are = λ n x there. elim (got-append games g n x there) [
         | inl old ↦ was.seen_are n x old
         | inr (last, same) ↦
             let here : k + 1 ≡ 1 + n = sym place_is ∙ ap (λ m. 1 + m) (sym last) in
@@ -302,6 +373,29 @@ both_played w v u one played = (
   λ t is. no_sooner u t played (λ none. none_some v t is (one.none none).1) (λ x named. one.first x t named (inr is)),
 )
 
+-- where no table up to one is named, neither has one
+after_one : (table : Table) (u : Option Table) (t : Table) → IsAfter table u → (u ≡ None → ⊥)
+    → ((x : Table) → u ≡ Some x → order x ≤ order t) → order table < order t
+after_one table None t after some low = absurd (some refl)
+after_one table (Some x) t after some low =
+    let before = after x refl in let up = low x refl in omega (arith, before, up)
+
+pub both_after : (table : Table) (w v u : Option Table) → IsOneOf w v u → IsAfter table u → IsAfter table w
+    × IsAfter table v
+both_after table w v u one after = (
+  λ t is. after_one table u t after (λ none. none_some w t is (one.none none).0)
+      (λ x named. one.first x t named (inl is)),
+  λ t is. after_one table u t after (λ none. none_some v t is (one.none none).1)
+      (λ x named. one.first x t named (inr is)),
+)
+
+-- where what is left would name a table that is not after, nothing is left
+none_after : (table named : Table) (o : Option Table) → IsAfter table o → ((t : Table) → o ≡ Some t → t ≡ named)
+    → order named ≤ order table → o ≡ None
+none_after table named None after other low = refl
+none_after table named (Some t) after other low =
+    let up = subst (λ (u : Table). order table < order u) (other t refl) (after t refl) in absurd (omega (arith, up, low))
+
 none_named_of : (o : Option Table) → IsPlayed o → ((t : Table) → o ≡ Some t → t ≢ Meta) → o ≡ None
 none_named_of None played other = refl
 none_named_of (Some t) played other = absurd (other t refl (played t refl))
@@ -322,7 +416,7 @@ module _ (rows : Rows) (last : Option ℕ) (k : ℕ) (game : GameRecord) (ms ss 
   game_id none s of =
       let neither = one_of.none none in
       let (g, found) = is.found neither.1 s of in
-      id-told s (k + 1) game g found.row_is ∙ ap pos (sym (next_suc k))
+      id-told s (k + 1) game g found.game_is.row_is ∙ ap pos (sym (next_suc k))
 
   -- the same where at most `meta` is wrong
   game_in : IsPlayed u → (s : ClubState) → HasPeople s rows → (g : ClubGame)
@@ -331,10 +425,17 @@ module _ (rows : Rows) (last : Option ℕ) (k : ℕ) (game : GameRecord) (ms ss 
       let (g, found) = is.played (both_played w v u one_of free).1 s people in
       (g, subst (λ t. IsFoundAs (until last_moment s) (k + 1) game t g) trees_same_after found)
 
-  id_in : IsPlayed u → (s : ClubState) → HasPeople s rows → game.id ≡ pos (suc k)
-  id_in free s people =
-      let (g, found) = game_in free s people in
-      id-told (until last_moment s) (k + 1) game g found.row_is ∙ ap pos (sym (next_suc k))
+  -- and where no table up to the games is
+  game_at : IsAfter Games u → (s : ClubState) → HasPeople s rows → (g : ClubGame)
+      × IsGameOf (until last_moment s) (k + 1) game old.now.trees g
+  game_at after s people =
+      let (g, is_game) = is.seated (both_after Games w v u one_of after).1 s people in
+      (g, subst (λ t. IsGameOf (until last_moment s) (k + 1) game t g) trees_same_after is_game)
+
+  id_in : IsAfter Games u → (s : ClubState) → HasPeople s rows → game.id ≡ pos (suc k)
+  id_in after s people =
+      let (g, is_game) = game_at after s people in
+      id-told (until last_moment s) (k + 1) game g is_game.row_is ∙ ap pos (sym (next_suc k))
 
   pub left_more : AreLeftAfter rows last (k + 1) (ms - a) (ss - b) u old new
   left_more = record {
@@ -365,22 +466,65 @@ module _ (rows : Rows) (last : Option ℕ) (k : ℕ) (game : GameRecord) (ms ss 
     played = λ free s people.
         found_more (until last_moment s) rows.games.items old.now.trees k game
         (was.played (both_played w v u one_of free).0 s people) at (game_in free s people);
-    moves_rest = λ free s people.
-        let id = id_in free s people in
+    seated = λ after s people.
+        let (g, is_game) = game_at after s people in
+        seated_more (until last_moment s) rows.games.items old.now.trees k game
+        (was.seated (both_after Games w v u one_of after).0 s people) at g is_game;
+    moves_rest = λ after s people.
+        let id = id_in after s people in
         let own : a ≡ length (beginning_with (pos (suc k)) (moves_in old.now.trees)) = is.moves_number
         ∙ (λ i. length (beginning_with (id i) (moves_in (trees_same_after i)))) in
         ap (λ n. ms - n) own
-        ∙ (taken ms _ _ _ (was.moves_rest (both_played w v u one_of free).0 s people)
+        ∙ (taken ms _ _ _ (was.moves_rest (both_after Games w v u one_of after).0 s people)
         (past_step k (moves_in old.now.trees))
         ∙ ap (λ n. length (past n (moves_in old.now.trees))) (next_suc k));
     seen_rest = λ free s people.
-        let id = id_in free s people in
+        let id = id_in (played_after u free) s people in
         let own : b ≡ length (beginning_with (pos (suc k)) (seen_in old.now.trees)) = is.seen_number
         ∙ (λ i. length (beginning_with (id i) (seen_in (trees_same_after i)))) in
         ap (λ n. ss - n) own
         ∙ (taken ss _ _ _ (was.seen_rest (both_played w v u one_of free).0 s people)
         (past_step k (seen_in old.now.trees))
         ∙ ap (λ n. length (past n (seen_in old.now.trees))) (next_suc k));
+    moves_wrong = λ named s people. elim (one_of.some Moves named) [
+      | inl before ↦ was.moves_wrong before s people
+      | inr here ↦ subst (λ (d : Database). MovesWrong rows d) was.same.0.now_is (is.moves_wrong here s people)
+    ];
+    games_wrong = λ named. elim (one_of.some Games named) [
+      | inl before ↦ was.games_wrong before
+      | inr here ↦ subst (λ (d : Database). GamesWrong rows d) was.same.0.now_is (is.games_wrong here)
+    ];
+    seen_wrong = λ named. elim (one_of.some Seen named) [
+      | inl before ↦ was.seen_wrong before
+      | inr here ↦ subst (λ (d : Database). SeenWrong rows d) was.same.0.now_is (is.seen_wrong here)
+    ];
+    moves_right = λ after s people n other low there.
+        let (before, here) = both_after Moves w v u one_of after in
+        elim (last_or n k (omega (arith, low))) [
+          | inr less ↦ was.moves_right before s people n other less there
+          | inl same ↦
+              let both : ◌≡◌ {A = Option GameRecord} (Some game) (Some other) = sym at ∙ (ap (slice_get rows.games.items) (sym same) ∙ there) in
+              subst (HasMovesOf rows (moves_in old.now.trees)) (same_Some game other both)
+              (subst (λ t. HasMovesOf rows (moves_in t) game) trees_same_after (is.moves_right here s people))
+        ];
+    moves_beyond = λ ids.
+        let within = slice_get_within rows.games.items k game at in
+        let id : game.id ≡ id_at rows k = sym (id_of_game rows k game at) in
+        let own : a ≡ length (beginning_with (id_at rows k) (moves_in old.now.trees)) = is.moves_number
+        ∙ (λ i. length (beginning_with (id i) (moves_in (trees_same_after i)))) in
+        ap (λ n. ms - n) own
+        ∙ (taken ms _ _ _ (was.moves_beyond ids)
+        (beyond_step rows (ids_apart rows ids) k (moves_in old.now.trees) within)
+        ∙ ap (λ n. length (beyond rows n (moves_in old.now.trees))) (next_suc k));
+    seen_beyond = λ ids.
+        let within = slice_get_within rows.games.items k game at in
+        let id : game.id ≡ id_at rows k = sym (id_of_game rows k game at) in
+        let own : b ≡ length (beginning_with (id_at rows k) (seen_in old.now.trees)) = is.seen_number
+        ∙ (λ i. length (beginning_with (id i) (seen_in (trees_same_after i)))) in
+        ap (λ n. ss - n) own
+        ∙ (taken ss _ _ _ (was.seen_beyond ids)
+        (beyond_step rows (ids_apart rows ids) k (seen_in old.now.trees) within)
+        ∙ ap (λ n. length (beyond rows n (seen_in old.now.trees))) (next_suc k));
   }
 
 -- a table that was known to be wrong is not forgotten
@@ -397,7 +541,8 @@ pub record NamesLeft (count : ℕ) (o : Option Table) : Type 0 where
 module _ (rows : Rows) (last : Option ℕ) (told : IsMomentOf rows.meta.last last) (k ms ss : ℕ)
     (w a u b v : Option Table) (old new : State) (was : AreLeftAfter rows last k ms ss w old new)
     (all : k ≡ length rows.games.items) (moves_left : NamesLeft ms a) (seen_left : NamesLeft ss b)
-    (one_of : IsOneOf w a u) (then_of : IsOneOf u b v) where
+    (one_of : IsOneOf w a u) (then_of : IsOneOf u b v)
+    (of_seen : (t : Table) → b ≡ Some t → t ≡ Seen) (of_moves : (t : Table) → a ≡ Some t → t ≡ Moves) where
   counts : (s : ClubState) → IsRegisterOf s rows → k ≡ length s.games
   counts s register = all ∙ numbered-length game_cells (row_of_game both_games s.events) 1 rows.games.items s.games
       register.games
@@ -430,6 +575,16 @@ module _ (rows : Rows) (last : Option ℕ) (told : IsMomentOf rows.meta.last las
     ]
   ]
 
+  -- no row of moves is another's, if no table up to the games is
+  moves_over : IsAfter Games v → (s : ClubState) → HasPeople s rows
+      → length (past (length rows.games.items) (moves_in old.now.trees)) ≡ 0
+  moves_over after s people =
+      let early = (both_after Games u b v then_of after).0 in
+      let (before, from_moves) = both_after Games w a u one_of early in
+      ap (λ n. length (past n (moves_in old.now.trees))) (sym all)
+      ∙ (sym (was.moves_rest before s people)
+      ∙ moves_left.none (none_after Games Moves a from_moves of_moves (omega arith)))
+
   -- all were found, if no table is named
   pub left_all : AreGamesFound rows last v old new
   left_all = record {
@@ -451,16 +606,56 @@ module _ (rows : Rows) (last : Option ℕ) (told : IsMomentOf rows.meta.last las
         let early = (both_played u b v then_of free).0 in
         let before = (both_played w a u one_of early).0 in
         subst (WereFound (until last_moment s) rows.games.items old.now.trees) all (was.played before s people);
+    seated = λ after s people.
+        let early = (both_after Games u b v then_of after).0 in
+        let before = (both_after Games w a u one_of early).0 in
+        subst (WerePlayed (until last_moment s) rows.games.items old.now.trees) all (was.seated before s people);
+    moves_end = moves_over;
+    moves_right = λ after ids s people.
+        let early = (both_after Moves u b v then_of after).0 in
+        let (before, from_moves) = both_after Moves w a u one_of early in
+        let none = moves_left.none (none_after Moves Moves a from_moves of_moves (omega arith)) in
+        moves_gathered rows (moves_in old.now.trees)
+        (ap (λ n. length (beyond rows n (moves_in old.now.trees))) (sym all) ∙ (sym (was.moves_beyond ids) ∙ none))
+        (λ n game low at. was.moves_right before s people n game (omega (arith, all, low)) at);
     none_rests = λ free s people.
         let (early, from_seen) = both_played u b v then_of free in
         let (before, from_moves) = both_played w a u one_of early in
         record {
-          moves = ap (λ n. length (past n (moves_in old.now.trees))) (sym all)
-              ∙ (sym (was.moves_rest before s people) ∙ moves_left.none (none_named_of a from_moves moves_left.other));
+          moves = moves_over (played_after v free) s people;
           seen = ap (λ n. length (past n (seen_in old.now.trees))) (sym all)
               ∙ (sym (was.seen_rest before s people) ∙ seen_left.none (none_named_of b from_seen seen_left.other));
         };
     blamed = left_blamed;
+    moves_wrong = λ named ids s people. elim (then_of.some Moves named) [
+      | inr from_seen ↦ let both : Moves ≡ Seen = of_seen Moves from_seen in absurd cc
+      | inl early ↦ elim (one_of.some Moves early) [
+        | inl before ↦ was.moves_wrong before s people
+        | inr from_moves ↦ λ version content holds have.
+            let some : 0 < ms = moves_left.some Moves from_moves in
+            let none = none_beyond rows (moves_in old.now.trees) have.owned in
+            let left = was.moves_beyond ids ∙ ap (λ n. length (beyond rows n (moves_in old.now.trees))) all in
+            absurd (omega (arith, some, left, none))
+      ]
+    ];
+    games_wrong = λ named. elim (then_of.some Games named) [
+      | inr from_seen ↦ let both : Games ≡ Seen = of_seen Games from_seen in absurd cc
+      | inl early ↦ elim (one_of.some Games early) [
+        | inl before ↦ was.games_wrong before
+        | inr from_moves ↦ let both : Games ≡ Moves = of_moves Games from_moves in absurd cc
+      ]
+    ];
+    seen_wrong = λ named ids. elim (then_of.some Seen named) [
+      | inl early ↦ elim (one_of.some Seen early) [
+        | inl before ↦ was.seen_wrong before
+        | inr from_moves ↦ let both : Seen ≡ Moves = of_moves Seen from_moves in absurd cc
+      ]
+      | inr from_seen ↦ λ version content holds have.
+          let some : 0 < ss = seen_left.some Seen from_seen in
+          let none = none_beyond rows (seen_in old.now.trees) (seen_owned rows _ _ have) in
+          let left = was.seen_beyond ids ∙ ap (λ n. length (beyond rows n (seen_in old.now.trees))) all in
+          absurd (omega (arith, some, left, none))
+    ];
   }
 
 -- what a fault says of a database that did not change
@@ -505,9 +700,23 @@ module _ (old one two : State) (m n : ℕ) (moves_are : AreCounted 8 m old one) 
           played = λ free s people.
               subst (λ (t : Trees). WereFound (until last_moment s) rows.games.items t (length rows.games.items)) back
               (found.played free s people);
+          seated = λ after s people.
+              subst (λ (t : Trees). WerePlayed (until last_moment s) rows.games.items t (length rows.games.items)) back
+              (found.seated after s people);
+          moves_end = λ after s people.
+              subst (λ (t : Trees). length (past (length rows.games.items) (moves_in t)) ≡ 0) back
+              (found.moves_end after s people);
+          moves_right = λ after ids s people.
+              subst (λ (t : Trees). HaveMovesOf rows (moves_in t)) back (found.moves_right after ids s people);
           none_rests = λ free s people. subst (λ (t : Trees). NoneIsLeft t (length rows.games.items)) back
               (found.none_rests free s people);
           blamed = λ t is. play_back rows old two (Damaged t) both_same (found.blamed t is);
+          moves_wrong = λ named ids s people.
+              subst (λ (d : Database). MovesWrong rows d) both_same.0.now_is (found.moves_wrong named ids s people);
+          games_wrong = λ named.
+              subst (λ (d : Database). GamesWrong rows d) both_same.0.now_is (found.games_wrong named);
+          seen_wrong = λ named ids.
+              subst (λ (d : Database). SeenWrong rows d) both_same.0.now_is (found.seen_wrong named ids);
         };
         moves_apart = moves_are.apart;
         seen_apart = subst (λ (t : Trees). AreApart (t 12)) seen_trees seen_are.apart;
@@ -522,8 +731,14 @@ play_later rows last old mid new play same = record {
     found = play.games.found;
     none_left = play.games.none_left;
     played = play.games.played;
+    seated = play.games.seated;
+    moves_end = play.games.moves_end;
+    moves_right = play.games.moves_right;
     none_rests = play.games.none_rests;
     blamed = play.games.blamed;
+    moves_wrong = play.games.moves_wrong;
+    games_wrong = play.games.games_wrong;
+    seen_wrong = play.games.seen_wrong;
   };
   moves_apart = play.moves_apart;
   seen_apart = play.seen_apart;

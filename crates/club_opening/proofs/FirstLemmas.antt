@@ -11,14 +11,14 @@ use Rattle.sqlite.specs.Table.{Table as Definition}
 use Rattle.sqlite.proofs.Callers.{unchanged_then}
 use Rattle.sqlite_rules.specs.Lists.{Has}
 use Rattle.sqlite_rules.proofs.ListLemmas.{all_has, has_got}
-use Rattle.store_tables.specs.Cells.{IsChallenge, IsEvent, IsEventRule, IsGame, IsMember, challenge_cells}
+use Rattle.store_tables.specs.Cells.{IsChallenge, IsEvent, IsEventRule, IsGame, IsMember, IsMove, IsSeen, challenge_cells}
 use Rattle.store_tables.specs.Cells.{event_cells, event_rule_cells, game_cells, member_cells}
 use Rattle.store_tables.specs.Changes.{HaveSame}
 use Rattle.store_tables.specs.Content.{Keeps}
 use Rattle.store_tables.specs.Contents.{Content, Stores}
 use Rattle.store_tables.specs.Contents as of_schema
 use Rattle.store_tables.specs.Tables.{club_schema, first_schema, schema_of, members, events, event_rules}
-use Rattle.store_tables.specs.Tables.{challenges, games}
+use Rattle.store_tables.specs.Tables.{challenges, games, moves, seen}
 use Rattle.store_tables.specs.declared.names.Table.{Table}
 use Rattle.store_tables.specs.declared.names.Table.TheVariants.{Members, Events, EventRules, Challenges, Moves}
 use Rattle.store_tables.specs.declared.names.Table.TheVariants.{Games, Seen, Scores, Meta}
@@ -39,6 +39,7 @@ use Rattle.club_core.specs.Members.{Member}
 use Rattle.club_rows.specs.Club.{both_games, ClubState, IsClub}
 use Rattle.club_rows.specs.FirstSchema.{IsClubOf, tables_at}
 use Rattle.club_rows.specs.Tables.{challenge_row, numbered_from, rule_row, tables_of}
+use Rattle.club_rows.proofs.Proved.{seen-typed}
 use Rattle.club_audit.specs.Audit.{AreEvents, AreMembers, AreRules, HasPeople}
 use Rattle.club_audit.specs.ChallengeAudit.{AreChallenges}
 use Rattle.club_audit.specs.FirstWrong.{IsFirstWrong, order}
@@ -47,16 +48,18 @@ use Rattle.club_audit.proofs.Proved.{rules-counted, ruled-of}
 use Rattle.club_changes.proofs.Proved.{challenges_typed, moved}
 use Rattle.club_opening.specs.Blames.{AreRead, AreRulesRead, Blames, HasTypes, HoldsNone, NamesSchema}
 use Rattle.club_opening.specs.Blames.{undeclared_row}
-use Rattle.club_opening.specs.RightTables.{AreOfClub, ArePlayed, AreScored, HasScores, HasTable, HaveChallenges}
-use Rattle.club_opening.specs.RightTables.{IsLater, IsOfPlay, IsRight, NamesExamined, NamesFirst, NamesPlayed, NamesWrong}
-use Rattle.club_opening.specs.RightTables.{TellsEvents, rows_in}
+use Rattle.club_opening.specs.RightTables.{AreOfClub, ArePlayed, AreScored, AreSeated, HasScores, HasTable}
+use Rattle.club_opening.specs.RightTables.{HaveChallenges, IsFirstIn, IsLater, IsOfPlay, IsRight, IsWrongOfPlay}
+use Rattle.club_opening.specs.RightTables.{NamesExamined, NamesFirst, NamesPlayed, NamesWrong, TellsEvents, rows_in}
 use Rattle.club_opening.specs.declared.fault.OpenFault.{OpenFault}
 use Rattle.club_opening.specs.declared.fault.OpenFault.TheVariants.{Damaged, Foreign, Memory, Schema, Store}
 use Rattle.club_opening.proofs.BlameLemmas.{place_in, read_after}
 use Rattle.club_opening.proofs.ChallengedLemmas.{challenges_once, challenges_right, right_challenges}
 use Rattle.club_opening.proofs.ClubLemmas.{events_kept, events_of, members_kept, members_of, rules_kept, typed_at}
 use Rattle.club_opening.proofs.ClubLemmas.{undeclared_are}
-use Rattle.club_opening.proofs.RegisterLemmas.{keeps_same, none_declared}
+use Rattle.club_opening.specs.Examined.{moves_in, seen_in}
+use Rattle.club_opening.specs.RightMoves.{HaveGamesOf, HaveMoves, HaveMovesOf, HaveSeenOf}
+use Rattle.club_opening.proofs.RegisterLemmas.{keeps_same, keeps_shown, none_declared}
 use Rattle.club_opening.proofs.StoredLemmas.{club_of_version, one_version, schemas_differ}
 
 -- ---- tables that a database holds
@@ -81,11 +84,11 @@ kept_same table db one other first second = record {
   back = moved table db.trees other one second first;
 }
 
-members_at : (version : Version) (s : ClubState) → tables_at version s 1 ≡ tables_of both_games s 1
+pub members_at : (version : Version) (s : ClubState) → tables_at version s 1 ≡ tables_of both_games s 1
 members_at First s = refl
 members_at Current s = refl
 
-events_at : (version : Version) (s : ClubState) → tables_at version s 4 ≡ tables_of both_games s 4
+pub events_at : (version : Version) (s : ClubState) → tables_at version s 4 ≡ tables_of both_games s 4
 events_at First s = refl
 events_at Current s = refl
 
@@ -292,29 +295,33 @@ people_upto version t content few club =
     upto (order t) (λ u. IsRight u version content) (sooner version t Members content (omega arith) club)
     (λ one. sooner version t Events content one club) (λ two. sooner version t EventRules content two club) few
 
-register_upto : (version : Version) (content : Content) → AreOfClub version EventRules content → (u : Table)
-    → order u ≤ order Challenges → (u ≡ Challenges → HaveChallenges content) → IsRight u version content
-register_upto version content club Members low have = sooner version EventRules Members content (omega arith) club
-register_upto version content club Events low have = sooner version EventRules Events content (omega arith) club
-register_upto version content club EventRules low have = club
-register_upto version content club Challenges low have = have refl
-register_upto version content club Moves low have = absurd (omega (arith, low))
-register_upto version content club Games low have = absurd (omega (arith, low))
-register_upto version content club Seen low have = absurd (omega (arith, low))
-register_upto version content club Scores low have = absurd (omega (arith, low))
-register_upto version content club Meta low have = absurd (omega (arith, low))
+-- what is right of the tables up to the games
+right_upto : (version : Version) (content : Content) → AreOfClub version EventRules content → (u : Table)
+    → order u ≤ order Games → (order EventRules < order u → HaveChallenges content)
+    → (order Challenges < order u → HaveMoves version content)
+    → (order Moves < order u → AreOfClub version Games content) → IsRight u version content
+right_upto version content club Members low cs ms gs = sooner version EventRules Members content (omega arith) club
+right_upto version content club Events low cs ms gs = sooner version EventRules Events content (omega arith) club
+right_upto version content club EventRules low cs ms gs = club
+right_upto version content club Challenges low cs ms gs = cs (omega arith)
+right_upto version content club Moves low cs ms gs = ms (omega arith)
+right_upto version content club Games low cs ms gs = gs (omega arith)
+right_upto version content club Seen low cs ms gs = absurd (omega (arith, low))
+right_upto version content club Scores low cs ms gs = absurd (omega (arith, low))
+right_upto version content club Meta low cs ms gs = absurd (omega (arith, low))
 
 all_upto : (version : Version) (content : Content) (top : Table) → AreOfClub version top content
-    → HaveChallenges content → (u : Table) → order u ≤ order top → IsRight u version content
-all_upto version content top club have Members low = sooner version top Members content low club
-all_upto version content top club have Events low = sooner version top Events content low club
-all_upto version content top club have EventRules low = sooner version top EventRules content low club
-all_upto version content top club have Challenges low = have
-all_upto version content top club have Moves low = sooner version top Moves content low club
-all_upto version content top club have Games low = sooner version top Games content low club
-all_upto version content top club have Seen low = sooner version top Seen content low club
-all_upto version content top club have Scores low = sooner version top Scores content low club
-all_upto version content top club have Meta low = sooner version top Meta content low club
+    → HaveChallenges content → HaveMoves version content → (u : Table) → order u ≤ order top
+    → IsRight u version content
+all_upto version content top club have play Members low = sooner version top Members content low club
+all_upto version content top club have play Events low = sooner version top Events content low club
+all_upto version content top club have play EventRules low = sooner version top EventRules content low club
+all_upto version content top club have play Challenges low = have
+all_upto version content top club have play Moves low = play
+all_upto version content top club have play Games low = sooner version top Games content low club
+all_upto version content top club have play Seen low = sooner version top Seen content low club
+all_upto version content top club have play Scores low = sooner version top Scores content low club
+all_upto version content top club have play Meta low = sooner version top Meta content low club
 
 -- ---- rows of members and events that a database has
 
@@ -434,12 +441,13 @@ pub first_wrong : (table : Table) (db : Database) (e : OpenFault) → NamesWrong
 first_wrong table db e wrong right t is version content holds =
     let (named, none) = wrong t is in
     record {
-      before = λ u low only typed. right version content holds u (subst (λ (v : Table). order u < order v) named low);
-      named = λ other club. none version content holds (subst (λ v. IsRight v version content) named club);
+      before = λ u low reached. right version content holds u (subst (λ (v : Table). order u < order v) named low);
+      named = λ club. none version content holds (subst (λ v. IsRight v version content) named club);
     }
 
 pub first_members : (db : Database) (e : OpenFault) → NamesWrong Members db e → NamesFirst db e
-first_members db e wrong = first_wrong Members db e wrong (λ version content holds u low. absurd (omega (arith, low)))
+first_members db e wrong =
+    first_wrong Members db e wrong (λ version content holds u low. absurd (omega (arith, low)))
 
 pub first_events : (db : Database) (e : OpenFault) → NamesWrong Events db e
     → ((version : Version) (content : Content) → of_schema.Holds (schema_of version) db content
@@ -467,12 +475,15 @@ pub first_games : (db : Database) (e : OpenFault)
     → AreOfClub version EventRules content) → NamesFirst db e
 first_games db e untyped right t is version content holds =
     let (named, none) = untyped t is in
-    let play : IsOfPlay t = subst IsOfPlay (sym named) (omega arith, omega arith) in
-    record {
-      before = λ u low only typed. register_upto version content (right version content holds) u (only play)
-          (λ here. absurd (none version content holds (typed here)));
-      named = λ other club. absurd (other play);
-    }
+    let absent = none version content holds in
+    subst (IsFirstIn version content) (sym named) (record {
+      before = λ u low reached. right_upto version content (right version content holds) u (omega (arith, low))
+          (λ later. absurd (absent (reached later))) (λ later. absurd (absent (reached (omega (arith, later)))))
+          (λ later. absurd (omega (arith, low, later)));
+      named = λ club. absent
+          (types_same IsGame (content 10) (tables_at version club.state 10) (club.same Games tt (omega arith)).there
+          (typed_at version club.state (club_of_version version club.state club.legal) Games));
+    })
 
 -- one that names a table that was examined
 module _ (db : Database) (rows : Rows) (e : OpenFault)
@@ -490,36 +501,83 @@ module _ (db : Database) (rows : Rows) (e : OpenFault)
     (has : (version : Version) (content : Content) → of_schema.Holds (schema_of version) db content
     → AreOfClub version Scores content → HasScores rows content)
     (whole : (version : Version) (content : Content) → of_schema.Holds (schema_of version) db content
-    → AreOfClub version Meta content → (t : Table) → e ≢ Damaged t) where
+    → AreOfClub version Meta content → (t : Table) → e ≢ Damaged t)
+    (read_moves : (version : Version) (content : Content) → of_schema.Holds (schema_of version) db content
+    → HaveMoves version content → HaveMovesOf rows (moves_in db.trees))
+    (moves_of : (version : Version) (content : Content) → of_schema.Holds (schema_of version) db content
+    → HaveMovesOf rows (moves_in db.trees) → HaveMoves version content)
+    (read_games : (version : Version) (content : Content) → of_schema.Holds (schema_of version) db content
+    → AreOfClub version Games content → HaveGamesOf rows (moves_in db.trees))
+    (games_of : (version : Version) (content : Content) → of_schema.Holds (schema_of version) db content
+    → (cs : List Challenge) → AreChallenges cs rows → AreSeated rows db → AreOfClub version Games content)
+    (read_seen : (version : Version) (content : Content) → of_schema.Holds (schema_of version) db content
+    → AreOfClub version Seen content → HaveSeenOf rows (moves_in db.trees) (seen_in db.trees)) where
+  -- where it is one of play
+  play_first : (t : Table) → IsWrongOfPlay rows db t → (cs : List Challenge) → AreChallenges cs rows
+      → (version : Version) (content : Content) → of_schema.Holds (schema_of version) db content
+      → IsFirstIn version content t
+  play_first Members wrong cs are version content holds = absurd (let low = wrong.play.0 in omega (arith, low))
+  play_first Events wrong cs are version content holds = absurd (let low = wrong.play.0 in omega (arith, low))
+  play_first EventRules wrong cs are version content holds = absurd (let low = wrong.play.0 in omega (arith, low))
+  play_first Challenges wrong cs are version content holds = absurd (let low = wrong.play.0 in omega (arith, low))
+  play_first Moves wrong cs are version content holds = record {
+    before = λ u low reached. right_upto version content (right version content holds) u (omega (arith, low))
+        (λ later. have version content holds cs are) (λ later. absurd (omega (arith, low, later)))
+        (λ later. absurd (omega (arith, low, later)));
+    named = λ right. wrong.moves refl version content holds (read_moves version content holds right);
+  }
+  play_first Games wrong cs are version content holds = record {
+    before = λ u low reached. right_upto version content (right version content holds) u (omega (arith, low))
+        (λ later. have version content holds cs are)
+        (λ later. elim wrong.before [
+          | inl untyped ↦ absurd (untyped version content holds (reached (omega (arith, later))))
+          | inr (before, seated) ↦ moves_of version content holds (before (omega arith))
+        ])
+        (λ later. absurd (omega (arith, low, later)));
+    named = λ club. wrong.games refl version content holds (read_games version content holds club);
+  }
+  play_first Seen wrong cs are version content holds = record {
+    before = λ u low reached. right_upto version content (right version content holds) u (omega (arith, low))
+        (λ later. have version content holds cs are)
+        (λ later. elim wrong.before [
+          | inl untyped ↦ absurd (untyped version content holds (reached later))
+          | inr (before, seated) ↦ moves_of version content holds (before (omega arith))
+        ])
+        (λ later. elim wrong.before [
+          | inl untyped ↦ absurd (untyped version content holds (reached (omega (arith, later))))
+          | inr (before, seated) ↦ games_of version content holds cs are (seated (omega arith))
+        ]);
+    named = λ club. wrong.seen refl version content holds (read_seen version content holds club);
+  }
+  play_first Scores wrong cs are version content holds = absurd (let low = wrong.play.1 in omega (arith, low))
+  play_first Meta wrong cs are version content holds = absurd (let low = wrong.play.1 in omega (arith, low))
+
   pub first_examined : NamesExamined rows db e → NamesFirst db e
   first_examined names t is version content holds = elim (names t is) [
     | inl (named, none) ↦ record {
-      before = λ u low only typed.
+      before = λ u low reached.
           let less = subst (λ (v : Table). order u < order v) named low in
           people_upto version EventRules content (omega arith) (right version content holds) u (omega (arith, less));
-      named = λ other club.
+      named = λ club.
           let (cs, are) = pass version content holds (subst (λ v. IsRight v version content) named club) in none cs are;
     }
-    | inr ((cs, are), inl play) ↦ record {
-      before = λ u low only typed. register_upto version content (right version content holds) u (only play)
-          (λ here. have version content holds cs are);
-      named = λ other club. absurd (other play);
-    }
+    | inr ((cs, are), inl wrong) ↦ play_first t wrong cs are version content holds
     | inr ((cs, are), inr (inl (named, played, none))) ↦ record {
-      before = λ u low only typed.
+      before = λ u low reached.
           let less = subst (λ (v : Table). order u < order v) named low in
           all_upto version content Seen (seen_of version content holds cs are played) (have version content holds cs are)
-          u (omega (arith, less));
-      named = λ other club.
+          (moves_of version content holds played.seated.moves) u (omega (arith, less));
+      named = λ club.
           none version content holds
           (has version content holds (subst (λ v. IsRight v version content) named club));
     }
     | inr ((cs, are), inr (inr (named, played, scored))) ↦ record {
-      before = λ u low only typed.
+      before = λ u low reached.
           let less = subst (λ (v : Table). order u < order v) named low in
           all_upto version content Scores (scores_of version content holds cs are played scored)
-          (have version content holds cs are) u (omega (arith, less));
-      named = λ other club.
+          (have version content holds cs are) (moves_of version content holds played.seated.moves) u
+          (omega (arith, less));
+      named = λ club.
           whole version content holds (subst (λ v. IsRight v version content) named club) t is;
     }
   ]
@@ -531,14 +589,46 @@ first_before old mid e same = subst (λ (d : Database). NamesFirst d e) same.0.n
 
 -- ---- later tables
 
-pub blames_later : (table : Table) (definition : Definition) (IsTyped : Row → Type 0) (old : State) (e : OpenFault)
-    → IsOfPlay table → Blames table definition IsTyped old e → NamesPlayed e
-blames_later table definition IsTyped old e play (inl store) t is =
-    let both : ◌≡◌ {A = OpenFault} Store (Damaged t) = sym store ∙ is in absurd cc
-blames_later table definition IsTyped old e play (inr (inl memory)) t is =
-    let both : ◌≡◌ {A = OpenFault} Memory (Damaged t) = sym memory ∙ is in absurd cc
-blames_later table definition IsTyped old e play (inr (inr (named, wrong))) t is =
-    subst IsOfPlay (damaged_same table t (sym named ∙ is)) play
+-- moves that are blamed for their types are wrong
+pub moves_types_wrong : (rows : Rows) (old : State) (e : OpenFault) → Blames Moves (moves 8) IsMove old e
+    → NamesPlayed rows old.now e
+moves_types_wrong rows old e blames t is =
+    let (named, none) = types_none Moves (moves 8) IsMove (λ version content. HaveMovesOf rows (moves_in old.now.trees))
+    old e
+    (λ version content holds have.
+    let stored : Stores (moves 8) old.now.trees content = stores_of (moves 8) 4 refl refl version old.now content holds in
+    let same = kept_same (moves 8) old.now (content 8) (moves_in old.now.trees) stored.rows
+    (keeps_shown (moves 8) old.now.trees) in
+    (stored, types_same IsMove (content 8) (moves_in old.now.trees) same.there have.typed))
+    blames t is in
+    subst (IsWrongOfPlay rows old.now) (sym named) (record {
+      play = (omega arith, omega arith);
+      moves = λ here. none;
+      games = λ here. absurd cc;
+      seen = λ here. absurd cc;
+      before = inr (λ low. absurd (omega (arith, low)), λ low. absurd (omega (arith, low)));
+    })
+
+-- and so are positions
+pub seen_types_wrong : (rows : Rows) (old : State) (e : OpenFault) → Blames Seen (seen 12) IsSeen old e
+    → NamesPlayed rows old.now e
+seen_types_wrong rows old e blames t is =
+    let (named, untyped) = types_none Seen (seen 12) IsSeen (λ version content. HasTypes Seen content) old e
+    (λ version content holds typed. (stores_of (seen 12) 6 refl refl version old.now content holds, typed)) blames t is
+    in
+    subst (IsWrongOfPlay rows old.now) (sym named) (record {
+      play = (omega arith, omega arith);
+      moves = λ here. absurd cc;
+      games = λ here. absurd cc;
+      seen = λ here version content holds have.
+          let same = kept_same (seen 12) old.now (content 12) (seen_in old.now.trees)
+          (stores_of (seen 12) 6 refl refl version old.now content holds).rows (keeps_shown (seen 12) old.now.trees) in
+          untyped version content holds
+          (types_same IsSeen (content 12) (seen_in old.now.trees) same.there
+          (types_same IsSeen (seen_in old.now.trees) (tables_of both_games have.games.state 12) have.same.there
+          (seen-typed have.games.state have.games.legal)));
+      before = inl untyped;
+    })
 
 -- of the tables that the rows of a game may show to be wrong none is one up to the challenges
 game_later : (s : ClubState) (rows : Rows) (place : ℕ) (game : GameRecord) (ms : List MoveRow) (ss : List SeenRow)

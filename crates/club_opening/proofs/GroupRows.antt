@@ -19,7 +19,7 @@ use Rattle.sqlite_rules.specs.Lists.{Has}
 use Rattle.sqlite_rules.proofs.ListLemmas.{all_has}
 use Rattle.sqlite_trees.proofs.ListLemmas.{ascending-filter}
 use Rattle.store_tables.specs.Cells.{IsMove, IsSeen}
-use Rattle.store_tables.specs.Content.{Keeps, cells, same_key}
+use Rattle.store_tables.specs.Content.{AreApart, Keeps, cells, same_key}
 use Rattle.store_tables.specs.Contents.{Stores}
 use Rattle.store_tables.specs.Queries.{by_others}
 use Rattle.store_tables.specs.Tables.{moves, seen}
@@ -37,7 +37,7 @@ use Rattle.club_opening.proofs.MoveOrderLemmas.{by, Apart, apart_back, rises, on
 use Rattle.club_changes.proofs.Proved.{moves_had}
 use Rattle.club_opening.proofs.OnceLemmas.{Differ, differ_back, at_once, stored_differ, seen_key}
 use Rattle.club_opening.proofs.PastLemmas.{table_group, table_past}
-use Rattle.club_opening.proofs.StoredLemmas.{IsStored}
+use Rattle.club_opening.proofs.StoredLemmas.{AreUnique, IsStored}
 
 -- a row of a position begins with its game's number
 pub seen_had : (id : ℕ) (g : ClubGame) (z : Row) → Has (rows_of_seen both_games id g) z → column z 0 ≡ number id
@@ -74,7 +74,7 @@ same_order n a b one two =
     ∙ tied_itself value_cmp_total (Int n) in
     ap (λ o. ordering_then o (ordering_then (value_cmp (column a 1) (column b 1)) Equal)) tie
 
-by_sorted : (rows : List Row) (n : ℤ) → ((x : Row) → Has rows x → column x 0 ≡ Int n) → IsSorted (by_others 2) rows
+pub by_sorted : (rows : List Row) (n : ℤ) → ((x : Row) → Has rows x → column x 0 ≡ Int n) → IsSorted (by_others 2) rows
     → IsSorted by rows
 by_sorted rows n all sorted k d low high =
     let later : k + 1 < length rows = omega arith in
@@ -83,6 +83,28 @@ by_sorted rows n all sorted k d low high =
     (same_order n (get_or rows (k + 1) d) (get_or rows k d)
     (all (get_or rows (k + 1) d) (has_index rows (k + 1) d later))
     (all (get_or rows k d) (has_index rows k d here))) ∙ sorted k d low high
+
+-- rows of positions with the number of a game are the game's, each once, where the table is that of the club
+pub seen_of_game : (s : ClubState) → IsClub s → (trees : Trees) → AreUnique trees → AreApart (trees 12)
+    → HaveSame (seen_in trees) (tables_of both_games s 12) → (n : ℕ) (g : ClubGame) → slice_get s.games n ≡ Some g
+    → (rows : List Row) (old new : State) → old.now.trees ≡ trees → AreReadOf (seen 12) 2 (pos (1 + n)) rows old new
+    → AreEachOnce rows (rows_of_seen both_games (1 + n) g)
+seen_of_game s club trees unique apart same_all n g at rows old new trees_are read =
+    let made = rows_of_seen both_games (1 + n) g in
+    let shown = seen_in trees in
+    let once : IsPermutation (beginning_with (pos (1 + n)) shown) rows =
+    subst (λ (t : Trees). IsPermutation (beginning_with (pos (1 + n)) (seen_in t)) rows) trees_are read.once in
+    let group = table_group (rows_of_seen both_games) (λ id x z h. seen_had id x z h) shown s.games same_all n g at in
+    let keyed =
+    seen_key trees unique
+    (λ r h. all_has IsSeen (tables_of both_games s 12) (cells (seen 12) r) (seen-typed s club)
+    (same_all.there (cells (seen 12) r) (has_map (cells (seen 12)) (trees 12) r h))) in
+    record {
+      same = same_on rows (beginning_with (pos (1 + n)) shown) made (same_back _ _ (turned_same _ rows once)) group;
+      once = at_once rows (pairs_turned Differ differ_back (beginning_with (pos (1 + n)) shown) rows once
+          (ascending-filter Differ (λ x. same_key (0 ∷ []) x (Int (pos (1 + n)) ∷ [])) shown
+          (stored_differ (seen 12) (1 ∷ 2 ∷ []) (trees 12) apart keyed)));
+    }
 
 module _ (s : ClubState) (club : IsClub s) (db : Database) (holds : IsStored db s) where
   moves_stored : Stores (moves 8) db.trees (tables_of both_games s)
@@ -137,20 +159,4 @@ module _ (s : ClubState) (club : IsClub s) (db : Database) (holds : IsStored db 
     -- those of its positions are the game's, each once
     pub own_seen : AreReadOf (seen 12) 2 (pos (1 + n)) rows old new
         → AreEachOnce rows (rows_of_seen both_games (1 + n) g)
-    own_seen read =
-        let made = rows_of_seen both_games (1 + n) g in
-        let shown = seen_in db.trees in
-        let once : IsPermutation (beginning_with (pos (1 + n)) shown) rows =
-        subst (λ (t : Trees). IsPermutation (beginning_with (pos (1 + n)) (seen_in t)) rows) trees_are read.once in
-        let group = table_group (rows_of_seen both_games) (λ id x z h. seen_had id x z h) shown s.games seen_same n g at
-        in
-        let keyed =
-        seen_key db.trees holds.unique
-        (λ r h. all_has IsSeen (tables_of both_games s 12) (cells (seen 12) r) (seen-typed s club)
-        (seen_stored.rows.only r h)) in
-        record {
-          same = same_on rows (beginning_with (pos (1 + n)) shown) made (same_back _ _ (turned_same _ rows once)) group;
-          once = at_once rows (pairs_turned Differ differ_back (beginning_with (pos (1 + n)) shown) rows once
-              (ascending-filter Differ (λ x. same_key (0 ∷ []) x (Int (pos (1 + n)) ∷ [])) shown
-              (stored_differ (seen 12) (1 ∷ 2 ∷ []) (db.trees 12) seen_stored.apart keyed)));
-        }
+    own_seen = seen_of_game s club db.trees holds.unique seen_stored.apart seen_same n g at rows old new trees_are

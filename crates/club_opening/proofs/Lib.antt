@@ -1,10 +1,14 @@
+pub mod BeyondLemmas
 pub mod BlameLemmas
 pub mod ChallengedLemmas
 pub mod ClubLemmas
 pub mod ExaminedLemmas
 pub mod FirstLemmas
+pub mod GamesToldLemmas
 pub mod GroupRows
 pub mod MoveOrderLemmas
+pub mod MovesReadLemmas
+pub mod MovesToldLemmas
 pub mod OnceLemmas
 pub mod PastLemmas
 pub mod PlayedLemmas

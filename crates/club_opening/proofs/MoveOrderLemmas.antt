@@ -151,7 +151,7 @@ module _ {P M E T : Type 0} (laws : GameRules P M E T) (terms : Terms) (id : ℕ
     plies_from n (with_entry game e) es (omega (arith, low, length-append game.entries (e ∷ []))),
   )
 
-  entries_rise : (game : Game M) (es : List (Entry M)) → IsAscending Before (entry_rows laws terms id game es)
+  pub entries_rise : (game : Game M) (es : List (Entry M)) → IsAscending Before (entry_rows laws terms id game es)
   entries_rise game [] = tt
   entries_rise game (e ∷ es) =
       let here = length game.entries + 1 in (

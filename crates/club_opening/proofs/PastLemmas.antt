@@ -34,11 +34,11 @@ begins_once x m n p q =
     let tie = sym (value_cmp_total.congr (column x 0) (number m) (number n) one) ∙ two in
     pos_is m n (equal_ints (pos m) (pos n) (equal_from (number m) (number n) refl refl tie))
 
-not_false : (a : Bool) → a ≡ false → not a ≡ true
+pub not_false : (a : Bool) → a ≡ false → not a ≡ true
 not_false false e = refl
 not_false true e = cc
 
-not_back : (a : Bool) → not a ≡ true → a ≡ false
+pub not_back : (a : Bool) → not a ≡ true → a ≡ false
 not_back false e = refl
 not_back true e = cc
 
@@ -97,15 +97,15 @@ left_of (suc k) rows x h =
         → ⊥
     earlier i is other low none = true≢false (sym is ∙ none i (omega (arith, low, other)))
 
-none_in : (rows : List Row) (x : Row) → length rows ≡ 0 → Has rows x → ⊥
+pub none_in : (rows : List Row) (x : Row) → length rows ≡ 0 → Has rows x → ⊥
 none_in [] x none h = absurd h
 none_in (y ∷ rows) x none h = absurd (omega arith)
 
-one_in : (rows : List Row) → 0 < length rows → (x : Row) × Has rows x
+pub one_in : (rows : List Row) → 0 < length rows → (x : Row) × Has rows x
 one_in [] some = absurd (omega arith)
 one_in (y ∷ rows) some = (y, inl refl)
 
-there_at : {A : Type 0} (xs : List A) (n : ℕ) → n < length xs → (x : A) × (slice_get xs n ≡ Some x)
+pub there_at : {A : Type 0} (xs : List A) (n : ℕ) → n < length xs → (x : A) × (slice_get xs n ≡ Some x)
 there_at [] n low = absurd (omega arith)
 there_at (x ∷ xs) zero low = (x, refl)
 there_at (x ∷ xs) (suc n) low = there_at xs n (omega (arith, low))

@@ -40,14 +40,18 @@ use Rattle.club_audit.specs.Standings.{AreGamesOf}
 use Rattle.club_audit.proofs.Proved.{challenges-of, game-elsewhere, keys-of}
 use Rattle.club_changes.proofs.Proved.{moves_had}
 use Rattle.club_opening.specs.Blames.{AreRead, Blames, Names}
-use Rattle.club_opening.specs.Examined.{AreScoresExamined, IsPlayExamined, IsPlayed, WereFound, moves_in, past, seen_in}
+use Rattle.club_opening.specs.Examined.{AreScoresExamined, AreSeenOf, IsAfter, IsPlayExamined, IsPlayed, WerePlayed}
+use Rattle.club_opening.specs.Examined.{moves_in, past, seen_in}
 use Rattle.club_opening.specs.Places.{last_moment}
-use Rattle.club_opening.specs.RightTables.{AreOfClub, ArePlayed, AreScored, HasScores, HasTable, IsOfPlay, NamesScores}
+use Rattle.club_opening.specs.RightTables.{AreOfClub, ArePlayed, AreScored, AreSeated, HasScores, HasTable, IsOfPlay}
+use Rattle.club_opening.specs.RightTables.{NamesScores}
 use Rattle.club_opening.specs.RightTables.{rows_in}
 use Rattle.club_opening.specs.Versions.{HoldsClub}
 use Rattle.club_opening.specs.declared.fault.OpenFault.{OpenFault}
 use Rattle.club_opening.specs.declared.fault.OpenFault.TheVariants.{Damaged}
+use Rattle.store_tables.specs.Rows.{HaveIds}
 use Rattle.club_opening.proofs.ChallengedLemmas.{unique_of}
+use Rattle.club_opening.proofs.ExaminedLemmas.{played_after}
 use Rattle.club_opening.proofs.ClubLemmas.{begin_places, good_in, ids_read, row_id}
 use Rattle.club_opening.proofs.FirstLemmas.{damaged_same, kept_rules, kept_same, memory_undamaged, none_said, of_either}
 use Rattle.club_opening.proofs.FirstLemmas.{rules_in, schema_undamaged, store_undamaged, stores_of, types_none}
@@ -99,11 +103,31 @@ pub meta_played : (o : Option Table) → (o ≡ None) ⊎ (o ≡ Some Meta) → 
 meta_played o (inl none) = none_played o none
 meta_played o (inr last) = λ t is. same_Some t Meta (sym is ∙ last)
 
+-- what was examined of the games and the moves, where no table up to the games is wrong
+pub are_seated : (rows : Rows) (last : Option ℕ) (wrong : Option Table) (old new : State)
+    → IsPlayExamined rows last wrong old new → IsAfter Games wrong → HaveIds rows → (s : ClubState) → HasPeople s rows
+    → AreApartGames rows.games.items → AreSeated rows old.now
+are_seated rows last wrong old new play after ids s people apart = record {
+  moves = play.games.moves_right (λ t is. let later = after t is in omega (arith, later)) ids s people;
+  apart = apart;
+  found = play.games.seated after;
+  none_left = play.games.moves_end after;
+}
+
 pub are_played : (rows : Rows) (last : Option ℕ) (wrong : Option Table) (old new : State)
-    → IsPlayExamined rows last wrong old new → IsPlayed wrong → AreApartGames rows.games.items
-    → ArePlayed rows old.now
-are_played rows last wrong old new play played apart =
-    record { apart = apart; found = play.games.played played; none_left = play.games.none_rests played }
+    → IsPlayExamined rows last wrong old new → IsPlayed wrong → HaveIds rows → (s : ClubState) → HasPeople s rows
+    → AreApartGames rows.games.items → ArePlayed rows old.now
+are_played rows last wrong old new play played ids s people apart = record {
+  seated = record {
+    moves = play.games.moves_right
+        (λ t is. let later = played_after wrong played t is in omega (arith, later)) ids s people;
+    apart = apart;
+    found = λ t its. (play.games.played played t its).played;
+    none_left = λ t its. (play.games.none_rests played t its).moves;
+  };
+  seen_are = λ t its. (play.games.played played t its).seen_are;
+  none_seen = λ t its. (play.games.none_rests played t its).seen;
+}
 
 pub are_scored : (rows : Rows) (old mid new : State) → IsUnchanged old mid → AreScoresExamined rows mid new
     → AreScored rows old.now
@@ -123,7 +147,7 @@ before_last wrong before t is first none (inr last) =
 -- ---- the club of the games
 
 -- the tables of both versions but `meta`
-rows_at : (version : Version) (s : ClubState) (u : Table) → order u ≤ order Scores → HasTable u version
+pub rows_at : (version : Version) (s : ClubState) (u : Table) → order u ≤ order Scores → HasTable u version
     → rows_in u (tables_at version s) ≡ rows_in u (tables_of both_games s)
 rows_at Current s u low there = refl
 rows_at First s Members low there = refl
@@ -136,22 +160,22 @@ rows_at First s Seen low there = refl
 rows_at First s Scores low there = refl
 rows_at First s Meta low there = absurd (omega (arith, low))
 
-same_then : (one two three : List Row) → HaveSame one two → HaveSame two three → HaveSame one three
+pub same_then : (one two three : List Row) → HaveSame one two → HaveSame two three → HaveSame one three
 same_then one two three first second =
     record { there = λ z h. second.there z (first.there z h); back = λ z h. first.back z (second.back z h) }
 
 module _ (rows : Rows) (version : Version) (old mid : State) (read : AreRead version rows old mid) (ms : List Member)
     (are_ms : AreMembers ms rows.members.items) (fs : List Event) (are_fs : AreEvents fs rows.events.items)
     (rules_are : AreRulesOf fs rows.event_rules.items) (cs : List Challenge) (are_cs : AreChallenges cs rows)
-    (played : ArePlayed rows old.now) where
+    (seated : AreSeated rows old.now) where
   abbrev known : ClubState
   known = record { last = last_moment; members = ms; events = fs; games = []; challenges = cs }
 
-  people : HasPeople known rows
+  pub people : HasPeople known rows
   people = record { members = are_ms; events = are_fs; rules = rules_are }
 
-  found : WereFound known rows.games.items old.now.trees (length rows.games.items)
-  found = played.found known people
+  abbrev found : WerePlayed known rows.games.items old.now.trees (length rows.games.items)
+  found = seated.found known people
 
   abbrev all : ClubState
   all = record { last = last_moment; members = ms; events = fs; games = found.games; challenges = cs }
@@ -161,7 +185,7 @@ module _ (rows : Rows) (version : Version) (old mid : State) (read : AreRead ver
       ∙ found.rows_are
 
   few : length found.games ≤ 5000
-  few = let count = found.number_of in let low = played.apart.few in omega (arith, count, low)
+  few = let count = found.number_of in let low = seated.apart.few in omega (arith, count, low)
 
   club : IsClub all
   club = record {
@@ -175,7 +199,7 @@ module _ (rows : Rows) (version : Version) (old mid : State) (read : AreRead ver
     event_names = are_fs.names;
     games = λ n any at. game-elsewhere known found.games any (found.legal n any at);
     game_count = few;
-    game_keys = keys-of known found.games rows.games.items rows_are played.apart.keys;
+    game_keys = keys-of known found.games rows.games.items rows_are seated.apart.keys;
     challenges = challenges-of known rows people found.games rows_are are_cs.legal;
     challenge_numbers = are_cs.numbers;
   }
@@ -186,16 +210,10 @@ module _ (rows : Rows) (version : Version) (old mid : State) (read : AreRead ver
 
   moves_same : HaveSame (moves_in old.now.trees) (tables_of both_games all 8)
   moves_same =
-      let none = played.none_left known people in
+      let none = seated.none_left known people in
       table_gathered (rows_of_moves both_games fs) (λ id g z h. moves_had both_games fs id g z h)
       (moves_in old.now.trees) found.games
-      (subst (λ n. length (past n (moves_in old.now.trees)) ≡ 0) (sym found.number_of) none.moves) found.moves_are
-
-  seen_same : HaveSame (seen_in old.now.trees) (tables_of both_games all 12)
-  seen_same =
-      let none = played.none_left known people in
-      table_gathered (rows_of_seen both_games) (λ id g z h. seen_had id g z h) (seen_in old.now.trees) found.games
-      (subst (λ n. length (past n (seen_in old.now.trees)) ≡ 0) (sym found.number_of) none.seen) found.seen_are
+      (subst (λ n. length (past n (moves_in old.now.trees)) ≡ 0) (sym found.number_of) none) found.moves_are
 
   module _ (content : Content) (holds : of_schema.Holds (schema_of version) old.now content) where
     rules_same : (v : Version) → v ≡ version → HasTable EventRules v → of_schema.Holds (schema_of v) old.now content
@@ -207,8 +225,8 @@ module _ (rows : Rows) (version : Version) (old mid : State) (read : AreRead ver
         (rules_in old.now content held).rows
         (kept_rules version rows.events.items rows.event_rules.items old mid read.rules (sym is)))
 
-    -- the rows of each table before the scores
-    same_plain : (u : Table) → order u ≤ order Seen → HasTable u version → HaveSame (rows_in u content) (rows_in u (tables_of both_games all))
+    -- the rows of each table up to the games
+    same_plain : (u : Table) → order u ≤ order Games → HasTable u version → HaveSame (rows_in u content) (rows_in u (tables_of both_games all))
     same_plain Members low there =
         subst (HaveSame (content 1)) are_ms.rows_are
         (kept_same (members 1) old.now (content 1) (map member_cells rows.members.items)
@@ -232,63 +250,102 @@ module _ (rows : Rows) (version : Version) (old mid : State) (read : AreRead ver
         subst (HaveSame (content 10)) rows_are
         (kept_same (games 10) old.now (content 10) (map game_cells rows.games.items)
         (stores_of (games 10) 5 refl refl version old.now content holds).rows read.games.keeps)
-    same_plain Seen low there =
-        same_then (content 12) (seen_in old.now.trees) (tables_of both_games all 12)
-        (kept_same (seen 12) old.now (content 12) (seen_in old.now.trees)
-        (stores_of (seen 12) 6 refl refl version old.now content holds).rows (keeps_shown (seen 12) old.now.trees))
-        seen_same
+    same_plain Seen low there = absurd (omega (arith, low))
     same_plain Scores low there = absurd (omega (arith, low))
     same_plain Meta low there = absurd (omega (arith, low))
 
-    seen_at : AreOfClub version Seen content
-    seen_at = record {
+    games_at : AreOfClub version Games content
+    games_at = record {
       state = all;
       legal = legal;
       same = λ u there low. subst (HaveSame (rows_in u content)) (sym (rows_at version all u (omega (arith, low)) there))
           (same_plain u low there);
     }
 
-    -- and the scores, where they were scored
-    scores_same : AreScored rows old.now → HaveSame (content 14) (tables_of both_games all 14)
-    scores_same scored =
-        same_then (content 14) scored.scored (tables_of both_games all 14)
-        (kept_same (scores 14) old.now (content 14) scored.scored
-        (stores_of (scores 14) 7 refl refl version old.now content holds).rows scored.keeps)
-        (scored.are all (record { few = few; rows_are = rows_are })).same
+    module _ (seen_are : AreSeenOf found.games old.now.trees)
+        (none_seen : length (past (length rows.games.items) (seen_in old.now.trees)) ≡ 0) where
+      seen_shown : HaveSame (seen_in old.now.trees) (tables_of both_games all 12)
+      seen_shown =
+          table_gathered (rows_of_seen both_games) (λ id g z h. seen_had id g z h) (seen_in old.now.trees) found.games
+          (subst (λ n. length (past n (seen_in old.now.trees)) ≡ 0) (sym found.number_of) none_seen) seen_are
 
-    same_scored : AreScored rows old.now → (u : Table) → order u ≤ order Scores → HasTable u version
-        → HaveSame (rows_in u content) (rows_in u (tables_of both_games all))
-    same_scored scored Members low there = same_plain Members (omega arith) there
-    same_scored scored Events low there = same_plain Events (omega arith) there
-    same_scored scored EventRules low there = same_plain EventRules (omega arith) there
-    same_scored scored Challenges low there = same_plain Challenges (omega arith) there
-    same_scored scored Moves low there = same_plain Moves (omega arith) there
-    same_scored scored Games low there = same_plain Games (omega arith) there
-    same_scored scored Seen low there = same_plain Seen (omega arith) there
-    same_scored scored Scores low there = scores_same scored
-    same_scored scored Meta low there = absurd (omega (arith, low))
+      seen_same : HaveSame (content 12) (tables_of both_games all 12)
+      seen_same =
+          same_then (content 12) (seen_in old.now.trees) (tables_of both_games all 12)
+          (kept_same (seen 12) old.now (content 12) (seen_in old.now.trees)
+          (stores_of (seen 12) 6 refl refl version old.now content holds).rows (keeps_shown (seen 12) old.now.trees))
+          seen_shown
 
-    scores_at : AreScored rows old.now → AreOfClub version Scores content
-    scores_at scored = record {
-      state = all;
-      legal = legal;
-      same = λ u there low. subst (HaveSame (rows_in u content)) (sym (rows_at version all u low there))
-          (same_scored scored u low there);
-    }
+      seen_at : AreOfClub version Seen content
+      seen_at = record {
+        state = all;
+        legal = legal;
+        same = λ u there low. subst (HaveSame (rows_in u content))
+            (sym (rows_at version all u (omega (arith, low)) there)) (same_seen u low there);
+      }
+        where
+          same_seen : (u : Table) → order u ≤ order Seen → HasTable u version
+              → HaveSame (rows_in u content) (rows_in u (tables_of both_games all))
+          same_seen Members low there = same_plain Members (omega arith) there
+          same_seen Events low there = same_plain Events (omega arith) there
+          same_seen EventRules low there = same_plain EventRules (omega arith) there
+          same_seen Challenges low there = same_plain Challenges (omega arith) there
+          same_seen Moves low there = same_plain Moves (omega arith) there
+          same_seen Games low there = same_plain Games (omega arith) there
+          same_seen Seen low there = seen_same
+          same_seen Scores low there = absurd (omega (arith, low))
+          same_seen Meta low there = absurd (omega (arith, low))
 
-  pub seen_right : old.now.schema ≡ schema_of version → (v : Version) (content : Content)
-      → of_schema.Holds (schema_of v) old.now content → AreOfClub v Seen content
-  seen_right schema v content holds =
-      let same : version ≡ v = one_version version v old.now.schema schema holds.schema in
-      subst (λ w. AreOfClub w Seen content) same
-      (seen_at content (subst (λ w. of_schema.Holds (schema_of w) old.now content) (sym same) holds))
+      -- and the scores, where they were scored
+      scores_same : AreScored rows old.now → HaveSame (content 14) (tables_of both_games all 14)
+      scores_same scored =
+          same_then (content 14) scored.scored (tables_of both_games all 14)
+          (kept_same (scores 14) old.now (content 14) scored.scored
+          (stores_of (scores 14) 7 refl refl version old.now content holds).rows scored.keeps)
+          (scored.are all (record { few = few; rows_are = rows_are })).same
 
-  pub scores_right : old.now.schema ≡ schema_of version → AreScored rows old.now → (v : Version) (content : Content)
-      → of_schema.Holds (schema_of v) old.now content → AreOfClub v Scores content
-  scores_right schema scored v content holds =
-      let same : version ≡ v = one_version version v old.now.schema schema holds.schema in
-      subst (λ w. AreOfClub w Scores content) same
-      (scores_at content (subst (λ w. of_schema.Holds (schema_of w) old.now content) (sym same) holds) scored)
+      same_scored : AreScored rows old.now → (u : Table) → order u ≤ order Scores → HasTable u version
+          → HaveSame (rows_in u content) (rows_in u (tables_of both_games all))
+      same_scored scored Members low there = same_plain Members (omega arith) there
+      same_scored scored Events low there = same_plain Events (omega arith) there
+      same_scored scored EventRules low there = same_plain EventRules (omega arith) there
+      same_scored scored Challenges low there = same_plain Challenges (omega arith) there
+      same_scored scored Moves low there = same_plain Moves (omega arith) there
+      same_scored scored Games low there = same_plain Games (omega arith) there
+      same_scored scored Seen low there = seen_same
+      same_scored scored Scores low there = scores_same scored
+      same_scored scored Meta low there = absurd (omega (arith, low))
+
+      scores_at : AreScored rows old.now → AreOfClub version Scores content
+      scores_at scored = record {
+        state = all;
+        legal = legal;
+        same = λ u there low. subst (HaveSame (rows_in u content)) (sym (rows_at version all u low there))
+            (same_scored scored u low there);
+      }
+
+  -- in whatever content the database may hold
+  module _ (schema : old.now.schema ≡ schema_of version) (v : Version) (content : Content)
+      (holds : of_schema.Holds (schema_of v) old.now content) where
+    of_version : version ≡ v
+    of_version = one_version version v old.now.schema schema holds.schema
+
+    here : of_schema.Holds (schema_of version) old.now content
+    here = subst (λ w. of_schema.Holds (schema_of w) old.now content) (sym of_version) holds
+
+    pub games_right : AreOfClub v Games content
+    games_right = subst (λ w. AreOfClub w Games content) of_version (games_at content here)
+
+    pub seen_right : AreSeenOf found.games old.now.trees
+        → length (past (length rows.games.items) (seen_in old.now.trees)) ≡ 0 → AreOfClub v Seen content
+    seen_right seen_are none_seen =
+        subst (λ w. AreOfClub w Seen content) of_version (seen_at content here seen_are none_seen)
+
+    pub scores_right : AreSeenOf found.games old.now.trees
+        → length (past (length rows.games.items) (seen_in old.now.trees)) ≡ 0 → AreScored rows old.now
+        → AreOfClub v Scores content
+    scores_right seen_are none_seen scored =
+        subst (λ w. AreOfClub w Scores content) of_version (scores_at content here seen_are none_seen scored)
 
 -- a club with the rows up to the scores has these games
 pub has_scores : (rows : Rows) (version : Version) (old mid : State) → AreRead version rows old mid → (v : Version)

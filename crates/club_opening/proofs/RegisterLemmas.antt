@@ -262,18 +262,18 @@ module _ (version : Version) (rows : Rows) (last : Option ℕ) (old mid new : St
         let found = play.games.found refl s of_rows in
         let none = play.games.none_left refl s of_rows in
         let rows_are = ap (map game_cells) (sym (take_all (length rows.games.items) rows.games.items (omega arith)))
-        ∙ found.rows_are in
-        let few : length found.games ≤ 5000 = let count = found.number_of in let low = apart.few in
+        ∙ found.played.rows_are in
+        let few : length found.played.games ≤ 5000 = let count = found.played.number_of in let low = apart.few in
         omega (arith, count, low) in
-        let t : ClubState = record s { games = found.games } in
+        let t : ClubState = record s { games = found.played.games } in
         let are_moves : HaveSame (moves_in mid.now.trees) (tables_of both_games t 8) =
         table_gathered (rows_of_moves both_games s.events) (λ id g z h. moves_had both_games s.events id g z h)
-        (moves_in mid.now.trees) found.games
-        (subst (λ n. length (past n (moves_in mid.now.trees)) ≡ 0) (sym found.number_of) none.moves)
-        found.moves_are in
+        (moves_in mid.now.trees) found.played.games
+        (subst (λ n. length (past n (moves_in mid.now.trees)) ≡ 0) (sym found.played.number_of) none.moves)
+        found.played.moves_are in
         let are_seen : HaveSame (seen_in mid.now.trees) (tables_of both_games t 12) =
-        table_gathered (rows_of_seen both_games) (λ id g z h. seen_had id g z h) (seen_in mid.now.trees) found.games
-        (subst (λ n. length (past n (seen_in mid.now.trees)) ≡ 0) (sym found.number_of) none.seen)
+        table_gathered (rows_of_seen both_games) (λ id g z h. seen_had id g z h) (seen_in mid.now.trees) found.played.games
+        (subst (λ n. length (past n (seen_in mid.now.trees)) ≡ 0) (sym found.played.number_of) none.seen)
         found.seen_are in
         let are_scores = scores.are t (record { few = few; rows_are = rows_are }) in
         let club : IsClub t = record {
@@ -285,10 +285,10 @@ module _ (version : Version) (rows : Rows) (last : Option ℕ) (old mid new : St
           events = people.events.legal;
           event_count = people.events.count;
           event_names = people.events.names;
-          games = λ n any at. game-elsewhere s found.games any (found.legal n any at);
+          games = λ n any at. game-elsewhere s found.played.games any (found.played.legal n any at);
           game_count = few;
-          game_keys = keys-of s found.games rows.games.items rows_are apart.keys;
-          challenges = challenges-of s rows people found.games rows_are are_cs.legal;
+          game_keys = keys-of s found.played.games rows.games.items rows_are apart.keys;
+          challenges = challenges-of s rows people found.played.games rows_are are_cs.legal;
           challenge_numbers = are_cs.numbers;
         } in
         let register : IsRegisterOf t rows = record {

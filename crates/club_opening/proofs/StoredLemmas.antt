@@ -1,10 +1,9 @@
 -- What a database has of a club, in whatever version of its tables.
-use Rattle.std.proofs.Common.{arith, ◌≡◌, ◌≢◌, ℕ, ℤ, pos, false, List, [], ◌∷◌, length, refl, sym, ap, subst, ◌∙◌, inl}
+use Rattle.std.proofs.Common.{arith, ◌≡◌, ◌≢◌, ℕ, ℤ, pos, false, [], ◌∷◌, length, refl, sym, ap, subst, ◌∙◌, inl}
 use Rattle.std.proofs.Common.{inr}
-use Rattle.sqlite.specs.Effect.{Database, IsDatabase}
+use Rattle.sqlite.specs.Effect.{Database}
 use Rattle.sqlite.specs.Order.{Row}
 use Rattle.sqlite.specs.Schema.{Schema}
-use Rattle.sqlite.specs.Table.{Table as Definition}
 use Rattle.sqlite.specs.Tree.{Trees}
 use Rattle.sqlite_catalog.specs.Listing.{IsSound}
 use Rattle.sqlite_rules.specs.Lists.{Has}
@@ -13,14 +12,14 @@ use Rattle.sqlite_schema.specs.Rules.{clashes}
 use Rattle.sqlite_schema.specs.declared.schema.Constraint.TheVariants.{Unique}
 use Rattle.sqlite_value.specs.Keys.{plain}
 use Rattle.sqlite_value.specs.declared.value.Value.TheVariants.{Int}
-use Rattle.store_tables.specs.Content.{AreApart, Keeps}
+use Rattle.store_tables.specs.Content.{Keeps}
 use Rattle.store_tables.specs.Contents.{Stores}
 use Rattle.store_tables.specs.Tables.{club_schema, first_schema, IsClubSchema, schema_of, meta, members, events}
 use Rattle.store_tables.specs.Tables.{event_rules, challenges, moves, games, seen, scores}
 use Rattle.store_tables.specs.declared.names.Version.{Version}
 use Rattle.store_tables.specs.declared.names.Version.TheVariants.{First, Current}
 use Rattle.club_rows.specs.Club.{both_games, ClubState, IsClub}
-use Rattle.club_rows.specs.FirstSchema.{IsClubOf, first_tables}
+use Rattle.club_rows.specs.FirstSchema.{IsClubOf}
 use Rattle.club_rows.specs.Tables.{tables_of}
 use Rattle.club_opening.specs.Versions.{HoldsClub}
 use Rattle.club_opening.proofs.MoveOrderLemmas.{and_first, not_true}

@@ -2,6 +2,7 @@
 use Rattle.std.specs.Prelude.{
   ◌≡◌,
   ◌≤◌,
+  ◌<◌,
   ◌+◌,
   ℕ,
   zero,
@@ -35,14 +36,17 @@ use Rattle.store_tables.specs.Tables.{moves, scores, seen}
 use Rattle.store_tables.specs.declared.rows.GameRecord.{GameRecord}
 use Rattle.store_sql.specs.Read.{IsReadAs, beginning_with}
 use Rattle.store_tables.specs.declared.names.Table.{Table}
-use Rattle.store_tables.specs.declared.names.Table.TheVariants.{Meta}
+use Rattle.store_tables.specs.declared.names.Table.TheVariants.{Games, Meta, Moves, Seen}
 use Rattle.store_tables.specs.declared.names.Version.{Version}
 use Rattle.store_tables.specs.declared.rows.Rows.{Rows}
+use Rattle.store_tables.specs.Rows.{HaveIds}
 use Rattle.club_audit.specs.Audit.{AreApartGames, HasPeople, until}
+use Rattle.club_audit.specs.FirstWrong.{order}
 use Rattle.club_audit.specs.ChallengeAudit.{AreChallenges}
 use Rattle.club_core.specs.declared.challenges.Challenge.{Challenge}
 use Rattle.club_audit.specs.Standings.{AreGamesOf}
 use Rattle.club_opening.specs.Places.{IsRegisterOf, last_moment}
+use Rattle.club_opening.specs.RightMoves.{GamesWrong, HasMovesOf, HaveMovesOf, MovesWrong, SeenWrong, beyond}
 use Rattle.club_opening.specs.Versions.{HoldsClub}
 use Rattle.club_changes.specs.Steps.{HaveSame}
 use Rattle.club_opening.specs.declared.fault.OpenFault.{OpenFault}
@@ -60,25 +64,35 @@ abbrev pub past : ℕ → List Row → List Row
 past zero rows = rows
 past (suc k) rows = filter (λ x. not (same_key (0 ∷ []) x (number (suc k) ∷ []))) (past k rows)
 
--- the rows are those of this game of the club, which has this id: its own, and those of moves and of positions that
--- begin as it
-pub record IsFoundAs (s : ClubState) (id : ℕ) (row : GameRecord) (db : Trees) (game : ClubGame) : Type 0 where
+-- the rows are those of this game of the club, which has this id: its own, and those of moves that begin as it
+pub record IsGameOf (s : ClubState) (id : ℕ) (row : GameRecord) (db : Trees) (game : ClubGame) : Type 0 where
   pub legal : IsLegalIn both_games s game
   pub row_is : game_cells row ≡ row_of_game both_games s.events id game
   pub moves_are : HaveSame (beginning_with row.id (moves_in db)) (rows_of_moves both_games s.events id game)
+
+-- and so are those of positions
+pub record IsFoundAs (s : ClubState) (id : ℕ) (row : GameRecord) (db : Trees) (game : ClubGame) : Type 0 where
+  pub game_is : IsGameOf s id row db game
   pub seen_are : HaveSame (beginning_with row.id (seen_in db)) (rows_of_seen both_games id game)
 
--- So many games of the club were found: these rows are theirs, and the rows of moves and of positions with their
--- numbers.
-pub record WereFound (s : ClubState) (rows : List GameRecord) (db : Trees) (count : ℕ) : Type 0 where
+-- So many games of the club were found: these rows are theirs, and the rows of moves with their numbers.
+pub record WerePlayed (s : ClubState) (rows : List GameRecord) (db : Trees) (count : ℕ) : Type 0 where
   pub games : List ClubGame
   pub number_of : length games ≡ count
   pub legal : Each (IsLegalIn both_games s) games
   pub rows_are : map game_cells (take count rows) ≡ numbered_from (row_of_game both_games s.events) 1 games
   pub moves_are : (n : ℕ) (g : ClubGame) → slice_get games n ≡ Some g
       → HaveSame (beginning_with (pos (1 + n)) (moves_in db)) (rows_of_moves both_games s.events (1 + n) g)
-  pub seen_are : (n : ℕ) (g : ClubGame) → slice_get games n ≡ Some g
-      → HaveSame (beginning_with (pos (1 + n)) (seen_in db)) (rows_of_seen both_games (1 + n) g)
+
+-- the rows of positions with the numbers of these games are theirs
+abbrev pub AreSeenOf : List ClubGame → Trees → Type 0
+AreSeenOf games db = (n : ℕ) (g : ClubGame) → slice_get games n ≡ Some g
+    → HaveSame (beginning_with (pos (1 + n)) (seen_in db)) (rows_of_seen both_games (1 + n) g)
+
+-- So many games of the club were found, with the rows of moves and of positions with their numbers.
+pub record WereFound (s : ClubState) (rows : List GameRecord) (db : Trees) (count : ℕ) : Type 0 where
+  pub played : WerePlayed s rows db count
+  pub seen_are : AreSeenOf played.games db
 
 -- A table is called damaged, and no legal club whose register these rows are has the tables of the database.
 abbrev pub NamesPlay : Rows → Database → OpenFault → Type 0
@@ -90,6 +104,10 @@ pub record IsOf (s : ClubState) (rows : Rows) (last : Option ℕ) : Type 0 where
   pub people : HasPeople s rows
   pub moment : last ≡ Some s.last
   pub within : s.last ≤ last_moment
+
+-- no table up to this one is wrong
+abbrev pub IsAfter : Table → Option Table → Type 0
+IsAfter table wrong = (t : Table) → wrong ≡ Some t → order table < order t
 
 -- no table before `meta` is wrong
 abbrev pub IsPlayed : Option Table → Type 0
@@ -106,7 +124,14 @@ pub record IsGameFound (rows : Rows) (last : Option ℕ) (place : ℕ) (game : G
       × IsFoundAs s (place + 1) game old.now.trees g
   pub played : IsPlayed wrong → (s : ClubState) → HasPeople s rows → (g : ClubGame)
       × IsFoundAs (until last_moment s) (place + 1) game old.now.trees g
+  pub seated : IsAfter Games wrong → (s : ClubState) → HasPeople s rows → (g : ClubGame)
+      × IsGameOf (until last_moment s) (place + 1) game old.now.trees g
+  pub moves_right : IsAfter Moves wrong → (s : ClubState) → HasPeople s rows
+      → HasMovesOf rows (moves_in old.now.trees) game
   pub blamed : (t : Table) → wrong ≡ Some t → NamesPlay rows old.now (Damaged t)
+  pub moves_wrong : wrong ≡ Some Moves → (s : ClubState) → HasPeople s rows → MovesWrong rows old.now
+  pub games_wrong : wrong ≡ Some Games → GamesWrong rows old.now
+  pub seen_wrong : wrong ≡ Some Seen → SeenWrong rows old.now
 
 -- none of the rows of moves and of positions is another's than those of the first so many games
 pub record NoneIsLeft (db : Trees) (count : ℕ) : Type 0 where
@@ -122,9 +147,18 @@ pub record AreGamesFound (rows : Rows) (last : Option ℕ) (wrong : Option Table
       → NoneIsLeft old.now.trees (length rows.games.items)
   pub played : IsPlayed wrong → (s : ClubState) → HasPeople s rows
       → WereFound (until last_moment s) rows.games.items old.now.trees (length rows.games.items)
+  pub seated : IsAfter Games wrong → (s : ClubState) → HasPeople s rows
+      → WerePlayed (until last_moment s) rows.games.items old.now.trees (length rows.games.items)
+  pub moves_end : IsAfter Games wrong → (s : ClubState) → HasPeople s rows
+      → length (past (length rows.games.items) (moves_in old.now.trees)) ≡ 0
+  pub moves_right : IsAfter Moves wrong → HaveIds rows → (s : ClubState) → HasPeople s rows
+      → HaveMovesOf rows (moves_in old.now.trees)
   pub none_rests : IsPlayed wrong → (s : ClubState) → HasPeople s rows
       → NoneIsLeft old.now.trees (length rows.games.items)
   pub blamed : (t : Table) → wrong ≡ Some t → NamesPlay rows old.now (Damaged t)
+  pub moves_wrong : wrong ≡ Some Moves → HaveIds rows → (s : ClubState) → HasPeople s rows → MovesWrong rows old.now
+  pub games_wrong : wrong ≡ Some Games → GamesWrong rows old.now
+  pub seen_wrong : wrong ≡ Some Seen → HaveIds rows → SeenWrong rows old.now
 
 -- and what is left of the rows when so many games were read, of which a table was wrong or none
 pub record AreLeftAfter (rows : Rows) (last : Option ℕ) (place moves seen : ℕ) (wrong : Option Table) (old new : State)
@@ -138,10 +172,19 @@ pub record AreLeftAfter (rows : Rows) (last : Option ℕ) (place moves seen : �
       → seen ≡ length (past place (seen_in old.now.trees))
   pub played : IsPlayed wrong → (s : ClubState) → HasPeople s rows
       → WereFound (until last_moment s) rows.games.items old.now.trees place
-  pub moves_rest : IsPlayed wrong → (s : ClubState) → HasPeople s rows
+  pub seated : IsAfter Games wrong → (s : ClubState) → HasPeople s rows
+      → WerePlayed (until last_moment s) rows.games.items old.now.trees place
+  pub moves_rest : IsAfter Games wrong → (s : ClubState) → HasPeople s rows
       → moves ≡ length (past place (moves_in old.now.trees))
   pub seen_rest : IsPlayed wrong → (s : ClubState) → HasPeople s rows
       → seen ≡ length (past place (seen_in old.now.trees))
+  pub moves_wrong : wrong ≡ Some Moves → (s : ClubState) → HasPeople s rows → MovesWrong rows old.now
+  pub games_wrong : wrong ≡ Some Games → GamesWrong rows old.now
+  pub seen_wrong : wrong ≡ Some Seen → SeenWrong rows old.now
+  pub moves_right : IsAfter Moves wrong → (s : ClubState) → HasPeople s rows → (n : ℕ) (game : GameRecord)
+      → n < place → slice_get rows.games.items n ≡ Some game → HasMovesOf rows (moves_in old.now.trees) game
+  pub moves_beyond : HaveIds rows → moves ≡ length (beyond rows place (moves_in old.now.trees))
+  pub seen_beyond : HaveIds rows → seen ≡ length (beyond rows place (seen_in old.now.trees))
 
 -- what was read of all games tells, with the rowids of both tables
 pub record IsPlayExamined (rows : Rows) (last : Option ℕ) (wrong : Option Table) (old new : State) : Type 0 where

@@ -5,4 +5,5 @@ pub mod Faults
 pub mod Places
 pub mod Versions
 pub mod Refused
+pub mod RightMoves
 pub mod RightTables

@@ -32,8 +32,9 @@ use Rattle.club_audit.specs.ChallengeAudit.{AreChallenges}
 use Rattle.club_audit.specs.Standings.{AreGamesOf}
 use Rattle.club_audit.specs.FirstWrong.{order}
 use Rattle.club_opening.specs.Blames.{HasTypes, HoldsNone}
-use Rattle.club_opening.specs.Examined.{NoneIsLeft, WereFound}
+use Rattle.club_opening.specs.Examined.{AreSeenOf, WerePlayed, moves_in, past, seen_in}
 use Rattle.club_opening.specs.Places.{last_moment}
+use Rattle.club_opening.specs.RightMoves.{GamesWrong, HaveMoves, HaveMovesOf, MovesWrong, SeenWrong}
 use Rattle.club_opening.specs.declared.fault.OpenFault.{OpenFault}
 use Rattle.club_opening.specs.declared.fault.OpenFault.TheVariants.{Damaged}
 
@@ -92,9 +93,11 @@ pub record HaveChallenges (content : Content) : Type 0 where
   pub each : Each (IsChallengeIn content) challenges
   pub numbers : AreApart goes_by challenges
 
--- The table is right: its rows are those of a legal club, where those of the tables before it are.
+-- The table is right: its rows are those of a legal club with those of the tables before it. Challenges and moves name
+-- games, which come later, so of these two it is said what they must be.
 abbrev pub IsRight : Table → Version → Content → Type 0
 IsRight Challenges version content = HaveChallenges content
+IsRight Moves version content = HaveMoves version content
 IsRight t version content = AreOfClub version t content
 
 -- ---- which is named
@@ -103,13 +106,18 @@ IsRight t version content = AreOfClub version t content
 abbrev pub IsOfPlay : Table → Type 0
 IsOfPlay t = (order Challenges < order t) × (order t < order Scores)
 
--- Each table before the named one is right, and the named one is not. Where moves, games or positions are named it is
--- said only that the tables up to the challenges are right. That the challenges before it are right is said where the
--- rows of games have the types of their columns.
+-- The other table was looked at before this one is named. Rows of games that have values of other types are found as soon
+-- as the rules of events were looked at, and such rows of positions while the moves are. Else the tables are looked at in
+-- their order.
+abbrev pub IsReached : Table → Table → Content → Type 0
+IsReached Games u content = order EventRules < order u → HasTypes Games content
+IsReached Seen u content = order Challenges < order u → HasTypes Seen content
+IsReached t u content = Unit {0}
+
+-- The named table is not right, and each before it is that was looked at.
 pub record IsFirstIn (version : Version) (content : Content) (t : Table) : Type 0 where
-  pub before : (u : Table) → order u < order t → (IsOfPlay t → order u ≤ order Challenges)
-      → (u ≡ Challenges → HasTypes Games content) → IsRight u version content
-  pub named : ¬ IsOfPlay t → ¬ IsRight t version content
+  pub before : (u : Table) → order u < order t → IsReached t u content → IsRight u version content
+  pub named : ¬ IsRight t version content
 
 -- A table that is called damaged is so, in whatever content the database may hold.
 abbrev pub NamesFirst : Database → OpenFault → Type 0
@@ -122,9 +130,36 @@ NamesFirst db fault = (t : Table) → fault ≡ Damaged t → (version : Version
 abbrev pub NamesWrong : Table → Database → OpenFault → Type 0
 NamesWrong table db fault = (t : Table) → fault ≡ Damaged t → (t ≡ table) × HoldsNone db (IsRight table)
 
--- no other table than those of moves, games and positions is called damaged
-abbrev pub NamesPlayed : OpenFault → Type 0
-NamesPlayed fault = (t : Table) → fault ≡ Damaged t → IsOfPlay t
+-- in no content that the database may hold the rows of the table have the types of its columns
+abbrev pub IsUntyped : Table → Database → Type 0
+IsUntyped t db = HoldsNone db (λ version content. HasTypes t content)
+
+-- Whatever the last moment is: the rows of moves are right, and these games, with them, are those of a club.
+pub record AreSeated (rows : Rows) (db : Database) : Type 0 where
+  pub moves : HaveMovesOf rows (moves_in db.trees)
+  pub apart : AreApartGames rows.games.items
+  pub found : (s : ClubState) → HasPeople s rows
+      → WerePlayed (until last_moment s) rows.games.items db.trees (length rows.games.items)
+  pub none_left : (s : ClubState) → HasPeople s rows
+      → length (past (length rows.games.items) (moves_in db.trees)) ≡ 0
+
+-- the moves, where the games or the positions are named, and the games, where the positions are, are right
+abbrev pub AreRightBefore : Rows → Database → Table → Type 0
+AreRightBefore rows db t =
+    (order Moves < order t → HaveMovesOf rows (moves_in db.trees)) × (order Games < order t → AreSeated rows db)
+
+-- A table of play that is wrong for what was read. Those of play before it are right, or its rows have values of other
+-- types than its columns.
+pub record IsWrongOfPlay (rows : Rows) (db : Database) (t : Table) : Type 0 where
+  pub play : IsOfPlay t
+  pub moves : t ≡ Moves → MovesWrong rows db
+  pub games : t ≡ Games → GamesWrong rows db
+  pub seen : t ≡ Seen → SeenWrong rows db
+  pub before : IsUntyped t db ⊎ AreRightBefore rows db t
+
+-- no other table than a wrong one of play is called damaged
+abbrev pub NamesPlayed : Rows → Database → OpenFault → Type 0
+NamesPlayed rows db fault = (t : Table) → fault ≡ Damaged t → IsWrongOfPlay rows db t
 
 -- nor is another one wrong, but `meta`
 abbrev pub IsLater : Option Table → Type 0
@@ -147,13 +182,12 @@ abbrev pub NamesScores : Rows → Database → OpenFault → Type 0
 NamesScores rows db fault = (t : Table) → fault ≡ Damaged t
     → (t ≡ Scores) × HoldsNone db (λ version content. HasScores rows content)
 
--- Whatever the last moment is: these games, with the rows of moves and of positions, are those of a club, and no row is
--- another's.
+-- Those games, with the rows of positions, too, are those of a club, and no row is another's.
 pub record ArePlayed (rows : Rows) (db : Database) : Type 0 where
-  pub apart : AreApartGames rows.games.items
-  pub found : (s : ClubState) → HasPeople s rows
-      → WereFound (until last_moment s) rows.games.items db.trees (length rows.games.items)
-  pub none_left : (s : ClubState) → HasPeople s rows → NoneIsLeft db.trees (length rows.games.items)
+  pub seated : AreSeated rows db
+  pub seen_are : (s : ClubState) (people : HasPeople s rows) → AreSeenOf (seated.found s people).games db.trees
+  pub none_seen : (s : ClubState) → HasPeople s rows
+      → length (past (length rows.games.items) (seen_in db.trees)) ≡ 0
 
 -- the rows of scores are those of these games
 pub record AreScored (rows : Rows) (db : Database) : Type 0 where
@@ -164,7 +198,7 @@ pub record AreScored (rows : Rows) (db : Database) : Type 0 where
 -- a table after the challenges, where these are right: one of play; or the scores, where those of play are right; or
 -- `meta`, where the scores are right, too
 abbrev pub IsNamedAfter : Rows → Database → Table → Type 0
-IsNamedAfter rows db t = IsOfPlay t
+IsNamedAfter rows db t = IsWrongOfPlay rows db t
     ⊎ (((t ≡ Scores) × ArePlayed rows db × HoldsNone db (λ version content. HasScores rows content))
     ⊎ ((t ≡ Meta) × ArePlayed rows db × AreScored rows db))
 

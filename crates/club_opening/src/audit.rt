@@ -1,12 +1,12 @@
 //! Which table of a club is wrong, by the rows that are read whole.
 
-ghost use Rattle.std.specs.Prelude.{◌≡◌, ◌≤◌, ℕ, pos, None, Some, IfErr, IfOk, OnOk, List};
+ghost use Rattle.std.specs.Prelude.{◌≡◌, ◌≢◌, ◌≤◌, ℕ, pos, None, Some, IfErr, IfOk, OnOk, List};
 ghost use Rattle.club_audit.specs.Audit.{AreApartGames, HasPeople};
 ghost use Rattle.club_audit.specs.ChallengeAudit.{AreChallenges};
 ghost use Rattle.club_core.specs.declared.challenges.Challenge.{Challenge};
 ghost use Rattle.club_rows.specs.Club.{ClubState};
 ghost use Rattle.club_opening.specs.Places.{BlamesRows, IsNoRegister, last_moment};
-ghost use Rattle.club_opening.specs.Examined.{IsPlayed};
+ghost use Rattle.club_opening.specs.Examined.{IsAfter};
 ghost use Rattle.club_opening.specs.RightTables.{IsLater, NamesChallenges};
 
 use crate::fault::OpenFault;
@@ -20,12 +20,15 @@ use store_tables::{Rows, Table};
 /// is given back, since what is wrong in the rows of moves and of positions is named before it.
 pub(crate) fn audit(alloc: Global, rows: &Rows) -> Result<Option<Table>, OpenFault>
     ensures challenges { OnOk result ((cs : List Challenge) × AreChallenges cs rows.now) }
-    ensures apart { IfOk result (λ wrong. IsPlayed wrong → AreApartGames rows.now.games.items) }
+    ensures apart { IfOk result (λ wrong. IsAfter Table.Games wrong → AreApartGames rows.now.games.items) }
     ensures moment { IfOk result (λ wrong. wrong ≡ None →
         (n : ℕ) × (rows.now.meta.last ≡ pos n) × (n ≤ last_moment)) }
     ensures remembered { IfOk result (λ wrong. (t : Table) → wrong ≡ Some t → IsNoRegister rows.now) }
     ensures fault { IfErr result (BlamesRows rows.now) }
     ensures later { IfOk result IsLater }
+    ensures other { IfOk result (λ wrong. wrong ≢ Some Table.Moves) }
+    ensures unseen { IfOk result (λ wrong. wrong ≢ Some Table.Seen) }
+    ensures games { IfOk result (λ wrong. wrong ≡ Some Table.Games → ¬ AreApartGames rows.now.games.items) }
     ensures challenged { IfErr result (λ e. (s : ClubState) → HasPeople s rows.now → NamesChallenges rows.now e) }
 {
     match are_challenges(alloc, rows) {

@@ -1,6 +1,6 @@
 //! Examining the games of a club, one after another: each by its row, and by those of its moves and of its positions.
 
-ghost use Rattle.std.specs.Prelude.{◌≡◌, ◌⊎◌, ◌<◌, ◌≤◌, None, Some, IsTrue, IfOk, IfErr, map};
+ghost use Rattle.std.specs.Prelude.{◌≡◌, ◌≢◌, ◌⊎◌, ◌<◌, ◌≤◌, None, Some, IsTrue, IfOk, IfErr, map};
 ghost use Rattle.std.specs.Prelude.{length, slice_get};
 ghost use Rattle.sqlite.specs.State.{HasCleanDisk};
 ghost use Rattle.sqlite.specs.Held.{state};
@@ -9,11 +9,11 @@ ghost use Rattle.store_tables.specs.Tables.{IsClubSchema};
 ghost use Rattle.store_sql.specs.Read.{AreCounted, AreReadOf};
 ghost use Rattle.club_opening.specs.Blames.{Blames, NamesTable};
 ghost use Rattle.club_audit.specs.FirstWrong.{order};
-ghost use Rattle.club_audit.specs.Audit.{HasPeople};
+ghost use Rattle.club_audit.specs.Audit.{AreApartGames, HasPeople};
 ghost use Rattle.club_opening.specs.Places.{IsMomentOf, IsNoRegister};
 ghost use Rattle.club_opening.specs.RightTables.{IsLater, NamesPlayed};
 ghost use Rattle.club_rows.specs.Club.{ClubState};
-ghost use Rattle.club_opening.specs.Examined.{AreGamesFound, IsGameFound, IsPlayed, NamesPlay, moves_in, seen_in};
+ghost use Rattle.club_opening.specs.Examined.{AreGamesFound, IsAfter, IsGameFound, NamesPlay, moves_in, seen_in};
 
 use crate::fault::OpenFault;
 use crate::read::fault_in;
@@ -156,7 +156,8 @@ fn examine_game<S: Alter>(
         NamesTable (state S.Store conn.old).now e ⊎ NamesPlay rows.now (state S.Store conn.old).now e) }
     ensures later { IfOk result (λ found. (s : ClubState) → HasPeople s rows.now → IsLater found.wrong) }
     ensures later_fault { HasCleanDisk (state S.Store conn.new) → IfErr result (λ e.
-        IsClubSchema (state S.Store conn.old).now.schema → NamesPlayed e) }
+        IsClubSchema (state S.Store conn.old).now.schema →
+        NamesPlayed rows.now (state S.Store conn.old).now e) }
 {
     let moves = match read_of::<MoveRow, S>(alloc, conn, Table::Moves, game) {
         Ok(moves) => moves,
@@ -191,6 +192,9 @@ pub(crate) fn examine_games<S: Alter>(
 ) -> Result<Option<Table>, OpenFault>
     requires last { IsMomentOf rows.now.meta.last last }
     requires known { (t : _) → known ≡ Some t → IsNoRegister rows.now }
+    requires known_moves { known ≢ Some Table.Moves }
+    requires known_games { known ≡ Some Table.Games → ¬ AreApartGames rows.now.games.items }
+    requires known_seen { known ≢ Some Table.Seen }
     ensures reads { OnlyReads (state S.Store conn.old) (state S.Store conn.new) }
     ensures found { HasCleanDisk (state S.Store conn.new) → IfOk result (λ wrong.
         IsClubSchema (state S.Store conn.old).now.schema → IsTrue (state S.Store conn.old).is_open →
@@ -198,7 +202,7 @@ pub(crate) fn examine_games<S: Alter>(
         all.seen ≡ length (seen_in (state S.Store conn.old).now.trees) →
         AreGamesFound rows.now last wrong (state S.Store conn.old) (state S.Store conn.new)) }
     ensures known { IfOk result (λ wrong. wrong ≡ None → known ≡ None) }
-    ensures known_played { IfOk result (λ wrong. IsPlayed wrong → IsPlayed known) }
+    ensures known_after { IfOk result (λ wrong. (u : Table) → IsAfter u wrong → IsAfter u known) }
     ensures blames { HasCleanDisk (state S.Store conn.new) → IfErr result (λ e.
         IsClubSchema (state S.Store conn.old).now.schema → IsTrue (state S.Store conn.old).is_open →
         all.moves ≡ length (moves_in (state S.Store conn.old).now.trees) →
@@ -208,7 +212,8 @@ pub(crate) fn examine_games<S: Alter>(
     ensures later_fault { HasCleanDisk (state S.Store conn.new) → IfErr result (λ e.
         IsClubSchema (state S.Store conn.old).now.schema → IsTrue (state S.Store conn.old).is_open →
         all.moves ≡ length (moves_in (state S.Store conn.old).now.trees) →
-        all.seen ≡ length (seen_in (state S.Store conn.old).now.trees) → NamesPlayed e) }
+        all.seen ≡ length (seen_in (state S.Store conn.old).now.trees) →
+        NamesPlayed rows.now (state S.Store conn.old).now e) }
 {
     let mut moves = all.moves;
     let mut seen = all.seen;

@@ -1,19 +1,20 @@
 //! Examining the tables of a database that was opened.
 
-ghost use Rattle.std.specs.Prelude.{◌≡◌, ◌⊎◌, true, None, Some, IfErr, IfOk, OnOk};
+ghost use Rattle.std.specs.Prelude.{◌≡◌, ◌≢◌, ◌⊎◌, true, None, Some, IfErr, IfOk, OnOk};
 ghost use Rattle.sqlite.specs.State.{HasCleanDisk, IsUnchanged};
 ghost use Rattle.sqlite.specs.Held.{state};
 ghost use Rattle.store_tables.specs.Club.{IsExactly, IsOpened};
 ghost use Rattle.store_tables.specs.Reading.{OnlyReads};
+ghost use Rattle.store_tables.specs.Rows.{HaveIds};
 ghost use Rattle.store_tables.specs.Tables.{club_schema, IsClubSchema, schema_of};
 ghost use Rattle.store_tables.specs.declared.names.Version.TheVariants.{Current};
 ghost use Rattle.table_shapes.specs.Shapes.{is_of_club};
 ghost use Rattle.club_opening.specs.Blames.{Names, NamesTable};
 ghost use Rattle.club_opening.specs.Versions.{HoldsClub, IsExactlyClub, IsOpenedAt};
-ghost use Rattle.club_opening.specs.Examined.{AreExamined, AreScoresExamined, IsPlayExamined, IsPlayed, NamesPlay};
+ghost use Rattle.club_opening.specs.Examined.{AreExamined, AreScoresExamined, IsAfter, IsPlayExamined, NamesPlay};
 ghost use Rattle.club_rows.specs.FirstSchema.{IsClubOf};
 ghost use Rattle.club_rows.specs.Club.{ClubState, IsClub, tables};
-ghost use Rattle.club_audit.specs.Audit.{HasPeople};
+ghost use Rattle.club_audit.specs.Audit.{AreApartGames, HasPeople};
 ghost use Rattle.club_opening.specs.Places.{IsMomentOf, IsNoRegister, IsRegisterOf};
 ghost use Rattle.club_opening.specs.RightTables.{IsLater, NamesExamined, NamesFirst, NamesPlayed, NamesScores};
 
@@ -39,18 +40,22 @@ fn examine_play<S: Alter>(
 ) -> Result<Option<Table>, OpenFault>
     requires last { IsMomentOf rows.now.meta.last last }
     requires known { (t : _) → known ≡ Some t → IsNoRegister rows.now }
+    requires known_moves { known ≢ Some Table.Moves }
+    requires known_games { known ≡ Some Table.Games → ¬ AreApartGames rows.now.games.items }
+    requires known_seen { known ≢ Some Table.Seen }
     ensures reads { OnlyReads (state S.Store conn.old) (state S.Store conn.new) }
     ensures found { HasCleanDisk (state S.Store conn.new) → IfOk result (λ wrong.
         IsClubSchema (state S.Store conn.old).now.schema →
         IsPlayExamined rows.now last wrong (state S.Store conn.old) (state S.Store conn.new)) }
     ensures known { IfOk result (λ wrong. wrong ≡ None → known ≡ None) }
-    ensures known_played { IfOk result (λ wrong. IsPlayed wrong → IsPlayed known) }
+    ensures known_after { IfOk result (λ wrong. (u : Table) → IsAfter u wrong → IsAfter u known) }
     ensures blames { HasCleanDisk (state S.Store conn.new) → IfErr result (λ e.
         IsClubSchema (state S.Store conn.old).now.schema →
         NamesTable (state S.Store conn.old).now e ⊎ NamesPlay rows.now (state S.Store conn.old).now e) }
     ensures later { IfOk result (λ wrong. (s : ClubState) → HasPeople s rows.now → IsLater known → IsLater wrong) }
     ensures later_fault { HasCleanDisk (state S.Store conn.new) → IfErr result (λ e.
-        IsClubSchema (state S.Store conn.old).now.schema → NamesPlayed e) }
+        IsClubSchema (state S.Store conn.old).now.schema →
+        NamesPlayed rows.now (state S.Store conn.old).now e) }
 {
     let moves = match count_of::<MoveRow, S>(alloc, conn, Table::Moves) {
         Ok(count) => count,
@@ -109,7 +114,8 @@ fn before_scores(wrong: Option<Table>) -> Option<Table>
 
 /// Tests that the tables are those of a club of schema 2, or answer as they do, and changes nothing. Of wrong tables the
 /// first is named, in the order members, events, rules of events, challenges, moves, games, positions, scores, `meta`.
-/// Schema 1 is refused by its number.
+/// But rows of games that have values of other types are found before the challenges are looked at, and such rows of
+/// positions while the moves are. Schema 1 is refused by its number.
 pub fn examine<S: Alter>(alloc: Global, conn: &mut Connection<S>) -> Result<(), OpenFault>
     ensures reads { OnlyReads (state S.Store conn.old) (state S.Store conn.new) }
     ensures found { HasCleanDisk (state S.Store conn.new) → OnOk result (IsOpened (state S.Store conn.old) → (s : _) ×
@@ -181,7 +187,7 @@ fn examine_rows<S: Alter>(
         NamesTable (state S.Store conn.old).now e ⊎ NamesPlay rows.now (state S.Store conn.old).now e) }
     ensures examined { HasCleanDisk (state S.Store conn.new) → IfErr result (λ e.
         IsClubSchema (state S.Store conn.old).now.schema → (s : ClubState) → HasPeople s rows.now →
-        NamesExamined rows.now (state S.Store conn.old).now e) }
+        HaveIds rows.now → NamesExamined rows.now (state S.Store conn.old).now e) }
 {
     let known = match audit(alloc, rows) {
         Ok(known) => known,

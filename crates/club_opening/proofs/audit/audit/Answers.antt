@@ -1,4 +1,4 @@
-use Rattle.std.proofs.Common.{◌≡◌, arith, inl, refl, sym, subst, inr}
+use Rattle.std.proofs.Common.{arith, inl, refl, sym, subst, inr}
 use Rattle.club_audit.specs.Audit.{AreApartGames}
 use Rattle.club_audit.proofs.Proved.{events-count, members-count}
 use Rattle.club_opening.proofs.ExaminedLemmas.{people_of}
@@ -29,6 +29,12 @@ returns-in-Ok-false-are_apart-clause-remembered c = λ t is s club register.
     let no = c.in-Ok-false-are_apart.field-0-test in
     absurd cc
 
+pub returns-in-Ok-false-are_apart-clause-games : goal.returns-in-Ok-false-are_apart-clause-games
+returns-in-Ok-false-are_apart-clause-games c = λ is are.
+    let yes = c.in-Ok-false-are_apart.ensures.complete (subst AreApartGames (sym c.deref.ensures.value) are) in
+    let no = c.in-Ok-false-are_apart.field-0-test in
+    absurd cc
+
 pub returns-in-Ok-false-clause-challenged : goal.returns-in-Ok-false-clause-challenged
 returns-in-Ok-false-clause-challenged c s people t is = (
   sym (damaged_same Challenges t is),
@@ -56,4 +62,4 @@ pub returns-in-None-clause-later : goal.returns-in-None-clause-later
 returns-in-None-clause-later c = some_later Meta (inr refl)
 
 pub returns-in-Ok-false-are_apart-clause-apart : goal.returns-in-Ok-false-are_apart-clause-apart
-returns-in-Ok-false-are_apart-clause-apart c played = let no : Games ≡ Meta = played Games refl in absurd cc
+returns-in-Ok-false-are_apart-clause-apart c after = let low = after Games refl in absurd (omega (arith, low))

@@ -1,4 +1,6 @@
-use Rattle.std.proofs.Common.{◌≡◌, ◌+◌, length, Some, refl, sym, ap, subst₂, ◌∙◌, arith}
+use Rattle.std.proofs.Common.{◌≡◌, ◌+◌, length, Some, refl, sym, ap, subst, subst₂, ◌∙◌, arith}
+use Rattle.sqlite.specs.Effect.{Database}
+use Rattle.club_opening.specs.RightTables.{NamesPlayed}
 use Rattle.std.specs.Prelude.{slice_get}
 use Rattle.std.proofs.lemmas.Option.{slice_get_read}
 use Rattle.sqlite.specs.Held.{state}
@@ -7,7 +9,7 @@ use Rattle.sqlite.proofs.StateLemmas.{unchanged}
 use Rattle.store_tables.proofs.Proved.{reads_nothing, reads_then}
 use Rattle.club_opening.specs.Examined.{AreLeftAfter}
 use Rattle.club_opening.proofs.BlameLemmas.{still}
-use Rattle.club_opening.proofs.ExaminedLemmas.{IsOneOf, NamesLeft, blamed_before, both_played, left_all, left_more, left_start, not_last}
+use Rattle.club_opening.proofs.ExaminedLemmas.{IsOneOf, NamesLeft, blamed_before, both_after, left_all, left_more, left_start, not_last}
 use Rattle.store_tables.specs.declared.names.Table.TheVariants.{Moves, Seen}
 use Rattle.club_opening.proofs.FirstLemmas.{either_later, left_later}
 use Rattle.club_opening.proofs.games.examine_games.Goals as goal
@@ -20,9 +22,10 @@ loop-place-init g c =
       reads = reads_nothing s0;
       kept = λ none. none;
       later = λ s people known. known;
-      free = λ played. played;
+      free = λ u after. after;
       left = λ clean has is_open one two. left_start c.args.rows.now c.args.last c.args.all.moves c.args.all.seen
-          c.args.known s0 c.requires.known (unchanged s0 is_open) one two;
+          c.args.known s0 c.requires.known c.requires.known_moves c.requires.known_games c.requires.known_seen
+          (unchanged s0 is_open) one two;
     }
 
 pub loop-place-preserved : goal.loop-place-preserved
@@ -47,8 +50,8 @@ loop-place-preserved g c =
       kept = λ none. c.loop-place.invariant.kept (one_of.none none).0;
       later = λ s people known. either_later c.loop-place.wrong found.wrong c.first_of-wrong.result one_of.some
           (c.loop-place.invariant.later s people known) (c.in-Ok.ensures.later s people);
-      free = λ played. c.loop-place.invariant.free
-          (both_played c.loop-place.wrong found.wrong c.first_of-wrong.result one_of played).0;
+      free = λ u after. c.loop-place.invariant.free u
+          (both_after u c.loop-place.wrong found.wrong c.first_of-wrong.result one_of after).0;
       left = λ clean has is_open one two.
           let early : HasCleanDisk mid = omega (arith, c.examine_game.ensures.reads.clean) in
           let was = c.loop-place.invariant.left early has is_open one two in
@@ -101,6 +104,7 @@ returns-clause-found g c clean has is_open one two =
     c.first_of-with_moves.result c.left_over-2.result c.first_of.result s0 s (l.invariant.left clean has is_open one
     two)
     all of_moves of_seen first then
+    (λ t is. (c.left_over-2.ensures.some t is).0) (λ t is. (c.left_over.ensures.some t is).0)
 
 pub returns-clause-known : goal.returns-clause-known
 returns-clause-known g c = λ none.
@@ -120,10 +124,11 @@ returns-in-Err-clause-later_fault g c clean has is_open one two =
     let mid = state g.S.Store c.loop-place.conn in
     let early : HasCleanDisk mid = omega (arith, c.examine_game.ensures.reads.clean) in
     let was = c.loop-place.invariant.left early has is_open one two in
-    c.in-Err.ensures.later_fault clean (still s0 mid was.same has)
+    subst (λ (d : Database). NamesPlayed c.args.rows.now d c.in-Err.fault) was.same.0.now_is
+    (c.in-Err.ensures.later_fault clean (still s0 mid was.same has))
 
-pub returns-clause-known_played : goal.returns-clause-known_played
-returns-clause-known_played g c played =
+pub returns-clause-known_after : goal.returns-clause-known_after
+returns-clause-known_after g c u after =
     let first : IsOneOf c.loop-place.wrong c.left_over.result c.first_of-with_moves.result = record {
       none = c.first_of-with_moves.ensures.none;
       some = c.first_of-with_moves.ensures.some;
@@ -131,6 +136,6 @@ returns-clause-known_played g c played =
     } in
     let then : IsOneOf c.first_of-with_moves.result c.left_over-2.result c.first_of.result =
     record { none = c.first_of.ensures.none; some = c.first_of.ensures.some; first = c.first_of.ensures.first } in
-    let early = (both_played c.first_of-with_moves.result c.left_over-2.result c.first_of.result then played).0 in
-    c.loop-place.invariant.free
-    (both_played c.loop-place.wrong c.left_over.result c.first_of-with_moves.result first early).0
+    let early = (both_after u c.first_of-with_moves.result c.left_over-2.result c.first_of.result then after).0 in
+    c.loop-place.invariant.free u
+    (both_after u c.loop-place.wrong c.left_over.result c.first_of-with_moves.result first early).0

@@ -2,11 +2,12 @@ use Rattle.std.proofs.Common.{◌≡◌, length, IsTrue}
 use Rattle.sqlite.specs.State.{HasCleanDisk}
 use Rattle.sqlite.specs.Held.{state}
 use Rattle.store_tables.specs.Reading.{OnlyReads}
+use Rattle.store_tables.specs.declared.names.Table.{Table}
 use Rattle.store_tables.specs.Tables.{IsClubSchema}
 use Rattle.club_audit.specs.Audit.{HasPeople}
 use Rattle.club_rows.specs.Club.{ClubState}
 use Rattle.club_opening.specs.RightTables.{IsLater}
-use Rattle.club_opening.specs.Examined.{AreLeftAfter, IsPlayed, moves_in, seen_in}
+use Rattle.club_opening.specs.Examined.{AreLeftAfter, IsAfter, moves_in, seen_in}
 use Rattle.club_opening.proofs.ExaminedLemmas.{IsKept}
 use Rattle.club_opening.proofs.games.examine_games.Given as goal
 
@@ -16,7 +17,7 @@ invariant-loop-place g l = record {
   reads : OnlyReads (state g.S.Store l.fn.conn) (state g.S.Store l.conn);
   kept : IsKept l.fn.known l.wrong;
   later : (s : ClubState) → HasPeople s l.rows → IsLater l.fn.known → IsLater l.wrong;
-  free : IsPlayed l.wrong → IsPlayed l.fn.known;
+  free : (u : Table) → IsAfter u l.wrong → IsAfter u l.fn.known;
   left : HasCleanDisk (state g.S.Store l.conn) → IsClubSchema (state g.S.Store l.fn.conn).now.schema
       → IsTrue (state g.S.Store l.fn.conn).is_open
       → l.fn.all.moves ≡ length (moves_in (state g.S.Store l.fn.conn).now.trees)

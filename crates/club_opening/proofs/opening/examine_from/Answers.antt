@@ -16,7 +16,9 @@ use Rattle.club_opening.proofs.FirstLemmas.{first_examined, has_people, have_cha
 use Rattle.club_opening.proofs.FirstLemmas.{people_of_all, people_right}
 use Rattle.sqlite.specs.Effect.{Database}
 use Rattle.club_opening.specs.RightTables.{NamesExamined}
-use Rattle.club_opening.proofs.PlayedLemmas.{has_scores, scores_right, seen_right, whole_unblamed}
+use Rattle.club_opening.proofs.PlayedLemmas.{games_right, has_scores, scores_right, seen_right, whole_unblamed}
+use Rattle.club_opening.proofs.GamesToldLemmas.{games_told, seen_told}
+use Rattle.club_opening.proofs.MovesToldLemmas.{moves_back, moves_told}
 use Rattle.club_opening.proofs.opening.examine_from.Goals as goal
 
 pub returns-in-Ok-examine_rows-clause-found : goal.returns-in-Ok-examine_rows-clause-found
@@ -99,9 +101,15 @@ returns-in-Err-examine_rows-clause-first g c clean has =
     (have_challenges rows found.version s0 s1 read ms are_ms es are_es)
     (pass_challenges rows found.version s0 s1 read ms are_ms es are_es)
     (λ v content holds cs are_cs played. seen_right rows found.version s0 s1 read ms are_ms made.ruled made.events_are
-    made.rules_are cs are_cs played schema v content holds)
+    made.rules_are cs are_cs played.seated schema v content holds (played.seen_are _ _) (played.none_seen s people))
     (λ v content holds cs are_cs played scored. scores_right rows found.version s0 s1 read ms are_ms made.ruled
-    made.events_are made.rules_are cs are_cs played schema scored v content holds)
+    made.events_are made.rules_are cs are_cs played.seated schema v content holds (played.seen_are _ _)
+    (played.none_seen s people) scored)
     (has_scores rows found.version s0 s1 read) (whole_unblamed c.args.oldest s0 e names)
+    (moves_told rows found.version s0 s1 read schema s people) (moves_back rows found.version s0 s1 read schema s people)
+    (games_told rows found.version s0 s1 read schema)
+    (λ v content holds cs are_cs seated. games_right rows found.version s0 s1 read ms are_ms made.ruled made.events_are
+    made.rules_are cs are_cs seated schema v content holds)
+    (seen_told rows found.version s0 s1 read schema)
     (subst (λ (d : Database). NamesExamined rows d e) read.same.0.now_is
-    (c.in-Err-examine_rows.ensures.examined clean here s people))
+    (c.in-Err-examine_rows.ensures.examined clean here s people (have_ids found.version rows s0 s1 read)))

@@ -1,13 +1,12 @@
-use Rattle.std.proofs.Common.{arith}
+use Rattle.std.proofs.Common.{arith, subst}
 use Rattle.sqlite.specs.Held.{state}
 use Rattle.sqlite.specs.State.{HasCleanDisk}
 use Rattle.club_opening.proofs.BlameLemmas.{still}
 use Rattle.club_opening.proofs.ExaminedLemmas.{blamed_before, both_same, moves_number, play_examined}
 use Rattle.club_opening.proofs.ExaminedLemmas.{seen_number}
-use Rattle.store_tables.specs.Cells.{IsMove, IsSeen}
-use Rattle.store_tables.specs.Tables.{moves, seen}
-use Rattle.store_tables.specs.declared.names.Table.TheVariants.{Moves, Seen}
-use Rattle.club_opening.proofs.FirstLemmas.{blames_later}
+use Rattle.sqlite.specs.Effect.{Database}
+use Rattle.club_opening.specs.RightTables.{NamesPlayed}
+use Rattle.club_opening.proofs.FirstLemmas.{moves_types_wrong, seen_types_wrong}
 use Rattle.club_opening.proofs.opening.examine_play.Goals as goal
 
 pub returns-in-Ok-examine_games-clause-found : goal.returns-in-Ok-examine_games-clause-found
@@ -46,7 +45,7 @@ returns-in-Err-examine_games-clause-blames g c clean has =
 
 pub returns-in-Err-clause-later_fault : goal.returns-in-Err-clause-later_fault
 returns-in-Err-clause-later_fault g c clean has =
-    blames_later Moves (moves 8) IsMove (state g.S.Store c.args.conn.now) c.in-Err.fault (omega arith, omega arith)
+    moves_types_wrong c.args.rows.now (state g.S.Store c.args.conn.now) c.in-Err.fault
     (c.in-Err.ensures.blames clean has)
 
 pub returns-in-Err-count_of-clause-later_fault : goal.returns-in-Err-count_of-clause-later_fault
@@ -55,8 +54,9 @@ returns-in-Err-count_of-clause-later_fault g c clean has =
     let s1 = state g.S.Store c.count_of.new.conn in
     let clean1 : HasCleanDisk s1 = omega (arith, c.count_of-2.ensures.reads.clean) in
     let counted = c.in-Ok.ensures.counted clean1 has in
-    blames_later Seen (seen 12) IsSeen s1 c.in-Err-count_of.fault (omega arith, omega arith)
-    (c.in-Err-count_of.ensures.blames clean (still s0 s1 counted.same has))
+    subst (λ (d : Database). NamesPlayed c.args.rows.now d c.in-Err-count_of.fault) counted.same.0.now_is
+    (seen_types_wrong c.args.rows.now s1 c.in-Err-count_of.fault
+    (c.in-Err-count_of.ensures.blames clean (still s0 s1 counted.same has)))
 
 pub returns-in-Err-examine_games-clause-later_fault : goal.returns-in-Err-examine_games-clause-later_fault
 returns-in-Err-examine_games-clause-later_fault g c clean has =
@@ -69,6 +69,7 @@ returns-in-Err-examine_games-clause-later_fault g c clean has =
     let moves = c.in-Ok.ensures.counted clean1 has in
     let seen = c.in-Ok-count_of.ensures.counted clean2 (still s0 s1 moves.same has) in
     let same = both_same s0 s1 s2 c.in-Ok.count c.in-Ok-count_of.count moves seen in
-    c.in-Err-examine_games.ensures.later_fault clean (still s0 s2 same has) same.0.is_open
+    subst (λ (d : Database). NamesPlayed c.args.rows.now d c.in-Err-examine_games.fault) same.0.now_is
+    (c.in-Err-examine_games.ensures.later_fault clean (still s0 s2 same has) same.0.is_open
     (moves_number s0 s1 s2 c.in-Ok.count c.in-Ok-count_of.count moves seen)
-    (seen_number s0 s1 s2 c.in-Ok.count c.in-Ok-count_of.count moves seen)
+    (seen_number s0 s1 s2 c.in-Ok.count c.in-Ok-count_of.count moves seen))

@@ -1,17 +1,18 @@
-use Rattle.std.proofs.Common.{None, arith, inl, inr, subst}
+use Rattle.std.proofs.Common.{None, Some, ap, arith, inl, inr, subst, sym, ◌∙◌}
 use Rattle.std.proofs.lemmas.Int.{ints}
 use Rattle.std.proofs.lemmas.Option.{IfSome_then}
 use Rattle.sqlite.specs.Held.{state}
 use Rattle.sqlite.specs.State.{HasCleanDisk}
 use Rattle.club_opening.specs.Examined.{IsPlayExamined}
 use Rattle.club_opening.proofs.BlameLemmas.{still}
-use Rattle.club_opening.proofs.ExaminedLemmas.{blamed_before, moment_told, moment_of, play_later, scores_after}
+use Rattle.club_opening.proofs.ExaminedLemmas.{blamed_before, moment_told, moment_of, play_later, played_after}
+use Rattle.club_opening.proofs.ExaminedLemmas.{scores_after, some_after}
+use Rattle.store_tables.specs.declared.names.Table.TheVariants.{Games, Moves}
 use Rattle.club_opening.proofs.StoredLemmas.{club_of_version}
-use Rattle.std.proofs.Common.{sym, ◌∙◌}
 use Rattle.sqlite.specs.Effect.{Database}
-use Rattle.club_opening.specs.RightTables.{IsOfPlay, NamesScores}
+use Rattle.club_opening.specs.RightTables.{IsWrongOfPlay, NamesScores}
 use Rattle.club_opening.proofs.FirstLemmas.{damaged_same}
-use Rattle.club_opening.proofs.PlayedLemmas.{are_played, are_scored, before_last, meta_played, none_played}
+use Rattle.club_opening.proofs.PlayedLemmas.{are_played, are_scored, are_seated, before_last, meta_played, none_played}
 use Rattle.club_opening.proofs.opening.examine_rows.Goals as goal
 
 pub examine_play-requires-clause-last : goal.examine_play-requires-clause-last
@@ -20,6 +21,15 @@ examine_play-requires-clause-last g c =
     (IfSome_then c.moment-last.result c.moment-last.ensures.some (λ m is. omega (arith, ints, is)))
     c.moment-last.ensures.range
     (λ none n low is. c.moment-last.ensures.none none n low (omega (arith, ints, is)))
+
+pub examine_play-requires-clause-known_moves : goal.examine_play-requires-clause-known_moves
+examine_play-requires-clause-known_moves g c = c.in-Ok.ensures.other
+
+pub examine_play-requires-clause-known_games : goal.examine_play-requires-clause-known_games
+examine_play-requires-clause-known_games g c = c.in-Ok.ensures.games
+
+pub examine_play-requires-clause-known_seen : goal.examine_play-requires-clause-known_seen
+examine_play-requires-clause-known_seen g c = c.in-Ok.ensures.unseen
 
 pub examine_play-requires-clause-known : goal.examine_play-requires-clause-known
 examine_play-requires-clause-known g c = c.in-Ok.ensures.remembered
@@ -46,7 +56,7 @@ returns-in-None-wrong-clause-found g c clean has =
       moment = n;
       last = (moment, within);
       challenges = c.in-Ok.ensures.challenges;
-      games = c.in-Ok.ensures.apart (none_played _ free);
+      games = c.in-Ok.ensures.apart (played_after _ (none_played _ free));
       play = play_later rows _ s1 s2 s3 (subst (λ l. IsPlayExamined rows l None s1 s2) is_last play) scores.read.same;
       scores = scores_after rows s1 s2 s3 play.games.same scores;
     }
@@ -84,40 +94,61 @@ returns-in-Some-wrong-clause-blames g c clean has =
     inr (play.games.blamed c.in-Some-wrong.table c.in-Some-wrong.is)
 
 pub returns-in-Err-clause-examined : goal.returns-in-Err-clause-examined
-returns-in-Err-clause-examined g c clean has s people t is = inl (c.in-Err.ensures.challenged s people t is)
+returns-in-Err-clause-examined g c clean has s people ids t is = inl (c.in-Err.ensures.challenged s people t is)
 
 pub returns-in-Err-examine_play-clause-examined : goal.returns-in-Err-examine_play-clause-examined
-returns-in-Err-examine_play-clause-examined g c clean has s people t is =
+returns-in-Err-examine_play-clause-examined g c clean has s people ids t is =
     inr (c.in-Ok.ensures.challenges, inl (c.in-Err-examine_play.ensures.later_fault clean has t is))
 
 pub returns-in-Some-clause-examined : goal.returns-in-Some-clause-examined
-returns-in-Some-clause-examined g c clean has s people t is =
+returns-in-Some-clause-examined g c clean has s people ids t is =
     let table = c.in-Some.table in
     let named = c.before_scores.ensures.some table c.in-Some.is in
     let play = before_last c.in-Ok-examine_play.wrong c.before_scores.result table named c.in-Some.is
     c.before_scores.ensures.meta
     (c.in-Ok-examine_play.ensures.later s people c.in-Ok.ensures.later table named) in
-    inr (c.in-Ok.ensures.challenges, inl (subst IsOfPlay (damaged_same table t is) play))
+    let found = c.in-Ok-examine_play.ensures.found clean has in
+    let rows = c.args.rows.now in
+    let wrong = c.in-Ok-examine_play.wrong in
+    let s1 = state g.S.Store c.args.conn.now in
+    let s2 = state g.S.Store c.examine_play.new.conn in
+    inr (
+      c.in-Ok.ensures.challenges,
+      inl (subst (IsWrongOfPlay rows (state g.S.Store c.args.conn.now).now) (damaged_same table t is) (record {
+        play = play;
+        moves = λ here. found.games.moves_wrong (named ∙ ap Some here) ids s people;
+        games = λ here. found.games.games_wrong (named ∙ ap Some here);
+        seen = λ here. found.games.seen_wrong (named ∙ ap Some here) ids;
+        before = inr (
+          (λ low. found.games.moves_right (some_after Moves wrong table named low) ids s people),
+          (λ low.
+              let after = some_after Games wrong table named low in
+              are_seated rows c.moment-last.result wrong s1 s2 found after ids s people
+              (c.in-Ok.ensures.apart (c.in-Ok-examine_play.ensures.known_after Games after))),
+        );
+      })),
+    )
 
 pub returns-in-Err-examine_scores-clause-examined : goal.returns-in-Err-examine_scores-clause-examined
-returns-in-Err-examine_scores-clause-examined g c clean has s people t is =
+returns-in-Err-examine_scores-clause-examined g c clean has s people ids t is =
     let s1 = state g.S.Store c.args.conn.now in
     let s2 = state g.S.Store c.examine_play.new.conn in
     let rows = c.args.rows.now in
     let clean2 : HasCleanDisk s2 = omega (arith, c.examine_scores.ensures.reads.clean) in
     let play = c.in-Ok-examine_play.ensures.found clean2 has in
     let free = meta_played c.in-Ok-examine_play.wrong (c.before_scores.ensures.none c.in-None.is) in
-    let apart = c.in-Ok.ensures.apart (c.in-Ok-examine_play.ensures.known_played free) in
+    let apart = c.in-Ok.ensures.apart
+    (c.in-Ok-examine_play.ensures.known_after Games (played_after c.in-Ok-examine_play.wrong free)) in
     let e = c.in-Err-examine_scores.fault in
     let other = c.in-Err-examine_scores.ensures.scores clean (still s1 s2 play.games.same has) in
     let (named, none) = subst (λ (d : Database). NamesScores rows d e) play.games.same.0.now_is other t is in
     inr (
       c.in-Ok.ensures.challenges,
-      inr (inl (named, are_played rows c.moment-last.result c.in-Ok-examine_play.wrong s1 s2 play free apart, none)),
+      inr (inl (named, are_played rows c.moment-last.result c.in-Ok-examine_play.wrong s1 s2 play free ids s people apart, none)),
     )
 
 pub returns-in-Some-wrong-clause-examined : goal.returns-in-Some-wrong-clause-examined
-returns-in-Some-wrong-clause-examined g c clean has s people t is =
+returns-in-Some-wrong-clause-examined g c clean has s people ids t is =
     let s1 = state g.S.Store c.args.conn.now in
     let s2 = state g.S.Store c.examine_play.new.conn in
     let s3 = state g.S.Store c.examine_scores.new.conn in
@@ -125,7 +156,8 @@ returns-in-Some-wrong-clause-examined g c clean has s people t is =
     let clean2 : HasCleanDisk s2 = omega (arith, c.examine_scores.ensures.reads.clean) in
     let play = c.in-Ok-examine_play.ensures.found clean2 has in
     let free = meta_played c.in-Ok-examine_play.wrong (c.before_scores.ensures.none c.in-None.is) in
-    let apart = c.in-Ok.ensures.apart (c.in-Ok-examine_play.ensures.known_played free) in
+    let apart = c.in-Ok.ensures.apart
+    (c.in-Ok-examine_play.ensures.known_after Games (played_after c.in-Ok-examine_play.wrong free)) in
     let scored = c.in-Ok-examine_scores.ensures.found clean (still s1 s2 play.games.same has) in
     let table = c.in-Some-wrong.table in
     let last = free table c.in-Some-wrong.is in
@@ -133,7 +165,7 @@ returns-in-Some-wrong-clause-examined g c clean has s people t is =
       c.in-Ok.ensures.challenges,
       inr (inr (
         sym (damaged_same table t is) ∙ last,
-        are_played rows c.moment-last.result c.in-Ok-examine_play.wrong s1 s2 play free apart,
+        are_played rows c.moment-last.result c.in-Ok-examine_play.wrong s1 s2 play free ids s people apart,
         are_scored rows s1 s2 s3 play.games.same scored,
       )),
     )

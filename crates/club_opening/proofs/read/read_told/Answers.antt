@@ -1,4 +1,4 @@
-use Rattle.std.proofs.Common.{◌≡◌, inl, inr, pos, refl, rules}
+use Rattle.std.proofs.Common.{inl, inr, refl, rules}
 use Rattle.sqlite.specs.Held.{state}
 use Rattle.club_opening.proofs.BlameLemmas.{has_number}
 use Rattle.club_opening.proofs.read.read_told.Goals as goal

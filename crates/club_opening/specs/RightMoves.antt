@@ -1,0 +1,107 @@
+-- When the rows of moves are right, where the rows of events and of games are those that were read.
+use Rattle.std.specs.Prelude.{◌≡◌, ℕ, zero, suc, ℤ, pos, not, List, [], ◌∷◌, map, get_or, filter, Some, None}
+use Rattle.std.specs.Prelude.{slice_get, Bool}
+use Rattle.std.specs.List.{AllByRecursion}
+use Rattle.sqlite_value.specs.declared.value.Value.TheVariants.{Int}
+use Rattle.sqlite.specs.Effect.{Database}
+use Rattle.sqlite.specs.Order.{Row, column}
+use Rattle.sqlite_rules.specs.Lists.{Has}
+use Rattle.club_core.specs.Events.{Terms}
+use Rattle.club_rules.specs.declared.names.GameKind.{GameKind}
+use Rattle.store_sql.specs.Read.{beginning_with}
+use Rattle.store_tables.specs.Cells.{IsMove, event_cells, game_cells, move_cells}
+use Rattle.store_tables.specs.Changes.{HaveSame}
+use Rattle.store_tables.specs.Content.{cells, same_key}
+use Rattle.store_tables.specs.Contents.{Content}
+use Rattle.store_tables.specs.Tables.{moves, seen}
+use Rattle.store_tables.specs.declared.names.Table.TheVariants.{Moves}
+use Rattle.store_tables.specs.declared.names.Version.{Version}
+use Rattle.store_tables.specs.declared.names.Version.TheVariants.{First, Current}
+use Rattle.store_tables.specs.declared.rows.EventRow.{EventRow}
+use Rattle.store_tables.specs.declared.rows.GameRecord.{GameRecord}
+use Rattle.store_tables.specs.declared.rows.MoveRow.{MoveRow}
+use Rattle.store_tables.specs.declared.rows.Rows.{Rows}
+use Rattle.club_rows.specs.Tables.{declares_number, kind_number, number, numbered_from, row_of_game}
+use Rattle.club_audit.specs.Audit.{GivesTerms, HasPeople, NamesEvent, NamesRule, terms_told}
+use Rattle.club_rows.specs.Club.{ClubState, IsClub, both_games, tables}
+use Rattle.club_audit.specs.GameAudit.{IsRightOf}
+use Rattle.club_opening.specs.Blames.{HoldsNone}
+
+-- the rows of moves that begin with the id of the game are those of the moves of a legal game of this kind and these
+-- terms, which has its id and its start, or there are none
+pub record HasItsMoves (rows : List Row) (game : GameRecord) (kind : GameKind) (terms : Terms) : Type 0 where
+  pub moves : List MoveRow
+  pub same : HaveSame (beginning_with game.id rows) (map move_cells moves)
+  pub are : IsRightOf kind terms None game moves [] Moves
+
+-- the rules of the event of this id say this of declarations
+abbrev pub DeclaresIn : Version → Content → ℤ → Bool → Type 0
+DeclaresIn First content id declares = declares_number declares ≡ 0
+DeclaresIn Current content id declares = Has (content 16) (Int id ∷ number (declares_number declares) ∷ [])
+
+-- Each row of moves has the types of its columns and begins with the id of a game; and of each game whose event there
+-- is, with a kind, terms and rules, they are right.
+pub record HaveMoves (version : Version) (content : Content) : Type 0 where
+  pub typed : AllByRecursion IsMove (content 8)
+  pub owned : (row : Row) → Has (content 8) row → (game : Row) × Has (content 10) game × (column row 0 ≡ column game 0)
+  pub played : (game : GameRecord) (event : EventRow) → Has (content 10) (game_cells game)
+      → Has (content 4) (event_cells event) → game.event ≡ event.id → (declares : Bool)
+      → DeclaresIn version content event.id declares → (kind : GameKind) (budget increment : ℕ)
+      → event.game ≡ pos (kind_number kind) → GivesTerms event budget increment
+      → HasItsMoves (content 8) game kind (terms_told budget increment declares)
+
+-- the same of rows of games and of events that were read
+pub record HaveMovesOf (rows : Rows) (moves : List Row) : Type 0 where
+  pub typed : AllByRecursion IsMove moves
+  pub owned : (row : Row) → Has moves row → (place : ℕ) × (game : GameRecord)
+      × (slice_get rows.games.items place ≡ Some game) × (column row 0 ≡ Int game.id)
+  pub played : (place : ℕ) (game : GameRecord) → slice_get rows.games.items place ≡ Some game → (id : ℕ)
+      (event : EventRow) (declares : Bool) → NamesEvent rows game id event → NamesRule rows game id declares
+      → (kind : GameKind) (budget increment : ℕ) → event.game ≡ pos (kind_number kind)
+      → GivesTerms event budget increment → HasItsMoves moves game kind (terms_told budget increment declares)
+
+-- The rows of moves of a game that was read have the types of their columns, and they are right where its event is
+-- there, with a kind, terms and rules.
+pub record HasMovesOf (rows : Rows) (moves : List Row) (game : GameRecord) : Type 0 where
+  pub typed : (row : Row) → Has (beginning_with game.id moves) row → IsMove row
+  pub played : (id : ℕ) (event : EventRow) (declares : Bool) → NamesEvent rows game id event
+      → NamesRule rows game id declares → (kind : GameKind) (budget increment : ℕ)
+      → event.game ≡ pos (kind_number kind) → GivesTerms event budget increment
+      → HasItsMoves moves game kind (terms_told budget increment declares)
+
+-- a legal club has the people and the games that were read, and these rows of moves
+pub record HaveGamesOf (rows : Rows) (moves : List Row) : Type 0 where
+  pub state : ClubState
+  pub legal : IsClub state
+  pub people : HasPeople state rows
+  pub games : map game_cells rows.games.items ≡ numbered_from (row_of_game both_games state.events) 1 state.games
+  pub same : HaveSame moves (tables state 8)
+
+-- and these rows of positions
+pub record HaveSeenOf (rows : Rows) (moves positions : List Row) : Type 0 where
+  pub games : HaveGamesOf rows moves
+  pub same : HaveSame positions (tables games.state 12)
+
+-- ---- rows that no game owns
+
+-- the id of the game at this place
+abbrev pub id_at : Rows → ℕ → ℤ
+id_at rows place = get_or (map (λ g. g.id) rows.games.items) place (pos 0)
+
+-- whatever content the database holds, its rows of moves are not right for the games and the events that were read
+abbrev pub MovesWrong : Rows → Database → Type 0
+MovesWrong rows db = HoldsNone db (λ version content. HaveMovesOf rows (map (cells (moves 8)) (db.trees 8)))
+
+-- whatever content the database holds, the games that were read are those of no legal club with its rows of moves
+abbrev pub GamesWrong : Rows → Database → Type 0
+GamesWrong rows db = HoldsNone db (λ version content. HaveGamesOf rows (map (cells (moves 8)) (db.trees 8)))
+
+-- nor is there one with these games and with its rows of moves and of positions
+abbrev pub SeenWrong : Rows → Database → Type 0
+SeenWrong rows db = HoldsNone db (λ version content.
+    HaveSeenOf rows (map (cells (moves 8)) (db.trees 8)) (map (cells (seen 12)) (db.trees 12)))
+
+-- those of the rows that begin with the id of none of the first so many games
+abbrev pub beyond : Rows → ℕ → List Row → List Row
+beyond games zero rows = rows
+beyond games (suc k) rows = filter (λ x. not (same_key (0 ∷ []) x (Int (id_at games k) ∷ []))) (beyond games k rows)
