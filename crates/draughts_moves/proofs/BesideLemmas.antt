@@ -13,7 +13,6 @@ use Rattle.squares.specs.declared.sides.Side.TheVariants.{First, Second}
 use Rattle.squares.specs.Sides.{same_side, other}
 use Rattle.std.specs.Cmp.{nat_cmp_total}
 use Rattle.squares.specs.DraughtsBoard.{Position, is_of}
-use Rattle.squares.specs.DraughtsKept.{is_king}
 use Rattle.squares.specs.DraughtsSets.{Squares}
 use Rattle.squares.specs.DraughtsGeometry.{OnBoard, step, ray}
 use Rattle.squares.specs.DraughtsOnBoard.{step-on_board}
@@ -30,11 +29,11 @@ enemy_sides First Second = refl
 enemy_sides Second First = refl
 enemy_sides Second Second = refl
 
-enemy-is : (q : DPiece) (o : Option DPiece) → is_enemy q o ≡ is_of (other q.side) o
+pub enemy-is : (q : DPiece) (o : Option DPiece) → is_enemy q o ≡ is_of (other q.side) o
 enemy-is q None = refl
 enemy-is q (Some r) = enemy_sides q.side r.side
 
-or_false : (a b : Bool) → (a || b) ≡ false → (a ≡ false) × (b ≡ false)
+pub or_false : (a b : Bool) → (a || b) ≡ false → (a ≡ false) × (b ≡ false)
 or_false true b e = cc
 or_false false b e = (refl, e)
 
@@ -123,21 +122,22 @@ module _ (p : Position) (x : ℕ) (q : DPiece) (enemies empty : Squares) (are : 
       ∙ jumps-last b q set.empty x (along_none UpLeft two.0) (along_none UpRight two.1) (along_none DownLeft third.1) in
       greatest-none b q set.empty x false none refl ∙ sym at_own
 
-and_right : (a b : Bool) → a ≡ true → (a && b) ≡ false → b ≡ false
+pub and_right : (a b : Bool) → a ≡ true → (a && b) ≡ false → b ≡ false
 and_right true b h e = e
 and_right false b h e = cc
 
--- A piece of the side to move that is no king and has no enemy beside it takes nothing, nor does a piece of the other
--- side.
-module _ (p : Position) (own enemies empty near kings able : Squares)
+-- A piece of the side to move that is no king and has no enemy beside it takes nothing, nor does a king that is not of
+-- those that can jump, nor a piece of the other side.
+module _ (p : Position) (own enemies empty near men kings able : Squares)
     (are_own : (n : ℕ) → set.contains own n ≡ is_of p.turn (map.get p.board n)) (are : AreEnemies p enemies)
     (free : AreEmpty p empty) (are_near : (n : ℕ) → set.contains near n ≡ is_beside enemies empty n)
-    (are_kings : (n : ℕ) → set.contains kings n ≡ is_king (map.get p.board n))
-    (able_is : able ≡ set.intersection own (set.union near kings)) where
-  parts : (n : ℕ) → set.contains able n ≡ (set.contains own n && (set.contains near n || set.contains kings n))
+    (are_kings : (n : ℕ) (q : DPiece) → own_at p n ≡ Some q → q.king ≡ true → set.contains kings n ≡ false
+    → greatest_at p n ≡ 0) (men_are : men ≡ set.intersection own near) (able_is : able ≡ set.union men kings) where
+  parts : (n : ℕ) → set.contains able n ≡ ((set.contains own n && set.contains near n) || set.contains kings n)
   parts n =
-      ap (λ s. set.contains s n) able_is ∙ set.contains-intersection nat_cmp_total own (set.union near kings) n
-      ∙ ap (λ b. set.contains own n && b) (set.contains-union nat_cmp_total near kings n)
+      ap (λ s. set.contains s n) able_is ∙ set.contains-union nat_cmp_total men kings n
+      ∙ ap (λ s. set.contains s n || set.contains kings n) men_are
+      ∙ ap (λ b. b || set.contains kings n) (set.contains-intersection nat_cmp_total own near n)
 
   pub takes_nothing : (n : ℕ) → set.contains able n ≡ false → greatest_at p n ≡ 0
   takes_nothing n e =
@@ -147,9 +147,11 @@ module _ (p : Position) (own enemies empty near kings able : Squares)
             let stands = own_at-is p n q is in
             let there : set.contains own n ≡ true = are_own n ∙ ap (is_of p.turn) stands.0
             ∙ same_side-itself q.side p.turn stands.1 in
-            let rest = and_right (set.contains own n) (set.contains near n || set.contains kings n) there
+            let both = or_false (set.contains own n && set.contains near n) (set.contains kings n)
             (sym (parts n) ∙ e) in
-            let both = or_false (set.contains near n) (set.contains kings n) rest in
-            let man : q.king ≡ false = sym (ap is_king stands.0) ∙ sym (are_kings n) ∙ both.1 in
-            sym (none_beside p n q enemies empty are free is man (sym (are_near n) ∙ both.0))
+            let far = and_right (set.contains own n) (set.contains near n) there both.0 in
+            elim q.king as (λ c. q.king ≡ c → greatest_at p n ≡ 0) [
+              | true ↦ λ king. are_kings n q is king both.1
+              | false ↦ λ man. sym (none_beside p n q enemies empty are free is man (sym (are_near n) ∙ far))
+            ] refl
       ] refl

@@ -30,6 +30,15 @@ either-some : (o : Option DPiece) → (is_of First o || is_of Second o) ≡ is_s
 either-some None = refl
 either-some (Some q) = either_side q.side
 
+-- the squares of the pieces of both sides
+pub pieces-are : (board : Board) (first second all : Squares)
+    → ((n : ℕ) → set.contains first n ≡ is_of First (finite_map.get board n))
+    → ((n : ℕ) → set.contains second n ≡ is_of Second (finite_map.get board n)) → all ≡ set.union first second →
+    (n : ℕ) → set.contains all n ≡ is_some (finite_map.get board n)
+pieces-are board first second all of_first of_second both n =
+    ap (λ s. set.contains s n) both ∙ set.contains-union nat_cmp_total first second n
+    ∙ (λ i. of_first n i || of_second n i) ∙ either-some (finite_map.get board n)
+
 -- the squares of the pieces of both sides, but one
 pub others-are : (board : Board) (first second all rest : Squares) (x : ℕ)
     → ((n : ℕ) → set.contains first n ≡ is_of First (finite_map.get board n))

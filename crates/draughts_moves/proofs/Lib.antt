@@ -1,7 +1,9 @@
 pub mod BesideLemmas
 pub mod CheckLemmas
+pub mod ClearLemmas
 pub mod FirstJumpLemmas
 pub mod FoundLemmas
+pub mod GoLemmas
 pub mod GrowthLemmas
 pub mod JumpLemmas
 pub mod KingLemmas
@@ -14,9 +16,11 @@ pub mod OrderLemmas
 pub mod OwnLemmas
 pub mod PlaceLemmas
 pub mod Prey
+pub mod PreyLemmas
 pub mod Proved
 pub mod QuietLemmas
 pub mod RouteLemmas
 pub mod RoutingLemmas
+pub mod SightLemmas
 pub mod StepLemmas
 pub mod WalkLemmas

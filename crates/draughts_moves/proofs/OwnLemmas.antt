@@ -1,14 +1,12 @@
 -- What belongs to the squares of the side to move is all that there is.
-use Rattle.std.proofs.Common.{◌≡◌, ℕ, Bool, true, false, cond, Some, None, List, [], ◌∷◌, ◌++◌, max, fold, refl, sym}
+use Rattle.std.proofs.Common.{◌≡◌, ℕ, Bool, true, false, cond, List, [], ◌∷◌, ◌++◌, max, fold, refl, sym}
 use Rattle.std.proofs.Common.{ap, ◌∙◌, arith}
-use Rattle.std.specs.Prelude.{filter, option_and_then}
+use Rattle.std.specs.Prelude.{filter}
 use Rattle.std.specs.List.{flat_map, range_with_len}
 use Rattle.std.specs.FinSet as set
-use Rattle.std.specs.FinMap as map
-use Rattle.squares.specs.Sides.{same_side}
-use Rattle.squares.specs.DraughtsBoard.{Position, is_of}
+use Rattle.squares.specs.DraughtsBoard.{Position}
 use Rattle.squares.specs.DraughtsSets.{Squares, ascending}
-use Rattle.draughts_moves.specs.Search.{own_at, greatest_at, most}
+use Rattle.draughts_moves.specs.Search.{greatest_at, most}
 
 pub flat_map-filter : {A : Type 0} (f : ℕ → List A) (test : ℕ → Bool) (ns : List ℕ)
     → ((q : ℕ) → test q ≡ false → f q ≡ []) → flat_map f ns ≡ flat_map f (filter test ns)
@@ -31,15 +29,6 @@ max-filter f test a (n ∷ ns) none =
           let same : a ≡ max a (f n) = omega (arith, none n e) in
           max-filter f test a ns none ∙ ap (λ k. fold (λ m x. max m (f x)) k ns) same
     ] refl
-
-module _ (p : Position) (own : Squares) (are : (n : ℕ) → set.contains own n ≡ is_of p.turn (map.get p.board n)) where
-  pub no_own : (q : ℕ) → set.contains own q ≡ false → own_at p q ≡ None
-  no_own q e =
-      elim (map.get p.board q) as (λ o. is_of p.turn o ≡ false
-      → option_and_then (λ r. cond (same_side r.side p.turn) (Some r) None) o ≡ None) [
-        | None ↦ λ _. refl
-        | Some r ↦ λ f. ap (λ c. cond c (Some r) None) f
-      ] (sym (are q) ∙ e)
 
 -- the greatest number is among the pieces of a set, where the others take nothing
 pub most-able : (p : Position) (able : Squares) → ((n : ℕ) → set.contains able n ≡ false → greatest_at p n ≡ 0)

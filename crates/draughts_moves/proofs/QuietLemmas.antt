@@ -13,7 +13,7 @@ use Rattle.std.specs.FinSet as set
 use Rattle.std.proofs.lemmas.Grind.{common_steps}
 use Rattle.squares.specs.declared.draughts.piece.DPiece.{DPiece}
 use Rattle.squares.specs.declared.draughts.moves.DMove.{DMove}
-use Rattle.squares.specs.DraughtsBoard.{Position, is_of}
+use Rattle.squares.specs.DraughtsBoard.{Position}
 use Rattle.squares.specs.DraughtsSets.{Squares, ascending}
 use Rattle.squares.specs.DraughtsGeometry.{OnBoard}
 use Rattle.squares.specs.DraughtsOnBoard.{AllOnBoard, ray-on_board}
@@ -23,7 +23,7 @@ use Rattle.draughts_moves.specs.Legal.{QuietMove, IsQuiet}
 use Rattle.draughts_moves.specs.Search.{own_at, steps, is_step}
 use Rattle.draughts_moves.specs.Listing.{move_cmp, step_to, quiet_in_order, quiet_list}
 use Rattle.draughts_moves.proofs.OrderLemmas.{move_cmp-total}
-use Rattle.draughts_moves.proofs.OwnLemmas.{flat_map-filter, no_own}
+use Rattle.draughts_moves.proofs.OwnLemmas.{flat_map-filter}
 use Rattle.draughts_moves.proofs.Prey.{In-range, at_along}
 use Rattle.draughts_moves.proofs.StepLemmas.{is_step-sound, is_step-complete, quiet-from_on}
 
@@ -160,11 +160,18 @@ module _ (p : Position) where
       (λ n. ap (λ o. option_map_or (λ r. list_any (λ z. nat_eq z n) (steps (finite_map.get p.board) r x)) o false)
       none))
 
-  -- the moves of the squares of the side to move are all
-  pub quiet-of_own : (own : Squares) → ((n : ℕ) → set.contains own n ≡ is_of p.turn (finite_map.get p.board n))
-      → flat_map (quiet_in_order p) (ascending own) ≡ quiet_list p
+  -- a piece that goes nowhere has no quiet moves
+  pub quiet-no_step : (x : ℕ) (q : DPiece) → own_at p x ≡ Some q
+      → ((y : ℕ) → list_any (λ m. nat_eq m y) (steps (finite_map.get p.board) q x) ≡ false) → quiet_in_order p x ≡ []
+  unfolding quiet_in_order is_step
+  quiet-no_step x q own none =
+      ap (map (step_to x))
+      (no_step (range_with_len 1 50) (is_step p x)
+      (λ n. ap (λ o. option_map_or (λ r. list_any (λ z. nat_eq z n) (steps (finite_map.get p.board) r x)) o false) own
+      ∙ none n))
+
+  -- the moves of the squares of a set are all, where the others have none
+  pub quiet-of_able : (able : Squares) → ((n : ℕ) → set.contains able n ≡ false → quiet_in_order p n ≡ [])
+      → flat_map (quiet_in_order p) (ascending able) ≡ quiet_list p
   unfolding quiet_list ascending
-  quiet-of_own own are =
-      sym
-      (flat_map-filter (quiet_in_order p) (set.contains own) (range_with_len 1 50)
-      (λ q e. quiet-none q (no_own p own are q e)))
+  quiet-of_able able none = sym (flat_map-filter (quiet_in_order p) (set.contains able) (range_with_len 1 50) none)

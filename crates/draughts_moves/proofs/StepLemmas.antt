@@ -47,7 +47,7 @@ no_squares : (xs : List ℕ) → length xs < 1 → xs ≡ []
 no_squares [] h = refl
 no_squares (x ∷ xs) h = absurd (omega arith)
 
-reach-king : (q : DPiece) (d : Direction) → q.king ≡ true → reach q d ≡ 9
+pub reach-king : (q : DPiece) (d : Direction) → q.king ≡ true → reach q d ≡ 9
 reach-king q d e = ap (λ c. cond c 9 (cond (is_forward q.side d) 1 0)) e
 
 reach-man : (q : DPiece) (d : Direction) → q.king ≡ false → reach q d ≡ cond (is_forward q.side d) 1 0

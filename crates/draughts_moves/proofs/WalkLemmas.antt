@@ -1,19 +1,18 @@
 -- Walks along lines, a step at a time.
 use Rattle.std.proofs.Common.{◌≡◌, ℕ, zero, suc, ◌+◌, ◌≤◌, Bool, true, false, cond, nat_eq, inl, inr, Option, Some}
 use Rattle.std.proofs.Common.{None, List, [], ◌∷◌, ◌++◌, take, refl, sym, ap, ◌∙◌, arith}
-use Rattle.std.specs.Prelude.{is_none, is_some, ◌&&◌, ◌||◌, ◌==◌}
-use Rattle.std.specs.FinSet as set
+use Rattle.std.specs.Prelude.{is_none, is_some, ◌&&◌, ◌==◌}
 use Rattle.std.proofs.lemmas.List.{append-nil}
 use Rattle.std.specs.List.{list_any}
 use Rattle.std.proofs.lemmas.Bool.{cases_eq}
-use Rattle.squares.specs.DraughtsMarks.{contains-insert_nat, nat_eq_same, nat_eq_other}
+use Rattle.squares.specs.DraughtsMarks.{nat_eq_same, nat_eq_other}
 use Rattle.std.specs.Option.{option_map_or}
 use Rattle.squares.specs.declared.draughts.direction.Direction.{Direction}
 use Rattle.squares.specs.declared.draughts.piece.DPiece.{DPiece}
 use Rattle.squares.specs.DraughtsSets.{Squares}
 use Rattle.squares.specs.DraughtsGeometry.{step, line, ray, line-step, line-edge}
 use Rattle.draughts_moves.specs.Capture.{Cells}
-use Rattle.draughts_moves.specs.Search.{clear_front, is_prey, man_jumps, reach, steps_along}
+use Rattle.draughts_moves.specs.Search.{clear_front, is_prey, man_jumps}
 
 pub nothing_added : {A : Type 0} (xs ys : List A) → ys ≡ [] → xs ≡ xs ++ ys
 nothing_added xs ys e = sym (ap (λ zs. xs ++ zs) e ∙ append-nil xs)
@@ -34,11 +33,6 @@ take-line (suc r) (suc k) d n h =
       | None ↦ refl
       | Some m ↦ ap (λ ms. m ∷ ms) (take-line r k d m (omega arith))
     ]
-
-pub walked : (b : Cells) (q : DPiece) (d : Direction) (n : ℕ) → reach q d ≤ 9
-    → clear_front b (line (reach q d) d n) ≡ steps_along b q d n
-unfolding steps_along ray
-walked b q d n h = ap (clear_front b) (sym (take-line (reach q d) 9 d n h))
 
 -- The steps of a walk over empty squares.
 module _ (b : Cells) (k : ℕ) (d : Direction) (n : ℕ) where
@@ -65,39 +59,13 @@ module _ (b : Cells) (k : ℕ) (d : Direction) (n : ℕ) where
 abbrev pub is_in : ℕ → List ℕ → Bool
 is_in n ms = list_any (λ m. m == n) ms
 
-or_none : (a : Bool) → a ≡ (a || false)
-or_none true = refl
-or_none false = refl
-
-or_turned : (a c r : Bool) → ((a || c) || r) ≡ (c || (a || r))
-or_turned true true r = refl
-or_turned true false r = refl
-or_turned false true r = refl
-or_turned false false r = refl
-
-turned : (a n : ℕ) → nat_eq a n ≡ nat_eq n a
+pub turned : (a n : ℕ) → nat_eq a n ≡ nat_eq n a
 turned a n =
     elim (cases_eq a n) [
       | inl e ↦ nat_eq_same a n e ∙ sym (nat_eq_same n a (sym e))
       | inr d ↦ nat_eq_other a n d
           ∙ sym (nat_eq_other n a (λ e. d (sym e)))
     ]
-
--- a walk that puts the squares that it comes to into a set
-pub walk-put_end : (squares : Squares) (front whole : List ℕ) (n : ℕ) → front ≡ []
-    → (set.contains squares n || is_in n front) ≡ is_in n whole → set.contains squares n ≡ is_in n whole
-walk-put_end squares front whole n none so_far = or_none (set.contains squares n)
-    ∙ ap (λ ms. set.contains squares n || is_in n ms) (sym none) ∙ so_far
-
-pub walk-put_more : (squares more : Squares) (m : ℕ) (front rest whole : List ℕ) (n : ℕ) → more ≡ set.insert squares m
-    → front ≡ m ∷ rest → (set.contains squares n || is_in n front) ≡ is_in n whole
-    → (set.contains more n || is_in n rest) ≡ is_in n whole
-walk-put_more squares more m front rest whole n put on so_far =
-    ap (λ s. set.contains s n || is_in n rest) put
-    ∙ ap (λ c. c || is_in n rest) (contains-insert_nat squares m n
-    ∙ ap (λ c. c || set.contains squares n) (turned n m))
-    ∙ or_turned (nat_eq m n) (set.contains squares n) (is_in n rest)
-    ∙ sym (ap (λ ms. set.contains squares n || is_in n ms) on) ∙ so_far
 
 -- A man's jump.
 module _ (b : Cells) (p : DPiece) (t : Squares) (d : Direction) (n : ℕ) where
@@ -129,11 +97,11 @@ module _ (b : Cells) (p : DPiece) (t : Squares) (d : Direction) (n : ℕ) where
           ap (man_jumps b p t) (first_over ∙ ap (λ ns. over ∷ ns) (line-step 8 7 d over to lands refl))
           ∙ ap (λ c. cond (c && is_none (b to)) ((over, to) ∷ []) []) prey
 
-      pub jump-blocked : (q : DPiece) → b to ≡ Some q → Jump ≡ []
-      jump-blocked q e = both ∙ ap (λ o. cond (is_none o) ((over, to) ∷ []) []) e
+      pub jump-full : is_none (b to) ≡ false → Jump ≡ []
+      jump-full e = both ∙ ap (λ c. cond c ((over, to) ∷ []) []) e
 
-      pub jump-made : b to ≡ None → Jump ≡ (over, to) ∷ []
-      jump-made e = both ∙ ap (λ o. cond (is_none o) ((over, to) ∷ []) []) e
+      pub jump-clear : is_none (b to) ≡ true → Jump ≡ (over, to) ∷ []
+      jump-clear e = both ∙ ap (λ c. cond c ((over, to) ∷ []) []) e
 
 pub some-is_none : {A : Type 0} (o : Option A) → is_some o ≡ true → is_none o ≡ false
 some-is_none None e = cc

@@ -1,16 +1,18 @@
 -- The moves of a position, computed.
-use Rattle.std.specs.Prelude.{◌≡◌, ℕ, ◌+◌, Bool, false, not, cond, length, ◌&&◌, Option, Some, None, is_none, List, []}
+use Rattle.std.specs.Prelude.{◌≡◌, ℕ, ◌+◌, Bool, false, not, cond, length, ◌&&◌, Option, Some, None, is_none, is_some, List, []}
 use Rattle.std.specs.Prelude.{◌∷◌, ◌++◌, max, count_by, fold, map, take, nat_lt, ◌||◌, ◌==◌, option_and_then}
 use Rattle.std.specs.Prelude.{if◌then◌else◌}
 use Rattle.std.specs.Option.{option_map_or}
 use Rattle.std.specs.FinMap as finite_map
 use Rattle.squares.specs.DraughtsBoard.{Position, is_of}
 use Rattle.std.proofs.Common.{zero, suc}
-use Rattle.std.specs.List.{flat_map, range_with_len, list_any}
+use Rattle.std.specs.List.{find, flat_map, range_with_len, list_any}
 use Rattle.std.specs.FinSet as set
 use Rattle.squares.specs.declared.draughts.direction.Direction.{Direction}
 use Rattle.squares.specs.declared.draughts.direction.Direction.TheVariants.{UpLeft, UpRight, DownLeft, DownRight}
 use Rattle.squares.specs.declared.draughts.piece.DPiece.{DPiece}
+use Rattle.squares.specs.declared.sides.Side.{Side}
+use Rattle.squares.specs.declared.sides.Side.TheVariants.{First, Second}
 use Rattle.squares.specs.DraughtsSets.{Squares}
 use Rattle.squares.specs.DraughtsGeometry.{ray, step}
 use Rattle.draughts_moves.specs.Legal.{is_forward}
@@ -28,6 +30,14 @@ is_prey b p taken n = is_enemy p (b n) && not (set.contains taken n)
 -- whether the piece takes what stands on n by a jump in a direction: the next square is there and empty
 abbrev pub takes : Cells → DPiece → Squares → Direction → ℕ → Bool
 takes b p taken d n = is_prey b p taken n && option_map_or (λ l. is_none (b l)) (step d n) false
+
+-- the set has the squares where something stands
+abbrev pub AreStanding : Cells → Squares → Type 0
+AreStanding b pieces = (n : ℕ) → set.contains pieces n ≡ is_some (b n)
+
+-- one set has the squares of what the piece can take, and the other those of all that stands
+abbrev pub Meets : Cells → DPiece → Squares → Squares → Squares → Type 0
+Meets b p taken prey pieces = ((n : ℕ) → set.contains prey n ≡ is_prey b p taken n) × AreStanding b pieces
 
 -- the jumps of a king along a line: the square jumped over, and the landing
 abbrev pub king_jumps : Cells → DPiece → Squares → List ℕ → List (ℕ × ℕ)
@@ -92,6 +102,22 @@ AreEnemies p enemies = (n : ℕ) → set.contains enemies n ≡ is_of (other p.t
 -- whether the next square in a direction is of the set
 abbrev pub next_in : Squares → Direction → ℕ → Bool
 next_in s d n = option_map_or (set.contains s) (step d n) false
+
+-- whether one of the two squares before a man of a side is of the set
+abbrev pub is_before : Side → Squares → ℕ → Bool
+is_before First s n = next_in s UpLeft n || next_in s UpRight n
+is_before Second s n = next_in s DownLeft n || next_in s DownRight n
+
+-- the set has the squares of the other side's pieces with an empty square next to them in a direction
+abbrev pub AreExposed : Position → Direction → Squares → Type 0
+AreExposed p d s =
+    (n : ℕ)
+    → set.contains s n ≡ (is_of (other p.turn) (finite_map.get p.board n) && option_map_or
+    (λ l. is_none (finite_map.get p.board l)) (step d n) false)
+
+-- whether the first square of one set on the way in a direction is of another
+abbrev pub faces : Squares → Squares → Direction → ℕ → Bool
+faces pieces these d n = option_map_or (set.contains these) (find (set.contains pieces) (ray d n)) false
 
 -- whether the next square in a direction is of one set, and the square behind it of another
 abbrev pub next_before : Squares → Squares → Direction → ℕ → Bool

@@ -1,16 +1,22 @@
 //! The squares beside what can be jumped over.
-ghost use Rattle.std.specs.Prelude.{◌≡◌, ℕ};
+ghost use Rattle.std.specs.Prelude.{◌≡◌, ◌&&◌, ℕ};
 ghost use Rattle.std.specs.FinSet as set;
-ghost use Rattle.draughts_moves.specs.Search.{is_beside, next_before};
+ghost use Rattle.draughts_moves.specs.Search.{is_before, is_beside, next_before, next_in};
 
-use squares::{DSet, Direction};
+use squares::{DSet, Direction, Side};
+
+/// The squares of a set with an empty square next to them in a direction.
+pub fn exposed(squares: DSet, empty: DSet, toward: Direction) -> DSet
+    ensures { (n : ℕ) → set.contains result n ≡ (set.contains squares n && next_in empty toward n) }
+{
+    squares.intersection(empty.beside(toward))
+}
 
 // The squares whose next square in a direction is of a set, and the square behind it empty.
 fn beside_along(squares: DSet, empty: DSet, toward: Direction) -> DSet
     ensures { (n : ℕ) → set.contains result n ≡ next_before squares empty toward n }
 {
-    let before = empty.beside(toward);
-    let near = squares.intersection(before);
+    let near = exposed(squares, empty, toward);
     near.beside(toward)
 }
 
@@ -23,4 +29,20 @@ pub fn all_beside(squares: DSet, empty: DSet) -> DSet
     let up = left.union(right);
     let up_or_left = up.union(beside_along(squares, empty, Direction::DownLeft));
     up_or_left.union(beside_along(squares, empty, Direction::DownRight))
+}
+
+/// The squares from which a man of a side may step to a square of the set: it is one of the two before it.
+pub fn men_before(squares: DSet, side: Side) -> DSet
+    ensures { (n : ℕ) → set.contains result n ≡ is_before side squares n }
+{
+    match side {
+        Side::First => {
+            let left = squares.beside(Direction::UpLeft);
+            left.union(squares.beside(Direction::UpRight))
+        }
+        Side::Second => {
+            let left = squares.beside(Direction::DownLeft);
+            left.union(squares.beside(Direction::DownRight))
+        }
+    }
 }

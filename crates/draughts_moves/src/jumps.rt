@@ -1,9 +1,12 @@
 //! The jumps of a piece from a square.
 ghost use Rattle.std.specs.Prelude.{◌≡◌, ◌+◌, ◌<◌, ◌≤◌, ℕ, [], ◌∷◌, ◌++◌, is_some, length, map, not};
 ghost use Rattle.std.specs.FinSet as set;
-ghost use Rattle.draughts_moves.specs.Capture.{without};
+ghost use Rattle.draughts_moves.specs.Capture.{without, Cells};
+ghost use Rattle.squares.specs.DraughtsSets.{Squares};
+ghost use Rattle.squares.specs.declared.draughts.piece.DPiece.{DPiece};
 ghost use Rattle.squares.specs.DraughtsGeometry.{ray};
 ghost use Rattle.draughts_moves.specs.Search.{clear_front, is_prey, king_jumps, man_jumps, line_jumps, jumps};
+ghost use Rattle.draughts_moves.specs.Search.{AreStanding, Meets};
 
 use crate::mover::Mover;
 use squares::{DPiece, DPos, DSet, Direction, Dsq, Side};
@@ -90,11 +93,31 @@ pub(crate) fn others(position: &DPos, origin: Dsq) -> DSet
     all.without(origin)
 }
 
+// What a piece that captures meets on its way: the enemies that it has not taken, and all pieces but itself.
+#[derive(Drop)]
+struct Met {
+    prey: DSet,
+    pieces: DSet,
+}
+
+// What a piece meets.
+fn look(position: &DPos, mover: &Mover) -> Met
+    ensures { Meets (without position.now.board mover.now.origin) mover.now.piece mover.now.taken
+        result.prey result.pieces }
+{
+    let enemies = position.squares_of(mover.piece.side.other());
+    let left = enemies.difference(mover.taken);
+    Met {
+        prey: left.without(mover.origin),
+        pieces: others(position, mover.origin),
+    }
+}
+
 // Adds the landings behind an enemy, the squares of the line up to the first piece.
-fn landings(position: &DPos, origin: Dsq, over: Dsq, toward: Direction, jumps: &mut Jumps)
+fn landings(pieces: DSet, over: Dsq, toward: Direction, jumps: &mut Jumps)
     requires room { length jumps.old + 9 ≤ 36 }
-    ensures added { jumps.new ≡ jumps.old ++ map (λ l. (over, l))
-        (clear_front (without position.now.board origin) (ray toward over)) }
+    ensures added { (b : Cells) → AreStanding b pieces → jumps.new ≡ jumps.old ++ map (λ l. (over, l))
+        (clear_front b (ray toward over)) }
     ensures room { length jumps.new ≤ length jumps.old + 9 }
 {
     let mut at = over;
@@ -102,7 +125,7 @@ fn landings(position: &DPos, origin: Dsq, over: Dsq, toward: Direction, jumps: &
         match at.step(toward) {
             None => return,
             Some(next) => {
-                if stands(position, origin, next).is_some() {
+                if pieces.contains(next) {
                     return;
                 }
                 jumps.push(over, next);
@@ -113,42 +136,40 @@ fn landings(position: &DPos, origin: Dsq, over: Dsq, toward: Direction, jumps: &
 }
 
 // Adds a king's jumps in a direction, over the first piece on its way.
-fn king_jumps(position: &DPos, mover: &Mover, toward: Direction, jumps: &mut Jumps)
+fn king_jumps(met: &Met, at: Dsq, toward: Direction, jumps: &mut Jumps)
     requires room { length jumps.old + 9 ≤ 36 }
-    ensures added { jumps.new ≡ jumps.old
-        ++ king_jumps (without position.now.board mover.now.origin)
-        mover.now.piece mover.now.taken (ray toward mover.now.at) }
+    ensures added { (b : Cells) (p : DPiece) (t : Squares) → Meets b p t met.now.prey met.now.pieces
+        → jumps.new ≡ jumps.old ++ king_jumps b p t (ray toward at) }
     ensures room { length jumps.new ≤ length jumps.old + 9 }
 {
-    let pieces = others(position, mover.origin);
-    match mover.at.first_on(toward, pieces) {
+    match at.first_on(toward, met.pieces) {
         None => {}
         Some(over) => {
-            if is_prey(position, mover, over) {
-                landings(position, mover.origin, over, toward, jumps);
+            if met.prey.contains(over) {
+                landings(met.pieces, over, toward, jumps);
             }
         }
     }
 }
 
 // Adds a man's jump in a direction, if it has one.
-fn man_jumps(position: &DPos, mover: &Mover, toward: Direction, jumps: &mut Jumps)
+fn man_jumps(met: &Met, at: Dsq, toward: Direction, jumps: &mut Jumps)
     requires room { length jumps.old + 9 ≤ 36 }
-    ensures added { jumps.new ≡ jumps.old
-        ++ man_jumps (without position.now.board mover.now.origin)
-        mover.now.piece mover.now.taken (ray toward mover.now.at) }
+    ensures added { (b : Cells) (p : DPiece) (t : Squares) → Meets b p t met.now.prey met.now.pieces
+        → jumps.new ≡ jumps.old ++ man_jumps b p t (ray toward at) }
     ensures room { length jumps.new ≤ length jumps.old + 9 }
 {
-    match mover.at.step(toward) {
+    match at.step(toward) {
         None => {}
         Some(over) => {
-            if is_prey(position, mover, over) {
+            if met.prey.contains(over) {
                 match over.step(toward) {
                     None => {}
-                    Some(to) => match stands(position, mover.origin, to) {
-                        None => jumps.push(over, to),
-                        Some(_) => {}
-                    },
+                    Some(to) => {
+                        if !met.pieces.contains(to) {
+                            jumps.push(over, to);
+                        }
+                    }
                 }
             }
         }
@@ -156,30 +177,30 @@ fn man_jumps(position: &DPos, mover: &Mover, toward: Direction, jumps: &mut Jump
 }
 
 // Adds the jumps in a direction.
-fn jumps_along(position: &DPos, mover: &Mover, toward: Direction, jumps: &mut Jumps)
+fn jumps_along(met: &Met, king: bool, at: Dsq, toward: Direction, jumps: &mut Jumps)
     requires room { length jumps.old + 9 ≤ 36 }
-    ensures added { jumps.new ≡ jumps.old
-        ++ line_jumps (without position.now.board mover.now.origin)
-        mover.now.piece mover.now.taken (ray toward mover.now.at) }
+    ensures added { (b : Cells) (p : DPiece) (t : Squares) → Meets b p t met.now.prey met.now.pieces
+        → p.king ≡ king → jumps.new ≡ jumps.old ++ line_jumps b p t (ray toward at) }
     ensures room { length jumps.new ≤ length jumps.old + 9 }
 {
-    if mover.piece.king {
-        king_jumps(position, mover, toward, jumps);
+    if king {
+        king_jumps(met, at, toward, jumps);
     } else {
-        man_jumps(position, mover, toward, jumps);
+        man_jumps(met, at, toward, jumps);
     }
 }
 
 /// The jumps that a piece can make next.
-#[tactic(auto, unfolding(crate::specs::Search::jumps))]
 pub fn jumps_from(position: &DPos, mover: &Mover) -> Jumps
     ensures { result ≡ jumps (without position.now.board mover.now.origin)
         mover.now.piece mover.now.taken mover.now.at }
 {
+    let met = look(position, mover);
+    let king = mover.piece.king;
     let mut jumps = Jumps::new(mover.at);
-    jumps_along(position, mover, Direction::UpLeft, &mut jumps);
-    jumps_along(position, mover, Direction::UpRight, &mut jumps);
-    jumps_along(position, mover, Direction::DownLeft, &mut jumps);
-    jumps_along(position, mover, Direction::DownRight, &mut jumps);
+    jumps_along(&met, king, mover.at, Direction::UpLeft, &mut jumps);
+    jumps_along(&met, king, mover.at, Direction::UpRight, &mut jumps);
+    jumps_along(&met, king, mover.at, Direction::DownLeft, &mut jumps);
+    jumps_along(&met, king, mover.at, Direction::DownRight, &mut jumps);
     jumps
 }

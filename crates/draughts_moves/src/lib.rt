@@ -3,6 +3,7 @@
 
 mod beside;
 pub mod checking;
+mod exposure;
 mod first_jumps;
 mod found;
 pub mod jumps;

@@ -1,16 +1,30 @@
 //! The legal moves in order.
-ghost use Rattle.std.specs.Prelude.{◌≡◌, ◌↔◌, ◌++◌, map, OnOk, IfOk, Contains};
+ghost use Rattle.std.specs.Prelude.{◌≡◌, ◌↔◌, ◌++◌, ℕ, false, [], ◌∷◌, map, OnOk, IfOk, Contains};
+ghost use Rattle.std.specs.FinSet as set;
 ghost use Rattle.std.specs.List.Sorted.{IsStrictlySortedBy};
 ghost use Rattle.squares.specs.declared.draughts.moves.DMove.{DMove};
 ghost use Rattle.squares.specs.DraughtsSets.{ascending};
 ghost use Rattle.draughts_moves.specs.Legal.{Legal};
 ghost use Rattle.draughts_moves.specs.Listing.{move_cmp, step_to, quiet_in_order, quiet_list};
 
+use crate::beside::men_before;
 use crate::most::own_at;
 use crate::seeking::longest_captures;
 use crate::steps::steps_from;
 use squares::{DMove, DPos, DSet, Dsq, Memory};
 use std::alloc::{AllocError, Global};
+
+// Adds a move at the end; where there is room for it, without a call.
+fn push_move(played: DMove, moves: &mut Vec<DMove>) -> Result<(), AllocError>
+    ensures { OnOk result (moves.new.items ≡ moves.old.items ++ played ∷ []) }
+{
+    if moves.len() < moves.capacity() {
+        moves.push_reserved(played);
+        return Ok(());
+    }
+    moves.push(played)?;
+    Ok(())
+}
 
 // Adds the quiet moves from a square to each square of a set.
 fn push_steps(from: Dsq, targets: DSet, moves: &mut Vec<DMove>) -> Result<(), AllocError>
@@ -18,11 +32,14 @@ fn push_steps(from: Dsq, targets: DSet, moves: &mut Vec<DMove>) -> Result<(), Al
 {
     let mut rest = targets;
     while let Some(to) = rest.pop() {
-        moves.push(DMove {
-            from,
-            to,
-            taken: DSet::new(),
-        })?;
+        push_move(
+            DMove {
+                from,
+                to,
+                taken: DSet::new(),
+            },
+            moves,
+        )?;
     }
     Ok(())
 }
@@ -41,6 +58,16 @@ fn push_quiet(position: &DPos, square: Dsq, moves: &mut Vec<DMove>) -> Result<()
     }
 }
 
+// The pieces of the side to move that may go without taking: its kings, and its men before an empty square.
+fn may_go(position: &DPos) -> DSet
+    ensures { (n : ℕ) → set.contains result n ≡ false → quiet_in_order position.now n ≡ [] }
+{
+    let own = position.squares_of(position.turn());
+    let before = men_before(position.empty_squares(), position.turn());
+    let able = before.union(position.kings());
+    own.intersection(able)
+}
+
 // For how many moves there is room at first: few positions have more.
 const ROOM: usize = 64;
 
@@ -49,8 +76,8 @@ fn quiet_moves(alloc: Global, position: &DPos) -> Result<Vec<DMove>, AllocError>
     ensures { IfOk result (λ moves. moves.items ≡ quiet_list position.now) }
 {
     let mut moves = Vec::with_capacity(alloc, ROOM)?;
-    let mut own = position.squares_of(position.turn());
-    while let Some(square) = own.pop() {
+    let mut able = may_go(position);
+    while let Some(square) = able.pop() {
         push_quiet(position, square, &mut moves)?;
     }
     Ok(moves)

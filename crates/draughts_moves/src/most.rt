@@ -5,6 +5,7 @@ ghost use Rattle.draughts_moves.specs.Capture.{IsMost};
 ghost use Rattle.draughts_moves.specs.Search.{own_at, greatest_at};
 
 use crate::beside::all_beside;
+use crate::exposure::jumping_kings;
 use crate::longest::longest;
 use crate::mover::Mover;
 use squares::{DPiece, DPos, DSet, Dsq};
@@ -24,16 +25,16 @@ pub fn own_at(position: &DPos, square: Dsq) -> Option<DPiece>
     }
 }
 
-// The pieces of the side to move that may take something: its kings, and its men beside an enemy with an empty square
-// behind it.
+// The pieces of the side to move that may take something: its kings that can jump, and its pieces beside an enemy with
+// an empty square behind it.
 pub(crate) fn may_take(position: &DPos) -> DSet
     ensures { (n : ℕ) → set.contains result n ≡ false → greatest_at position.now n ≡ 0 }
 {
     let own = position.squares_of(position.turn());
     let enemies = position.squares_of(position.turn().other());
     let near = all_beside(enemies, position.empty_squares());
-    let able = near.union(position.kings());
-    own.intersection(able)
+    let men = own.intersection(near);
+    men.union(jumping_kings(position))
 }
 
 // The most jumps in a row of the piece on a square.

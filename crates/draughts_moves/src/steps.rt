@@ -1,57 +1,77 @@
 //! Where a piece goes without taking.
-ghost use Rattle.std.specs.Prelude.{◌≡◌, ◌==◌, ◌≤◌, ℕ};
+ghost use Rattle.std.specs.Prelude.{◌≡◌, ◌==◌, ℕ, false, true, take};
 ghost use Rattle.std.specs.FinMap as map;
 ghost use Rattle.std.specs.FinSet as set;
 ghost use Rattle.std.specs.List.{list_any};
-ghost use Rattle.draughts_moves.specs.Legal.{is_forward};
-ghost use Rattle.draughts_moves.specs.Search.{reach, steps_along, steps};
+ghost use Rattle.std.specs.Option.{option_map_or};
+ghost use Rattle.squares.specs.DraughtsGeometry.{ray, step};
+ghost use Rattle.draughts_moves.specs.Search.{clear_front, steps};
 
 use squares::{DPiece, DPos, DSet, Direction, Dsq, Side};
 
-// Whether a direction leads towards the other side's first row.
-fn is_forward(side: Side, toward: Direction) -> bool
-    ensures { result ≡ is_forward side toward }
+// The next square in a direction, or no square at the edge of the board.
+fn next_square(from: Dsq, toward: Direction) -> DSet
+    ensures { (n : ℕ) → set.contains result n ≡ option_map_or (λ m. m == n) (step toward from) false }
 {
-    match side {
-        Side::First => matches!(toward, Direction::UpLeft | Direction::UpRight),
-        Side::Second => matches!(toward, Direction::DownLeft | Direction::DownRight),
+    match from.step(toward) {
+        Some(next) => DSet::new().with(next),
+        None => DSet::new(),
     }
 }
 
-// How many squares a piece goes at most.
-fn reach(piece: DPiece, toward: Direction) -> u8
-    ensures value { result ≡ reach piece toward }
-    ensures few { result ≤ 9 }
-{
-    if piece.king {
-        return 9;
-    }
-    if is_forward(piece.side, toward) {
-        return 1;
-    }
-    0
-}
-
-// The squares that a piece goes to in a direction.
-fn steps_along(position: &DPos, piece: DPiece, from: Dsq, toward: Direction) -> DSet
+// The next square in a direction, if it is empty.
+fn step_ahead(position: &DPos, from: Dsq, toward: Direction) -> DSet
     ensures { (n : ℕ) → set.contains result n
-        ≡ list_any (λ m. m == n) (steps_along (map.get position.now.board) piece toward from) }
+        ≡ list_any (λ m. m == n) (clear_front (map.get position.now.board) (take 1 (ray toward from))) }
 {
-    let mut squares = DSet::new();
-    let mut at = from;
-    for _ in 0..reach(piece, toward) {
-        match at.step(toward) {
-            None => return squares,
-            Some(next) => {
-                if position.at(next).is_some() {
-                    return squares;
-                }
-                squares = squares.with(next);
-                at = next;
-            }
+    let next = next_square(from, toward);
+    next.intersection(position.empty_squares())
+}
+
+// The squares that a man goes to: the empty ones of the two before it.
+fn man_steps(position: &DPos, piece: DPiece, from: Dsq) -> DSet
+    requires { piece.king ≡ false }
+    ensures { (n : ℕ) → set.contains result n
+        ≡ list_any (λ m. m == n) (steps (map.get position.now.board) piece from) }
+{
+    match piece.side {
+        Side::First => {
+            let left = step_ahead(position, from, Direction::UpLeft);
+            left.union(step_ahead(position, from, Direction::UpRight))
+        }
+        Side::Second => {
+            let left = step_ahead(position, from, Direction::DownLeft);
+            left.union(step_ahead(position, from, Direction::DownRight))
         }
     }
-    squares
+}
+
+// The squares on the way in a direction up to the first piece.
+fn clear_line(position: &DPos, from: Dsq, toward: Direction) -> DSet
+    ensures { (n : ℕ) → set.contains result n
+        ≡ list_any (λ m. m == n) (clear_front (map.get position.now.board) (ray toward from)) }
+{
+    let first = position.squares_of(Side::First);
+    let pieces = first.union(position.squares_of(Side::Second));
+    let line = from.line(toward);
+    match from.first_on(toward, pieces) {
+        None => line,
+        Some(piece) => line.difference(piece.line(toward)).without(piece),
+    }
+}
+
+// The squares that a king goes to: those of the four lines up to the first piece.
+fn king_steps(position: &DPos, piece: DPiece, from: Dsq) -> DSet
+    requires { piece.king ≡ true }
+    ensures { (n : ℕ) → set.contains result n
+        ≡ list_any (λ m. m == n) (steps (map.get position.now.board) piece from) }
+{
+    let up_left = clear_line(position, from, Direction::UpLeft);
+    let up_right = clear_line(position, from, Direction::UpRight);
+    let down_left = clear_line(position, from, Direction::DownLeft);
+    let down_right = clear_line(position, from, Direction::DownRight);
+    let down = down_left.union(down_right);
+    up_left.union(up_right.union(down))
 }
 
 /// The squares that a piece goes to from a square without taking.
@@ -59,10 +79,8 @@ pub fn steps_from(position: &DPos, piece: DPiece, from: Dsq) -> DSet
     ensures { (n : ℕ) → set.contains result n
         ≡ list_any (λ m. m == n) (steps (map.get position.now.board) piece from) }
 {
-    let up_left = steps_along(position, piece, from, Direction::UpLeft);
-    let up_right = steps_along(position, piece, from, Direction::UpRight);
-    let down_left = steps_along(position, piece, from, Direction::DownLeft);
-    let down_right = steps_along(position, piece, from, Direction::DownRight);
-    let down = down_left.union(down_right);
-    up_left.union(up_right.union(down))
+    if piece.king {
+        return king_steps(position, piece, from);
+    }
+    man_steps(position, piece, from)
 }
