@@ -1,6 +1,8 @@
 -- What the program's words ask for, by the texts that the parser found of them.
-use Rattle.std.specs.Prelude.{◌≡◌, ◌⊎◌, ◌<◌, ◌≤◌, ◌^◌, ℕ, Bool, List, [], Option, Some, None, option_map, unwrap_or}
+use Rattle.std.specs.Prelude.{◌≡◌, ◌≢◌, ◌⊎◌, ⊤, ◌<◌, ◌≤◌, ◌^◌, ℕ, Bool, List, [], ◌∷◌, Option, Some, None}
+use Rattle.std.specs.Prelude.{option_map, unwrap_or}
 use Rattle.std.specs.Prelude.{codes, string_bytes, if◌then◌else◌, ◌||◌, true, false, map}
+use Rattle.std.specs.List.{list_any}
 use Rattle.std.specs.Str.{bytes_eq}
 use Rattle.std.specs.Str.Parse.{IsNumeral, digits_value, without_leading_plus}
 use Rattle.clap.specs.Words.{first_value, matched_of, one_text, raw_values}
@@ -22,12 +24,14 @@ use Rattle.club_questions.specs.declared.questions.Question.TheVariants.{Events,
 use Rattle.club_questions.specs.declared.questions.Question.TheVariants.{EventRecords}
 use Rattle.club_questions.specs.declared.questions.Which.{Which}
 use Rattle.club_questions.specs.declared.questions.Which.TheVariants.{All, Running, Overdue}
-use Rattle.club_words.specs.declared.words.Task.TheVariants.{Init, Request, Ask, Upgrade, Verify, Batch}
+use Rattle.club_words.specs.declared.words.Task.TheVariants.{Init, Request, Ask, Upgrade, Verify, Backup, Batch}
 use Rattle.club_words.specs.declared.batches.BatchWords.{BatchWords}
 use Rattle.club_words.specs.declared.batches.Line.{Line}
 use Rattle.club_words.specs.declared.batches.RoundRobin.{RoundRobin}
 use Rattle.club_words.specs.declared.words.Order.{Order}
 use Rattle.club_words.specs.declared.words.Service.{Service}
+use Rattle.club_words.specs.declared.words.BadWords.{BadWords}
+use Rattle.club_words.specs.declared.words.BadWords.TheVariants as bad
 use Rattle.club_words.specs.declared.words.Words.{Words}
 use Rattle.club_words.specs.declared.words.Words.TheVariants as words
 
@@ -106,18 +110,19 @@ AsksCommand name found (OnGame c) = (name ≡ codes "move") × IsNumberIn found 
 AsksCommand name found Sweep = name ≡ codes "sweep"
 AsksCommand name found _ = ⊥
 
--- which games are listed, by whether each flag is given
-abbrev pub which_of : (is_running is_overdue : Bool) → Which
-which_of true is_overdue = Running
-which_of false true = Overdue
-which_of false false = All
+-- which games are listed, by whether each flag is given; both flags ask for none
+abbrev pub which_of : (is_running is_overdue : Bool) → Option Which
+which_of true true = None
+which_of true false = Some Running
+which_of false true = Some Overdue
+which_of false false = Some All
 
 pub record AreShownOf (found : Found) (which : Which) : Type 0 where
   pub is_running : Bool
   pub running : IsFlagIn found (codes "RUNNING") is_running
   pub is_overdue : Bool
   pub overdue : IsFlagIn found (codes "OVERDUE") is_overdue
-  pub is : which ≡ which_of is_running is_overdue
+  pub is : which_of is_running is_overdue ≡ Some which
 
 -- the games of the event and of the member that are named, where one is
 pub record AreListed (found : Found) (listing : Listing) : Type 0 where
@@ -146,6 +151,7 @@ AsksTask name found Init = name ≡ codes "init"
 AsksTask name found (Ask question) = AsksQuestion name found question
 AsksTask name found Verify = name ≡ codes "verify"
 AsksTask name found Upgrade = name ≡ codes "upgrade"
+AsksTask name found (Backup path) = (name ≡ codes "backup") × (string_bytes path ≡ text_in found (codes "FILE2"))
 AsksTask name found (Request command) = AsksCommand name found command
 AsksTask name found (Batch batch) = ⊥
 
@@ -198,3 +204,59 @@ Asks all name found (words.Order order) = AsksOrder all name found order
 Asks all name found (words.Serve service) = (name ≡ codes "serve") × AsksService all found service
 Asks all name found (words.Batch batch) = (name ≡ codes "batch") × AsksBatch all found batch
 Asks all name found (words.RoundRobin games) = (name ≡ codes "round-robin") × AsksRoundRobin all found games
+
+-- ---- no order
+
+-- the name is none of these
+abbrev pub IsOther : List (List ℕ) → List ℕ → Type 0
+IsOther names name = list_any (bytes_eq name) names ≡ false
+
+abbrev pub command_names : List (List ℕ)
+command_names =
+    codes "member" ∷ codes "event" ∷ codes "seat" ∷ codes "sweep" ∷ codes "import-pdn" ∷ codes "import-csa"
+    ∷ codes "move" ∷ []
+
+-- those of the other tasks
+abbrev pub task_names : List (List ℕ)
+task_names =
+    codes "init" ∷ codes "legal" ∷ codes "export" ∷ codes "show" ∷ codes "export-event" ∷ codes "table"
+    ∷ codes "members" ∷ codes "events" ∷ codes "games" ∷ codes "verify" ∷ codes "upgrade" ∷ codes "backup" ∷ []
+
+-- those of what is no single task
+abbrev pub other_names : List (List ℕ)
+other_names = codes "serve" ∷ codes "batch" ∷ codes "round-robin" ∷ []
+
+-- the game of an event is none that there is
+abbrev pub HasNoGame : Found → Type 0
+HasNoGame found = (game : GameKind) → first_value found (codes "GAME") ≢ Some (game_word game)
+
+-- the games that run are asked for, and those that are overdue
+abbrev pub AsksForBoth : Found → Type 0
+AsksForBoth found = IsFlagIn found (codes "RUNNING") true × IsFlagIn found (codes "OVERDUE") true
+
+-- the port is past the last one
+abbrev pub HasNoPort : Found → Type 0
+HasNoPort found = (port : ℕ) × IsNumberIn found (codes "PORT") 0 port × (65535 < port)
+
+abbrev pub HasNoCommand : List ℕ → Found → Type 0
+HasNoCommand name found = IsOther command_names name ⊎ ((name ≡ codes "event") × HasNoGame found)
+
+abbrev pub HasNoTask : List ℕ → Found → Type 0
+HasNoTask name found = (IsOther task_names name × HasNoCommand name found)
+    ⊎ ((name ≡ codes "games") × AsksForBoth found)
+
+-- what the parser finds is no order; it passes nothing of the kind but two flags, of which one may stand
+abbrev pub HasNoOrder : List ℕ → Found → Type 0
+HasNoOrder name found = (IsOther other_names name × HasNoTask name found)
+    ⊎ ((name ≡ codes "serve") × HasNoPort found)
+
+-- a text that is told for this reason, where memory was there for it
+abbrev pub IsToldFor : Type 0 → BadWords → Type 0
+IsToldFor why (bad.Text text) = why
+IsToldFor why bad.Memory = ⊤
+IsToldFor why (bad.Version line) = ⊥
+
+-- a text that is told, or that memory ran out
+abbrev pub IsTold : BadWords → Type 0
+IsTold (bad.Version line) = ⊥
+IsTold _ = ⊤

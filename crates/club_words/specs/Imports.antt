@@ -25,4 +25,5 @@ task_with text (task.Request command) = task.Request (with_text text command)
 task_with text (task.Ask question) = task.Ask question
 task_with text task.Verify = task.Verify
 task_with text task.Upgrade = task.Upgrade
+task_with text (task.Backup path) = task.Backup path
 task_with text (task.Batch batch) = task.Batch batch

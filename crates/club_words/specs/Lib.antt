@@ -1,2 +1,5 @@
 pub mod Imports
 pub mod Asked
+pub mod App
+pub mod Built
+pub mod Said

@@ -1,17 +1,15 @@
 //! Orders that the club is given in turn, and the words that ask for them.
 
-ghost use Rattle.std.specs.Prelude.{◌≡◌, IfOk, map, string_bytes};
+ghost use Rattle.std.specs.Prelude.{◌≡◌, IfErr, IfOk, map, string_bytes};
 ghost use Rattle.clap.specs.Words.{found_of};
-ghost use Rattle.club_words.specs.Asked.{AsksBatch, AsksLine, AsksRoundRobin, texts_in};
+ghost use Rattle.club_words.specs.Asked.{AsksBatch, AsksLine, AsksRoundRobin, HasNoCommand, IsToldFor, texts_in};
+ghost use Rattle.club_words.specs.Said.{AreRefusedInLine, AreSaidInLine, AsksOneLine, FindsNone, IsFound};
 
-use crate::parser::{
-    event_words, import_csa_words, import_pdn_words, member_words, move_words, seat_words,
-    sweep_words, with, word,
-};
+use crate::parser::line_words;
 use crate::words::{
     BadWords, command_of, is_explained, moment_of, record_of, refused, text, unknown,
 };
-use clap::{Arg, ArgAction, ArgMatches};
+use clap::ArgMatches;
 use clocks::Moment;
 use club_questions::Question;
 use club_requests::{Command, Request};
@@ -64,42 +62,6 @@ pub struct Line {
     pub command: Command,
     /// Where an import's text is read from: a path.
     pub record: Option<String>,
-}
-
-pub(crate) fn batch_words<'a>(alloc: Global) -> Result<clap::Command<'a>, AllocError> {
-    clap::Command::new(alloc, "batch")
-        .about(
-            "Gives the club many orders in turn, each a line as behind FILE: member, event, seat, move, sweep, \
-             import-pdn, import-csa",
-        )
-        .arg(word(
-            alloc,
-            "ORDERS",
-            "The file of the orders, at most 1048576 bytes and 10000 orders; '-' is the standard input",
-        ))
-}
-
-pub(crate) fn round_robin_words<'a>(alloc: Global) -> Result<clap::Command<'a>, AllocError> {
-    let double = Arg::new(alloc, "DOUBLE")
-        .long("double")
-        .help("Each pair meets twice, with sides turned")
-        .action(ArgAction::SetTrue);
-    let dry = Arg::new(alloc, "DRY")
-        .long("dry")
-        .help("Prints the seats as lines that 'batch' takes, and seats nobody")
-        .action(ArgAction::SetTrue);
-    let names = word(alloc, "NAME", "The members, 2 to 32").num_args(2..=32);
-    clap::Command::new(alloc, "round-robin")
-        .about("Seats members so that each plays each once, by the Berger table")
-        .arg(double)?
-        .arg(dry)?
-        .arg(word(
-            alloc,
-            "PREFIX",
-            "What the keys begin with: board 3 of round 1 is seated under PREFIX1.3",
-        ))?
-        .arg(word(alloc, "EVENT", "The event's name"))?
-        .arg(names)
 }
 
 /// Where the words read the orders of a batch from.
@@ -160,36 +122,38 @@ pub(crate) fn round_robin_of(
     })
 }
 
-// The words of which a line of a batch has one.
-fn line_words<'a>(alloc: Global) -> Result<clap::Command<'a>, AllocError> {
-    let words = clap::Command::new(alloc, "club").subcommand_required(true);
-    let words = with(words, member_words(alloc))?;
-    let words = with(words, event_words(alloc))?;
-    let words = with(words, seat_words(alloc))?;
-    let words = with(words, move_words(alloc))?;
-    let words = with(words, Ok(sweep_words(alloc)))?;
-    let words = with(words, import_pdn_words(alloc))?;
-    with(words, import_csa_words(alloc))
-}
-
 // The order that the words of a subcommand give.
 fn line_of(alloc: Global, name: &str, words: &ArgMatches<'_>) -> Result<Line, BadWords>
-    ensures { IfOk result (AsksLine name.now (found_of words.now)) }
+    ensures ok { IfOk result (AsksLine name.now (found_of words.now)) }
+    ensures err { IfErr result (IsToldFor (HasNoCommand name.now (found_of words.now))) }
 {
-    let command = command_of(alloc, name, words)?;
+    let command = match command_of(alloc, name, words) {
+        Ok(command) => command,
+        Err(told) => return Err(told),
+    };
     let record = record_of(alloc, name, words)?;
     Ok(Line { command, record })
 }
 
-/// The order that the words of a line give, before which stands the program's own name.
-pub fn read_line(alloc: Global, words: &[&str]) -> Result<Line, BadWords> {
-    let club = line_words(alloc)?;
-    let matches = match club.try_get_matches_from(words) {
-        Ok(matches) => matches,
-        Err(error) => return Err(refused(alloc, &error)),
-    };
+// The order of the subcommand that was found.
+fn parsed(alloc: Global, matches: &ArgMatches<'_>) -> Result<Line, BadWords>
+    ensures ok { IfOk result (IsFound AsksOneLine matches.now) }
+    ensures err { IfErr result (IsToldFor (FindsNone HasNoCommand matches.now)) }
+{
     match matches.subcommand() {
-        Some((name, words)) => line_of(alloc, name, words),
-        None => Err(unknown(alloc, "")?),
+        Some(entered) => line_of(alloc, entered.0, entered.1),
+        None => Err(unknown(alloc, "")),
+    }
+}
+
+/// The order that the words of a line give, before which stands the program's own name.
+pub fn read_line(alloc: Global, words: &[&str]) -> Result<Line, BadWords>
+    ensures ok { IfOk result (AreSaidInLine (map (λ word. word.now) words.entry.now)) }
+    ensures err { IfErr result (AreRefusedInLine (map (λ word. word.now) words.entry.now)) }
+{
+    let club = line_words(alloc)?;
+    match club.try_get_matches_from(words) {
+        Ok(matches) => parsed(alloc, &matches),
+        Err(error) => Err(refused(alloc, &error)),
     }
 }

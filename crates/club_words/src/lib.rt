@@ -2,6 +2,7 @@
 #![tactic(auto)]
 
 pub mod batches;
+mod building;
 mod parser;
 pub mod words;
 

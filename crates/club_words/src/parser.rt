@@ -1,6 +1,19 @@
 //! The program's words, as the parser takes them and help shows them.
 
-use crate::batches::{batch_words, round_robin_words};
+ghost use Rattle.std.specs.Prelude.{IfOk, codes};
+ghost use Rattle.clap.specs.Words.{App, new_app};
+ghost use Rattle.clap.specs.declared.builder.value_parser.ValueParser.TheVariants as kind;
+ghost use Rattle.club_words.specs.App.{Names, a_moment, a_port, are_games, backup_app, batch_app, club_app, event_app};
+ghost use Rattle.club_words.specs.App.{game_app, games_app, given_as, import_app, import_csa_app, line_app, member_app};
+ghost use Rattle.club_words.specs.App.{move_app, named_app, named_line_app, of_event_app, of_game_app, program_app};
+ghost use Rattle.club_words.specs.App.{required_as, required_times, round_robin_app, serve_app, show_app};
+ghost use Rattle.club_words.specs.App.{with_entries_app, with_files_app, with_games_app, with_lists_app};
+ghost use Rattle.club_words.specs.App.{with_orders_app, with_round_robin_flags_app};
+ghost use Rattle.club_words.specs.Built.{IsApp, IsAppOf, IsRule};
+
+use crate::building::{
+    flag, name_option, number, number_option, subcommand, with, with_word, word,
+};
 use clap::{Arg, ArgAction, value_parser};
 use std::alloc::{AllocError, Global};
 
@@ -11,69 +24,95 @@ static GAMES: [&str; 2] = ["draughts", "shogi"];
 const VERSION: &str = "0.9.0";
 
 // What a name may be: of a member or of an event.
-pub(crate) const A_NAME: &str = "1 to 24 letters, digits, '.', '_' or '-'";
+const A_NAME: &str = "1 to 24 letters, digits, '.', '_' or '-'";
 
 // What the key of a game is.
 const A_LABEL: &str =
     "A label for the game, which is no secret: 1 to 24 letters, digits, '.', '_' or '-'; \
     the same order again, with the same label, is a repeat and makes no second game";
 
-// A positional word that has to be there.
-pub(crate) fn word<'a>(alloc: Global, name: &'a str, help: &'a str) -> Arg<'a> {
-    Arg::new(alloc, name)
-        .help(help)
-        .required(true)
-        .action(ArgAction::Set)
-}
+// What the number of a game is.
+const A_GAME: &str = "The game's number, as 'seat' printed it";
 
-// A positional whole number that has to be there.
-fn number<'a>(alloc: Global, name: &'a str, help: &'a str) -> Arg<'a> {
-    word(alloc, name, help).value_parser(value_parser!(u64))
-}
-
-pub(crate) fn member_words<'a>(alloc: Global) -> Result<clap::Command<'a>, AllocError> {
-    clap::Command::new(alloc, "member")
-        .about("Adds a member, with the key that the member will show")
-        .arg(word(alloc, "NAME", A_NAME))?
-        .arg(word(
+fn member_words<'a>(alloc: Global) -> Result<clap::Command<'a>, AllocError>
+    ensures { IfOk result (IsApp member_app) }
+{
+    let words = subcommand(
+        alloc,
+        "member",
+        "Adds a member, with the key that the member will show",
+    );
+    let words = with_word(words, word(alloc, "NAME", A_NAME))?;
+    with_word(
+        words,
+        word(
             alloc,
             "KEY",
             "The member's secret: 8 to 64 letters and digits",
-        ))
+        ),
+    )
 }
 
-pub(crate) fn event_words<'a>(alloc: Global) -> Result<clap::Command<'a>, AllocError> {
-    clap::Command::new(alloc, "event")
-        .about(
-            "Adds an event; each player starts with BUDGET seconds and gains INCREMENT at each move",
-        )
-        .arg(word(alloc, "NAME", A_NAME))?
-        .arg(word(alloc, "GAME", "The game that is played in the event").value_parser(
-            GAMES.as_slice(),
-        ))?
-        .arg(number(
+// The word for the game of an event.
+fn game_word<'a>(alloc: Global) -> Arg<'a>
+    ensures { (names : Names) × are_games names × IsRule (required_as (kind.Names names) (codes "GAME")) result }
+{
+    word(alloc, "GAME", "The game that is played in the event").value_parser(GAMES.as_slice())
+}
+
+fn event_words<'a>(alloc: Global) -> Result<clap::Command<'a>, AllocError>
+    ensures { IfOk result (IsAppOf event_app) }
+{
+    let words = subcommand(
+        alloc,
+        "event",
+        "Adds an event; each player starts with BUDGET seconds and gains INCREMENT at each move",
+    );
+    let words = with_word(words, word(alloc, "NAME", A_NAME))?;
+    let words = with_word(words, game_word(alloc))?;
+    let words = with_word(
+        words,
+        number(
             alloc,
             "BUDGET",
             "Seconds that each player starts with: 1 to 31536000, as 86400 for a day",
-        ))?
-        .arg(number(
+        ),
+    )?;
+    with_word(
+        words,
+        number(
             alloc,
             "INCREMENT",
             "Seconds that a player gains at each move: 0 to 2592000",
-        ))
+        ),
+    )
 }
 
-pub(crate) fn seat_words<'a>(alloc: Global) -> Result<clap::Command<'a>, AllocError> {
-    clap::Command::new(alloc, "seat")
-        .about("Starts a game of an event between two members, under a label")
-        .arg(word(alloc, "KEY", A_LABEL))?
-        .arg(word(alloc, "EVENT", "The event's name"))?
-        .arg(word(
-            alloc,
-            "FIRST",
-            "The member who moves first: White in draughts, Black in shogi",
-        ))?
-        .arg(word(alloc, "SECOND", "The other member"))
+// The words that name a new game: its label, its event and its players.
+fn new_game_words<'a>(
+    alloc: Global,
+    name: &'a str,
+    about: &'a str,
+    first: &'a str,
+) -> Result<clap::Command<'a>, AllocError>
+    ensures { IfOk result (IsApp (game_app name.entry.now)) }
+{
+    let words = subcommand(alloc, name, about);
+    let words = with_word(words, word(alloc, "KEY", A_LABEL))?;
+    let words = with_word(words, word(alloc, "EVENT", "The event's name"))?;
+    let words = with_word(words, word(alloc, "FIRST", first))?;
+    with_word(words, word(alloc, "SECOND", "The other member"))
+}
+
+fn seat_words<'a>(alloc: Global) -> Result<clap::Command<'a>, AllocError>
+    ensures { IfOk result (IsApp (game_app (codes "seat"))) }
+{
+    new_game_words(
+        alloc,
+        "seat",
+        "Starts a game of an event between two members, under a label",
+        "The member who moves first: White in draughts, Black in shogi",
+    )
 }
 
 // The words of an import, but for the part of the record.
@@ -81,26 +120,29 @@ fn import_words<'a>(
     alloc: Global,
     name: &'a str,
     about: &'a str,
-) -> Result<clap::Command<'a>, AllocError> {
-    clap::Command::new(alloc, name)
-        .about(about)
-        .arg(word(alloc, "KEY", A_LABEL))?
-        .arg(word(alloc, "EVENT", "The event's name"))?
-        .arg(word(
-            alloc,
-            "FIRST",
-            "The member who moved first: White in draughts, Black in shogi",
-        ))?
-        .arg(word(alloc, "SECOND", "The other member"))?
-        .arg(word(
+) -> Result<clap::Command<'a>, AllocError>
+    ensures { IfOk result (IsApp (import_app name.entry.now)) }
+{
+    let words = new_game_words(
+        alloc,
+        name,
+        about,
+        "The member who moved first: White in draughts, Black in shogi",
+    )?;
+    with_word(
+        words,
+        word(
             alloc,
             "RECORD",
             "The file of the record, of at most 65536 bytes; '-' is the standard input",
-        ))
+        ),
+    )
 }
 
 // The words of an import of draughts.
-pub(crate) fn import_pdn_words<'a>(alloc: Global) -> Result<clap::Command<'a>, AllocError> {
+fn import_pdn_words<'a>(alloc: Global) -> Result<clap::Command<'a>, AllocError>
+    ensures { IfOk result (IsApp (import_app (codes "import-pdn"))) }
+{
     import_words(
         alloc,
         "import-pdn",
@@ -109,145 +151,281 @@ pub(crate) fn import_pdn_words<'a>(alloc: Global) -> Result<clap::Command<'a>, A
 }
 
 // The words of an import of shogi.
-pub(crate) fn import_csa_words<'a>(alloc: Global) -> Result<clap::Command<'a>, AllocError> {
-    let part = Arg::new(alloc, "N")
-        .long("part")
-        .help("Which of the records in the file: 1, if it is not given, for the first")
-        .action(ArgAction::Set)
-        .value_parser(value_parser!(u64));
+fn import_csa_words<'a>(alloc: Global) -> Result<clap::Command<'a>, AllocError>
+    ensures { IfOk result (IsApp import_csa_app) }
+{
     let words = import_words(
         alloc,
         "import-csa",
         "Adds an ended game of an event of shogi from a CSA record, under a label",
     )?;
-    words.arg(part)
+    with_word(
+        words,
+        number_option(
+            alloc,
+            "N",
+            "part",
+            "Which of the records in the file: 1, if it is not given, for the first",
+        ),
+    )
 }
 
-pub(crate) fn move_words<'a>(alloc: Global) -> Result<clap::Command<'a>, AllocError> {
-    clap::Command::new(alloc, "move")
-        .about("Plays a move for the side whose ply it is")
-        .arg(number(alloc, "GAME", "The game's number, as 'seat' printed it"))?
-        .arg(number(
+fn move_words<'a>(alloc: Global) -> Result<clap::Command<'a>, AllocError>
+    ensures { IfOk result (IsApp move_app) }
+{
+    let words = subcommand(alloc, "move", "Plays a move for the side whose ply it is");
+    let words = with_word(words, number(alloc, "GAME", A_GAME))?;
+    let words = with_word(
+        words,
+        number(
             alloc,
             "PLY",
             "The number of the move in the game, both sides counted: 1 for the first",
-        ))?
-        .arg(word(
+        ),
+    )?;
+    with_word(
+        words,
+        word(
             alloc,
             "TEXT",
             "The move: in draughts 32-28, or 28x19 for a capture; in shogi 7g7f, 8h2b+ or P*5e",
-        ))
+        ),
+    )
 }
 
-pub(crate) fn sweep_words<'a>(alloc: Global) -> clap::Command<'a> {
-    clap::Command::new(alloc, "sweep").about(
+fn sweep_words<'a>(alloc: Global) -> clap::Command<'a>
+    ensures { IsApp (new_app (codes "sweep")) result }
+{
+    subcommand(
+        alloc,
+        "sweep",
         "Ends by time every running game whose side to move has used more seconds than it has left",
     )
 }
 
-fn legal_words<'a>(alloc: Global) -> Result<clap::Command<'a>, AllocError> {
-    clap::Command::new(alloc, "legal")
-        .about("Lists the legal moves of a game, a line each; nothing where it has ended")
-        .arg(number(alloc, "GAME", "The game's number, as 'seat' printed it"))
+// The words of a subcommand of one game.
+fn of_game_words<'a>(
+    alloc: Global,
+    name: &'a str,
+    about: &'a str,
+) -> Result<clap::Command<'a>, AllocError>
+    ensures { IfOk result (IsApp (of_game_app name.entry.now)) }
+{
+    let words = subcommand(alloc, name, about);
+    with_word(words, number(alloc, "GAME", A_GAME))
 }
 
-fn export_words<'a>(alloc: Global) -> Result<clap::Command<'a>, AllocError> {
-    clap::Command::new(alloc, "export")
-        .about("Writes a game as a record: draughts in PDN, shogi in CSA")
-        .arg(number(alloc, "GAME", "The game's number, as 'seat' printed it"))
+// The words of a subcommand of one event.
+fn of_event_words<'a>(
+    alloc: Global,
+    name: &'a str,
+    about: &'a str,
+) -> Result<clap::Command<'a>, AllocError>
+    ensures { IfOk result (IsApp (of_event_app name.entry.now)) }
+{
+    let words = subcommand(alloc, name, about);
+    with_word(words, word(alloc, "EVENT", "The event's name"))
 }
 
-fn export_event_words<'a>(alloc: Global) -> Result<clap::Command<'a>, AllocError> {
-    clap::Command::new(alloc, "export-event")
-        .about(
-            "Writes all games of an event as records, by their numbers: PDN parted by an empty line, CSA by '/'",
-        )
-        .arg(word(alloc, "EVENT", "The event's name"))
+fn show_words<'a>(alloc: Global) -> Result<clap::Command<'a>, AllocError>
+    ensures { IfOk result (IsApp show_app) }
+{
+    let words = subcommand(
+        alloc,
+        "show",
+        "Shows a game: whose turn it is, the time that each has left, the board and the moves",
+    );
+    let words = with_word(
+        words,
+        flag(
+            alloc,
+            "LETTERS",
+            "letters",
+            "Shows pieces of shogi by letters, in place of their Japanese names",
+        ),
+    )?;
+    with_word(words, number(alloc, "GAME", A_GAME))
 }
 
-fn show_words<'a>(alloc: Global) -> Result<clap::Command<'a>, AllocError> {
-    let letters = Arg::new(alloc, "LETTERS")
-        .long("letters")
-        .help("Shows pieces of shogi by letters, in place of their Japanese names")
-        .action(ArgAction::SetTrue);
-    clap::Command::new(alloc, "show")
-        .about(
-            "Shows a game: whose turn it is, the time that each has left, the board and the moves",
-        )
-        .arg(letters)?
-        .arg(number(alloc, "GAME", "The game's number, as 'seat' printed it"))
+fn batch_words<'a>(alloc: Global) -> Result<clap::Command<'a>, AllocError>
+    ensures { IfOk result (IsApp batch_app) }
+{
+    let words = subcommand(
+        alloc,
+        "batch",
+        "Gives the club many orders in turn, each a line as behind FILE: member, event, seat, move, sweep, \
+         import-pdn, import-csa",
+    );
+    with_word(
+        words,
+        word(
+            alloc,
+            "ORDERS",
+            "The file of the orders, at most 1048576 bytes and 10000 orders; '-' is the standard input",
+        ),
+    )
 }
 
-fn table_words<'a>(alloc: Global) -> Result<clap::Command<'a>, AllocError> {
-    clap::Command::new(alloc, "table")
-        .about(
-            "Shows the cross table of an event: who has an ended game in it, by points, wins and id",
-        )
-        .arg(word(alloc, "EVENT", "The event's name"))
+// The members of a round robin.
+fn names_word<'a>(alloc: Global) -> Arg<'a>
+    ensures { IsRule (required_times 2 32 (codes "NAME")) result }
+{
+    word(alloc, "NAME", "The members, 2 to 32").num_args(2..=32)
 }
 
-// An option that narrows a list by a name.
-fn narrowed<'a>(alloc: Global, id: &'a str, long: &'a str, help: &'a str) -> Arg<'a> {
-    Arg::new(alloc, id)
-        .long(long)
-        .value_name("NAME")
-        .help(help)
-        .action(ArgAction::Set)
+// The flags of a round robin.
+fn with_round_robin_flags<'a>(
+    alloc: Global,
+    words: clap::Command<'a>,
+) -> Result<clap::Command<'a>, AllocError>
+    ensures { (app : App) → IsApp app words.entry → IfOk result (IsApp (with_round_robin_flags_app app)) }
+{
+    let words = with_word(
+        words,
+        flag(
+            alloc,
+            "DOUBLE",
+            "double",
+            "Each pair meets twice, with sides turned",
+        ),
+    )?;
+    with_word(
+        words,
+        flag(
+            alloc,
+            "DRY",
+            "dry",
+            "Prints the seats as lines that 'batch' takes, and seats nobody",
+        ),
+    )
 }
 
-fn games_words<'a>(alloc: Global) -> Result<clap::Command<'a>, AllocError> {
-    let running = Arg::new(alloc, "RUNNING")
-        .long("running")
-        .help("Only games that have not ended")
-        .action(ArgAction::SetTrue)
-        .conflicts_with("OVERDUE")?;
-    let overdue = Arg::new(alloc, "OVERDUE")
-        .long("overdue")
-        .help("Only games that 'sweep' would end: the side to move has used up its time")
-        .action(ArgAction::SetTrue);
-    clap::Command::new(alloc, "games")
-        .about(
-            "Lists the games, a line each: who plays whom, and until when a move is due or how it ended",
-        )
-        .arg(narrowed(alloc, "EVENT", "event", "Only games of this event"))?
-        .arg(narrowed(alloc, "MEMBER", "member", "Only games of this member"))?
-        .arg(running)?
-        .arg(overdue)
+fn round_robin_words<'a>(alloc: Global) -> Result<clap::Command<'a>, AllocError>
+    ensures { IfOk result (IsApp round_robin_app) }
+{
+    let words = subcommand(
+        alloc,
+        "round-robin",
+        "Seats members so that each plays each once, by the Berger table",
+    );
+    let words = with_round_robin_flags(alloc, words)?;
+    let words = with_word(
+        words,
+        word(
+            alloc,
+            "PREFIX",
+            "What the keys begin with: board 3 of round 1 is seated under PREFIX1.3",
+        ),
+    )?;
+    let words = with_word(words, word(alloc, "EVENT", "The event's name"))?;
+    with_word(words, names_word(alloc))
 }
 
-fn serve_words<'a>(alloc: Global) -> Result<clap::Command<'a>, AllocError> {
-    let log = Arg::new(alloc, "LOG")
-        .long("log")
-        .help("Writes a line for each connection: moment, method, path and status, and no key")
-        .action(ArgAction::SetTrue);
-    let count = Arg::new(alloc, "COUNT")
-        .long("count")
-        .help("Ends after so many connections")
-        .action(ArgAction::Set)
-        .value_parser(value_parser!(u64));
-    clap::Command::new(alloc, "serve")
-        .about("Answers members over HTTP, one connection after another")
-        .arg(log)?
-        .arg(count)?
-        .arg(word(alloc, "PORT", "The port of 127.0.0.1 on which it listens").value_parser(
-            value_parser!(u64).range(1..=65_535),
-        ))
+fn backup_words<'a>(alloc: Global) -> Result<clap::Command<'a>, AllocError>
+    ensures { IfOk result (IsApp backup_app) }
+{
+    let words = subcommand(
+        alloc,
+        "backup",
+        "Makes a copy of the club in FILE2, which must not exist",
+    );
+    with_word(
+        words,
+        word(
+            alloc,
+            "FILE2",
+            "The file of the copy, which is the whole club once the word has ended",
+        ),
+    )
 }
 
-// The program with the moment and the file that may come before its words.
-fn program<'a>(alloc: Global) -> Result<clap::Command<'a>, AllocError> {
-    let now = Arg::new(alloc, "SECONDS")
+fn games_words<'a>(alloc: Global) -> Result<clap::Command<'a>, AllocError>
+    ensures { IfOk result (IsApp games_app) }
+{
+    let words = subcommand(
+        alloc,
+        "games",
+        "Lists the games, a line each: who plays whom, and until when a move is due or how it ended",
+    );
+    let words = with_word(
+        words,
+        name_option(alloc, "EVENT", "event", "Only games of this event"),
+    )?;
+    let words = with_word(
+        words,
+        name_option(alloc, "MEMBER", "member", "Only games of this member"),
+    )?;
+    let words = with_word(
+        words,
+        flag(
+            alloc,
+            "RUNNING",
+            "running",
+            "Only games that have not ended",
+        ),
+    )?;
+    with_word(
+        words,
+        flag(
+            alloc,
+            "OVERDUE",
+            "overdue",
+            "Only games that 'sweep' would end: the side to move has used up its time",
+        ),
+    )
+}
+
+// The word for the port of the desk.
+fn port_word<'a>(alloc: Global) -> Arg<'a>
+    ensures { IsRule (required_as a_port (codes "PORT")) result }
+{
+    word(alloc, "PORT", "The port of 127.0.0.1 on which it listens").value_parser(value_parser!(
+        u64
+    ).range(1..=65_535))
+}
+
+fn serve_words<'a>(alloc: Global) -> Result<clap::Command<'a>, AllocError>
+    ensures { IfOk result (IsApp serve_app) }
+{
+    let words = subcommand(
+        alloc,
+        "serve",
+        "Answers members over HTTP, one connection after another",
+    );
+    let words = with_word(
+        words,
+        flag(
+            alloc,
+            "LOG",
+            "log",
+            "Writes a line for each connection: moment, method, path and status, and no key",
+        ),
+    )?;
+    let words = with_word(
+        words,
+        number_option(alloc, "COUNT", "count", "Ends after so many connections"),
+    )?;
+    with_word(words, port_word(alloc))
+}
+
+// The option that gives the moment.
+fn now_option<'a>(alloc: Global) -> Arg<'a>
+    ensures { IsRule (given_as a_moment (codes "SECONDS") (codes "now")) result }
+{
+    Arg::new(alloc, "SECONDS")
         .long("now")
         .help(
             "The moment that counts, in Unix seconds, in place of the machine's clock. \
              One accepted command at a mistyped moment raises the club's clock for good",
         )
         .action(ArgAction::Set)
-        .value_parser(value_parser!(u64).range(0..=253_402_300_799));
-    let explain = Arg::new(alloc, "EXPLAIN")
-        .long("explain")
-        .help("Says on a second line what a refusal or a fault means, and what can be done")
-        .action(ArgAction::SetTrue);
+        .value_parser(value_parser!(u64).range(0..=253_402_300_799))
+}
+
+// The program by its name, as yet without words.
+fn named_program<'a>(alloc: Global) -> clap::Command<'a>
+    ensures { IsApp named_app result }
+{
     clap::Command::new(alloc, "club")
         .version(VERSION)
         .about(
@@ -255,82 +433,171 @@ fn program<'a>(alloc: Global) -> Result<clap::Command<'a>, AllocError> {
              Status: 0 done, 1 refused, 2 bad words (and help), 3 a fault",
         )
         .subcommand_required(true)
-        .arg(explain)?
-        .arg(now)?
-        .arg(word(
+}
+
+// The program with what may come before the name of a subcommand: options, and the file.
+fn program<'a>(alloc: Global) -> Result<clap::Command<'a>, AllocError>
+    ensures { IfOk result (IsApp program_app) }
+{
+    let words = named_program(alloc);
+    let words = with_word(
+        words,
+        flag(
+            alloc,
+            "EXPLAIN",
+            "explain",
+            "Says on a second line what a refusal or a fault means, and what can be done",
+        ),
+    )?;
+    let words = with_word(words, now_option(alloc))?;
+    with_word(
+        words,
+        word(
             alloc,
             "FILE",
             "The club's file; beside it may lie FILE-wal, which belongs to it",
-        ))
-}
-
-// The command with that word more, which may not have been made for want of memory.
-pub(crate) fn with<'a>(
-    command: clap::Command<'a>,
-    word: Result<clap::Command<'a>, AllocError>,
-) -> Result<clap::Command<'a>, AllocError> {
-    command.subcommand(word?)
+        ),
+    )
 }
 
 // With the words that make a club and bring in what it is to have.
 fn with_entries<'a>(
     alloc: Global,
     program: clap::Command<'a>,
-) -> Result<clap::Command<'a>, AllocError> {
-    let init = clap::Command::new(alloc, "init").about(
-        "Makes the tables of a club in an empty file",
-    );
+) -> Result<clap::Command<'a>, AllocError>
+    ensures { (app : App) → IsApp app program.entry → IfOk result (IsAppOf (λ games. with_entries_app games app)) }
+{
+    let event = event_words(alloc)?;
+    let init = subcommand(alloc, "init", "Makes the tables of a club in an empty file");
     let program = with(program, Ok(init))?;
     let program = with(program, member_words(alloc))?;
-    let program = with(program, event_words(alloc))?;
+    let program = with(program, Ok(event))?;
     let program = with(program, seat_words(alloc))?;
     let program = with(program, import_pdn_words(alloc))?;
     with(program, import_csa_words(alloc))
 }
 
-// With the words on games that are played, and those that end games by time.
-fn with_games<'a>(
+// With the words that play, and those that end games by time, one by one and many in turn.
+fn with_orders<'a>(
     alloc: Global,
     program: clap::Command<'a>,
-) -> Result<clap::Command<'a>, AllocError> {
+) -> Result<clap::Command<'a>, AllocError>
+    ensures { (app : App) → IsApp app program.entry → IfOk result (IsApp (with_orders_app app)) }
+{
     let program = with(program, move_words(alloc))?;
     let program = with(program, Ok(sweep_words(alloc)))?;
     let program = with(program, batch_words(alloc))?;
-    let program = with(program, round_robin_words(alloc))?;
-    let program = with(program, legal_words(alloc))?;
-    let program = with(program, show_words(alloc))?;
-    let program = with(program, export_words(alloc))?;
-    with(program, export_event_words(alloc))
+    with(program, round_robin_words(alloc))
 }
 
-// With the words that show what the club has, and serve it.
-fn with_views<'a>(
+// With the words that show games.
+fn with_games<'a>(
     alloc: Global,
     program: clap::Command<'a>,
-) -> Result<clap::Command<'a>, AllocError> {
-    let members = clap::Command::new(alloc, "members").about(
+) -> Result<clap::Command<'a>, AllocError>
+    ensures { (app : App) → IsApp app program.entry → IfOk result (IsApp (with_games_app app)) }
+{
+    let legal = of_game_words(
+        alloc,
+        "legal",
+        "Lists the legal moves of a game, a line each; nothing where it has ended",
+    );
+    let export = of_game_words(
+        alloc,
+        "export",
+        "Writes a game as a record: draughts in PDN, shogi in CSA",
+    );
+    let export_event = of_event_words(
+        alloc,
+        "export-event",
+        "Writes all games of an event as records, by their numbers: PDN parted by an empty line, CSA by '/'",
+    );
+    let program = with(program, legal)?;
+    let program = with(program, show_words(alloc))?;
+    let program = with(program, export)?;
+    with(program, export_event)
+}
+
+// With the words that show what the club has.
+fn with_lists<'a>(
+    alloc: Global,
+    program: clap::Command<'a>,
+) -> Result<clap::Command<'a>, AllocError>
+    ensures { (app : App) → IsApp app program.entry → IfOk result (IsApp (with_lists_app app)) }
+{
+    let table = of_event_words(
+        alloc,
+        "table",
+        "Shows the cross table of an event: who has an ended game in it, by points, wins and id",
+    );
+    let members = subcommand(
+        alloc,
+        "members",
         "Lists the members, a line each, without their keys",
     );
-    let events = clap::Command::new(alloc, "events").about(
+    let events = subcommand(
+        alloc,
+        "events",
         "Lists the events, a line each, with how many games each has and how many of them run",
     );
-    let verify = clap::Command::new(alloc, "verify").about(
-        "Reads and replays the whole file, and says that it is sound, or which table is damaged",
-    );
-    let upgrade = clap::Command::new(alloc, "upgrade").about(
-        "Carries a file of schema 1 over to schema 2, which has the rules of events; copy both files first",
-    );
-    let program = with(program, table_words(alloc))?;
+    let program = with(program, table)?;
     let program = with(program, Ok(members))?;
     let program = with(program, Ok(events))?;
-    let program = with(program, games_words(alloc))?;
+    with(program, games_words(alloc))
+}
+
+// With the words for the file as a whole, and those that serve it.
+fn with_files<'a>(
+    alloc: Global,
+    program: clap::Command<'a>,
+) -> Result<clap::Command<'a>, AllocError>
+    ensures { (app : App) → IsApp app program.entry → IfOk result (IsApp (with_files_app app)) }
+{
+    let verify = subcommand(
+        alloc,
+        "verify",
+        "Reads and replays the whole file, and says that it is sound, or which table is damaged",
+    );
+    let upgrade = subcommand(
+        alloc,
+        "upgrade",
+        "Carries a file of schema 1 over to schema 2, which has the rules of events; copy both files first",
+    );
     let program = with(program, Ok(verify))?;
     let program = with(program, Ok(upgrade))?;
+    let program = with(program, backup_words(alloc))?;
     with(program, serve_words(alloc))
 }
 
-// The program's words, as the parser takes them and help shows them.
-pub(crate) fn club_words<'a>(alloc: Global) -> Result<clap::Command<'a>, AllocError> {
-    let program = with_entries(alloc, program(alloc)?)?;
-    with_views(alloc, with_games(alloc, program)?)
+/// The program's words, as the parser takes them and help shows them.
+pub(crate) fn club_words<'a>(alloc: Global) -> Result<clap::Command<'a>, AllocError>
+    ensures { IfOk result (IsAppOf club_app) }
+{
+    let program = program(alloc)?;
+    let program = with_entries(alloc, program)?;
+    let program = with_orders(alloc, program)?;
+    let program = with_games(alloc, program)?;
+    let program = with_lists(alloc, program)?;
+    with_files(alloc, program)
+}
+
+// A line of a batch, as yet without words.
+fn named_line<'a>(alloc: Global) -> clap::Command<'a>
+    ensures { IsApp named_line_app result }
+{
+    clap::Command::new(alloc, "club").subcommand_required(true)
+}
+
+/// The words of which a line of a batch has one.
+pub(crate) fn line_words<'a>(alloc: Global) -> Result<clap::Command<'a>, AllocError>
+    ensures { IfOk result (IsAppOf line_app) }
+{
+    let event = event_words(alloc)?;
+    let words = with(named_line(alloc), member_words(alloc))?;
+    let words = with(words, Ok(event))?;
+    let words = with(words, seat_words(alloc))?;
+    let words = with(words, move_words(alloc))?;
+    let words = with(words, Ok(sweep_words(alloc)))?;
+    let words = with(words, import_pdn_words(alloc))?;
+    with(words, import_csa_words(alloc))
 }

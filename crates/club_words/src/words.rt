@@ -1,11 +1,13 @@
 //! The program's words, read as one order.
 
-ghost use Rattle.std.specs.Prelude.{◌≡◌, IfOk, IfSome, Some, codes, map, option_map, string_bytes};
-ghost use Rattle.clap.specs.Words.{first_value, found_of};
+ghost use Rattle.std.specs.Prelude.{◌≡◌, IfErr, IfNone, IfOk, IfSome, Some, codes, map, option_map, string_bytes};
+ghost use Rattle.clap.specs.Words.{first_value, found_of, kind_of};
 ghost use Rattle.club_words.specs.Asked.{Asks, AsksCommand, AsksImport, AsksQuestion, AsksService, AsksTask};
 ghost use Rattle.club_words.specs.Asked.{AreListed, AreShownOf, IsFlagIn, IsMomentIn, IsNumberIn, game_word};
-ghost use Rattle.club_words.specs.Asked.{record_word, text_in, which_of};
+ghost use Rattle.club_words.specs.Asked.{AsksForBoth, HasNoCommand, HasNoGame, HasNoOrder, HasNoPort, HasNoTask};
+ghost use Rattle.club_words.specs.Asked.{AsksOrder, IsTold, IsToldFor, record_word, text_in, which_of};
 ghost use Rattle.club_words.specs.Imports.{with_text, task_with};
+ghost use Rattle.club_words.specs.Said.{AreRefused, AreSaid, FindsNone, IsFound, IsToldOf};
 
 use crate::batches::{Batch, BatchWords, RoundRobin, batch_of, round_robin_of};
 use crate::parser::club_words;
@@ -30,6 +32,8 @@ pub enum Task {
     Verify,
     /// Carry the file over from schema 1 to schema 2.
     Upgrade,
+    /// Copy the club into a file of this path, where none may stand.
+    Backup(String),
     /// Give the club orders of the officer's, one after another.
     Batch(Batch),
 }
@@ -130,6 +134,11 @@ pub enum BadWords {
 }
 
 impl From<AllocError> for BadWords {
+    ghost use Rattle.std.specs.Prelude.{◌≡◌};
+    ghost use Rattle.club_words.specs.declared.words.BadWords.TheVariants as bad;
+
+    ghost from_gives = { λ _ told. told ≡ bad.Memory };
+
     fn from(_refused: AllocError) -> BadWords {
         BadWords::Memory
     }
@@ -179,8 +188,9 @@ fn number_of(matches: &ArgMatches<'_>, name: &str) -> u64
 
 // The game of a word that the parser has passed.
 fn game_of(matches: &ArgMatches<'_>) -> Option<GameKind>
-    ensures { IfSome result (λ game.
+    ensures some { IfSome result (λ game.
         first_value (found_of matches.now) (codes "GAME") ≡ Some (game_word game)) }
+    ensures none { IfNone result (HasNoGame (found_of matches.now)) }
 {
     match matches.get_str("GAME") {
         Some("draughts") => Some(GameKind::Draughts),
@@ -190,8 +200,13 @@ fn game_of(matches: &ArgMatches<'_>) -> Option<GameKind>
 }
 
 // Words that the parser passed and that are no order: it is not to be, and it does nothing.
-pub(crate) fn unknown(alloc: Global, name: &str) -> Result<BadWords, AllocError> {
-    Ok(BadWords::Text(format!(in alloc; "error: unknown word '{name}'\n")?))
+pub(crate) fn unknown(alloc: Global, name: &str) -> BadWords
+    ensures { IsTold result }
+{
+    match format!(in alloc; "error: unknown word '{name}'\n") {
+        Ok(text) => BadWords::Text(text),
+        Err(_) => BadWords::Memory,
+    }
 }
 
 // The member that the words name.
@@ -206,10 +221,11 @@ fn member_of(alloc: Global, words: &ArgMatches<'_>) -> Result<Command, AllocErro
 
 // The event that the words name.
 fn event_of(alloc: Global, words: &ArgMatches<'_>) -> Result<Command, BadWords>
-    ensures { IfOk result (AsksCommand (codes "event") (found_of words.now)) }
+    ensures ok { IfOk result (AsksCommand (codes "event") (found_of words.now)) }
+    ensures err { IfErr result (IsToldFor (HasNoGame (found_of words.now))) }
 {
     let Some(game) = game_of(words) else {
-        return Err(unknown(alloc, "GAME")?);
+        return Err(unknown(alloc, "GAME"));
     };
     Ok(Command::AddEvent(AddEvent {
         name: text(alloc, words, "NAME")?,
@@ -302,50 +318,66 @@ pub(crate) fn command_of(
     name: &str,
     words: &ArgMatches<'_>,
 ) -> Result<Command, BadWords>
-    ensures { IfOk result (AsksCommand name.now (found_of words.now)) }
+    ensures ok { IfOk result (AsksCommand name.now (found_of words.now)) }
+    ensures err { IfErr result (IsToldFor (HasNoCommand name.now (found_of words.now))) }
 {
     match name {
         "member" => Ok(member_of(alloc, words)?),
-        "event" => Ok(event_of(alloc, words)?),
+        "event" => event_of(alloc, words),
         "seat" => Ok(seat_of(alloc, words)?),
         "sweep" => Ok(Command::Sweep),
         "import-pdn" => Ok(import_pdn_of(alloc, words)?),
         "import-csa" => Ok(import_csa_of(alloc, words)?),
         "move" => Ok(move_of(alloc, words)?),
-        _ => Err(unknown(alloc, name)?),
+        _ => Err(unknown(alloc, name)),
     }
 }
 
-// Which games are listed, by the flags of which the parser passes one at most.
-fn which_of(is_running: bool, is_overdue: bool) -> Which
+// Which games are listed, by the flags: one of them at most.
+fn which_of(is_running: bool, is_overdue: bool) -> Option<Which>
     ensures { result ≡ which_of is_running is_overdue }
 {
-    if is_running {
-        return Which::Running;
+    match (is_running, is_overdue) {
+        (true, true) => None,
+        (true, false) => Some(Which::Running),
+        (false, true) => Some(Which::Overdue),
+        (false, false) => Some(Which::All),
     }
-    if is_overdue {
-        return Which::Overdue;
-    }
-    Which::All
 }
 
 // Which games the words list.
-fn which_in(words: &ArgMatches<'_>) -> Which
-    ensures { AreShownOf (found_of words.now) result }
+fn which_in(words: &ArgMatches<'_>) -> Option<Which>
+    ensures some { IfSome result (AreShownOf (found_of words.now)) }
+    ensures none { IfNone result (AsksForBoth (found_of words.now)) }
 {
     let is_running = words.get_flag("RUNNING");
     let is_overdue = words.get_flag("OVERDUE");
     which_of(is_running, is_overdue)
 }
 
-// The games that the words list.
-fn listing_of(alloc: Global, words: &ArgMatches<'_>) -> Result<Listing, AllocError>
-    ensures { IfOk result (AreListed (found_of words.now)) }
+// What is said of two flags of which one may stand.
+fn both_flags(alloc: Global) -> BadWords
+    ensures { IsTold result }
 {
+    let said = "error: the argument '--running' cannot be used with '--overdue'\n";
+    match String::from_str(alloc, said) {
+        Ok(text) => BadWords::Text(text),
+        Err(_) => BadWords::Memory,
+    }
+}
+
+// The games that the words list.
+fn listing_of(alloc: Global, words: &ArgMatches<'_>) -> Result<Listing, BadWords>
+    ensures ok { IfOk result (AreListed (found_of words.now)) }
+    ensures err { IfErr result (IsToldFor (AsksForBoth (found_of words.now))) }
+{
+    let Some(which) = which_in(words) else {
+        return Err(both_flags(alloc));
+    };
     Ok(Listing {
         event: text_given(alloc, words, "EVENT")?,
         member: text_given(alloc, words, "MEMBER")?,
-        which: which_in(words),
+        which,
     })
 }
 
@@ -359,9 +391,32 @@ fn board_of(words: &ArgMatches<'_>) -> Question
     }
 }
 
+// The task of a command that the words of a subcommand give the club.
+fn request_of(alloc: Global, name: &str, words: &ArgMatches<'_>) -> Result<Task, BadWords>
+    ensures ok { IfOk result (AsksTask name.now (found_of words.now)) }
+    ensures err { IfErr result (IsToldFor (HasNoCommand name.now (found_of words.now))) }
+{
+    match command_of(alloc, name, words) {
+        Ok(command) => Ok(Task::Request(command)),
+        Err(told) => Err(told),
+    }
+}
+
+// The task of a list of games.
+fn games_of(alloc: Global, words: &ArgMatches<'_>) -> Result<Task, BadWords>
+    ensures ok { IfOk result (AsksTask (codes "games") (found_of words.now)) }
+    ensures err { IfErr result (IsToldFor (AsksForBoth (found_of words.now))) }
+{
+    match listing_of(alloc, words) {
+        Ok(listing) => Ok(Task::Ask(Question::Games(listing))),
+        Err(told) => Err(told),
+    }
+}
+
 // What the words of a subcommand ask for.
 fn task_of(alloc: Global, name: &str, words: &ArgMatches<'_>) -> Result<Task, BadWords>
-    ensures { IfOk result (AsksTask name.now (found_of words.now)) }
+    ensures ok { IfOk result (AsksTask name.now (found_of words.now)) }
+    ensures err { IfErr result (IsToldFor (HasNoTask name.now (found_of words.now))) }
 {
     match name {
         "init" => Ok(Task::Init),
@@ -372,15 +427,18 @@ fn task_of(alloc: Global, name: &str, words: &ArgMatches<'_>) -> Result<Task, Ba
         "table" => Ok(Task::Ask(Question::CrossTable(text(alloc, words, "EVENT")?))),
         "members" => Ok(Task::Ask(Question::Members)),
         "events" => Ok(Task::Ask(Question::Events)),
-        "games" => Ok(Task::Ask(Question::Games(listing_of(alloc, words)?))),
+        "games" => games_of(alloc, words),
         "verify" => Ok(Task::Verify),
         "upgrade" => Ok(Task::Upgrade),
-        _ => Ok(Task::Request(command_of(alloc, name, words)?)),
+        "backup" => Ok(Task::Backup(text(alloc, words, "FILE2")?)),
+        _ => request_of(alloc, name, words),
     }
 }
 
 // What the parser says of words that it refuses.
-pub(crate) fn refused(alloc: Global, error: &clap::Error) -> BadWords {
+pub(crate) fn refused(alloc: Global, error: &clap::Error) -> BadWords
+    ensures { IsToldOf (kind_of error.now) result }
+{
     if error.kind() == ErrorKind::OutOfMemory {
         return BadWords::Memory;
     }
@@ -397,10 +455,11 @@ fn service_of(
     all: &ArgMatches<'_>,
     words: &ArgMatches<'_>,
 ) -> Result<Service, BadWords>
-    ensures { IfOk result (AsksService (found_of all.now) (found_of words.now)) }
+    ensures ok { IfOk result (AsksService (found_of all.now) (found_of words.now)) }
+    ensures err { IfErr result (IsToldFor (HasNoPort (found_of words.now))) }
 {
     let Ok(port) = u16::try_from(number_of(words, "PORT")) else {
-        return Err(unknown(alloc, "PORT")?);
+        return Err(unknown(alloc, "PORT"));
     };
     Ok(Service {
         file: text(alloc, all, "FILE")?,
@@ -429,6 +488,41 @@ pub(crate) fn is_explained(all: &ArgMatches<'_>) -> bool
     all.get_flag("EXPLAIN")
 }
 
+// The service that the words ask for.
+fn serve_of(alloc: Global, all: &ArgMatches<'_>, words: &ArgMatches<'_>) -> Result<Words, BadWords>
+    ensures ok { IfOk result (Asks (found_of all.now) (codes "serve") (found_of words.now)) }
+    ensures err { IfErr result (IsToldFor (HasNoPort (found_of words.now))) }
+{
+    match service_of(alloc, all, words) {
+        Ok(service) => Ok(Words::Serve(service)),
+        Err(told) => Err(told),
+    }
+}
+
+// The order that the words of a subcommand give.
+fn order_of(
+    alloc: Global,
+    all: &ArgMatches<'_>,
+    name: &str,
+    words: &ArgMatches<'_>,
+) -> Result<Order, BadWords>
+    ensures ok { IfOk result (AsksOrder (found_of all.now) name.now (found_of words.now)) }
+    ensures err { IfErr result (IsToldFor (HasNoTask name.now (found_of words.now))) }
+{
+    let task = match task_of(alloc, name, words) {
+        Ok(task) => task,
+        Err(told) => return Err(told),
+    };
+    let record = record_of(alloc, name, words)?;
+    Ok(Order {
+        file: text(alloc, all, "FILE")?,
+        now: moment_of(all),
+        task,
+        record,
+        explains: is_explained(all),
+    })
+}
+
 // What the words of a subcommand ask for.
 fn words_of(
     alloc: Global,
@@ -436,34 +530,39 @@ fn words_of(
     name: &str,
     words: &ArgMatches<'_>,
 ) -> Result<Words, BadWords>
-    ensures { IfOk result (Asks (found_of all.now) name.now (found_of words.now)) }
+    ensures ok { IfOk result (Asks (found_of all.now) name.now (found_of words.now)) }
+    ensures err { IfErr result (IsToldFor (HasNoOrder name.now (found_of words.now))) }
 {
     match name {
-        "serve" => return Ok(Words::Serve(service_of(alloc, all, words)?)),
-        "batch" => return Ok(Words::Batch(batch_of(alloc, all, words)?)),
-        "round-robin" => return Ok(Words::RoundRobin(round_robin_of(alloc, all, words)?)),
-        _ => {}
+        "serve" => serve_of(alloc, all, words),
+        "batch" => Ok(Words::Batch(batch_of(alloc, all, words)?)),
+        "round-robin" => Ok(Words::RoundRobin(round_robin_of(alloc, all, words)?)),
+        _ => match order_of(alloc, all, name, words) {
+            Ok(order) => Ok(Words::Order(order)),
+            Err(told) => Err(told),
+        },
     }
-    let task = task_of(alloc, name, words)?;
-    let record = record_of(alloc, name, words)?;
-    Ok(Words::Order(Order {
-        file: text(alloc, all, "FILE")?,
-        now: moment_of(all),
-        task,
-        record,
-        explains: is_explained(all),
-    }))
+}
+
+// What the words of the subcommand that was found ask for.
+fn parsed(alloc: Global, matches: &ArgMatches<'_>) -> Result<Words, BadWords>
+    ensures ok { IfOk result (IsFound Asks matches.now) }
+    ensures err { IfErr result (IsToldFor (FindsNone HasNoOrder matches.now)) }
+{
+    match matches.subcommand() {
+        Some(entered) => words_of(alloc, matches, entered.0, entered.1),
+        None => Err(unknown(alloc, "")),
+    }
 }
 
 /// What the words say; the first word is the program's own name.
-pub fn read_words(alloc: Global, words: &[&str]) -> Result<Words, BadWords> {
+pub fn read_words(alloc: Global, words: &[&str]) -> Result<Words, BadWords>
+    ensures ok { IfOk result (AreSaid (map (λ word. word.now) words.entry.now)) }
+    ensures err { IfErr result (AreRefused (map (λ word. word.now) words.entry.now)) }
+{
     let club = club_words(alloc)?;
-    let matches = match club.try_get_matches_from(words) {
-        Ok(matches) => matches,
-        Err(error) => return Err(refused(alloc, &error)),
-    };
-    match matches.subcommand() {
-        Some((name, words)) => words_of(alloc, &matches, name, words),
-        None => Err(unknown(alloc, "")?),
+    match club.try_get_matches_from(words) {
+        Ok(matches) => parsed(alloc, &matches),
+        Err(error) => Err(refused(alloc, &error)),
     }
 }

@@ -1,0 +1,2 @@
+mod AppLemmas
+mod SaidLemmas

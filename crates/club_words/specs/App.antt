@@ -1,0 +1,250 @@
+-- The words that the program takes, as its parser has them.
+use Rattle.std.specs.Prelude.{◌≡◌, ℕ, List, [], ◌∷◌, map, Some, true, codes}
+use Rattle.std.specs.Borrow.{Bor}
+use Rattle.clap.specs.Words.{App, Rule, Text, new_app, new_rule, with_rule, with_subcommand}
+use Rattle.clap.specs.declared.builder.action.ArgAction.TheVariants.{Set, SetTrue}
+use Rattle.clap.specs.declared.builder.value_parser.ValueParser.{ValueParser}
+use Rattle.clap.specs.declared.builder.value_parser.ValueParser.TheVariants as parser
+
+-- ---- single words
+
+-- a word that has to be there
+abbrev pub required : Text → Rule
+required id = record (new_rule id) { action = Some Set; required = true }
+
+-- the same, of one of these kinds
+abbrev pub required_as : ValueParser → Text → Rule
+required_as kind id = record (required id) { parser = Some kind }
+
+-- an option with a value
+abbrev pub given_by : (id long : Text) → Rule
+given_by id long = record (new_rule id) { long = Some long; action = Some Set }
+
+abbrev pub given_as : ValueParser → (id long : Text) → Rule
+given_as kind id long = record (given_by id long) { parser = Some kind }
+
+-- an option whose value help calls by another name
+abbrev pub named_by : (id long : Text) → Rule
+named_by id long = record (given_by id long) { value_names = 1 }
+
+abbrev pub flag : (id long : Text) → Rule
+flag id long = record (new_rule id) { long = Some long; action = Some SetTrue }
+
+-- a word that stands so many times
+abbrev pub required_times : (least most : ℕ) → Text → Rule
+required_times least most id =
+    record (required id) { range = Some (record { start_inclusive = least; end_inclusive = most }) }
+
+-- a whole number
+abbrev pub a_number : ValueParser
+a_number = parser.Unsigned 0 18446744073709551615
+
+abbrev pub a_port : ValueParser
+a_port = parser.Unsigned 1 65535
+
+-- a moment up to the last one
+abbrev pub a_moment : ValueParser
+a_moment = parser.Unsigned 0 253402300799
+
+-- the texts of a list of names
+abbrev pub Names : Type 0
+Names = Bor (List (Bor Text))
+
+abbrev pub are_games : Names → Type 0
+are_games names = map (λ (name : Bor Text). name.now) names.now ≡ codes "draughts" ∷ codes "shogi" ∷ []
+
+-- ---- the words of each subcommand
+
+abbrev pub member_app : App
+member_app = with_rule (with_rule (new_app (codes "member")) (required (codes "NAME"))) (required (codes "KEY"))
+
+abbrev pub event_app : Names → App
+event_app games =
+    with_rule
+    (with_rule
+    (with_rule
+    (with_rule (new_app (codes "event")) (required (codes "NAME")))
+    (required_as (parser.Names games) (codes "GAME")))
+    (required_as a_number (codes "BUDGET")))
+    (required_as a_number (codes "INCREMENT"))
+
+-- the words that name a new game
+abbrev pub game_app : Text → App
+game_app name =
+    with_rule
+    (with_rule
+    (with_rule
+    (with_rule (new_app name) (required (codes "KEY")))
+    (required (codes "EVENT")))
+    (required (codes "FIRST")))
+    (required (codes "SECOND"))
+
+abbrev pub import_app : Text → App
+import_app name = with_rule (game_app name) (required (codes "RECORD"))
+
+abbrev pub import_csa_app : App
+import_csa_app = with_rule (import_app (codes "import-csa")) (given_as a_number (codes "N") (codes "part"))
+
+abbrev pub move_app : App
+move_app =
+    with_rule
+    (with_rule
+    (with_rule (new_app (codes "move")) (required_as a_number (codes "GAME")))
+    (required_as a_number (codes "PLY")))
+    (required (codes "TEXT"))
+
+-- a subcommand of one game
+abbrev pub of_game_app : Text → App
+of_game_app name = with_rule (new_app name) (required_as a_number (codes "GAME"))
+
+-- a subcommand of one event
+abbrev pub of_event_app : Text → App
+of_event_app name = with_rule (new_app name) (required (codes "EVENT"))
+
+abbrev pub show_app : App
+show_app =
+    with_rule
+    (with_rule (new_app (codes "show")) (flag (codes "LETTERS") (codes "letters")))
+    (required_as a_number (codes "GAME"))
+
+abbrev pub batch_app : App
+batch_app = with_rule (new_app (codes "batch")) (required (codes "ORDERS"))
+
+-- the flags of a round robin
+abbrev pub with_round_robin_flags_app : App → App
+with_round_robin_flags_app app =
+    with_rule
+    (with_rule app (flag (codes "DOUBLE") (codes "double")))
+    (flag (codes "DRY") (codes "dry"))
+
+abbrev pub round_robin_app : App
+round_robin_app =
+    with_rule
+    (with_rule
+    (with_rule (with_round_robin_flags_app (new_app (codes "round-robin"))) (required (codes "PREFIX")))
+    (required (codes "EVENT")))
+    (required_times 2 32 (codes "NAME"))
+
+abbrev pub backup_app : App
+backup_app = with_rule (new_app (codes "backup")) (required (codes "FILE2"))
+
+abbrev pub games_app : App
+games_app =
+    with_rule
+    (with_rule
+    (with_rule
+    (with_rule (new_app (codes "games")) (named_by (codes "EVENT") (codes "event")))
+    (named_by (codes "MEMBER") (codes "member")))
+    (flag (codes "RUNNING") (codes "running")))
+    (flag (codes "OVERDUE") (codes "overdue"))
+
+abbrev pub serve_app : App
+serve_app =
+    with_rule
+    (with_rule
+    (with_rule (new_app (codes "serve")) (flag (codes "LOG") (codes "log")))
+    (given_as a_number (codes "COUNT") (codes "count")))
+    (required_as a_port (codes "PORT"))
+
+-- ---- the program
+
+-- what stands before the name of a subcommand
+abbrev pub named_app : App
+named_app = record (new_app (codes "club")) {
+  top = record (new_app (codes "club")).top { has_version = true; subcommand_required = true };
+}
+
+abbrev pub program_app : App
+program_app =
+    with_rule
+    (with_rule
+    (with_rule named_app (flag (codes "EXPLAIN") (codes "explain")))
+    (given_as a_moment (codes "SECONDS") (codes "now")))
+    (required (codes "FILE"))
+
+abbrev pub with_sub : App → App → App
+with_sub app sub = with_subcommand app sub.top
+
+-- what makes a club, and what brings in what it is to have
+abbrev pub with_entries_app : Names → App → App
+with_entries_app games app =
+    with_sub
+    (with_sub
+    (with_sub
+    (with_sub
+    (with_sub
+    (with_sub app (new_app (codes "init")))
+    member_app)
+    (event_app games))
+    (game_app (codes "seat")))
+    (import_app (codes "import-pdn")))
+    import_csa_app
+
+-- what is played, and what ends by time, one by one and many in turn
+abbrev pub with_orders_app : App → App
+with_orders_app app =
+    with_sub
+    (with_sub
+    (with_sub
+    (with_sub app move_app)
+    (new_app (codes "sweep")))
+    batch_app)
+    round_robin_app
+
+-- what shows games that are played
+abbrev pub with_games_app : App → App
+with_games_app app =
+    with_sub
+    (with_sub
+    (with_sub
+    (with_sub app (of_game_app (codes "legal")))
+    show_app)
+    (of_game_app (codes "export")))
+    (of_event_app (codes "export-event"))
+
+-- what shows the club
+abbrev pub with_lists_app : App → App
+with_lists_app app =
+    with_sub
+    (with_sub
+    (with_sub
+    (with_sub app (of_event_app (codes "table")))
+    (new_app (codes "members")))
+    (new_app (codes "events")))
+    games_app
+
+-- what is done with the file as a whole, and what serves it
+abbrev pub with_files_app : App → App
+with_files_app app =
+    with_sub
+    (with_sub
+    (with_sub
+    (with_sub app (new_app (codes "verify")))
+    (new_app (codes "upgrade")))
+    backup_app)
+    serve_app
+
+abbrev pub club_app : Names → App
+club_app games = with_files_app (with_lists_app (with_games_app (with_orders_app (with_entries_app games program_app))))
+
+-- ---- a line of a batch
+
+abbrev pub named_line_app : App
+named_line_app =
+    record (new_app (codes "club")) { top = record (new_app (codes "club")).top { subcommand_required = true } }
+
+abbrev pub line_app : Names → App
+line_app games =
+    with_sub
+    (with_sub
+    (with_sub
+    (with_sub
+    (with_sub
+    (with_sub
+    (with_sub named_line_app member_app)
+    (event_app games))
+    (game_app (codes "seat")))
+    move_app)
+    (new_app (codes "sweep")))
+    (import_app (codes "import-pdn")))
+    import_csa_app
