@@ -13,7 +13,7 @@ trap 'rm -rf "$work"' EXIT
 count=200
 
 above='club|club_program|club_files|club_orders|club_words|sessions|trials'
-above="$above|rules|club_trials|desk_trials|http_head|http_bodies|http_desk|http_port|club_desk|perft"
+above="$above|rules|club_trials|desk_trials|http_head|http_bodies|http_desk|officer_door|http_port|club_desk|perft"
 
 cp -a "$top/crates" "$work/crates"
 for crate in ${above//|/ }; do rm -rf "${work:?}/crates/$crate"; done

@@ -19,7 +19,8 @@ import time
 from opening import TOP, begin, club, multiply
 
 ABOVE = ("club", "club_program", "club_files", "club_orders", "club_words", "sessions", "trials", "rules", "club_trials",
-         "desk_trials", "http_head", "http_bodies", "http_desk", "http_port", "club_desk", "perft")
+         "desk_trials", "http_head", "http_bodies", "http_desk", "officer_door", "http_port", "club_desk",
+         "perft")
 RUNS = 5
 MEASURED = 20
 

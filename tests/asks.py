@@ -119,10 +119,12 @@ def orders():
         time.sleep(0.1)
     told = [line.split()[1:] for line in pathlib.Path("log").read_text().splitlines()]
     words = [line[1:] for line in told if line[0] == "officer"]
+    members = [line for line in told if line[0] != "officer"]
     wanted = [["question", "0"]] * 7 + [["question", "1"]] * 2
     wanted += [["move", "0"], ["move", "0"], ["move", "1"], ["member", "1"]]
     wanted += [["import-pdn", "0"], ["import-pdn", "0"], ["sweep", "0"]]
     verdict("each stands in the log", wanted, words)
+    verdict("and who asked", [["GET", "/games/1", "200", "anna"]] * 2, members)
     verdict("and no key", False, "key" in pathlib.Path("log").read_text())
 
 

@@ -128,7 +128,11 @@ gets 404 '{"error":54,"name":"UnknownChallenge"}' keybert2 POST /answers/anna/1 
 ends 0
 verdict 'a line for each connection' 21 "$(wc -l < log)"
 verdict 'no key is written down' 0 "$(grep -c 'key[a-c]' log)"
-verdict 'a line of the log' 'GET /games/1 401' "$(head -n 1 log | cut -d' ' -f2-)"
+verdict 'a line of the log' 'GET /games/1 401 -' "$(head -n 1 log | cut -d' ' -f2-)"
+verdict 'who asked stands at its end' '10 8 3' \
+    "$(grep -c ' anna$' log) $(grep -c ' bert$' log) $(grep -c ' -$' log)"
+verdict 'nobody where no member is asked for' 'POST /games/1 405 -|GET /nowhere 404 -' \
+    "$(grep -E ' (405|404) -$' log | cut -d' ' -f2- | paste -sd'|')"
 
 # A game of shogi, to its end by the rules, while the officer's words come between.
 serves --count 15
@@ -225,7 +229,7 @@ kill "$desk"
 wait "$desk" 2> /dev/null
 desk=
 verdict 'the crowd was served' yes "$([ "$(wc -l < log)" -gt 6 ] && echo yes)"
-verdict 'none of the crowd was turned away' 0 "$(grep -v ' officer ' log | grep -c -v ' 200$')"
+verdict 'none of the crowd was turned away' 0 "$(grep -v ' officer ' log | grep -c -v ' 200 [ab][a-z]*$')"
 verdict "the officer's word is logged" 'officer seat 0' "$(grep ' officer ' log | cut -d' ' -f2-)"
 
 # Challenges: opened, repeated, withdrawn, refused, and one that is accepted and starts a game, which counts as any other.

@@ -22,7 +22,7 @@ PATIENCE = 8  # seconds; where this machine was slower to send than the desk wai
 ROUND = 3000
 MEMBERS = ("anna", "keyanna1"), ("bert", "keybert2"), ("cara", "keycara3")
 EVENTS = ("autumn", "draughts", 86400, 5), ("fuji", "shogi", 86400, 0), ("short", "draughts", 60, 0)
-LOGGED = re.compile(rb"%d ([!-~\x80-\xff]+ [!-~\x80-\xff]+) ([0-9]{3}|-)" % MOMENT)
+LOGGED = re.compile(rb"%d [!-~\x80-\xff]+ [!-~\x80-\xff]+ ((?:[0-9]{3}|-) [!-~]+)" % MOMENT)
 SEATS = "autumn anna bert", "fuji anna bert", "short bert anna", "autumn cara anna", "fuji bert cara", "short anna bert"
 
 
@@ -93,10 +93,10 @@ class Asking:
         wanted, begun = reply_to(self.club, data), time.monotonic()
         got = ask(self.port, pieces, ends or wanted is None)
         if wanted and not got and time.monotonic() - begun > PATIENCE:
-            self.wanted_log.append("-")
+            self.wanted_log.append("- -")
             got = ask(self.port, pieces, ends)
         self.statuses[wanted and wanted.status] = self.statuses.get(wanted and wanted.status, 0) + 1
-        self.wanted_log.append(wanted.status if wanted else "-")
+        self.wanted_log.append(f"{wanted.status} {wanted.caller}" if wanted else "- -")
         return self.test.check(got == b"" if wanted is None else wanted == got, name, wanted, got, data)
 
     def are_rows_kept(self, name):
@@ -111,13 +111,13 @@ class Asking:
         return self.test.check(not differing, f"{name}, rows", "those of the documents", differing)
 
     def is_logged(self, name):
-        """Each connection has its line, with the status of its reply and never a key of a field."""
+        """Each connection has its line, with the status of its reply and who asked, and never a key of a field."""
         late = time.monotonic() + 10
         while len(lines := self.logged()) < len(self.wanted_log) and time.monotonic() < late:
             time.sleep(0.02)
         found = [LOGGED.fullmatch(line) for line in lines]
         bad = [(line, wanted) for line, it, wanted in zip(lines, found, self.wanted_log)
-               if not it or it[2] != str(wanted).encode()]
+               if not it or it[1] != wanted.encode()]
         is_well = len(lines) == len(self.wanted_log) and not bad
         return self.test.check(is_well, f"{name}: the log", len(self.wanted_log), (len(lines), bad[:3]))
 

@@ -37,8 +37,9 @@ ROUTES = (  # method, path, name, and the keys of its body with their kinds
 class Reply:
     """The number of the status line, the fields behind the usual three, their kind, and the body."""
 
-    def __init__(self, status, body, kind="application/json", further="", has_body=True):
+    def __init__(self, status, body, kind="application/json", further="", has_body=True, caller="-"):
         self.status, self.body, self.kind, self.further, self.has_body = status, body, kind, further, has_body
+        self.caller = caller  # the name of the member who asked, as the log has it
 
     def __eq__(self, got):
         """Whether bytes that were got are this reply; its phrase may be any."""
@@ -140,16 +141,16 @@ def body_values(body, keys):
     return [found[key] for key, _ in keys]
 
 
-def refused(number, has_body, further=""):
+def refused(number, has_body, further="", caller="-"):
     if number == 50:
         further = "WWW-Authenticate: Member-Key\r\n"
     assert number in NAMES
-    return Reply(status_of(number), refusal(number), further=further, has_body=has_body)
+    return Reply(status_of(number), refusal(number), further=further, has_body=has_body, caller=caller)
 
 
 def reply_to(club, data):
     """The reply to the bytes of a connection, after which the input ends; None where none comes."""
-    has_body = not data.lstrip(b"\r\n").startswith(b"HEAD ")
+    has_body, caller = not data.lstrip(b"\r\n").startswith(b"HEAD "), "-"
     end = head_end(data[:HEAD_LIMIT])
     try:
         if end is None:
@@ -169,11 +170,12 @@ def reply_to(club, data):
         key = shown[0].decode("latin-1") if len(shown) == 1 else ""
         if key not in club.keys:
             raise Refused(50)
+        caller = club.keys[key]
         body = body_values(data[end[0]:end[0] + length], keys)
         kind, text = club.answer(key, route, named, body)
-        return Reply(200, text, kind)
+        return Reply(200, text, kind, caller=caller)
     except Refused as refusing:
-        return refused(refusing.args[0], has_body)
+        return refused(refusing.args[0], has_body, caller=caller)
 
 
 def ask(port, pieces, ends):

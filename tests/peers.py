@@ -117,7 +117,7 @@ def log():
         lines = (read + served.stderr.read()).decode().split("\n")
         left_out = [int(line.split()[3]) for line in lines if re.fullmatch(r"1000 - - \d+ left out", line)]
         verdict("each line is written, or left out and counted", 30, sum("aaa" in it for it in lines) + sum(left_out))
-        verdict("the next line follows", ["1000 GET /games/1 200", ""], lines[-2:])
+        verdict("the next line follows", ["1000 GET /games/1 200 anna", ""], lines[-2:])
     with open("log", "wb") as written, desk("--log", stderr=written) as (port, _):
         told(port, b"GET /a\xc2\x85b HTTP/1.0\r\n\r\n")
         told(port, b"GET /\x7f HTTP/1.0\r\n\r\n")
@@ -125,9 +125,9 @@ def log():
         told(port, long)
         told(port, SHOWN)
     lines = pathlib.Path("log").read_text().split("\n")
-    verdict("a path with a control of Latin-1", "1000 GET - 404", lines[0])
-    verdict("a path with DEL", True, lines[1] in ("1000 GET - 404", "1000 - - 400"))
-    verdict("a method of forty letters", f"1000 {'A' * 16} /games/1 405", lines[2])
+    verdict("a path with a control of Latin-1", "1000 GET - 404 -", lines[0])
+    verdict("a path with DEL", True, lines[1] in ("1000 GET - 404 -", "1000 - - 400 -"))
+    verdict("a method of forty letters", f"1000 {'A' * 16} /games/1 405 -", lines[2])
     verdict("a path of 4,000 letters in a file", 4000, lines[3].count("a"))
     verdict("no key is written down", 0, sum("keyanna1" in line for line in lines))
 

@@ -44,7 +44,7 @@ Without words the program is build/club, and the scripts are those of tests/scri
     begun "GET / HTTP/2.0\r\n\r\n"
         Where the input ends behind the first SIZE bytes there is no reply, for each SIZE below the length of the text.
     end
-        The desk ends with the status 0, and has written a line for each connection. `end = 1000 GET /games/1 200` says
+        The desk ends with the status 0, and has written a line for each connection. `end = 1000 GET /games/1 200 anna` says
         these lines, `|` standing between them.
 """
 import contextlib

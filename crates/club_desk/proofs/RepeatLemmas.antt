@@ -15,7 +15,9 @@ use Rattle.store.specs.Histories as history
 use Rattle.store.specs.Histories.{Chapter, Place, SessionLeads, SessionReaches, Reaches}
 use Rattle.store_tables.specs.declared.names.Version.TheVariants.{Current}
 use Rattle.http_desk.specs.Desk.{this, outcome_answer, serve}
-use Rattle.club_desk.specs.Served.{has_key, served}
+use Rattle.club_reads.specs.Keys.{holder_of}
+use Rattle.club_reads.proofs.Proved.{holder_named}
+use Rattle.club_desk.specs.Served.{served}
 use Rattle.club_desk.specs.Repeats.{AnswersAlike, stands_at}
 
 fold_more : (s : ClubState) (first second : List Request) → club_fold (club_fold s first) second
@@ -54,9 +56,9 @@ some_caller s moment command (Some caller) outcome is other = refl
 
 member : (s : ClubState) (key : List ℕ) (command : Command) (moment : ℕ) (outcome : Outcome ClubState)
     → club_step s (record { who = key_holder key; command = command; moment = moment }) ≡ outcome
-    → (outcome ≡ refused UnknownKey → ⊥) → has_key s key ≡ true
+    → (outcome ≡ refused UnknownKey → ⊥) → is_some (holder_of s key) ≡ true
 member s key command moment outcome is other =
-    some_caller s _ command (caller_of s.members (key_holder key)) outcome is other
+    holder_named s key (some_caller s _ command (caller_of s.members (key_holder key)) outcome is other)
 
 -- what is due where the machine answers so
 due : (s : ClubState) (request : Request) (outcome : Outcome ClubState) (number : ℕ) → club_step s request ≡ outcome
@@ -79,8 +81,10 @@ answers_alike again before after later moment next request key number command re
     again before after first reply folded.requests next is_club taken stood in
     let repeats : club_step later second ≡ repeated reply =
     subst (λ s. club_step s second ≡ repeated reply) (sym folded.is) told in
-    let was : has_key before key ≡ true = member before key command moment (accepted after reply) taken (λ e. cc) in
-    let is_still : has_key later key ≡ true = member later key command next (repeated reply) repeats (λ e. cc) in
+    let was : is_some (holder_of before key) ≡ true =
+    member before key command moment (accepted after reply) taken (λ e. cc) in
+    let is_still : is_some (holder_of later key) ≡ true =
+    member later key command next (repeated reply) repeats (λ e. cc) in
     let gave = asks.is before moment was in
     let gives = asks.is later next is_still in
     let shown : (serve served before moment request).1 ≡ this (outcome_answer number (repeated reply)) =

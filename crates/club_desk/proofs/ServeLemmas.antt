@@ -1,26 +1,22 @@
 -- What the calls of a club tell, as the desk asks it.
 use Rattle.std.proofs.Common.{◌≡◌, ◌≤◌, ℕ, List, Bool, true, false, Result, Ok, Err, refl, ap, sym, subst, ◌∙◌, arith}
 use Rattle.std.proofs.Common.{◌⊎◌, inl, inr, true≢false}
-use Rattle.std.specs.Prelude.{◌↔◌, IsTrue, IfOk, IfErr, OnOk, OnErr}
-use Rattle.std.specs.Bool.{one_answer}
+use Rattle.std.specs.Prelude.{IfOk, IfErr, OnOk, OnErr}
 use Rattle.sqlite.specs.State.{State, HasCleanDisk}
 use Rattle.store_tables.specs.Club.{IsExactly}
 use Rattle.store_tables.specs.Tables.{club_schema}
 use Rattle.store_tables.specs.Reading.{OnlyReads}
 use Rattle.store_sql.specs.Read.{KeepsContent}
 use Rattle.club_requests.specs.Limits.{last_moment}
-use Rattle.club_core.specs.State.{Request, key_holder, caller_of}
+use Rattle.club_core.specs.State.{Request}
 use Rattle.club_rows.specs.Club.{ClubState, tables}
 use Rattle.store.specs.declared.fault.StoreFault.{StoreFault}
 use Rattle.store.specs.declared.fault.StoreFault.TheVariants as club
-use Rattle.club_reads.specs.Keys.{HasKey}
 use Rattle.club_changes.specs.Steps.{KeepsClub, club_next}
-use Rattle.club_reads.proofs.Proved.{key_held}
 use Rattle.http_desk.specs.declared.faults.ClubFault.{ClubFault}
 use Rattle.http_desk.specs.declared.faults.ClubFault.TheVariants.{Memory, Reopen}
 use Rattle.http_desk.specs.Served.{IsOfCall, Serves}
 use Rattle.club_desk.specs.Faults.{told, told_all}
-use Rattle.club_desk.specs.Served.{has_key}
 use Rattle.club_desk.specs.Standing.{IsServed, IsLeft, MayLeave, served_stays}
 
 -- a club is shut or only read: then its disk was clean before
@@ -145,9 +141,3 @@ on_ok (Err fault) is goes = tt
 pub on_err : {A F P Q : Type 0} (found : Result A F) → OnErr found P → (P → Q) → OnErr found Q
 on_err (Ok a) is goes = tt
 on_err (Err fault) is goes = goes is
-
--- a member has the key exactly where the machine takes one who shows it for a member
-pub key_is : (s : ClubState) (key : List ℕ) (found : Bool) → IsTrue found ↔ HasKey s key → found ≡ has_key s key
-key_is s key found held =
-    let known = key_held s key (caller_of s.members (key_holder key)) refl in
-    one_answer found (has_key s key) (held.0, held.1) (known.0, known.1)

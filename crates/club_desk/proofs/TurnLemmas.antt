@@ -17,9 +17,9 @@ use Rattle.club_desk.specs.Served.{served}
 use Rattle.club_desk.specs.Standing.{IsServed, IsLeft, MayLeave}
 use Rattle.club_desk.specs.Repeats.{stands_at}
 use Rattle.club_desk.specs.Turns.{IsTurn, IsOrder, IsTurnOf, AreTurns, IsWhole, AreWhole, IsHistoryOn, IsReachableOn}
-use Rattle.http_port.specs.declared.orders.Errand.{Errand}
-use Rattle.http_port.specs.declared.orders.Errand.TheVariants as errand
-use Rattle.http_port.specs.Orders.{HasObeyed, order, state_after}
+use Rattle.officer_door.specs.declared.orders.Errand.{Errand}
+use Rattle.officer_door.specs.declared.orders.Errand.TheVariants as errand
+use Rattle.officer_door.specs.Orders.{HasObeyed, order, state_after}
 use Rattle.http_port.specs.Visits.{HasActed, HasServed}
 use Rattle.http_head.specs.Request.{Seen}
 use Rattle.http_desk.specs.Desk.{state_behind}

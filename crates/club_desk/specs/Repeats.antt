@@ -1,5 +1,5 @@
 -- A request that comes again at the desk after the club accepted it.
-use Rattle.std.specs.Prelude.{◌≡◌, ℕ, List, Some, true}
+use Rattle.std.specs.Prelude.{◌≡◌, ℕ, List, Some, is_some, true}
 use Rattle.club_requests.specs.Outcome.{Reply, accepted}
 use Rattle.club_core.specs.State.{Command, key_holder}
 use Rattle.club_rows.specs.Club.{ClubState, IsClub}
@@ -9,11 +9,12 @@ use Rattle.store.specs.Histories.{Chapter, Place, Reaches}
 use Rattle.store_tables.specs.declared.names.Version.TheVariants.{Current}
 use Rattle.http_head.specs.Request as head
 use Rattle.http_desk.specs.Desk.{serve, serve_command}
-use Rattle.club_desk.specs.Served.{has_key, served}
+use Rattle.club_reads.specs.Keys.{holder_of}
+use Rattle.club_desk.specs.Served.{served}
 
 -- what it asks the club for: this command of the one who shows the key, about the game or the challenge of that number
 pub record AsksFor (request : head.Request) (key : List ℕ) (number : ℕ) (command : Command) : Type 0 where
-  pub is : (s : ClubState) (moment : ℕ) → has_key s key ≡ true
+  pub is : (s : ClubState) (moment : ℕ) → is_some (holder_of s key) ≡ true
       → serve served s moment request ≡ serve_command served s moment key number (Some command)
 
 -- the state, in the last version

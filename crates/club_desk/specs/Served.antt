@@ -1,24 +1,20 @@
 -- The club of a store, as the desk asks it.
-use Rattle.std.specs.Prelude.{◌≡◌, ℕ, Bool, List, Option, Some, None, Result, Ok, Err, is_some, string_bytes}
+use Rattle.std.specs.Prelude.{◌≡◌, ℕ, List, Option, Some, None, Result, Ok, Err, string_bytes}
 use Rattle.std.specs.Option.{option_map}
 use Rattle.squares.specs.declared.sides.Side.{Side}
 use Rattle.squares.specs.declared.sides.Side.TheVariants.{First, Second}
 use Rattle.club_core.specs.Answer.{answered}
-use Rattle.club_core.specs.State.{key_holder, caller_of}
 use Rattle.club_rows.specs.Club.{ClubState}
 use Rattle.club_views.specs.declared.viewed.ViewedGame.{ViewedGame}
 use Rattle.club_requests.specs.declared.refusals.Refusal.{Refusal}
 use Rattle.club_answers.specs.Shown.{IsShown}
+use Rattle.club_reads.specs.Keys.{holder_of}
 use Rattle.club_changes.specs.Steps.{club_step, club_next}
 use Rattle.club_changes.specs.Stored.{AreLegalRows}
 use Rattle.club_views.specs.Viewed.{IsViewed}
 use Rattle.http_desk.specs.Served.{Club}
 use Rattle.http_bodies.specs.Shown.{GameShown}
 use Rattle.http_bodies.specs.ShownViews.{texts_view}
-
--- the machine takes one who shows the key for a member
-abbrev pub has_key : ClubState → List ℕ → Bool
-has_key s key = is_some (caller_of s.members (key_holder key))
 
 -- the name of the player of a side
 abbrev pub named : ViewedGame → Side → List ℕ
@@ -53,7 +49,7 @@ written (Some refusal) bytes = Err refusal
 abbrev pub served : Club ClubState
 served =
     record {
-      has_key = has_key;
+      holder_of = holder_of;
       IsGame = IsGame;
       AreLegal = AreLegalRows;
       IsShown = IsShown;

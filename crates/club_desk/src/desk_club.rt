@@ -41,8 +41,8 @@ impl<S: Alter> ServedClub for DeskClub<S> {
 
     ghost IsShut = { λ b fault. (b.club.needs_reopening ≡ true) × (fault ≡ Reopen) };
 
-    fn has_key(&mut self, alloc: Global, key: &str) -> Result<bool, ClubFault> {
-        told_all(self.club.has_key(alloc, key))
+    fn holder_of(&mut self, alloc: Global, key: &str) -> Result<Option<String>, ClubFault> {
+        told_all(self.club.holder_of(alloc, key))
     }
 
     fn view_game(&mut self, alloc: Global, game: u64) -> Result<Option<GameShown>, ClubFault> {

@@ -1,34 +1,54 @@
--- Whether the machine finds a member by a key.
-use Rattle.std.proofs.Common.{◌≡◌, ℕ, List, Option, Some, None, refl, sym, subst, ◌∙◌, true≢false}
-use Rattle.std.specs.Prelude.{◌↔◌, IsTrue, is_some}
-use Rattle.club_core.specs.Members.{find_id}
-use Rattle.club_core.specs.State.{caller_found, has_member_key}
-use Rattle.club_requests.specs.declared.requests.Caller.{Caller}
-use Rattle.club_laws.proofs.Proved.{bytes_eq-same, same-bytes_eq, find_id-found, find_id-none}
-use Rattle.club_rows.specs.Club.{ClubState}
-use Rattle.club_reads.specs.Keys.{HasKey}
-use Rattle.club_changes.proofs.Proved.{place_at}
+-- The name of the member who is found by a key.
+use Rattle.std.proofs.Common.{◌≡◌, ℕ, ◌+◌, suc, List, ◌∷◌, [], Option, Some, None, true, refl, sym, subst, ap, ◌∙◌}
+use Rattle.std.proofs.Common.{arith}
+use Rattle.std.specs.Prelude.{is_some, option_map}
+use Rattle.sqlite.specs.Order.{Row}
+use Rattle.sqlite.specs.declared.types.Value.TheVariants.{Null, Text}
+use Rattle.sqlite_rules.specs.Lists.{Has}
+use Rattle.store_tables.specs.Contents.{AreThose}
+use Rattle.club_requests.specs.declared.requests.Caller.TheVariants as caller
+use Rattle.club_core.specs.Members.{Member, find_id}
+use Rattle.club_core.specs.State.{place, caller_found, has_member_key}
+use Rattle.club_laws.proofs.Proved.{find_id-found}
+use Rattle.club_rows.specs.Club.{ClubState, IsClub, tables}
+use Rattle.club_rows.specs.Tables.{member_row}
+use Rattle.club_reads.specs.Keys.{caller_name, holder_of}
+use Rattle.club_changes.proofs.Proved.{numbered_had, with_some, with_none}
+
+-- rows of one id are of that id
+id_same : (z : Row) (m n : ℕ) (x y : Member) → z ≡ member_row m x → z ≡ member_row n y
+    → caller.Member m ≡ caller.Member n
+id_same z m n x y one two = let e = sym one ∙ two in cc
+
+module _ (s : ClubState) (is_club : IsClub s) (key : List ℕ) where
+  -- the row that is found for a key has its holder's name
+  pub holder_some : (found : List Row) (z : Row) (name : List ℕ)
+      → AreThose (2 ∷ []) (Null ∷ Null ∷ Text key ∷ []) (tables s 1) found → Has found z
+      → ((id : ℕ) (m : Member) → z ≡ member_row id m → name ≡ m.name) → Some name ≡ holder_of s key
+  holder_some found z name those has tells =
+      let those_z = those.sound z has in
+      let (n, m, at, is) = numbered_had member_row 1 s.members z those_z.0 in
+      let called = with_some s is_club key found z (caller.Member (1 + n)) those has
+      (λ id x same. id_same z (1 + n) id m x is same) in
+      let next : suc n ≡ 1 + n = omega arith in
+      let stands : place s.members (1 + n) ≡ Some m = subst (λ i. place s.members i ≡ Some m) next at in
+      ap Some (tells (1 + n) m is)
+      ∙ (sym (ap (λ (o : Option Member). option_map (λ (x : Member). x.name) o) stands)
+      ∙ ap (caller_name s.members) called)
+
+  pub holder_none : (found : List Row) → AreThose (2 ∷ []) (Null ∷ Null ∷ Text key ∷ []) (tables s 1) found
+      → found ≡ [] → None ≡ holder_of s key
+  holder_none found those none = ap (caller_name s.members) (with_none s is_club key found those none)
 
 module _ (s : ClubState) (key : List ℕ) where
-  none_has : find_id (has_member_key key) s.members ≡ None → HasKey s key → ⊥
-  none_has none had =
-      let (k, id_is, there) = place_at s.members had.id had.member had.stands in
-      true≢false (sym (bytes_eq-same had.member.key key had.has)
-      ∙ find_id-none (has_member_key key) s.members none k had.member there)
-
-  one_has : (id : ℕ) → find_id (has_member_key key) s.members ≡ Some id → HasKey s key
-  one_has id found =
+  named : (found : Option ℕ) → find_id (has_member_key key) s.members ≡ found → is_some (caller_found found) ≡ true
+      → is_some (caller_name s.members (caller_found found)) ≡ true
+  named None found is = is
+  named (Some id) found is =
       let (m, stands, passes) = find_id-found (has_member_key key) s.members id found in
-      record { id = id; member = m; stands = stands; has = same-bytes_eq m.key key passes }
+      ap (λ (o : Option Member). is_some (option_map (λ (x : Member). x.name) o)) stands
 
-  held_by : (found : Option ℕ) → find_id (has_member_key key) s.members ≡ found
-      → IsTrue (is_some (caller_found found)) ↔ HasKey s key
-  held_by None none = (λ is. absurd (true≢false (sym is)), λ had. absurd (none_has none had))
-  held_by (Some id) found = (λ is. one_has id found, λ had. refl)
-
-  -- the machine finds a caller by a key exactly where a member has it
-  pub key_held : (caller : Option Caller) → caller ≡ caller_found (find_id (has_member_key key) s.members)
-      → IsTrue (is_some caller) ↔ HasKey s key
-  key_held caller is =
-      let Holds : Option Caller → Type 0 = λ c. IsTrue (is_some c) ↔ HasKey s key in
-      subst Holds (sym is) (held_by (find_id (has_member_key key) s.members) refl)
+  -- one whom the machine takes for a member has a name
+  pub holder_named : is_some (caller_found (find_id (has_member_key key) s.members)) ≡ true
+      → is_some (holder_of s key) ≡ true
+  holder_named is = named (find_id (has_member_key key) s.members) refl is

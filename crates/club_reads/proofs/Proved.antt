@@ -1,3 +1,3 @@
 -- What is proved of what the tables of a club tell, for the proofs of crates above.
 pub use Rattle.club_reads.proofs.BeginLemmas.{games_begin}
-pub use Rattle.club_reads.proofs.KeyLemmas.{key_held}
+pub use Rattle.club_reads.proofs.KeyLemmas.{holder_named}

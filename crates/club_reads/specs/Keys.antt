@@ -1,12 +1,17 @@
 -- Whose a key is.
-use Rattle.std.specs.Prelude.{◌≡◌, ℕ, List, Some}
+use Rattle.std.specs.Prelude.{ℕ, List, Option, Some, None, option_map}
+use Rattle.club_requests.specs.declared.requests.Caller.{Caller}
+use Rattle.club_requests.specs.declared.requests.Caller.TheVariants.{Officer, Member as CalledMember}
 use Rattle.club_core.specs.Members.{Member}
-use Rattle.club_core.specs.State.{place}
+use Rattle.club_core.specs.State.{place, key_holder, caller_of}
 use Rattle.club_rows.specs.Club.{ClubState}
 
--- a member of the club has the key
-pub record HasKey (s : ClubState) (key : List ℕ) : Type 0 where
-  pub id : ℕ
-  pub member : Member
-  pub stands : place s.members id ≡ Some member
-  pub has : member.key ≡ key
+-- the name of a caller who is a member
+abbrev pub caller_name : List Member → Option Caller → Option (List ℕ)
+caller_name members None = None
+caller_name members (Some Officer) = None
+caller_name members (Some (CalledMember id)) = option_map (λ (m : Member). m.name) (place members id)
+
+-- the name of the member whom the machine takes one for who shows the key
+abbrev pub holder_of : ClubState → List ℕ → Option (List ℕ)
+holder_of s key = caller_name s.members (caller_of s.members (key_holder key))

@@ -23,6 +23,6 @@ pub use found::first;
 pub use games::{game_under, games_in, ids_in, stored_game};
 pub use known::read_known;
 pub use meta::last_moment;
-pub use people::{all_members, caller_by, is_held, name_of};
+pub use people::{all_members, caller_by, holder_of, name_of};
 pub use played::played_under;
 pub use shown::{asked_view, row_of, view};

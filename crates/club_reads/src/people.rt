@@ -17,8 +17,8 @@ ghost use Rattle.club_rows.specs.Club.{ClubState, IsClub, tables};
 ghost use Rattle.club_core.specs.Answer.{who_of};
 ghost use Rattle.club_core.specs.Members.{find_id};
 ghost use Rattle.club_core.specs.State.{caller_found, caller_of, has_member_key};
-ghost use Rattle.std.specs.Prelude.{◌↔◌, Err, IsTrue};
-ghost use Rattle.club_reads.specs.Keys.{HasKey};
+ghost use Rattle.std.specs.Prelude.{Err, option_map};
+ghost use Rattle.club_reads.specs.Keys.{holder_of};
 
 use crate::fault::CallFault;
 use crate::found::first;
@@ -137,18 +137,20 @@ pub fn name_of<S: Alter>(
     }
 }
 
-/// Whether a member has the key.
-pub fn is_held<S: Alter>(
+/// The name of the member who has the key, if there is one.
+pub fn holder_of<S: Alter>(
     alloc: Global,
     conn: &mut Connection<S>,
     key: &str,
-) -> Result<bool, CallFault>
+) -> Result<Option<String>, CallFault>
     ensures reads { OnlyReads (state S.Store conn.old) (state S.Store conn.new) }
     ensures kept { HasCleanDisk (state S.Store conn.new) → OnOk result (KeepsContent (state S.Store conn.old)
         (state S.Store conn.new)) }
-    ensures held { HasCleanDisk (state S.Store conn.new) → IfOk result (λ found. (s : ClubState) → IsClub s →
-        IsExactly (tables s) (state S.Store conn.old) → IsTrue found ↔ HasKey s key.now) }
+    ensures held { HasCleanDisk (state S.Store conn.new) → IfOk result (λ name. (s : ClubState) → IsClub s →
+        IsExactly (tables s) (state S.Store conn.old) → option_map string_bytes name ≡ holder_of s key.now) }
 {
-    let member = member_with(alloc, conn, key)?;
-    Ok(member.is_some())
+    match first(find(alloc, conn, &MemberKey { key })?) {
+        Some(row) => Ok(Some(row.name)),
+        None => Ok(None),
+    }
 }

@@ -6,7 +6,7 @@ use club_requests::{
     OutsideEnd, Refusal, Who, Withdraw,
 };
 use http_bodies::GameShown;
-use http_desk::{Closed, ClubFault, DeskFault, Routes, ServedClub, answer};
+use http_desk::{Closed, ClubFault, DeskFault, Replied, Routes, ServedClub, answer};
 use http_port::{Countdown, Deadline, serve_one};
 use squares::Score;
 use std::alloc::Global;
@@ -155,11 +155,14 @@ impl ServedClub for Toy {
 
     ghost IsShut = { λ b fault. ⊥ };
 
-    fn has_key(&mut self, _alloc: Global, key: &str) -> Result<bool, ClubFault> {
-        match self.fault {
-            Some(fault) => Err(fault),
-            None => Ok(key.as_bytes() == b"keyanna1".as_slice()),
+    fn holder_of(&mut self, alloc: Global, key: &str) -> Result<Option<String>, ClubFault> {
+        if let Some(fault) = self.fault {
+            return Err(fault);
         }
+        if key.as_bytes() != b"keyanna1".as_slice() {
+            return Ok(None);
+        }
+        Ok(Some(text(alloc, "anna")?))
     }
 
     fn view_game(&mut self, alloc: Global, game: u64) -> Result<Option<GameShown>, ClubFault> {
@@ -222,6 +225,13 @@ fn request(alloc: Global, line: &str, body: &str) -> Result<Vec<u8>, Fail> {
     Ok(bytes)
 }
 
+// What is replied at a moment.
+fn replied<C: ServedClub>(alloc: Global, club: &mut C, bytes: &[u8]) -> Option<Replied> {
+    let moment = Moment::new(1000)?;
+    let routes = Routes::new(alloc).ok()?;
+    answer(alloc, &routes, club, bytes, moment).ok()
+}
+
 // The reply begins and ends so; its length, or 0 where there is none.
 fn begins_and_ends<R: Abort + AllocGlobal, C: ServedClub>(
     rt: &R,
@@ -230,20 +240,9 @@ fn begins_and_ends<R: Abort + AllocGlobal, C: ServedClub>(
     front: &str,
     end: &str,
 ) -> usize {
-    let Some(moment) = Moment::new(1000) else {
+    let Some(Replied { reply, caller: _ }) = replied(rt.alloc(), club, bytes) else {
         assert!(rt; false);
         return 0;
-    };
-    let Ok(routes) = Routes::new(rt.alloc()) else {
-        assert!(rt; false);
-        return 0;
-    };
-    let reply = match answer(rt.alloc(), &routes, club, bytes, moment) {
-        Ok(reply) => reply,
-        Err(_) => {
-            assert!(rt; false);
-            return 0;
-        }
     };
     assert!(rt; reply.starts_with(front.as_bytes()));
     assert!(rt; reply.ends_with(end.as_bytes()));
@@ -298,6 +297,46 @@ fn a_club_that_fails_is_told(rt: HostRuntime) {
         head,
         "{\"error\":82,\"name\":\"NoRoute\"}",
     );
+}
+
+// Whether anna is said to have asked by these bytes.
+fn asks_as_anna<C: ServedClub>(alloc: Global, club: &mut C, bytes: &[u8]) -> bool {
+    let Some(Replied { reply: _, caller }) = replied(alloc, club, bytes) else {
+        return false;
+    };
+    match caller {
+        Some(name) => name.as_bytes() == b"anna".as_slice(),
+        None => false,
+    }
+}
+
+// Whether nobody is said to have asked by these bytes.
+fn asks_as_nobody<C: ServedClub>(alloc: Global, club: &mut C, bytes: &[u8]) -> bool {
+    match replied(alloc, club, bytes) {
+        Some(replied) => replied.caller.is_none(),
+        None => false,
+    }
+}
+
+#[test]
+fn who_asked_is_known_by_the_key(rt: HostRuntime) -> Result<(), Fail> {
+    let alloc = rt.alloc();
+    let mut club = new_club();
+    let shown = request(alloc, "GET /games/1", "")?;
+    assert!(rt; asks_as_anna(alloc, &mut club, &shown));
+    let refused = request(alloc, "POST /games/8/moves/1", "{}")?;
+    assert!(rt; asks_as_anna(alloc, &mut club, &refused));
+    let page = request(alloc, "GET /play", "")?;
+    assert!(rt; asks_as_nobody(alloc, &mut club, &page));
+    let unrouted = request(alloc, "GET /nowhere", "")?;
+    assert!(rt; asks_as_nobody(alloc, &mut club, &unrouted));
+    let stranger = b"GET /games/1 HTTP/1.0\r\nMember-Key: keyanna2\r\n\r\n".as_slice();
+    assert!(rt; asks_as_nobody(alloc, &mut club, stranger));
+    let twice = b"GET /games/1 HTTP/1.0\r\nMember-Key: keyanna1\r\nMember-Key: keyanna1\r\n\r\n";
+    assert!(rt; asks_as_nobody(alloc, &mut club, twice.as_slice()));
+    club.fault = Some(ClubFault::Reopen);
+    assert!(rt; asks_as_nobody(alloc, &mut club, &shown));
+    Ok(())
 }
 
 #[test]

@@ -1,12 +1,12 @@
 -- A club that cannot be taken over: it knows no key and shows nothing.
-use Rattle.std.specs.Prelude.{false}
+use Rattle.std.specs.Prelude.{None}
 use Rattle.club_requests.specs.declared.refusals.Refusal.TheVariants.{UnknownKey}
 use Rattle.club_requests.specs.Outcome.{refused}
 use Rattle.http_desk.specs.Served.{Club}
 
 abbrev pub closed : Club (Unit {0})
 closed = record {
-  has_key = λ s key. false;
+  holder_of = λ s key. None;
   IsGame = λ s game found. ⊥;
   AreLegal = λ s game rows. ⊥;
   IsShown = λ s moment question shown. ⊥;

@@ -1,6 +1,6 @@
 -- What the desk answers: by the club's state and by what the bytes amount to.
 use Rattle.std.specs.Prelude.{◌≡◌, ◌⊎◌, ℕ, Bool, ◌&&◌, List, [], Option, Some, None, Result, Ok, Err, option_map, codes}
-use Rattle.std.specs.Prelude.{if◌then◌else◌, ⊤}
+use Rattle.std.specs.Prelude.{if◌then◌else◌, is_some, ⊤}
 use Rattle.std.specs.Str.{bytes_eq, is_utf8}
 use Rattle.serde_json.specs.Written.{compact_text}
 use Rattle.club_requests.specs.declared.refusals.Refusal as of_club
@@ -122,7 +122,7 @@ serve_page club s moment key body (answer member n) = serve_command club s momen
 abbrev pub serve_known : {S : Type 0} → Club S → S → ℕ → Option (List ℕ) → List ℕ → Asked → S × Due
 serve_known club s moment None body asked = (s, this (refusal (OfClub UnknownKey)))
 serve_known club s moment (Some key) body asked =
-    if is_utf8 key && club.has_key s key then serve_page club s moment key body
+    if is_utf8 key && is_some (club.holder_of s key) then serve_page club s moment key body
     asked else (s, this (refusal (OfClub UnknownKey)))
 
 -- what anybody is shown, or a page for the bearer of a key
@@ -141,6 +141,32 @@ serve_asked club s moment request (Some asked) =
 unfoldable pub serve : {S : Type 0} → Club S → S → ℕ → Request → S × Due
 serve club s moment request = serve_asked club s moment request (asked_of request.target)
 
+-- ---- who asks
+
+-- the name of the member whose key is shown
+abbrev pub known_caller : {S : Type 0} → Club S → S → Option (List ℕ) → Option (List ℕ)
+known_caller club s None = None
+known_caller club s (Some key) = if is_utf8 key then club.holder_of s key else None
+
+-- nobody is asked who it is where something is shown to anybody
+abbrev pub caller_for : {S : Type 0} → Club S → S → Option (List ℕ) → Asked → Option (List ℕ)
+caller_for club s key asked = if is_for_all asked then None else known_caller club s key
+
+abbrev pub asked_caller : {S : Type 0} → Club S → S → Request → Option Asked → Option (List ℕ)
+asked_caller club s request None = None
+asked_caller club s request (Some asked) =
+    if is_method request.method (method_of asked) then caller_for club s request.key asked else None
+
+-- the name of the member who asks by a whole request, where it asks for what is shown to members
+unfoldable pub caller : {S : Type 0} → Club S → S → Request → Option (List ℕ)
+caller club s request = asked_caller club s request (asked_of request.target)
+
+-- the same of what bytes amount to
+abbrev pub caller_behind : {S : Type 0} → Club S → S → Seen → Option (List ℕ)
+caller_behind club s unfinished = None
+caller_behind club s (refused r) = None
+caller_behind club s (whole request) = caller club s request
+
 -- why an open club gives no answer
 abbrev pub IsStop : Fault → Type 0
 IsStop (stop.Club fault) = IsOfCall fault
@@ -152,6 +178,11 @@ abbrev pub ServesDue : {S A : Type 0} → Club S → (S → Type 0) → (S → S
 ServesDue club stands leaves view s due result =
     Serves stands leaves s due.0 (λ a. IsDue club s due.1 (view a)) IsStop result
 
+-- who is told to have asked: the one who is due, or at a fault that one or nobody
+abbrev pub TellsCaller : {A : Type 0} → Option (List ℕ) → Option (List ℕ) → Result A Fault → Type 0
+TellsCaller due told (Ok a) = told ≡ due
+TellsCaller due told (Err fault) = (told ≡ None) ⊎ (told ≡ due)
+
 -- ---- replies
 
 -- the reply tells a fault of a call on the club, and one of two states is left
@@ -159,6 +190,12 @@ abbrev pub TellsFault : {S : Type 0} → (S → S → Type 0) → S → S → Bo
 TellsFault leaves s next without_body reply =
     (fault : ClubFault) × IsOfCall fault
     × (reply ≡ fault_reply (club_fault_number fault) (club_fault_name fault) without_body) × leaves s next
+
+-- who is told to have asked: nobody else than the one who did, and nobody at all only where the reply tells a fault
+abbrev pub NamesCaller : {S : Type 0} → Club S → S → Bool → Seen → List ℕ → Option (List ℕ) → Type 0
+NamesCaller club s without_body seen reply told = (told ≡ caller_behind club s seen)
+    ⊎ ((told ≡ None) × (fault : ClubFault) × IsOfCall fault
+    × (reply ≡ fault_reply (club_fault_number fault) (club_fault_name fault) without_body))
 
 -- the reply shows the answer that is due, and the state behind it stands
 abbrev pub ShowsDue : {S : Type 0} → Club S → (S → Type 0) → S → S × Due → Bool → List ℕ → Type 0
@@ -228,3 +265,8 @@ abbrev pub Answers : {S A F : Type 0} → Club S → (S → Type 0) → (S → S
     → Result A F → Type 0
 Answers club stands leaves view s moment bytes result =
     (seen : Seen) × Sees bytes seen × RepliesTo club stands leaves view s moment (asks_head bytes) seen result
+
+-- who is told to have asked by bytes, beside the reply to them
+abbrev pub NamesCallerOf : {S : Type 0} → Club S → S → List ℕ → List ℕ → Option (List ℕ) → Type 0
+NamesCallerOf club s bytes reply told =
+    (seen : Seen) × Sees bytes seen × NamesCaller club s (asks_head bytes) seen reply told

@@ -1,5 +1,5 @@
 -- A club as the desk sees it, and what a call on it leaves.
-use Rattle.std.specs.Prelude.{◌≡◌, ◌⊎◌, ℕ, Bool, List, Option, Result, Ok, Err}
+use Rattle.std.specs.Prelude.{◌≡◌, ◌⊎◌, ℕ, List, Option, Result, Ok, Err}
 use Rattle.club_requests.specs.Outcome.{Outcome}
 use Rattle.club_requests.specs.declared.refusals.Refusal.{Refusal}
 use Rattle.club_questions.specs.declared.questions.Question.{Question}
@@ -10,8 +10,8 @@ use Rattle.http_desk.specs.declared.faults.ClubFault.TheVariants.{Store, Memory}
 
 -- what is asked of a club in a state: what it shows are relations, what it does are functions
 pub record Club (S : Type 0) : Type 1 where
-  -- whether a member has the key
-  pub has_key : S → List ℕ → Bool
+  -- the name of the member who has the key, where there is one
+  pub holder_of : S → List ℕ → Option (List ℕ)
   -- the game of that number as it is shown, where there is one
   pub IsGame : S → ℕ → Option GameShown → Type 0
   -- its legal moves as they are written, in their order

@@ -30,7 +30,7 @@ impl ServedClub for Closed {
 
     ghost IsShut = { λ b fault. b.fault ≡ fault };
 
-    fn has_key(&mut self, _alloc: Global, _key: &str) -> Result<bool, ClubFault> {
+    fn holder_of(&mut self, _alloc: Global, _key: &str) -> Result<Option<String>, ClubFault> {
         Err(self.fault)
     }
 

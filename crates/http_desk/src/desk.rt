@@ -1,5 +1,5 @@
 //! The answer to a request.
-ghost use Rattle.std.specs.Prelude.{◌≡◌, IfOk, IfErr, option_map, option_and_then};
+ghost use Rattle.std.specs.Prelude.{◌≡◌, None, IfOk, IfErr, option_map, option_and_then, string_bytes};
 ghost use Rattle.http_head.specs.Request.{whole};
 ghost use Rattle.http_head.specs.RequestViews.{request_view, seen_view};
 ghost use Rattle.http_desk.specs.RouteViews.{asked_view};
@@ -7,6 +7,8 @@ ghost use Rattle.http_desk.specs.Routes.{text_of};
 ghost use Rattle.http_desk.specs.Desk.{is_method, answer_reply, serve_page, serve_known, serve_caller, serve_asked, serve};
 ghost use Rattle.http_desk.specs.Desk.{ServesDue, RepliesTo, Answers, shut_known, shut_caller, shut_asked, shut_serve};
 ghost use Rattle.http_desk.specs.Desk.{shut_text, shut_reply, IsShutReply};
+ghost use Rattle.http_desk.specs.Desk.{known_caller, caller_for, asked_caller, caller, TellsCaller};
+ghost use Rattle.http_desk.specs.Desk.{NamesCaller, NamesCallerOf};
 ghost use Rattle.http_desk.specs.DeskViews.{answer_view, IsShutBy};
 
 use crate::commands::{serve_command, turn_given, withdrawal};
@@ -30,6 +32,22 @@ pub(crate) enum Shown {
     Shows(Kind, Vec<u8>),
     /// The page on which members play.
     Page,
+}
+
+// What is shown, and to whom: the name of the member whose key was shown, as soon as that is known.
+#[derive(Drop)]
+struct Served {
+    shown: Result<Shown, Fault>,
+    caller: Option<String>,
+}
+
+/// What is replied, and to whom.
+#[derive(Drop)]
+pub struct Replied {
+    /// The bytes of the reply.
+    pub reply: Vec<u8>,
+    /// The name of the member who asked, where a key was asked for and is a member's.
+    pub caller: Option<String>,
 }
 
 /// Why there is no answer.
@@ -127,23 +145,38 @@ fn serve_known<C: ServedClub>(
     body: &[u8],
     asked: Asked<'_>,
     moment: Moment,
-) -> Result<Shown, Fault>
+) -> Served
     ensures clean { C.IsClean club.new → C.IsClean club.old }
     ensures shut { (fault : ClubFault) → C.IsShut club.old fault → C.IsShut club.new fault ×
-        IsShutBy (shut_known fault (option_map (λ k. k.now) key.entry)) result }
+        IsShutBy (shut_known fault (option_map (λ k. k.now) key.entry)) result.shown }
+    ensures nobody { (fault : ClubFault) → C.IsShut club.old fault → result.caller ≡ None }
     ensures serves { C.IsClean club.new → (s : C.State) → C.Stands club.old s →
         ServesDue C.club (C.Stands club.new) (C.Leaves club.new) answer_view s
-        (serve_known C.club s moment (option_map (λ k. k.now) key.entry) body.now (asked_view asked.entry)) result }
+        (serve_known C.club s moment (option_map (λ k. k.now) key.entry) body.now (asked_view asked.entry))
+        result.shown }
+    ensures caller { C.IsClean club.new → (s : C.State) → C.Stands club.old s →
+        TellsCaller (known_caller C.club s (option_map (λ k. k.now) key.entry))
+        (option_map string_bytes result.caller) result.shown }
 {
-    match key_text(key) {
-        None => Ok(Shown::Refused(Refusal::Club(ClubRefusal::UnknownKey))),
-        Some(key) => {
-            if club.has_key(alloc, key)? {
-                serve_page(alloc, club, key, body, asked, moment)
-            } else {
-                Ok(Shown::Refused(Refusal::Club(ClubRefusal::UnknownKey)))
-            }
-        }
+    let Some(key) = key_text(key) else {
+        return Served {
+            shown: Ok(Shown::Refused(Refusal::Club(ClubRefusal::UnknownKey))),
+            caller: None,
+        };
+    };
+    match club.holder_of(alloc, key) {
+        Ok(Some(name)) => Served {
+            shown: serve_page(alloc, club, key, body, asked, moment),
+            caller: Some(name),
+        },
+        Ok(None) => Served {
+            shown: Ok(Shown::Refused(Refusal::Club(ClubRefusal::UnknownKey))),
+            caller: None,
+        },
+        Err(fault) => Served {
+            shown: Err(Fault::Club(fault)),
+            caller: None,
+        },
     }
 }
 
@@ -154,17 +187,24 @@ fn serve_caller<C: ServedClub>(
     request: &Request<'_>,
     asked: Asked<'_>,
     moment: Moment,
-) -> Result<Shown, Fault>
+) -> Served
     ensures clean { C.IsClean club.new → C.IsClean club.old }
     ensures shut { (fault : ClubFault) → C.IsShut club.old fault → C.IsShut club.new fault ×
-        IsShutBy (shut_caller fault (request_view request.now).key (asked_view asked.entry)) result }
+        IsShutBy (shut_caller fault (request_view request.now).key (asked_view asked.entry)) result.shown }
+    ensures nobody { (fault : ClubFault) → C.IsShut club.old fault → result.caller ≡ None }
     ensures serves { C.IsClean club.new → (s : C.State) → C.Stands club.old s →
         ServesDue C.club (C.Stands club.new) (C.Leaves club.new) answer_view s
         (serve_caller C.club s moment (request_view request.now).key (request_view request.now).body
-        (asked_view asked.entry)) result }
+        (asked_view asked.entry)) result.shown }
+    ensures caller { C.IsClean club.new → (s : C.State) → C.Stands club.old s →
+        TellsCaller (caller_for C.club s (request_view request.now).key (asked_view asked.entry))
+        (option_map string_bytes result.caller) result.shown }
 {
     if asked.is_for_all() {
-        Ok(Shown::Page)
+        Served {
+            shown: Ok(Shown::Page),
+            caller: None,
+        }
     } else {
         serve_known(alloc, club, request.key, request.body, asked, moment)
     }
@@ -177,42 +217,56 @@ fn serve_asked<C: ServedClub>(
     request: &Request<'_>,
     asked: Option<Asked<'_>>,
     moment: Moment,
-) -> Result<Shown, Fault>
+) -> Served
     ensures clean { C.IsClean club.new → C.IsClean club.old }
     ensures shut { (fault : ClubFault) → C.IsShut club.old fault → C.IsShut club.new fault ×
-        IsShutBy (shut_asked fault (request_view request.now) (option_map asked_view asked.entry)) result }
+        IsShutBy (shut_asked fault (request_view request.now) (option_map asked_view asked.entry)) result.shown }
+    ensures nobody { (fault : ClubFault) → C.IsShut club.old fault → result.caller ≡ None }
     ensures serves { C.IsClean club.new → (s : C.State) → C.Stands club.old s →
         ServesDue C.club (C.Stands club.new) (C.Leaves club.new) answer_view s
-        (serve_asked C.club s moment (request_view request.now) (option_map asked_view asked.entry)) result }
+        (serve_asked C.club s moment (request_view request.now) (option_map asked_view asked.entry)) result.shown }
+    ensures caller { C.IsClean club.new → (s : C.State) → C.Stands club.old s →
+        TellsCaller (asked_caller C.club s (request_view request.now) (option_map asked_view asked.entry))
+        (option_map string_bytes result.caller) result.shown }
 {
     match asked {
-        None => Ok(Shown::Refused(Refusal::NoRoute)),
+        None => Served {
+            shown: Ok(Shown::Refused(Refusal::NoRoute)),
+            caller: None,
+        },
         Some(asked) => {
             let method = asked.method();
             if is_method(request.method, method) {
                 serve_caller(alloc, club, request, asked, moment)
             } else {
-                Ok(Shown::Refused(Refusal::WrongMethod(method)))
+                Served {
+                    shown: Ok(Shown::Refused(Refusal::WrongMethod(method))),
+                    caller: None,
+                }
             }
         }
     }
 }
 
 // The answer to a whole request.
-#[tactic(auto, unfolding(crate::specs::Desk::serve, crate::specs::Desk::shut_serve))]
+#[tactic(auto, unfolding(crate::specs::Desk::serve, crate::specs::Desk::shut_serve, crate::specs::Desk::caller))]
 fn serve<C: ServedClub>(
     alloc: Global,
     routes: &Routes,
     club: &mut C,
     request: &Request<'_>,
     moment: Moment,
-) -> Result<Shown, Fault>
+) -> Served
     ensures clean { C.IsClean club.new → C.IsClean club.old }
     ensures shut { (fault : ClubFault) → C.IsShut club.old fault → C.IsShut club.new fault ×
-        IsShutBy (shut_serve fault (request_view request.now)) result }
+        IsShutBy (shut_serve fault (request_view request.now)) result.shown }
+    ensures nobody { (fault : ClubFault) → C.IsShut club.old fault → result.caller ≡ None }
     ensures serves { C.IsClean club.new → (s : C.State) → C.Stands club.old s →
         ServesDue C.club (C.Stands club.new) (C.Leaves club.new) answer_view s
-        (serve C.club s moment (request_view request.now)) result }
+        (serve C.club s moment (request_view request.now)) result.shown }
+    ensures caller { C.IsClean club.new → (s : C.State) → C.Stands club.old s →
+        TellsCaller (caller C.club s (request_view request.now)) (option_map string_bytes result.caller)
+        result.shown }
 {
     let asked = routes.asked_of(request.target);
     serve_asked(alloc, club, request, asked, moment)
@@ -237,24 +291,29 @@ fn reply_whole<C: ServedClub>(
     request: &Request<'_>,
     moment: Moment,
     without_body: bool,
-) -> Result<Vec<u8>, DeskFault>
+) -> Result<Replied, DeskFault>
     ensures fault { IfErr result (λ e. e ≡ DeskFault.Memory) }
     ensures clean { C.IsClean club.new → C.IsClean club.old }
     ensures shut { (fault : ClubFault) → C.IsShut club.old fault → C.IsShut club.new fault ×
-        IfOk result (λ v. v.items ≡ shut_text (shut_serve fault (request_view request.now)) without_body) }
+        IfOk result (λ v. v.reply.items ≡ shut_text (shut_serve fault (request_view request.now)) without_body) }
+    ensures nobody { (fault : ClubFault) → C.IsShut club.old fault → IfOk result (λ v. v.caller ≡ None) }
     ensures replies { C.IsClean club.new → (s : C.State) → C.Stands club.old s →
-        RepliesTo C.club (C.Stands club.new) (C.Leaves club.new) (λ v. v.items) s moment without_body
+        RepliesTo C.club (C.Stands club.new) (C.Leaves club.new) (λ v. v.reply.items) s moment without_body
         (whole (request_view request.now)) result }
+    ensures caller { C.IsClean club.new → (s : C.State) → C.Stands club.old s → IfOk result (λ v.
+        NamesCaller C.club s without_body (whole (request_view request.now)) v.reply.items
+        (option_map string_bytes v.caller)) }
 {
-    match serve(alloc, routes, club, request, moment) {
+    let Served { shown, caller } = serve(alloc, routes, club, request, moment);
+    match shown {
         Ok(answer) => {
             let reply = answer_reply(alloc, answer, without_body)?;
-            Ok(reply)
+            Ok(Replied { reply, caller })
         }
         Err(Fault::Memory) => Err(DeskFault::Memory),
         Err(Fault::Club(fault)) => {
             let reply = fault_reply(alloc, fault.number(), fault.name(), without_body)?;
-            Ok(reply)
+            Ok(Replied { reply, caller })
         }
     }
 }
@@ -267,40 +326,54 @@ fn reply<C: ServedClub>(
     seen: Seen<'_>,
     moment: Moment,
     without_body: bool,
-) -> Result<Vec<u8>, DeskFault>
+) -> Result<Replied, DeskFault>
     ensures fault { IfErr result (λ e. e ≡ DeskFault.Memory) }
     ensures clean { C.IsClean club.new → C.IsClean club.old }
     ensures shut { (fault : ClubFault) → C.IsShut club.old fault → C.IsShut club.new fault ×
-        IfOk result (λ v. v.items ≡ shut_reply fault without_body (seen_view seen.entry)) }
+        IfOk result (λ v. v.reply.items ≡ shut_reply fault without_body (seen_view seen.entry)) }
+    ensures nobody { (fault : ClubFault) → C.IsShut club.old fault → IfOk result (λ v. v.caller ≡ None) }
     ensures replies { C.IsClean club.new → (s : C.State) → C.Stands club.old s →
-        RepliesTo C.club (C.Stands club.new) (C.Leaves club.new) (λ v. v.items) s moment without_body
+        RepliesTo C.club (C.Stands club.new) (C.Leaves club.new) (λ v. v.reply.items) s moment without_body
         (seen_view seen.entry) result }
+    ensures caller { C.IsClean club.new → (s : C.State) → C.Stands club.old s → IfOk result (λ v.
+        NamesCaller C.club s without_body (seen_view seen.entry) v.reply.items (option_map string_bytes v.caller)) }
 {
     match seen {
-        Seen::Unfinished => Ok(Vec::new(alloc)),
+        Seen::Unfinished => Ok(Replied {
+            reply: Vec::new(alloc),
+            caller: None,
+        }),
         Seen::Refused(refusal) => {
             let reply = refusal_reply(alloc, Refusal::Head(refusal), without_body)?;
-            Ok(reply)
+            Ok(Replied {
+                reply,
+                caller: None,
+            })
         }
         Seen::Whole(request) => reply_whole(alloc, routes, club, &request, moment, without_body),
     }
 }
 
 /// The reply to the bytes of a connection at a moment: that of the least beginning that is a whole request or refused,
-/// and no bytes where there is none yet. A club that is shut by a fault tells it to every request that comes to it.
+/// and no bytes where there is none yet; and the name of the member who asked, where the request asks for what is shown
+/// to members and its key is one's. A club that is shut by a fault tells it to every request that comes to it, and
+/// knows nobody.
 pub fn answer<C: ServedClub>(
     alloc: Global,
     routes: &Routes,
     club: &mut C,
     bytes: &[u8],
     moment: Moment,
-) -> Result<Vec<u8>, DeskFault>
+) -> Result<Replied, DeskFault>
     ensures fault { IfErr result (λ e. e ≡ DeskFault.Memory) }
     ensures clean { C.IsClean club.new → C.IsClean club.old }
     ensures shut { (fault : ClubFault) → C.IsShut club.old fault → C.IsShut club.new fault ×
-        IfOk result (λ v. IsShutReply fault bytes.now v.items) }
+        IfOk result (λ v. IsShutReply fault bytes.now v.reply.items) }
+    ensures nobody { (fault : ClubFault) → C.IsShut club.old fault → IfOk result (λ v. v.caller ≡ None) }
     ensures replies { C.IsClean club.new → (s : C.State) → C.Stands club.old s →
-        Answers C.club (C.Stands club.new) (C.Leaves club.new) (λ v. v.items) s moment bytes.now result }
+        Answers C.club (C.Stands club.new) (C.Leaves club.new) (λ v. v.reply.items) s moment bytes.now result }
+    ensures caller { C.IsClean club.new → (s : C.State) → C.Stands club.old s → IfOk result (λ v.
+        NamesCallerOf C.club s bytes.now v.reply.items (option_map string_bytes v.caller)) }
 {
     let reading = read_request(bytes);
     let reply = reply(alloc, routes, club, reading.seen, moment, reading.asks_head)?;

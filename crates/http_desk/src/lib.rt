@@ -12,7 +12,7 @@ pub mod routes;
 pub mod served;
 
 pub use closed::Closed;
-pub use desk::answer;
+pub use desk::{Replied, answer};
 pub use faults::{ClubFault, DeskFault};
 pub use routes::Routes;
 pub use served::ServedClub;

@@ -1,5 +1,5 @@
 //! What the desk asks of a club.
-ghost use Rattle.std.specs.Prelude.{◌≡◌, Err};
+ghost use Rattle.std.specs.Prelude.{◌≡◌, Err, option_map, string_bytes};
 ghost use Rattle.club_core.specs.Answer.{command_of, outcome_of, who_of};
 ghost use Rattle.http_bodies.specs.ShownViews.{found_view, rows_view, shown_view};
 ghost use Rattle.http_desk.specs.Served.{Club, IsOfCall, Serves};
@@ -29,14 +29,14 @@ pub trait ServedClub {
 
     ghost IsShut: { Self → ClubFault → Type 0 };
 
-    /// Whether a member has the key.
-    fn has_key(&mut self, alloc: Global, key: &str) -> Result<bool, ClubFault>
+    /// The name of the member who has the key, if there is one.
+    fn holder_of(&mut self, alloc: Global, key: &str) -> Result<Option<String>, ClubFault>
         ensures clean { IsClean self.new → IsClean self.old }
         ensures shut { (fault : ClubFault) → IsShut self.old fault →
             (result ≡ Err fault) × IsShut self.new fault }
         ensures serves { IsClean self.new → (s : State) → Stands self.old s →
-            Serves (Stands self.new) (Leaves self.new) s s (λ found. found ≡ club.has_key s key.now)
-            IsOfCall result };
+            Serves (Stands self.new) (Leaves self.new) s s
+            (λ name. option_map string_bytes name ≡ club.holder_of s key.now) IsOfCall result };
 
     /// A game as members see it, if there is one of that number.
     fn view_game(&mut self, alloc: Global, game: u64) -> Result<Option<GameShown>, ClubFault>

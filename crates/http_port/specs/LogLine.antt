@@ -1,7 +1,8 @@
--- The line that is written of a connection: moment, method, path and status. The key that was shown is no part of it.
+-- The line that is written of a connection: moment, method, path, status and the name of the member who asked. The key
+-- that was shown is no part of it.
 -- And the line of an order of the officer's: moment, `officer`, its word, and the status with which that ends.
 use Rattle.std.specs.Prelude.{◌≡◌, ◌⊎◌, ◌++◌, ◌+◌, ◌-◌, ◌^◌, ℕ, List, [], Option, Some, None, Result, Ok, Err, codes, decimal}
-use Rattle.std.specs.Prelude.{Bool, take, min, nat_lt, option_and_then, if◌then◌else◌}
+use Rattle.std.specs.Prelude.{Bool, take, min, nat_lt, option_and_then, option_map, string_bytes, if◌then◌else◌}
 use Rattle.std.specs.Char.{is_ascii_graphic}
 use Rattle.std.specs.Io.KnownBytes.{Appends}
 use Rattle.std.specs.List.{list_all}
@@ -14,9 +15,9 @@ use Rattle.club_requests.specs.declared.requests.Command.{Command as Given}
 use Rattle.club_requests.specs.declared.requests.Command.TheVariants as command
 use Rattle.club_rules.specs.declared.records.RecordFormat.{RecordFormat}
 use Rattle.club_rules.specs.declared.records.RecordFormat.TheVariants.{Pdn, Csa}
-use Rattle.http_port.specs.declared.orders.Errand.{Errand}
-use Rattle.http_port.specs.declared.orders.Errand.TheVariants.{Command, Question}
-use Rattle.http_port.specs.declared.orders.OrderFault.{OrderFault}
+use Rattle.officer_door.specs.declared.orders.Errand.{Errand}
+use Rattle.officer_door.specs.declared.orders.Errand.TheVariants.{Command, Question}
+use Rattle.officer_door.specs.declared.orders.OrderFault.{OrderFault}
 use Rattle.http_port.specs.declared.log_lines.Noted.{Noted}
 use Rattle.http_port.specs.declared.log_lines.Noted.TheVariants.{Call, Order}
 use Rattle.http_port.specs.declared.serve.Exchange.{Exchange}
@@ -49,15 +50,22 @@ abbrev pub status_written : Option ℕ → List ℕ
 status_written None = codes "-"
 status_written (Some status) = decimal status
 
+-- the name of the member who asked, or a mark in its place where nobody did who is known
+abbrev pub caller_written : Option (List ℕ) → List ℕ
+caller_written name = or_mark (option_and_then shown name)
+
 abbrev pub fault_written : DeskFault → List ℕ
 fault_written Memory = codes "memory was refused"
 fault_written Read = codes "the request could not be read"
 fault_written Write = codes "the reply could not be written"
 
-abbrev pub line_written : ℕ → List ℕ → List ℕ → Option ℕ → List ℕ
-line_written moment method path status =
-    decimal moment
-    ++ (codes " " ++ (method ++ (codes " " ++ (path ++ (codes " " ++ (status_written status ++ codes "\n"))))))
+-- what stands behind the path
+abbrev pub end_written : Option ℕ → List ℕ → List ℕ
+end_written status caller = codes " " ++ (status_written status ++ (codes " " ++ (caller ++ codes "\n")))
+
+abbrev pub line_written : ℕ → List ℕ → List ℕ → Option ℕ → List ℕ → List ℕ
+line_written moment method path status caller =
+    decimal moment ++ (codes " " ++ (method ++ (codes " " ++ (path ++ end_written status caller))))
 
 abbrev pub fault_line_written : ℕ → DeskFault → List ℕ
 fault_line_written moment fault = decimal moment ++ (codes " - - " ++ (fault_written fault ++ codes "\n"))
@@ -65,7 +73,8 @@ fault_line_written moment fault = decimal moment ++ (codes " - - " ++ (fault_wri
 -- the line of what the bytes of a connection amount to and of its reply, or of why there was none
 abbrev pub IsCallLine : ℕ → Result Exchange DeskFault → List ℕ → Type 0
 IsCallLine moment (Ok done) line = (seen : Seen) × Sees done.bytes.items seen
-    × (line ≡ line_written moment (method_written seen) (path_written seen) (status_in done.reply.items))
+    × (line ≡ line_written moment (method_written seen) (path_written seen) (status_in done.reply.items)
+    (caller_written (option_map string_bytes done.caller)))
 IsCallLine moment (Err fault) line = line ≡ fault_line_written moment fault
 
 -- how many lines were left out since the last one that was written, where there are such

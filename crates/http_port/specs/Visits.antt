@@ -6,8 +6,8 @@ use Rattle.http_desk.specs.Desk.{Answers, state_behind}
 use Rattle.http_desk.specs.Served.{Club}
 use Rattle.http_head.specs.Request.{Seen, Sees}
 use Rattle.http_port.specs.declared.serve.Exchange.{Exchange}
-use Rattle.http_port.specs.declared.orders.Errand.{Errand}
-use Rattle.http_port.specs.Orders.{HasObeyed}
+use Rattle.officer_door.specs.declared.orders.Errand.{Errand}
+use Rattle.officer_door.specs.Orders.{HasObeyed}
 
 -- the reply is that to the bytes that were heard
 abbrev pub IsAnswered : {S : Type 0} → Club S → (S → Type 0) → (S → S → Type 0) → S → ℕ → Result Exchange DeskFault

@@ -1,15 +1,12 @@
 //! Those who come to a port of this machine. Sockets and clocks are read here, and what they give is not proved.
 
-ghost use Rattle.http_port.specs.Orders.{HasObeyed};
 ghost use Rattle.http_port.specs.Visits.{HasActedOn, HasServed};
+ghost use Rattle.officer_door.specs.Orders.{HasObeyed};
 
 use crate::caller::{Caller, Replying, hear_at, silent_at, take_out, timed};
-use crate::door::{DOOR, Door, Ordered};
 use crate::heard::{Come, Heard};
-use crate::hold::{gives_way, idle_after};
 use crate::leaving::{LEAVING_SECONDS, Leaving};
 use crate::log_lines::{Log, Noted};
-use crate::orders::{OrderFault, serve_order};
 use crate::outlet::Outlet;
 use crate::serve::{Exchange, serve_one};
 use crate::times::clock;
@@ -18,6 +15,7 @@ use clocks::Moment;
 use http_desk::{Closed, ClubFault, DeskFault, Routes, ServedClub};
 use mio::unix::SourceFd;
 use mio::{Events, Interest, Poll, Token};
+use officer_door::{DOOR, Door, OrderFault, Ordered, gives_way, idle_after, serve_order};
 use std::alloc::Global;
 use std::io;
 use std::io::ErrorKind;

@@ -3,17 +3,12 @@
 //! here.
 #![tactic(auto)]
 
-mod asking;
 mod caller;
 mod callers;
 mod deadline;
-mod door;
 mod heard;
-mod hold;
 mod leaving;
 mod log_lines;
-mod ordering;
-mod orders;
 mod outlet;
 mod serve;
 mod times;
@@ -21,9 +16,6 @@ mod visit;
 
 pub use callers::{Callers, Terms};
 pub use deadline::{Countdown, Deadline};
-pub use door::{Leave, ask_for};
-pub use ordering::{Answered, order};
-pub use orders::{Errand, OrderFault, serve_order};
-pub use serve::{Exchange, serve_one, write_reply};
+pub use serve::{Exchange, serve_one};
 pub use times::clock;
 pub use visit::{Visits, serve_closed};

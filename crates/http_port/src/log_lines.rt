@@ -1,5 +1,6 @@
-//! The line that is written of a connection: moment, method, path and status. No key stands in it. And that of an order
-//! of the officer's: moment, `officer`, its word and the status with which that ends.
+//! The line that is written of a connection: moment, method, path, status and the name of the member who asked. No key
+//! stands in it. And that of an order of the officer's: moment, `officer`, its word and the status with which that
+//! ends.
 
 ghost use Rattle.std.specs.Prelude.{◌≡◌, ◌⊎◌, ◌++◌, ℕ, List, IfOk, option_map, option_and_then, string_bytes, take};
 ghost use Rattle.std.specs.Char.{is_ascii_graphic};
@@ -8,11 +9,11 @@ ghost use Rattle.http_head.specs.Request.{Seen as SeenIn, Sees};
 ghost use Rattle.http_desk.specs.Routes.{path_of};
 ghost use Rattle.http_port.specs.LogLine.{IsCallLine, IsLineOf, fault_line_written, fault_written, line_written};
 ghost use Rattle.http_port.specs.LogLine.{IsLeftOut, IsLogged, IsNoted};
-ghost use Rattle.http_port.specs.LogLine.{method_limit, method_written, or_mark, path_written, shown, left_out_written};
+ghost use Rattle.http_port.specs.LogLine.{caller_written, method_limit, method_written, or_mark, path_written, shown};
+ghost use Rattle.http_port.specs.LogLine.{left_out_written};
 ghost use Rattle.http_port.specs.LogLine.{command_word, import_word, order_line_written, order_status, word_of};
 
-use crate::orders::{Errand, OrderFault};
-use crate::serve::{Exchange, write_reply};
+use crate::serve::Exchange;
 use clocks::Moment;
 use club_requests::Command;
 use club_rules::RecordFormat;
@@ -20,6 +21,7 @@ use http_bodies::status_of;
 use http_desk::DeskFault;
 use http_desk::routes::{path_of, text_of};
 use http_head::{Seen, read_request};
+use officer_door::{Errand, OrderFault, write_reply};
 use std::alloc::{AllocError, Global};
 use std::io::Write;
 
@@ -79,6 +81,16 @@ fn asked(bytes: &[u8]) -> (&str, &str)
     }
 }
 
+// The name of the member who asked, or a mark in its place.
+fn caller_shown(caller: Option<&str>) -> &str
+    ensures { result.now ≡ caller_written (option_map (λ name. name.now) caller.entry) }
+{
+    match caller {
+        Some(name) => shown(name.as_bytes()).unwrap_or("-"),
+        None => "-",
+    }
+}
+
 // The line of a connection that was served.
 fn served_line(
     alloc: Global,
@@ -86,12 +98,14 @@ fn served_line(
     method: &str,
     path: &str,
     status: Option<u32>,
+    caller: &str,
 ) -> Result<String, AllocError>
-    ensures { IfOk result (λ line. string_bytes line ≡ line_written seconds method.now path.now status) }
+    ensures { IfOk result (λ line.
+        string_bytes line ≡ line_written seconds method.now path.now status caller.now) }
 {
     match status {
-        Some(status) => format!(in alloc; "{seconds} {method} {path} {status}\n"),
-        None => format!(in alloc; "{seconds} {method} {path} -\n"),
+        Some(status) => format!(in alloc; "{seconds} {method} {path} {status} {caller}\n"),
+        None => format!(in alloc; "{seconds} {method} {path} - {caller}\n"),
     }
 }
 
@@ -125,7 +139,8 @@ fn call_line(
     match done {
         Ok(done) => {
             let (method, path) = asked(&done.bytes);
-            served_line(alloc, seconds, method, path, status_of(&done.reply))
+            let caller = caller_shown(done.caller.as_deref());
+            served_line(alloc, seconds, method, path, status_of(&done.reply), caller)
         }
         Err(fault) => unserved_line(alloc, seconds, *fault),
     }

@@ -1,8 +1,9 @@
-use Rattle.std.proofs.Common.{◌++◌, Some, Result, Ok, Err, refl}
+use Rattle.std.proofs.Common.{◌++◌, ℕ, List, Some, Result, Ok, Err, refl, subst}
 use Rattle.http_desk.specs.declared.faults.DeskFault.{DeskFault}
 use Rattle.http_port.proofs.ActedLemmas.{answered_acted_on, consumes_on}
 use Rattle.http_port.proofs.ServingLemmas.{served, stopped, shut_served}
 use Rattle.http_port.specs.declared.serve.Exchange.{Exchange}
+use Rattle.http_port.specs.Serving.{IsReplyTo}
 use Rattle.http_port.proofs.serve.serve_one.Goals as goal
 
 pub returns-in-Ok-write_reply-clause-serves : goal.returns-in-Ok-write_reply-clause-serves
@@ -10,7 +11,7 @@ returns-in-Ok-write_reply-clause-serves g c clean s input before stands reader w
     let written : Result (Unit {0}) DeskFault = Ok tt in
     served g.C.ServedClub.club (g.C.ServedClub.Stands c.answer.new.club) (g.C.ServedClub.Leaves c.answer.new.club) s
     c.args.moment (c.args.heard.items ++ input) before
-    c.in-Ok.bytes.items c.deref.result.now c.in-Ok-answer.reply.items c.deref-2.result.now
+    c.in-Ok.bytes.items c.deref.result.now c.in-Ok-answer.replied.reply.items c.deref-2.result.now
     (Some (c.args.heard.items ++ input)) (g.R.Read.remaining c.take_in.new.reader)
     (g.W.Write.contents c.args.writer.now) (g.W.Write.contents c.write_reply.new.writer) written
     refl writer c.deref.ensures.value c.deref-2.ensures.value
@@ -24,7 +25,7 @@ pub returns-in-Err-write_reply-clause-serves : goal.returns-in-Err-write_reply-c
 returns-in-Err-write_reply-clause-serves g c clean s input before stands reader writer =
     served g.C.ServedClub.club (g.C.ServedClub.Stands c.answer.new.club) (g.C.ServedClub.Leaves c.answer.new.club) s
     c.args.moment (c.args.heard.items ++ input) before
-    c.in-Ok.bytes.items c.deref.result.now c.in-Ok-answer.reply.items c.deref-2.result.now
+    c.in-Ok.bytes.items c.deref.result.now c.in-Ok-answer.replied.reply.items c.deref-2.result.now
     (Some (c.args.heard.items ++ input)) (g.R.Read.remaining c.take_in.new.reader)
     (g.W.Write.contents c.args.writer.now) (g.W.Write.contents c.write_reply.new.writer)
     (let failed : Result Exchange DeskFault = Err c.in-Err-write_reply.fault in failed)
@@ -51,6 +52,13 @@ returns-in-Err-clause-serves g c clean s input before stands reader writer =
     c.in-Ok.ensures.enough c.in-Err.ensures.fault
     (c.in-Err.ensures.replies clean s stands)
 
+pub returns-in-Ok-write_reply-clause-answers : goal.returns-in-Ok-write_reply-clause-answers
+returns-in-Ok-write_reply-clause-answers g c clean s stands =
+    subst (λ (bytes : List ℕ).
+    IsReplyTo g.C.ServedClub.club (g.C.ServedClub.Stands c.answer.new.club) (g.C.ServedClub.Leaves c.answer.new.club) s
+    c.args.moment bytes c.in-Ok-answer.replied.reply.items)
+    c.deref.ensures.value (c.in-Ok-answer.ensures.replies clean s stands)
+
 pub returns-in-Ok-write_reply-clause-shut : goal.returns-in-Ok-write_reply-clause-shut
 returns-in-Ok-write_reply-clause-shut g c fault shut =
     let told = c.in-Ok-answer.ensures.shut fault shut in
@@ -58,7 +66,7 @@ returns-in-Ok-write_reply-clause-shut g c fault shut =
       told.0,
       λ input before reader writer.
           shut_served fault (c.args.heard.items ++ input) before
-          c.in-Ok.bytes.items c.deref.result.now c.in-Ok-answer.reply.items c.deref-2.result.now
+          c.in-Ok.bytes.items c.deref.result.now c.in-Ok-answer.replied.reply.items c.deref-2.result.now
           (Some (c.args.heard.items ++ input)) (g.R.Read.remaining c.take_in.new.reader)
           (g.W.Write.contents c.args.writer.now) (g.W.Write.contents c.write_reply.new.writer) written
           refl writer c.deref.ensures.value c.deref-2.ensures.value
@@ -75,7 +83,7 @@ returns-in-Err-write_reply-clause-shut g c fault shut =
       told.0,
       λ input before reader writer.
           shut_served fault (c.args.heard.items ++ input) before
-          c.in-Ok.bytes.items c.deref.result.now c.in-Ok-answer.reply.items c.deref-2.result.now
+          c.in-Ok.bytes.items c.deref.result.now c.in-Ok-answer.replied.reply.items c.deref-2.result.now
           (Some (c.args.heard.items ++ input)) (g.R.Read.remaining c.take_in.new.reader)
           (g.W.Write.contents c.args.writer.now) (g.W.Write.contents c.write_reply.new.writer)
           (let failed : Result Exchange DeskFault = Err c.in-Err-write_reply.fault in failed)
@@ -90,20 +98,20 @@ returns-in-Err-write_reply-clause-shut g c fault shut =
 pub returns-in-Ok-write_reply-clause-acts : goal.returns-in-Ok-write_reply-clause-acts
 returns-in-Ok-write_reply-clause-acts g c clean s stands =
     answered_acted_on g.C.ServedClub.club (g.C.ServedClub.Stands c.answer.new.club)
-    (g.C.ServedClub.Leaves c.answer.new.club) (λ v. v.items) s c.args.moment c.args.heard.items
+    (g.C.ServedClub.Leaves c.answer.new.club) (λ v. v.reply.items) s c.args.moment c.args.heard.items
     c.in-Ok.ensures.taken.0 c.in-Ok.bytes.items c.deref.result.now c.answer.result c.deref.ensures.value
     c.in-Ok.ensures.taken.1 (c.answer.ensures.replies clean s stands)
 
 pub returns-in-Err-write_reply-clause-acts : goal.returns-in-Err-write_reply-clause-acts
 returns-in-Err-write_reply-clause-acts g c clean s stands =
     answered_acted_on g.C.ServedClub.club (g.C.ServedClub.Stands c.answer.new.club)
-    (g.C.ServedClub.Leaves c.answer.new.club) (λ v. v.items) s c.args.moment c.args.heard.items
+    (g.C.ServedClub.Leaves c.answer.new.club) (λ v. v.reply.items) s c.args.moment c.args.heard.items
     c.in-Ok.ensures.taken.0 c.in-Ok.bytes.items c.deref.result.now c.answer.result c.deref.ensures.value
     c.in-Ok.ensures.taken.1 (c.answer.ensures.replies clean s stands)
 
 pub returns-in-Err-clause-acts : goal.returns-in-Err-clause-acts
 returns-in-Err-clause-acts g c clean s stands =
     answered_acted_on g.C.ServedClub.club (g.C.ServedClub.Stands c.answer.new.club)
-    (g.C.ServedClub.Leaves c.answer.new.club) (λ v. v.items) s c.args.moment c.args.heard.items
+    (g.C.ServedClub.Leaves c.answer.new.club) (λ v. v.reply.items) s c.args.moment c.args.heard.items
     c.in-Ok.ensures.taken.0 c.in-Ok.bytes.items c.deref.result.now c.answer.result c.deref.ensures.value
     c.in-Ok.ensures.taken.1 (c.answer.ensures.replies clean s stands)

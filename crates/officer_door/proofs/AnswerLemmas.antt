@@ -1,0 +1,81 @@
+-- An answer is read off as it was told.
+use Rattle.std.proofs.Common.{◌≡◌, ◌≢◌, ◌<◌, ◌^◌, ℕ, Bool, true, false, List, [], ◌∷◌, ◌++◌, Option, Some, None}
+use Rattle.std.proofs.Common.{length, drop, decimal, refl, sym, ap, ◌∙◌, arith, append_assoc, append-nil}
+use Rattle.std.proofs.Common.{length-append}
+use Rattle.officer_door.specs.Answers.{Hears, IsAnswerIn, Tells, status_text, told}
+use Rattle.officer_door.specs.declared.answers.Answered.{Answered}
+use Rattle.officer_door.proofs.ReadingLemmas.{heads, number_unique, other}
+
+pub status_cut : (d e : Bool) (x y : List ℕ) → status_text d ++ x ≡ status_text e ++ y → (d ≡ e) × (x ≡ y)
+status_cut true true x y h = (refl, ap (drop 2) h)
+status_cut false false x y h = (refl, ap (drop 2) h)
+status_cut true false x y h = absurd (other 48 49 (omega arith) (sym (heads 48 49 (32 ∷ x) (32 ∷ y) h)))
+status_cut false true x y h = absurd (other 48 49 (omega arith) (heads 49 48 (32 ∷ x) (32 ∷ y) h))
+
+-- ---- where it is no answer
+
+pub no_number : (d : Bool) (said rest : List ℕ) → said ≡ status_text d ++ rest
+    → ((n : ℕ) (more : List ℕ) → n < 2 ^ 64 → rest ≢ decimal n ++ 10 ∷ more)
+    → IsAnswerIn said None
+no_number d said rest is none done text fits e =
+    none (length text) text fits (status_cut d done rest _ (sym is ∙ e)).1
+
+pub other_length : (d : Bool) (n : ℕ) (said rest text : List ℕ) → said ≡ status_text d ++ rest
+    → rest ≡ decimal n ++ 10 ∷ text → n < 2 ^ 64 → n ≢ length text → IsAnswerIn said None
+other_length d n said rest text is number fits differs done given small e =
+    let same = number_unique 10 n (length given) text given (omega arith) fits small
+    (sym number ∙ (status_cut d done rest _ (sym is ∙ e)).1) in
+    differs (same.0 ∙ sym (ap length same.1))
+
+pub is_answer : (d : Bool) (n : ℕ) (said rest text shown : List ℕ) → said ≡ status_text d ++ rest
+    → rest ≡ decimal n ++ 10 ∷ text → n ≡ length text → shown ≡ text → said ≡ told d shown
+is_answer d n said rest text shown is number same shows =
+    is ∙ ap (λ (l : List ℕ). status_text d ++ l)
+    (number ∙ (λ i. decimal ((same ∙ sym (ap length shows)) i) ++ 10 ∷ sym shows i))
+
+-- ---- a part of an answer
+
+none_of_length : (xs : List ℕ) → length xs ≡ 0 → xs ≡ []
+none_of_length [] e = refl
+none_of_length (x ∷ xs) e = absurd (omega arith)
+
+pub record AreSame (d e : Bool) (t u m : List ℕ) : Type 0 where
+  pub done : d ≡ e
+  pub text : t ≡ u
+  pub more : m ≡ []
+
+pub told_cut : (d e : Bool) (t u more : List ℕ) → length t < 2 ^ 64 → length u < 2 ^ 64
+    → told d t ++ more ≡ told e u → AreSame d e t u more
+told_cut d e t u more ft fu h =
+    let parts : told d t ++ more ≡ status_text d ++ (decimal (length t) ++ 10 ∷ (t ++ more)) =
+    append_assoc (status_text d) (decimal (length t) ++ 10 ∷ t) more
+    ∙ ap (λ (l : List ℕ). status_text d ++ l) (append_assoc (decimal (length t)) (10 ∷ t) more) in
+    let status = status_cut d e _ _ (sym parts ∙ h) in
+    let same = number_unique 10 (length t) (length u) (t ++ more) u (omega arith) ft fu status.1 in
+    let none : more ≡ [] =
+    none_of_length more (omega (arith, same.0, ap length same.1, length-append t more)) in
+    record {
+      done = status.0;
+      text = sym (ap (λ (m : List ℕ). t ++ m) none ∙ append-nil t) ∙ same.1;
+      more = none;
+    }
+
+no_part : (said : List ℕ) (answer : Option Answered) → IsAnswerIn said answer → (done : Bool) (text more : List ℕ)
+    → length text < 2 ^ 64 → 0 < length more → said ++ more ≡ told done text → answer ≡ None
+no_part said None is done text more fits some e = refl
+no_part said (Some a) is done text more fits some e =
+    let same = told_cut a.is_done done a.text.items text more is.1 fits
+    (sym (ap (λ (l : List ℕ). l ++ more) is.0) ∙ e) in
+    absurd (omega (arith, some, ap length same.more))
+
+tells : (said : List ℕ) (answer : Option Answered) → IsAnswerIn said answer → (done : Bool) (text : List ℕ)
+    → length text < 2 ^ 64 → said ≡ told done text → Tells answer done text
+tells said None is done text fits e = is done text fits e
+tells said (Some a) is done text fits e =
+    let same = told_cut a.is_done done a.text.items text [] is.1 fits
+    (append-nil (told a.is_done a.text.items) ∙ (sym is.0 ∙ e)) in
+    (same.done, same.text)
+
+pub hears : (said : List ℕ) (answer : Option Answered) → IsAnswerIn said answer → Hears said answer
+hears said None is = record { sound = tt; whole = tells said None is; part = no_part said None is }
+hears said (Some a) is = record { sound = is.0; whole = tells said (Some a) is; part = no_part said (Some a) is }

@@ -1,0 +1,5 @@
+pub mod AnswerLemmas
+pub mod JoinLemmas
+pub mod PrintedLemmas
+pub mod ReadingLemmas
+pub mod SaidLemmas

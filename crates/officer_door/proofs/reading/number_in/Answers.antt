@@ -1,0 +1,24 @@
+use Rattle.std.proofs.Common.{◌≡◌, ℕ, sym, subst}
+use Rattle.std.proofs.lemmas.Fmt.{IsAscii-decimal}
+use Rattle.std.proofs.lemmas.Str.{IsUtf8-from_ascii}
+use Rattle.std.specs.Str.{IsUtf8}
+use Rattle.officer_door.proofs.ReadingLemmas.{padded_no_decimal, plain_parsed, unparsed_no_decimal}
+use Rattle.officer_door.proofs.reading.number_in.Goals as goal
+
+pub returns-then-is_padded : goal.returns-then-is_padded
+returns-then-is_padded c n fits = padded_no_decimal n _ fits (c.is_padded.ensures.padded c.if-is_padded.true)
+
+pub returns-in-Err : goal.returns-in-Err
+returns-in-Err c n fits is =
+    c.in-Err.ensures.cases.0 (subst IsUtf8 (sym is) (IsUtf8-from_ascii _ (IsAscii-decimal n fits)))
+
+pub returns-in-Ok-parse : goal.returns-in-Ok-parse
+returns-in-Ok-parse c =
+    let same : c.in-Ok.text.now ≡ c.args.bytes.now = c.in-Ok.ensures.cases.0 in
+    let plain = c.is_padded.ensures.plain c.if-is_padded.false in
+    plain_parsed ℕ c.args.bytes.now c.in-Ok-parse.number (rw same at c.in-Ok-parse.ensures.value.0) plain.0 plain.1
+
+pub returns-in-Err-parse : goal.returns-in-Err-parse
+returns-in-Err-parse c n fits =
+    let same : c.in-Ok.text.now ≡ c.args.bytes.now = c.in-Ok.ensures.cases.0 in
+    unparsed_no_decimal ℕ 0 n c.args.bytes.now fits (rw same at c.in-Err-parse.ensures.value.0)

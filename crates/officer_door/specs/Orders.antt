@@ -1,0 +1,53 @@
+-- What the officer has the desk do, and what is told of it.
+use Rattle.std.specs.Prelude.{◌≡◌, ◌⊎◌, ℕ, Bool, List, Option, Result, Ok, Err, take}
+use Rattle.std.specs.Io.KnownBytes.{Appends}
+use Rattle.club_requests.specs.declared.answers.Outcome.{Outcome}
+use Rattle.club_requests.specs.declared.refusals.Refusal.{Refusal}
+use Rattle.club_core.specs.Answer.{command_of, outcome_of}
+use Rattle.club_core.specs.State.{Command as Given, Request, officer}
+use Rattle.http_desk.specs.Served.{Club}
+use Rattle.officer_door.specs.Answers.{told}
+use Rattle.officer_door.specs.Printed.{Print, print_of, printed, shown_printed}
+use Rattle.officer_door.specs.declared.orders.Errand.{Errand}
+use Rattle.officer_door.specs.declared.orders.Errand.TheVariants.{Command, Question}
+use Rattle.officer_door.specs.declared.orders.OrderFault.{OrderFault}
+use Rattle.officer_door.specs.declared.orders.OrderFault.TheVariants.{Undone, Untold}
+
+-- the officer gives a command at a moment
+abbrev pub order : Given → ℕ → Request
+order command moment = record { who = officer; command = command; moment = moment }
+
+-- the state behind an errand: a question changes nothing
+abbrev pub state_after : {S : Type 0} → Club S → S → ℕ → Errand → S
+state_after club s moment (Command command) = (club.step s (order (command_of command) moment)).0
+state_after club s moment (Question question) = s
+
+-- Nothing was done, or the errand, once: the state behind it stands, or a stop leaves that or the one before.
+abbrev pub HasObeyed : {S : Type 0} → Club S → (S → Type 0) → (S → S → Type 0) → S → ℕ → Errand → Type 0
+HasObeyed club stands leaves s moment errand =
+    stands s ⊎ (stands (state_after club s moment errand) ⊎ leaves s (state_after club s moment errand))
+
+-- ---- what is printed of it
+
+-- what is printed of an errand: the machine's answer to a command; what a question is shown, or why it is shown nothing
+abbrev pub IsPrinted : {S : Type 0} → Club S → S → ℕ → Errand → Print → Type 0
+IsPrinted club s moment (Command command) print =
+    (outcome : Outcome) × (outcome_of outcome ≡ (club.step s (order (command_of command) moment)).1)
+    × (print ≡ printed outcome)
+IsPrinted club s moment (Question question) print =
+    (shown : Result (List ℕ) Refusal) × club.IsShown s moment question shown × (print ≡ shown_printed shown)
+
+-- ---- what is told over the door
+
+-- What is told of an errand is told once the state behind it stands; where the writer fails, a beginning of that.
+-- Nothing is told of what was not done.
+abbrev pub HasTold : {S : Type 0} → Club S → (S → Type 0) → S → ℕ → Errand → Option (List ℕ) → Option (List ℕ)
+    → Result Bool OrderFault → Type 0
+HasTold club stands s moment errand before now (Ok done) =
+    stands (state_after club s moment errand)
+    × ((text : List ℕ) × IsPrinted club s moment errand (print_of done text) × Appends before now (told done text))
+HasTold club stands s moment errand before now (Err Untold) =
+    stands (state_after club s moment errand)
+    × ((done : Bool) × (text : List ℕ) × (n : ℕ) × IsPrinted club s moment errand (print_of done text)
+    × Appends before now (take n (told done text)))
+HasTold club stands s moment errand before now (Err Undone) = now ≡ before

@@ -1,0 +1,53 @@
+-- What one says over the door: that it wants the file, or an order.
+use Rattle.std.specs.Prelude.{◌≡◌, ◌⊎◌, ◌<◌, ◌≤◌, ◌++◌, ◌^◌, ℕ, List, codes, decimal, length}
+use Rattle.officer_door.specs.declared.said.Said.{Said}
+use Rattle.officer_door.specs.declared.said.Said.TheVariants.{Part, File, Order, Nothing}
+
+-- the first line of an order: its moment, and how many bytes its words and the text of its record have
+abbrev pub line_of : ℕ → ℕ → ℕ → List ℕ
+line_of moment words text =
+    codes "order " ++ (decimal moment ++ (codes " " ++ (decimal words ++ (codes " " ++ decimal text))))
+
+-- the line of three numbers, each of which fits 64 bits
+pub record IsLine (line : List ℕ) (m w t : ℕ) : Type 0 where
+  pub is : line ≡ line_of m w t
+  pub moment : m < 2 ^ 64
+  pub words : w < 2 ^ 64
+  pub text : t < 2 ^ 64
+
+-- an order: that line, the words, and the text
+abbrev pub order_said : ℕ → List ℕ → List ℕ → List ℕ
+order_said moment words text =
+    line_of moment (length words) (length text) ++ (codes "\n" ++ (words ++ text))
+
+-- a moment that there is, and no more bytes than are heard
+pub record IsWithin (m w t : ℕ) : Type 0 where
+  pub moment : m ≤ 253402300799
+  pub words : w ≤ 65536
+  pub text : t ≤ 65537
+
+pub record IsOrder (bytes : List ℕ) : Type 0 where
+  pub moment : ℕ
+  pub words : List ℕ
+  pub text : List ℕ
+  pub within : IsWithin moment (length words) (length text)
+  pub is : bytes ≡ order_said moment words text
+
+-- all that one says who wants something
+abbrev pub IsWhole : List ℕ → Type 0
+IsWhole bytes = (bytes ≡ codes "file\n") ⊎ IsOrder bytes
+
+-- these bytes are said to be that order
+abbrev pub SaysOrder : Said → ℕ → List ℕ → List ℕ → Type 0
+SaysOrder (Order given) moment words text =
+    (given.moment ≡ moment) × (given.words.now ≡ words) × (given.text.now ≡ text)
+SaysOrder _ moment words text = ⊥
+
+-- what the bytes amount to: all that is said, a part to which more may come, or nothing, whatever comes
+abbrev pub IsSaid : List ℕ → Said → Type 0
+IsSaid bytes File = bytes ≡ codes "file\n"
+IsSaid bytes (Order given) =
+    IsWithin given.moment (length given.words.now) (length given.text.now)
+    × (bytes ≡ order_said given.moment given.words.now given.text.now)
+IsSaid bytes Part = IsWhole bytes → ⊥
+IsSaid bytes Nothing = (more : List ℕ) → IsWhole (bytes ++ more) → ⊥

@@ -1,0 +1,85 @@
+//! What a desk answers to an order, and how that is told over the door.
+
+ghost use Rattle.std.specs.Prelude.{◌≡◌, ◌≢◌, ◌++◌, ◌<◌, ◌^◌, ℕ, Bool, List, Some, IfOk, MatchOption, codes};
+ghost use Rattle.std.specs.Prelude.{decimal, string_bytes};
+ghost use Rattle.officer_door.specs.Answers.{Hears, IsAnswerIn, status_text, told};
+
+use crate::reading::{behind, number_before};
+use std::alloc::{AllocError, Global};
+use std::io;
+use std::io::Read;
+
+/// What a desk answers to an order.
+#[derive(Debug, Drop)]
+pub struct Answered {
+    /// Whether it was done, now or before: it was refused otherwise.
+    pub is_done: bool,
+    /// What is printed of it.
+    pub text: Vec<u8>,
+}
+
+// The first line of an answer: the status with which the word ends, and how many bytes it prints.
+fn heading(alloc: Global, is_done: bool, length: usize) -> Result<String, AllocError>
+    ensures { IfOk result (λ line. string_bytes line ≡ status_text is_done ++ (decimal length ++ codes "\n")) }
+{
+    if is_done {
+        format!(in alloc; "0 {length}\n")
+    } else {
+        format!(in alloc; "1 {length}\n")
+    }
+}
+
+/// What is told of an answer.
+pub(crate) fn told(alloc: Global, answered: &Answered) -> Result<Vec<u8>, AllocError>
+    ensures { IfOk result (λ bytes. bytes.items ≡ told answered.now.is_done answered.now.text.items) }
+{
+    let heading = heading(alloc, answered.is_done, answered.text.len())?;
+    let mut bytes = heading.into_bytes();
+    bytes.extend_from_slice(&answered.text)?;
+    Ok(bytes)
+}
+
+// The status that is told, and the bytes behind it.
+fn status_in(said: &[u8]) -> Option<(bool, &[u8])>
+    ensures { MatchOption result ((done : Bool) (rest : List ℕ) → said.now ≢ status_text done ++ rest)
+        (λ read. said.now ≡ status_text read.0 ++ read.1.now) }
+{
+    match behind(said, b"0 ".as_slice()) {
+        Some(rest) => return Some((true, rest)),
+        None => {}
+    }
+    match behind(said, b"1 ".as_slice()) {
+        Some(rest) => Some((false, rest)),
+        None => None,
+    }
+}
+
+/// The answer that the bytes tell, if they are the whole of one.
+pub(crate) fn answer_in(alloc: Global, said: &[u8]) -> Result<Option<Answered>, AllocError>
+    ensures { IfOk result (IsAnswerIn said.now) }
+{
+    let (is_done, rest) = match status_in(said) {
+        Some(read) => read,
+        None => return Ok(None),
+    };
+    let (length, rest) = match number_before(rest, b'\n') {
+        Some(read) => read,
+        None => return Ok(None),
+    };
+    if length != rest.len() as u64 {
+        return Ok(None);
+    }
+    let mut text = Vec::new(alloc);
+    text.extend_from_slice(rest)?;
+    Ok(Some(Answered { is_done, text }))
+}
+
+/// Hears an answer to its end: none where the whole of one did not come.
+pub(crate) fn hear_answer<R: Read>(alloc: Global, reader: &mut R) -> io::Result<Option<Answered>>
+    ensures { (said : List ℕ) → R.remaining reader.old ≡ Some said → IfOk result (Hears said) }
+{
+    let mut said = Vec::new(alloc);
+    reader.read_to_end(&mut said)?;
+    let answer = answer_in(alloc, said.as_slice())?;
+    Ok(answer)
+}

@@ -1,0 +1,173 @@
+//! What the officer orders, done at the desk.
+
+ghost use Rattle.std.specs.Prelude.{◌≡◌, ◌++◌, ℕ, List, IfOk, codes};
+ghost use Rattle.club_requests.specs.AnswerText.{outcome_text};
+ghost use Rattle.http_desk.specs.Served.{IsOfCall, Serves};
+ghost use Rattle.http_bodies.specs.ShownViews.{shown_view};
+ghost use Rattle.officer_door.specs.Orders.{HasObeyed, HasTold, IsPrinted, state_after};
+ghost use Rattle.officer_door.specs.Printed.{print_of, printed, shown_printed};
+ghost use Rattle.officer_door.specs.declared.orders.Errand.TheVariants as errand_is;
+
+use crate::answers::{Answered, told};
+use crate::writing::write_reply;
+use clocks::Moment;
+use club_questions::Question;
+use club_requests::{Command, Outcome, Refusal, Who};
+use http_desk::{ClubFault, ServedClub};
+use std::alloc::{AllocError, Global};
+use std::io::Write;
+
+/// What the officer has the desk do.
+#[derive(Debug, Drop)]
+pub enum Errand {
+    /// To give the club a command of the officer's.
+    Command(Command),
+    /// To ask the club, which changes nothing.
+    Question(Question),
+}
+
+/// Why an order has no answer.
+#[derive(Clone, Copy, Debug, PartialEq, Eq)]
+pub enum OrderFault {
+    /// A call on the club failed, or memory was refused: it was done once, or not at all, and nothing was told of it.
+    Undone,
+    /// It was done, and the answer could not be written.
+    Untold,
+}
+
+// Whether a command was done, now or before.
+fn is_done(outcome: &Outcome) -> bool
+    ensures { (text : List ℕ) → text ≡ outcome_text outcome.now ++ codes "\n" →
+        print_of result text ≡ printed outcome.now }
+{
+    match outcome {
+        Outcome::Accepted(_) => true,
+        Outcome::Repeated(_) => true,
+        Outcome::Refused(_) => false,
+    }
+}
+
+// What is printed of what a command was answered.
+fn outcome_printed(alloc: Global, outcome: &Outcome) -> Result<Answered, AllocError>
+    ensures { IfOk result (λ answered. print_of answered.is_done answered.text.items ≡ printed outcome.now) }
+{
+    let line = format!(in alloc; "{outcome}\n")?;
+    Ok(Answered {
+        is_done: is_done(outcome),
+        text: line.into_bytes(),
+    })
+}
+
+// What is printed of what a question was shown.
+fn shown_printed(alloc: Global, shown: Result<Vec<u8>, Refusal>) -> Result<Answered, AllocError>
+    ensures { IfOk result (λ answered.
+        print_of answered.is_done answered.text.items ≡ shown_printed (shown_view shown)) }
+{
+    match shown {
+        Ok(text) => Ok(Answered {
+            is_done: true,
+            text,
+        }),
+        Err(refusal) => {
+            let printed = outcome_printed(alloc, &Outcome::Refused(refusal))?;
+            Ok(printed)
+        }
+    }
+}
+
+// Gives the club a command of the officer's.
+fn give<C: ServedClub>(
+    alloc: Global,
+    club: &mut C,
+    command: &Command,
+    moment: Moment,
+) -> Result<Answered, ClubFault>
+    ensures clean { C.IsClean club.new → C.IsClean club.old }
+    ensures serves { C.IsClean club.new → (s : C.State) → C.Stands club.old s →
+        Serves (C.Stands club.new) (C.Leaves club.new) s
+        (state_after C.club s moment (errand_is.Command command.now)) (λ printed.
+        IsPrinted C.club s moment (errand_is.Command command.now) (print_of printed.is_done printed.text.items))
+        IsOfCall result }
+{
+    let outcome = match club.apply(alloc, &Who::Officer, command, moment) {
+        Ok(outcome) => outcome,
+        Err(fault) => return Err(fault),
+    };
+    match outcome_printed(alloc, &outcome) {
+        Ok(printed) => Ok(printed),
+        Err(_) => Err(ClubFault::Memory),
+    }
+}
+
+// Asks the club for the officer.
+fn ask<C: ServedClub>(
+    alloc: Global,
+    club: &mut C,
+    question: &Question,
+    moment: Moment,
+) -> Result<Answered, ClubFault>
+    ensures clean { C.IsClean club.new → C.IsClean club.old }
+    ensures serves { C.IsClean club.new → (s : C.State) → C.Stands club.old s →
+        Serves (C.Stands club.new) (C.Leaves club.new) s s (λ printed.
+        IsPrinted C.club s moment (errand_is.Question question.now) (print_of printed.is_done printed.text.items))
+        IsOfCall result }
+{
+    let shown = match club.ask(alloc, question, moment) {
+        Ok(shown) => shown,
+        Err(fault) => return Err(fault),
+    };
+    match shown_printed(alloc, shown) {
+        Ok(printed) => Ok(printed),
+        Err(_) => Err(ClubFault::Memory),
+    }
+}
+
+// Does what the officer orders.
+fn obey<C: ServedClub>(
+    alloc: Global,
+    club: &mut C,
+    errand: &Errand,
+    moment: Moment,
+) -> Result<Answered, ClubFault>
+    ensures clean { C.IsClean club.new → C.IsClean club.old }
+    ensures serves { C.IsClean club.new → (s : C.State) → C.Stands club.old s →
+        Serves (C.Stands club.new) (C.Leaves club.new) s (state_after C.club s moment errand.now)
+        (λ printed. IsPrinted C.club s moment errand.now (print_of printed.is_done printed.text.items))
+        IsOfCall result }
+{
+    match errand {
+        Errand::Command(command) => give(alloc, club, command, moment),
+        Errand::Question(question) => ask(alloc, club, question, moment),
+    }
+}
+
+/// Does what the officer orders at a moment, and tells the one who ordered it what it was answered and prints: the
+/// answer is the club's, and the club does it once, or nothing. Nothing is told before it is done: a call that failed
+/// leaves the state before it or the one after it, and of that nothing is told.
+pub fn serve_order<W: Write, C: ServedClub>(
+    alloc: Global,
+    writer: &mut W,
+    club: &mut C,
+    errand: &Errand,
+    moment: Moment,
+) -> Result<bool, OrderFault>
+    ensures clean { C.IsClean club.new → C.IsClean club.old }
+    ensures obeys { C.IsClean club.new → (s : C.State) → C.Stands club.old s →
+        HasObeyed C.club (C.Stands club.new) (C.Leaves club.new) s moment errand.now }
+    ensures tells { C.IsClean club.new → (s : C.State) → C.Stands club.old s →
+        HasTold C.club (C.Stands club.new) s moment errand.now (W.contents writer.old) (W.contents writer.new) result }
+{
+    let printed = match obey(alloc, club, errand, moment) {
+        Ok(printed) => printed,
+        Err(_) => return Err(OrderFault::Undone),
+    };
+    let is_done = printed.is_done;
+    let bytes = match told(alloc, &printed) {
+        Ok(bytes) => bytes,
+        Err(_) => return Err(OrderFault::Undone),
+    };
+    match write_reply(writer, &bytes) {
+        Ok(()) => Ok(is_done),
+        Err(_) => Err(OrderFault::Untold),
+    }
+}

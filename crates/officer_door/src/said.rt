@@ -1,0 +1,153 @@
+//! What one says over the door: that it wants the file, or an order.
+
+ghost use Rattle.std.specs.Prelude.{◌≡◌, ◌++◌, ◌<◌, ℕ, List, IfOk, MatchOption, length};
+ghost use Rattle.officer_door.specs.Said.{IsLine, IsSaid, IsWithin, SaysOrder, order_said};
+ghost use Rattle.officer_door.specs.declared.said.Said.TheVariants.{Part};
+
+use crate::reading::{behind, cut_at, number_before, number_in};
+use clocks::Moment;
+use std::alloc::{AllocError, Global};
+
+// The most bytes that the words of an order may have, and the text of its record.
+const MOST_WORDS: u64 = 65_536;
+
+const MOST_TEXT: u64 = 65_537;
+
+/// The most bytes that are heard of one: those of the longest order, or a few more.
+pub(crate) const MOST_SAID: usize = 131_201;
+
+/// What one says who wants the file.
+pub(crate) const FILE: [u8; 5] = *b"file\n";
+
+/// An order as it is said.
+#[derive(Clone, Copy)]
+pub(crate) struct Given<'a> {
+    pub(crate) moment: Moment,
+    // One behind the other.
+    pub(crate) words: &'a [u8],
+    // Of its record.
+    pub(crate) text: &'a [u8],
+}
+
+/// What the bytes that one has said amount to.
+#[derive(Clone, Copy)]
+pub(crate) enum Said<'a> {
+    /// More may come.
+    Part,
+    /// The file is wanted.
+    File,
+    /// An order.
+    Order(Given<'a>),
+    /// Nothing, whatever comes.
+    Nothing,
+}
+
+// The first line of an order: its moment, and how many bytes its words and the text of its record have.
+#[derive(Clone, Copy)]
+struct Heading {
+    moment: u64,
+    words: u64,
+    text: u64,
+}
+
+/// The bytes of an order.
+pub(crate) fn order_said(
+    alloc: Global,
+    moment: Moment,
+    words: &[u8],
+    text: &[u8],
+) -> Result<Vec<u8>, AllocError>
+    ensures { IfOk result (λ bytes. bytes.items ≡ order_said moment words.now text.now) }
+{
+    let (seconds, length, text_length) = (moment.seconds(), words.len(), text.len());
+    let line = format!(in alloc; "order {seconds} {length} {text_length}\n")?;
+    let mut bytes = line.into_bytes();
+    bytes.extend_from_slice(words)?;
+    bytes.extend_from_slice(text)?;
+    Ok(bytes)
+}
+
+// Reads the first line of an order.
+fn heading_of(line: &[u8]) -> Option<Heading>
+    ensures { MatchOption result ((m w t : ℕ) → IsLine line.now m w t → ⊥)
+        (λ heading. IsLine line.now heading.moment heading.words heading.text) }
+{
+    let rest = match behind(line, b"order ".as_slice()) {
+        Some(rest) => rest,
+        None => return None,
+    };
+    let (moment, rest) = match number_before(rest, b' ') {
+        Some(read) => read,
+        None => return None,
+    };
+    let (words, rest) = match number_before(rest, b' ') {
+        Some(read) => read,
+        None => return None,
+    };
+    match number_in(rest) {
+        Some(text) => Some(Heading {
+            moment,
+            words,
+            text,
+        }),
+        None => None,
+    }
+}
+
+// The moment of so many seconds.
+fn moment_at(seconds: u64) -> Option<Moment>
+    ensures { MatchOption result (253402300799 < seconds) (λ moment. moment ≡ seconds) }
+{
+    Moment::new(seconds)
+}
+
+// What the bytes that one has said amount to.
+fn said_by(said: &[u8]) -> Said<'_>
+    ensures { IsSaid said.now result }
+{
+    if said == FILE.as_slice() {
+        return Said::File;
+    }
+    let (line, rest) = match cut_at(said, b'\n') {
+        Some(parts) => parts,
+        None => return Said::Part,
+    };
+    let heading = match heading_of(line) {
+        Some(heading) => heading,
+        None => return Said::Nothing,
+    };
+    let moment = match moment_at(heading.moment) {
+        Some(moment) => moment,
+        None => return Said::Nothing,
+    };
+    if heading.words > MOST_WORDS {
+        return Said::Nothing;
+    }
+    if heading.text > MOST_TEXT {
+        return Said::Nothing;
+    }
+    let (words, text) = (heading.words as usize, heading.text as usize);
+    if rest.len() < words + text {
+        return Said::Part;
+    }
+    if rest.len() > words + text {
+        return Said::Nothing;
+    }
+    let (words, text) = rest.split_at(words);
+    Said::Order(Given {
+        moment,
+        words,
+        text,
+    })
+}
+
+/// What the bytes that one has said amount to. An order is read as it was said, and a part of it waited for.
+pub(crate) fn said_in(said: &[u8]) -> Said<'_>
+    ensures is { IsSaid said.now result }
+    ensures whole { (moment : ℕ) (words text : List ℕ) → IsWithin moment (length words) (length text) →
+        said.now ≡ order_said moment words text → SaysOrder result moment words text }
+    ensures part { (moment : ℕ) (words text more : List ℕ) → IsWithin moment (length words) (length text) →
+        0 < length more → said.now ++ more ≡ order_said moment words text → result ≡ Part }
+{
+    said_by(said)
+}
