@@ -1,5 +1,5 @@
 -- What an opening found in files, by what is told of the connection that it gave.
-use Rattle.std.proofs.Common.{◌≡◌, Option, Some, None, sym, subst, ap, inl, inr}
+use Rattle.std.proofs.Common.{◌≡◌, ◌≢◌, Option, Some, None, refl, sym, subst, ap, inl, inr}
 use Rattle.std.proofs.Math.Logic.{∥∥₁_map}
 use Rattle.sqlite_wal.specs.Recovery.{Image}
 use Rattle.sqlite.specs.Tree.{Trees}
@@ -21,14 +21,15 @@ use Rattle.club_orders.specs.declared.report.Report.{Report}
 use Rattle.club_orders.specs.declared.report.Report.TheVariants.{Ready, Sound, Answered, Shown, Unwritten}
 use Rattle.club_orders.specs.declared.report.Report.TheVariants.{Unopened, Stopped, InUse, NotOpened, NoMoment, Unread}
 use Rattle.club_orders.specs.declared.report.Report.TheVariants.{Listening, Unbound, NoMemory, Upgraded}
-use Rattle.club_orders.specs.declared.report.Report.TheVariants.{AlreadyUpgraded, Batched}
-use Rattle.club_orders.specs.Report.{IfUnopened, IfVerify, IsCarriedOver}
+use Rattle.club_orders.specs.declared.report.Report.TheVariants.{AlreadyUpgraded, Batched, Copied, Uncopied}
+use Rattle.club_orders.specs.Report.{IfUnopened, IfVerify, IsCarriedOver, IsOfCopy, IsPassed}
 use Rattle.club_opening.specs.Refused.{HoldClub, IsKept, IsRefusal}
 use Rattle.club_orders.specs.Refused.{IfTakesOver, IfUpgrade, IsUpgradeRefusal}
 use Rattle.http_desk.specs.declared.faults.ClubFault.{ClubFault}
 use Rattle.http_desk.specs.declared.faults.ClubFault.TheVariants.{Foreign, Schema, Damaged, Store, Reopen, Memory}
 use Rattle.club_desk.specs.Told.{IfTaken, IsTold}
-use Rattle.club_files.specs.Found.{AreCarriedOver, AreKept, AreNotUpgraded, AreRefused, AreSound, IsToldOf}
+use Rattle.club_files.specs.Found.{AreCarriedOver, AreKept, AreNotUpgraded, AreRefused, AreSound, IsBackedUp}
+use Rattle.club_files.specs.Found.{IsToldOf}
 use Rattle.club_files.specs.Found.{club_database}
 
 -- ---- what is said of one task or of one report goes on
@@ -39,6 +40,7 @@ if_verify (task.Request command) goes is = tt
 if_verify (task.Ask question) goes is = tt
 if_verify task.Verify goes is = goes is
 if_verify task.Upgrade goes is = tt
+if_verify (task.Backup path) goes is = tt
 if_verify (task.Batch batch) goes is = tt
 
 pub verify_under : (P Q : Type 0) (t : Task) → (P → IfVerify t Q) → IfVerify t (P → Q)
@@ -47,6 +49,7 @@ verify_under P Q (task.Request command) is = tt
 verify_under P Q (task.Ask question) is = tt
 verify_under P Q task.Verify is = is
 verify_under P Q task.Upgrade is = tt
+verify_under P Q (task.Backup path) is = tt
 verify_under P Q (task.Batch batch) is = tt
 
 pub if_takes_over : {P Q : Type 0} (t : Task) → (P → Q) → IfTakesOver t P → IfTakesOver t Q
@@ -55,6 +58,7 @@ if_takes_over (task.Request command) goes is = goes is
 if_takes_over (task.Ask question) goes is = goes is
 if_takes_over task.Verify goes is = goes is
 if_takes_over task.Upgrade goes is = tt
+if_takes_over (task.Backup path) goes is = goes is
 if_takes_over (task.Batch batch) goes is = goes is
 
 pub if_upgrade : {P Q : Type 0} (t : Task) → (P → Q) → IfUpgrade t P → IfUpgrade t Q
@@ -63,6 +67,7 @@ if_upgrade (task.Request command) goes is = tt
 if_upgrade (task.Ask question) goes is = tt
 if_upgrade task.Verify goes is = tt
 if_upgrade task.Upgrade goes is = goes is
+if_upgrade (task.Backup path) goes is = tt
 if_upgrade (task.Batch batch) goes is = tt
 
 pub if_unopened : (P Q : OpenFault → Type 0) (report : Report) → ((fault : OpenFault) → P fault → Q fault)
@@ -71,10 +76,12 @@ if_unopened P Q Ready goes is = tt
 if_unopened P Q Sound goes is = tt
 if_unopened P Q Upgraded goes is = tt
 if_unopened P Q AlreadyUpgraded goes is = tt
+if_unopened P Q Copied goes is = tt
 if_unopened P Q (Answered outcome) goes is = tt
 if_unopened P Q (Batched batched) goes is = tt
 if_unopened P Q Shown goes is = tt
 if_unopened P Q Unwritten goes is = tt
+if_unopened P Q Uncopied goes is = tt
 if_unopened P Q (Unopened fault) goes is = goes fault is
 if_unopened P Q (Stopped fault) goes is = tt
 if_unopened P Q InUse goes is = tt
@@ -84,6 +91,71 @@ if_unopened P Q Unread goes is = tt
 if_unopened P Q (Listening port) goes is = tt
 if_unopened P Q Unbound goes is = tt
 if_unopened P Q NoMemory goes is = tt
+
+-- what is reported of a copy is not that the club was not opened
+pub of_copy_opened : (P : OpenFault → Type 0) (report : Report) → IsOfCopy report → IfUnopened report P
+of_copy_opened P Ready is = absurd is
+of_copy_opened P Sound is = absurd is
+of_copy_opened P Upgraded is = absurd is
+of_copy_opened P AlreadyUpgraded is = absurd is
+of_copy_opened P Copied is = tt
+of_copy_opened P (Answered outcome) is = absurd is
+of_copy_opened P (Batched batched) is = absurd is
+of_copy_opened P Shown is = absurd is
+of_copy_opened P Unwritten is = absurd is
+of_copy_opened P Uncopied is = tt
+of_copy_opened P (Unopened fault) is = absurd is
+of_copy_opened P (Stopped fault) is = tt
+of_copy_opened P InUse is = absurd is
+of_copy_opened P NotOpened is = absurd is
+of_copy_opened P NoMoment is = absurd is
+of_copy_opened P Unread is = absurd is
+of_copy_opened P (Listening port) is = absurd is
+of_copy_opened P Unbound is = absurd is
+of_copy_opened P NoMemory is = absurd is
+
+pub of_copy : (report : Report) → IsOfCopy report → IsBackedUp report
+of_copy Ready is = absurd is
+of_copy Sound is = absurd is
+of_copy Upgraded is = absurd is
+of_copy AlreadyUpgraded is = absurd is
+of_copy Copied is = tt
+of_copy (Answered outcome) is = absurd is
+of_copy (Batched batched) is = absurd is
+of_copy Shown is = absurd is
+of_copy Unwritten is = absurd is
+of_copy Uncopied is = tt
+of_copy (Unopened fault) is = absurd is
+of_copy (Stopped fault) is = is
+of_copy InUse is = absurd is
+of_copy NotOpened is = absurd is
+of_copy NoMoment is = absurd is
+of_copy Unread is = absurd is
+of_copy (Listening port) is = absurd is
+of_copy Unbound is = absurd is
+of_copy NoMemory is = absurd is
+
+-- a test that found no club, though there is one
+pub passed : (report : Report) → report ≢ Sound → IsPassed report → IsBackedUp report
+passed Ready other is = absurd is
+passed Sound other is = absurd (other refl)
+passed Upgraded other is = absurd is
+passed AlreadyUpgraded other is = absurd is
+passed Copied other is = absurd is
+passed (Answered outcome) other is = absurd is
+passed (Batched batched) other is = absurd is
+passed Shown other is = absurd is
+passed Unwritten other is = absurd is
+passed Uncopied other is = absurd is
+passed (Unopened fault) other is = is
+passed (Stopped fault) other is = absurd is
+passed InUse other is = absurd is
+passed NotOpened other is = absurd is
+passed NoMoment other is = absurd is
+passed Unread other is = absurd is
+passed (Listening port) other is = absurd is
+passed Unbound other is = absurd is
+passed NoMemory other is = absurd is
 
 pub if_taken : {P Q : Type 0} (told : Option ClubFault) → (P → Q) → IfTaken told P → IfTaken told Q
 if_taken None goes is = goes is

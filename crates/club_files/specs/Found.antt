@@ -16,8 +16,9 @@ use Rattle.club_opening.specs.declared.fault.OpenFault.{OpenFault}
 use Rattle.club_opening.specs.declared.fault.OpenFault.TheVariants as opening
 use Rattle.sessions.specs.Finds.{IsFoundIn}
 use Rattle.club_opening.specs.Refused.{HoldClub}
-use Rattle.club_orders.specs.Report.{AreCarried, IsUpgraded}
+use Rattle.club_orders.specs.Report.{AreCarried, IsOfCopy, IsUpgraded}
 use Rattle.club_orders.specs.declared.report.Report.{Report}
+use Rattle.club_orders.specs.declared.report.Report.TheVariants as report
 use Rattle.http_desk.specs.declared.faults.ClubFault.{ClubFault}
 use Rattle.http_desk.specs.declared.faults.ClubFault.TheVariants.{Reopen}
 use Rattle.club_desk.specs.Faults.{told_of_opening}
@@ -64,6 +65,11 @@ pub record AreNotUpgraded (files : Image) (MayLeave : Image → Type 0) (fault :
   pub is_found : IsFoundIn files found
   pub blames : (version : Version) → HasTables version found → Names First (club_database version found) fault
   pub kept : fault ≢ opening.Store → AreKept files MayLeave
+
+-- A club's files were copied; or a call of the copy's or of the club's database failed, or memory was refused.
+abbrev pub IsBackedUp : Report → Type 0
+IsBackedUp (report.Unopened fault) = (fault ≡ opening.Store) ⊎ (fault ≡ opening.Memory)
+IsBackedUp other = IsOfCopy other
 
 -- What an upgrade of a club of schema 1 came to: later openings find the tables of its state, in schema 2, or where it
 -- was not carried over in schema 1.

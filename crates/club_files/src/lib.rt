@@ -3,11 +3,13 @@
 
 ghost use Rattle.std.specs.Prelude.{◌≡◌};
 
+mod copying;
 mod desk;
 mod opening;
 mod order;
 mod places;
 
+pub use copying::{BackedUp, back_up};
 pub use desk::stretch;
 pub use opening::Again;
 pub use order::obey;

@@ -7,10 +7,10 @@ ghost use Rattle.sqlite.specs.Held.{IsNew};
 ghost use Rattle.sqlite.specs.Start.{FindsIn};
 ghost use Rattle.sqlite.specs.Files.{file_state, IsOpened};
 ghost use Rattle.club_opening.specs.declared.fault.OpenFault.TheVariants.{Foreign};
-ghost use Rattle.club_orders.specs.declared.report.Report.TheVariants.{InUse, NotOpened, Unopened};
+ghost use Rattle.club_orders.specs.declared.report.Report.TheVariants.{InUse, NotOpened, Uncopied, Unopened};
 ghost use Rattle.club_files.specs.declared.places.Purpose.TheVariants.{Making};
 
-use crate::places::{Purpose, prepare};
+use crate::places::{Purpose, make_new, prepare};
 use club_orders::Report;
 use sqlite::{Connection, FileFrom, FileStore, Options};
 use sqlite_disk::{Start, Wary};
@@ -109,6 +109,11 @@ fn open_once<S: Start>(
     }
 }
 
+// Whether a path is one that SQLite takes for no file, as `Connection::open_from` has it.
+fn names_no_file(file: &str) -> bool {
+    file == ":memory:" || file.starts_with("file:")
+}
+
 /// Opens the files of a path, which hold at first what `S` stands for, where no other program uses them: an order waits
 /// five seconds for that, a stretch of serving does not wait. Where a club is made and there are none, they are made,
 /// for their owner alone; else it is said that there is no club, and nothing was touched.
@@ -124,8 +129,7 @@ pub(crate) fn open_in_turn<S: Again>(
     ensures unopened { IfErr result (λ report. ((report ≡ InUse) ⊎ (report ≡ NotOpened)) ⊎
         ((report ≡ Unopened Foreign) × (purpose ≢ Making))) }
 {
-    // As `Connection::open_from` has it.
-    if file == ":memory:" || file.starts_with("file:") {
+    if names_no_file(file) {
         return Err(Report::NotOpened);
     }
     prepare(rt, file, purpose)?;
@@ -139,5 +143,29 @@ pub(crate) fn open_in_turn<S: Again>(
     match open_once(rt, file, purpose, start) {
         Ok(conn) => Ok(conn),
         Err(report) => Err(report),
+    }
+}
+
+/// Makes files at a path for their owner alone, and opens them; they hold at first what `S` stands for. Where anything
+/// stands there, or they cannot be made or opened, that is said, and what stood there was not touched.
+pub(crate) fn open_new<S: Start>(
+    rt: &HostRuntime,
+    file: &str,
+    start: S,
+) -> Result<Connection<FileStore<FileFrom<S>>>, Report>
+    ensures opened { IfOk result (λ c. HasCleanDisk (file_state c) → IsOpened c) }
+    ensures found { IfOk result (λ c. HasCleanDisk (file_state c) → FindsIn (image_at S.Start) (file_state c)) }
+    ensures fresh { IfOk result IsNew }
+    ensures unopened { IfErr result (λ report. report ≡ Uncopied) }
+{
+    if names_no_file(file) {
+        return Err(Report::Uncopied);
+    }
+    if !make_new(rt, file) {
+        return Err(Report::Uncopied);
+    }
+    match open_once(rt, file, Purpose::Making, start) {
+        Ok(conn) => Ok(conn),
+        Err(_) => Err(Report::Uncopied),
     }
 }

@@ -45,8 +45,8 @@ fn purpose_of(task: &Task) -> Purpose
 /// Does what is ordered, at that moment, over the files of the order's path, which hold at first what `S` stands for:
 /// opens them as soon as no other program uses them, which it waits for up to five seconds; makes a club, gives the
 /// club that stands there a command of the officer's, or orders in turn, asks it a question and writes what that is
-/// shown to `out`, tests that the rows are a club's or carries them over to schema 2; and closes. Gives what it came to,
-/// and the files where they were opened.
+/// shown to `out`, tests that the rows are a club's or carries them over to schema 2; and closes. Of a backup it tests
+/// the rows alone, and makes none. Gives what it came to, and the files where they were opened.
 ///
 /// Where sessions led to whatever an opening finds in the files, they lead, with this command or these orders as one
 /// more, to whatever an opening finds in them after it, of whatever a stop leaves. Where they were new, and a club was to be made, no

@@ -1,4 +1,4 @@
-//! What stands at a path before anything is opened there. Only the making of a club makes a file.
+//! What stands at a path before anything is opened there. Only the making of a club and of its copy make a file.
 
 ghost use Rattle.std.specs.Prelude.{◌≡◌, ◌≢◌, ◌⊎◌, IfErr};
 ghost use Rattle.club_opening.specs.declared.fault.OpenFault.TheVariants.{Foreign};
@@ -6,7 +6,7 @@ ghost use Rattle.club_orders.specs.declared.report.Report.TheVariants.{NotOpened
 ghost use Rattle.club_files.specs.declared.places.Purpose.TheVariants.{Making};
 
 use club_orders::Report;
-use std::fs::{File, OpenOptions, metadata};
+use std::fs::{File, OpenOptions, metadata, remove_file, symlink_metadata};
 use std::io::{ErrorKind, Read};
 use std::os::unix::fs::OpenOptionsExt;
 use store::OpenFault;
@@ -51,17 +51,21 @@ const HEADER_BYTES: usize = 100;
 // The name of one of a club's tables.
 const OF_A_CLUB: [u8; 10] = *b"challenges";
 
+// How the names of logs end, behind that of their file.
+const LOGS: [&str; 2] = ["-wal", "-journal"];
+
 // What a new file of a club allows: its owner reads and writes it, and nobody else, as keys of members will stand in
 // it.
 const OWNER_ALONE: u32 = 0o600;
 
-// Makes a file for its owner alone, where there is none. Where that fails, the opening says why.
-fn make_private(rt: &HostRuntime, file: &str) {
-    let _made = OpenOptions::new()
+// Makes a file for its owner alone, where there is none: whether it was made.
+fn make_private(rt: &HostRuntime, file: &str) -> bool {
+    OpenOptions::new()
         .write(true)
         .create_new(true)
         .mode(OWNER_ALONE)
-        .open(rt, file);
+        .open(rt, file)
+        .is_ok()
 }
 
 // Whether there is a folder in which the file would stand.
@@ -160,10 +164,47 @@ pub(crate) fn prepare(rt: &HostRuntime, file: &str, purpose: Purpose) -> Result<
         Place::Database => Ok(()),
         Place::Other => Err(Report::NotOpened),
         Place::Nothing if purpose == Purpose::Making => {
-            make_private(rt, file);
+            // Where that fails, the opening says why.
+            let _made = make_private(rt, file);
             Ok(())
         }
         Place::Foreign if purpose == Purpose::Making => Ok(()),
         Place::Nothing | Place::Foreign => Err(Report::Unopened(OpenFault::Foreign)),
+    }
+}
+
+// Whether anything stands at a path, be it a link to nothing, or that cannot be told.
+fn is_taken(rt: &HostRuntime, path: &str) -> bool {
+    match symlink_metadata(rt, path) {
+        Ok(_) => true,
+        Err(error) => error.kind() != ErrorKind::NotFound,
+    }
+}
+
+// The same of the name of a log beside a file.
+fn is_taken_beside(rt: &HostRuntime, file: &str, end: &str) -> bool {
+    match format!(in rt.alloc(); "{file}{end}") {
+        Ok(beside) => is_taken(rt, beside.as_str()),
+        Err(_) => true,
+    }
+}
+
+/// Makes a file for its owner alone, where nothing stands at its path nor at those of its logs: whether it was made.
+/// What stands there is not touched. A file that has the name of a log is not made: it would be taken for the log of
+/// another one.
+pub(crate) fn make_new(rt: &HostRuntime, file: &str) -> bool {
+    for end in LOGS {
+        if file.ends_with(end) || is_taken_beside(rt, file, end) {
+            return false;
+        }
+    }
+    make_private(rt, file)
+}
+
+/// Takes away the log beside a file: whether it is gone.
+pub(crate) fn forget_log(rt: &HostRuntime, file: &str) -> bool {
+    match format!(in rt.alloc(); "{file}-wal") {
+        Ok(log) => remove_file(rt, log.as_str()).is_ok(),
+        Err(_) => false,
     }
 }

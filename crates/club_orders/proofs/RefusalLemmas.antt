@@ -10,7 +10,7 @@ use Rattle.club_orders.specs.declared.report.Report.{Report}
 use Rattle.club_orders.specs.declared.report.Report.TheVariants.{Ready, Sound, Answered, Shown, Unwritten}
 use Rattle.club_orders.specs.declared.report.Report.TheVariants.{Unopened, Stopped, InUse, NotOpened, NoMoment, Unread}
 use Rattle.club_orders.specs.declared.report.Report.TheVariants.{Listening, Unbound, NoMemory, Upgraded}
-use Rattle.club_orders.specs.declared.report.Report.TheVariants.{AlreadyUpgraded, Batched}
+use Rattle.club_orders.specs.declared.report.Report.TheVariants.{AlreadyUpgraded, Batched, Copied, Uncopied}
 use Rattle.club_orders.specs.Report.{IfUnopened}
 
 -- no tables were refused
@@ -19,10 +19,12 @@ taken_over P Ready taken = tt
 taken_over P Sound taken = tt
 taken_over P Upgraded taken = tt
 taken_over P AlreadyUpgraded taken = tt
+taken_over P Copied taken = tt
 taken_over P (Answered outcome) taken = tt
 taken_over P (Batched batched) taken = tt
 taken_over P Shown taken = tt
 taken_over P Unwritten taken = tt
+taken_over P Uncopied taken = tt
 taken_over P (Unopened fault) taken = absurd taken
 taken_over P (Stopped fault) taken = tt
 taken_over P InUse taken = tt

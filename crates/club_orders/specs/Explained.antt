@@ -25,7 +25,7 @@ use Rattle.club_orders.specs.declared.report.Report.{Report}
 use Rattle.club_orders.specs.declared.report.Report.TheVariants.{Ready, Sound, Answered, Shown, Unwritten}
 use Rattle.club_orders.specs.declared.report.Report.TheVariants.{Unopened, Stopped, InUse, NotOpened, NoMoment, Unread}
 use Rattle.club_orders.specs.declared.report.Report.TheVariants.{Listening, Unbound, NoMemory, Upgraded}
-use Rattle.club_orders.specs.declared.report.Report.TheVariants.{AlreadyUpgraded, Batched}
+use Rattle.club_orders.specs.declared.report.Report.TheVariants.{AlreadyUpgraded, Batched, Copied, Uncopied}
 use Rattle.club_orders.specs.Report.{report_status, report_text, IsFaultText}
 
 -- of the games of a member who is none
@@ -75,6 +75,7 @@ report_explained task (Answered outcome) = answer_explained task outcome
 report_explained task (Unopened fault) = Some (explanation.Fault (opening_explained task fault))
 report_explained task (Stopped fault) = Some (explanation.Fault (stop_explained fault))
 report_explained task Unwritten = Some (explanation.Fault fault.NoOutput)
+report_explained task Uncopied = Some (explanation.Fault fault.NoCopy)
 report_explained task InUse = Some (explanation.Fault fault.InUse)
 report_explained task NotOpened = Some (explanation.Fault fault.NotOpened)
 report_explained task NoMoment = Some (explanation.Fault fault.NoClock)
@@ -85,6 +86,7 @@ report_explained task Ready = None
 report_explained task Sound = None
 report_explained task Upgraded = None
 report_explained task AlreadyUpgraded = None
+report_explained task Copied = None
 report_explained task Shown = None
 report_explained task (Batched batched) = None
 report_explained task (Listening port) = None

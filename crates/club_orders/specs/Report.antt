@@ -32,7 +32,7 @@ use Rattle.club_orders.specs.declared.report.Report.{Report}
 use Rattle.club_orders.specs.declared.report.Report.TheVariants.{Ready, Sound, Answered, Shown, Unwritten}
 use Rattle.club_orders.specs.declared.report.Report.TheVariants.{Unopened, Stopped, InUse, NotOpened, NoMoment, Unread}
 use Rattle.club_orders.specs.declared.report.Report.TheVariants.{Listening, Unbound, NoMemory, Upgraded}
-use Rattle.club_orders.specs.declared.report.Report.TheVariants.{AlreadyUpgraded, Batched}
+use Rattle.club_orders.specs.declared.report.Report.TheVariants.{AlreadyUpgraded, Batched, Copied, Uncopied}
 use Rattle.club_orders.specs.Batches.{batch_sessions, batch_status, fault_line}
 use Rattle.club_words.specs.declared.batches.Batch.{Batch}
 use Rattle.club_words.specs.declared.words.Task.{Task}
@@ -44,10 +44,12 @@ report_text Ready = codes "ready\n"
 report_text Sound = codes "sound\n"
 report_text Upgraded = codes "upgraded\n"
 report_text AlreadyUpgraded = codes "repeated upgrade\n"
+report_text Copied = codes "copied\n"
 report_text (Answered outcome) = outcome_text outcome ++ codes "\n"
 report_text (Batched batched) = fault_line batched.fault
 report_text Shown = []
 report_text Unwritten = codes "store 77 Output\n"
+report_text Uncopied = codes "store 77 Output\n"
 report_text (Unopened fault) = codes "store " ++ open_fault_text fault ++ codes "\n"
 report_text (Stopped fault) = codes "store " ++ store_fault_text fault ++ codes "\n"
 report_text InUse = codes "store 73 Store\n"
@@ -69,10 +71,12 @@ report_status Ready = 0
 report_status Sound = 0
 report_status Upgraded = 0
 report_status AlreadyUpgraded = 0
+report_status Copied = 0
 report_status (Answered outcome) = outcome_status outcome
 report_status (Batched batched) = batch_status batched
 report_status Shown = 0
 report_status Unwritten = 3
+report_status Uncopied = 3
 report_status (Unopened fault) = 3
 report_status (Stopped fault) = 3
 report_status InUse = 3
@@ -181,6 +185,15 @@ abbrev pub IsPassed : Report → Type 0
 IsPassed Sound = ⊤
 IsPassed (Unopened fault) = (fault ≡ open_fault.Store) ⊎ (fault ≡ open_fault.Memory)
 IsPassed _ = ⊥
+
+-- ---- a copy
+
+-- it was made; or a call of the copy's or of the club's database failed, or memory was refused
+abbrev pub IsOfCopy : Report → Type 0
+IsOfCopy Copied = ⊤
+IsOfCopy Uncopied = ⊤
+IsOfCopy (Stopped fault) = (fault ≡ store_fault.Store) ⊎ (fault ≡ store_fault.Memory)
+IsOfCopy _ = ⊥
 
 -- ---- an upgrade
 

@@ -1,6 +1,6 @@
 //! What an order does over a connection.
 
-ghost use Rattle.std.specs.Prelude.{◌≡◌, ◌≤◌, ◌⊎◌, ◌++◌, ◌∷◌, [], false, true};
+ghost use Rattle.std.specs.Prelude.{◌≡◌, ◌≢◌, ◌≤◌, ◌⊎◌, ◌++◌, ◌∷◌, [], false, true, ⊤};
 ghost use Rattle.sqlite.specs.State.{HasCleanDisk, Opens, IsLive};
 ghost use Rattle.sqlite.specs.Held.{state};
 ghost use Rattle.sqlite_trees.specs.View.{doubt};
@@ -188,8 +188,8 @@ fn carried(done: Upgrade) -> Report
     }
 }
 
-// Tests that the rows are those of a club.
-fn verify<S: Alter>(alloc: Global, conn: Connection<S>) -> (Report, Connection<S>)
+/// Tests that the rows are those of a club, and changes nothing: one that is found sound holds exactly what it held.
+pub fn verify<S: Alter>(alloc: Global, conn: Connection<S>) -> (Report, Connection<S>)
     requires { conn.in_transaction ≡ false }
     ensures idle { result.1.in_transaction ≡ false }
     ensures clean { doubt (state S.Store conn).is_clean ≤ doubt (state S.Store result.1).is_clean }
@@ -200,6 +200,11 @@ fn verify<S: Alter>(alloc: Global, conn: Connection<S>) -> (Report, Connection<S
     ensures legal { HasCleanDisk (state S.Store result.1) → Opens (state S.Store conn) → IsLive (state S.Store conn) →
         IsClubSchema (state S.Store conn).now.schema → result.0 ≡ Report.Sound →
         HoldClub (state S.Store conn).committed.trees }
+    ensures keeps { HasCleanDisk (state S.Store result.1) → Opens (state S.Store conn) →
+        IsKept (state S.Store conn) (state S.Store result.1) }
+    ensures named { result.0 ≢ Report.Sound → OnlyUnopened result.0 (λ fault. ⊤) }
+    ensures same { HasCleanDisk (state S.Store result.1) → result.0 ≡ Report.Sound → (content : _) →
+        IsExactly content (state S.Store conn) → IsExactly content (state S.Store result.1) }
     ensures refuses { HasCleanDisk (state S.Store result.1) →
         IfUnopened result.0 (IsRefusal (state S.Store conn) (state S.Store result.1)) }
     ensures older { HasCleanDisk (state S.Store result.1) → Opens (state S.Store conn) → IsLive (state S.Store conn) →
@@ -224,7 +229,8 @@ fn verify<S: Alter>(alloc: Global, conn: Connection<S>) -> (Report, Connection<S
 /// Does what is asked for over a connection that was just opened, at that moment, and gives the connection back:
 /// makes a club, gives the club that stands there a command of the officer's, or orders in turn, asks it a question and writes what that
 /// is shown to `out`, tests that the rows are those of a club, or carries a club of schema 1 over to schema 2; every
-/// other word refuses schema 1 by its number. The answer is the machine's. Sessions that led to what the opening found
+/// other word refuses schema 1 by its number. Of a backup it does what comes first, and tests the rows. The answer is
+/// the machine's. Sessions that led to what the opening found
 /// lead, with this request or these orders as one more, to whatever a stop leaves; where there was no table, and a club was to be made, none led to it, or there is no table
 /// still. Tables that are not taken as a club's are blamed for it, and stay as they were found; those that are found
 /// sound are a club's.
@@ -291,6 +297,7 @@ pub fn act<S: Alter, W: Write>(
         Task::Ask(question) => ask(alloc, conn, question, moment, out),
         Task::Verify => verify(alloc, conn),
         Task::Upgrade => carry(alloc, conn),
+        Task::Backup(_) => verify(alloc, conn),
         Task::Batch(batch) => give_batch(alloc, conn, batch, moment),
     }
 }

@@ -86,6 +86,7 @@ fn report_explained(task: &Task, report: &Report) -> Option<Explanation>
         Report::Unopened(fault) => Some(Explanation::Fault(opening_explained(task, *fault))),
         Report::Stopped(fault) => Some(Explanation::Fault(stop_explained(*fault))),
         Report::Unwritten => Some(Explanation::Fault(Fault::NoOutput)),
+        Report::Uncopied => Some(Explanation::Fault(Fault::NoCopy)),
         Report::InUse => Some(Explanation::Fault(Fault::InUse)),
         Report::NotOpened => Some(Explanation::Fault(Fault::NotOpened)),
         Report::NoMoment => Some(Explanation::Fault(Fault::NoClock)),
@@ -96,6 +97,7 @@ fn report_explained(task: &Task, report: &Report) -> Option<Explanation>
         Report::Sound => None,
         Report::Upgraded => None,
         Report::AlreadyUpgraded => None,
+        Report::Copied => None,
         Report::Shown => None,
         // What a batch came to is told order by order.
         Report::Batched(_) => None,

@@ -3,12 +3,14 @@
 
 pub mod batch;
 pub mod batched;
+pub mod copying;
 pub mod doing;
 mod explained;
 pub mod report;
 mod written;
 
 pub use batched::{Batched, print_batch};
-pub use doing::act;
+pub use copying::back_up;
+pub use doing::{act, verify};
 pub use explained::print_explained;
 pub use report::{BAD_WORDS, DONE, FAULT, REFUSED, Report, print};

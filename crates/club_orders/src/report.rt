@@ -38,10 +38,14 @@ pub enum Report {
     Upgraded,
     /// The file was of schema 2, and stays as it is.
     AlreadyUpgraded,
+    /// A copy of the club was made.
+    Copied,
     /// What a question is shown was written.
     Shown,
     /// The writer of what a question is shown failed.
     Unwritten,
+    /// The file of a copy was not made, or not written.
+    Uncopied,
     /// No club was made, or none was found.
     Unopened(OpenFault),
     /// A call on the open club failed.
@@ -72,12 +76,14 @@ impl Report {
             Report::Sound => DONE,
             Report::Upgraded => DONE,
             Report::AlreadyUpgraded => DONE,
+            Report::Copied => DONE,
             Report::Answered(Outcome::Accepted(_)) => DONE,
             Report::Answered(Outcome::Repeated(_)) => DONE,
             Report::Answered(Outcome::Refused(_)) => REFUSED,
             Report::Batched(batched) => batched.status(),
             Report::Shown => DONE,
             Report::Unwritten => FAULT,
+            Report::Uncopied => FAULT,
             Report::Unopened(_) => FAULT,
             Report::Stopped(_) => FAULT,
             Report::InUse => FAULT,
@@ -101,10 +107,12 @@ fn write_report(text: &mut String, report: &Report) -> Result<(), AllocError>
         Report::Sound => writeln!(text, "sound"),
         Report::Upgraded => writeln!(text, "upgraded"),
         Report::AlreadyUpgraded => writeln!(text, "repeated upgrade"),
+        Report::Copied => writeln!(text, "copied"),
         Report::Answered(outcome) => writeln!(text, "{outcome}"),
         Report::Batched(batched) => write_fault(text, &batched.fault),
         Report::Shown => Ok(()),
         Report::Unwritten => writeln!(text, "store 77 Output"),
+        Report::Uncopied => writeln!(text, "store 77 Output"),
         Report::Unopened(fault) => writeln!(text, "store {fault}"),
         Report::Stopped(fault) => writeln!(text, "store {fault}"),
         Report::InUse => writeln!(text, "store 73 Store"),

@@ -6,7 +6,7 @@ use Rattle.club_orders.specs.declared.report.Report.{Report}
 use Rattle.club_orders.specs.declared.report.Report.TheVariants.{Ready, Sound, Answered, Shown, Unwritten}
 use Rattle.club_orders.specs.declared.report.Report.TheVariants.{Unopened, Stopped, InUse, NotOpened, NoMoment, Unread}
 use Rattle.club_orders.specs.declared.report.Report.TheVariants.{Listening, Unbound, NoMemory, Upgraded}
-use Rattle.club_orders.specs.declared.report.Report.TheVariants.{AlreadyUpgraded, Batched}
+use Rattle.club_orders.specs.declared.report.Report.TheVariants.{AlreadyUpgraded, Batched, Copied, Uncopied}
 use Rattle.club_orders.specs.Batches.{batch_status, is_refused, status_of}
 use Rattle.club_orders.specs.declared.batched.Batched as batch_report
 use Rattle.club_orders.specs.Report.{outcome_status, report_status}
@@ -29,10 +29,12 @@ status_small Ready = omega (arith)
 status_small Sound = omega (arith)
 status_small Upgraded = omega (arith)
 status_small AlreadyUpgraded = omega (arith)
+status_small Copied = omega (arith)
 status_small (Answered o) = outcome_small o
 status_small (Batched batched) = batch_small batched.fault (list_any is_refused batched.outcomes.items)
 status_small Shown = omega (arith)
 status_small Unwritten = omega (arith)
+status_small Uncopied = omega (arith)
 status_small (Unopened fault) = omega (arith)
 status_small (Stopped fault) = omega (arith)
 status_small InUse = omega (arith)

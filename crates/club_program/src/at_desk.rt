@@ -1,13 +1,19 @@
 //! An order that the desk does which holds the file.
 
-ghost use Rattle.std.specs.Prelude.{◌≤◌, IfSome};
+ghost use Rattle.std.specs.Prelude.{◌≡◌, ◌≤◌, ℕ, List, [], Ok, Err, IfSome};
+ghost use Rattle.club_orders.specs.declared.report.Report.TheVariants as report;
+ghost use Rattle.club_program.specs.Alike.{report_print};
+ghost use Rattle.club_requests.specs.declared.answers.Outcome.{Outcome};
+ghost use Rattle.club_requests.specs.declared.answers.Outcome.TheVariants as outcome;
+ghost use Rattle.club_requests.specs.declared.refusals.Refusal.{Refusal};
+ghost use Rattle.officer_door.specs.Printed.{printed, shown_printed};
 
 use crate::printing::print_report;
-use club_orders::{DONE, REFUSED, Report};
+use club_orders::Report;
 use club_requests::Command;
 use club_words::{Order, Task};
-use http_port::{Answered, clock, order as ask};
-use std::io::Write;
+use http_port::clock;
+use officer_door::{Answered, order as ask, print_answered};
 
 // The text of the record that an order brings, where it is one that a desk can do: not one that wants the file for
 // itself.
@@ -20,20 +26,24 @@ fn text_of(order: &Order) -> Option<&[u8]> {
     }
 }
 
-// Prints what a desk answered.
-fn print_answered(rt: &HostRuntime, order: &Order, answered: &Answered) -> u8
+// Prints what a desk answered: what it would have been without one.
+fn print_told(rt: &HostRuntime, order: &Order, answered: &Answered) -> u8
     ensures { result ≤ 3 }
 {
-    if answered.is_done {
-        return match rt.stdout().write_all(&answered.text) {
-            Ok(()) => DONE,
-            Err(_) => print_report(rt, &order.task, &Report::Unwritten, false),
-        };
+    match print_answered(answered, &mut rt.stdout(), &mut rt.stderr()) {
+        Some(status) => status,
+        None => print_report(rt, &order.task, &Report::Unwritten, false),
     }
-    match rt.stderr().write_all(&answered.text) {
-        Ok(()) => REFUSED,
-        Err(_) => print_report(rt, &order.task, &Report::Unwritten, false),
-    }
+}
+
+/// What is printed of an order that the desk did is what is printed of its report over the file: of what a command was
+/// answered, and of what a question is shown.
+pub fn is_printed_alike()
+    ensures answered { (given : Outcome) → printed given ≡ report_print [] (report.Answered given) }
+    ensures shown { (text : List ℕ) → shown_printed (Ok text) ≡ report_print text report.Shown }
+    ensures refused { (refusal : Refusal) →
+        shown_printed (Err refusal) ≡ report_print [] (report.Answered (outcome.Refused refusal)) }
+{
 }
 
 /// Has the desk that holds the file do what the words order, and prints what it answered: the status, or none where
@@ -48,7 +58,7 @@ pub(crate) fn done_at_desk(rt: &HostRuntime, words: &[String], order: &Order) ->
         return None;
     };
     match ask(rt, order.file.as_str(), words, moment, text) {
-        Some(answered) => Some(print_answered(rt, order, &answered)),
+        Some(answered) => Some(print_told(rt, order, &answered)),
         None => None,
     }
 }

@@ -12,6 +12,7 @@ mod records;
 mod service;
 mod words;
 
+pub use at_desk::is_printed_alike;
 use batches::{run_batch, run_round_robin};
 use club_words::Words;
 use orders::run_with_record;

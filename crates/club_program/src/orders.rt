@@ -5,19 +5,32 @@ ghost use Rattle.std.specs.Prelude.{◌≤◌};
 use crate::at_desk::done_at_desk;
 use crate::printing::{line_room, print_in, print_report, print_without_room};
 use crate::records::record_in;
-use club_files::{give_up, obey};
+use club_files::{back_up, give_up, obey};
 use club_orders::Report;
-use club_words::Order;
-use http_port::{ask_for, clock};
+use club_words::{Order, Task};
+use http_port::clock;
+use officer_door::ask_for;
 use sqlite_disk::Wary;
 
-/// Does what is ordered over the file, at the moment that the words give or that of the machine's clock. A desk that
-/// holds the file gives it up for so long.
-pub(crate) fn done(rt: &HostRuntime, order: &Order) -> Report {
-    let _leave = ask_for(rt, order.file.as_str());
+// Copies the club in a file into a new one.
+fn backed_up(rt: &HostRuntime, file: &str, copy: &str) -> Report {
+    give_up(back_up(rt, file, copy, Wary, Wary)).into_report()
+}
+
+// Does what is ordered over the file, at the moment that the words give or that of the machine's clock.
+fn obeyed(rt: &HostRuntime, order: &Order) -> Report {
     match order.now.or(clock(rt)) {
         Some(moment) => give_up(obey(rt, order, moment, Wary, &mut rt.stdout())),
         None => Report::NoMoment,
+    }
+}
+
+/// Does what is ordered over the file. A desk that holds the file gives it up for so long.
+pub(crate) fn done(rt: &HostRuntime, order: &Order) -> Report {
+    let _leave = ask_for(rt, order.file.as_str());
+    match &order.task {
+        Task::Backup(copy) => backed_up(rt, order.file.as_str(), copy.as_str()),
+        _ => obeyed(rt, order),
     }
 }
 

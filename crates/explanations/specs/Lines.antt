@@ -31,6 +31,7 @@ use Rattle.explanations.specs.declared.texts.TheConstants.{UNKNOWN_PLAYER, RECOR
 use Rattle.explanations.specs.declared.texts.TheConstants.{MOVE_TEXT, LISTED_MEMBER, NO_CLUB, NOT_EMPTY, OLDER_SCHEMA}
 use Rattle.explanations.specs.declared.texts.TheConstants.{LATER_SCHEMA, DAMAGED, IN_USE, NOT_OPENED, STORE, REOPEN}
 use Rattle.explanations.specs.declared.texts.TheConstants.{MEMORY, NO_CLOCK, NO_RECORD, NO_PORT, NO_OUTPUT}
+use Rattle.explanations.specs.declared.texts.TheConstants.{NO_COPY}
 
 -- a move that the rules refuse
 abbrev pub move_line : MoveRefusal → List ℕ
@@ -115,6 +116,7 @@ fault_line fault.NoClock = NO_CLOCK.now
 fault_line fault.NoRecord = NO_RECORD.now
 fault_line fault.NoPort = NO_PORT.now
 fault_line fault.NoOutput = NO_OUTPUT.now
+fault_line fault.NoCopy = NO_COPY.now
 
 abbrev pub line_of : Explanation → List ℕ
 line_of (explanation.Refusal refusal) = refusal_line refusal

@@ -71,6 +71,8 @@ pub enum Fault {
     NoPort,
     /// 77: what was to be printed could not be written.
     NoOutput,
+    /// 77: the file of a copy cannot be made or written.
+    NoCopy,
 }
 
 /// What an explanation is about.

@@ -179,6 +179,9 @@ const NO_PORT: &str =
 // 77
 const NO_OUTPUT: &str =
     "what was to be printed could not be written; what was ordered is done, and may be given again\n";
+// 77
+const NO_COPY: &str =
+    "FILE2 has to be a new name, that of no log, in a folder where it can be made and has room\n";
 
 /// The line of a refusal by its number.
 pub(crate) fn refusal_line(refusal: Refusal) -> &'static str
@@ -290,5 +293,6 @@ pub(crate) fn fault_line(fault: Fault) -> &'static str
         Fault::NoRecord => NO_RECORD,
         Fault::NoPort => NO_PORT,
         Fault::NoOutput => NO_OUTPUT,
+        Fault::NoCopy => NO_COPY,
     }
 }

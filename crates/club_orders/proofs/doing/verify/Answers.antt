@@ -1,4 +1,4 @@
-use Rattle.std.proofs.Common.{sym, subst}
+use Rattle.std.proofs.Common.{refl, sym, subst}
 use Rattle.sqlite.specs.State.{HasCleanDisk}
 use Rattle.sqlite.specs.Held.{state}
 use Rattle.club_rows.specs.Club.{tables}
@@ -78,3 +78,23 @@ returns-in-Ok-clause-older g c clean opens live s (club, left) =
     let same = c.into_connection-conn.ensures.same in
     let taken = subst (λ h. HasCleanDisk (state g.S.Store h)) same clean in
     absurd (c.in-Ok.ensures.older taken s club (c.holds_exactly.ensures opens live _ _ left))
+
+pub returns-in-Ok-clause-keeps : goal.returns-in-Ok-clause-keeps
+returns-in-Ok-clause-keeps g c clean opens db left =
+    let same = c.into_connection-conn.ensures.same in
+    let taken = subst (λ h. HasCleanDisk (state g.S.Store h)) same clean in
+    let may = subst (λ h. (state g.S.Store h).may_leave db) same left in
+    g.met.S.Store.settled c.args.conn.store db opens.is_open (c.in-Ok.ensures.kept.may taken db may)
+
+pub returns-in-Err-clause-keeps : goal.returns-in-Err-clause-keeps
+returns-in-Err-clause-keeps g c clean opens db left =
+    g.met.S.Store.settled c.args.conn.store db opens.is_open (c.in-Err.ensures.reads.may clean db left)
+
+pub returns-in-Ok-clause-named : goal.returns-in-Ok-clause-named
+returns-in-Ok-clause-named g c not = absurd (not refl)
+
+pub returns-in-Ok-clause-same : goal.returns-in-Ok-clause-same
+returns-in-Ok-clause-same g c clean is content at =
+    let same = c.into_connection-conn.ensures.same in
+    let taken = subst (λ h. HasCleanDisk (state g.S.Store h)) same clean in
+    subst (λ h. IsExactly content (state g.S.Store h)) (sym same) (c.in-Ok.ensures.same taken content at)

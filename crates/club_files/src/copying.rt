@@ -1,0 +1,158 @@
+//! A copy of a club in new files.
+
+ghost use Rattle.std.specs.Prelude.{◌≡◌, ◌≢◌, ◌⊎◌, Option, None, IfSome};
+ghost use Rattle.sqlite_wal.specs.Files.{image_at};
+ghost use Rattle.sqlite_store.specs.FileStore.{state as store_state, view as store_view};
+ghost use Rattle.sqlite_trees.specs.View.{IsClean};
+ghost use Rattle.sqlite.specs.State.{HasCleanDisk};
+ghost use Rattle.sqlite.specs.Held.{state};
+ghost use Rattle.sqlite.specs.Files.{file_state};
+ghost use Rattle.store_tables.specs.Club.{IsExactly};
+ghost use Rattle.store_tables.specs.Reading.{OnlyReads};
+ghost use Rattle.club_rows.specs.Club.{ClubState, tables};
+ghost use Rattle.sessions.specs.Finds.{AreVoid};
+ghost use Rattle.club_opening.specs.declared.fault.OpenFault.TheVariants.{Foreign};
+ghost use Rattle.club_orders.specs.declared.report.Report.TheVariants.{Copied, InUse, NotOpened, Uncopied, Unopened};
+ghost use Rattle.club_orders.specs.Report.{IfUnopened, IsOfCopy, OnlyUnopened};
+ghost use Rattle.club_orders.specs.Refused.{IsOlder};
+ghost use Rattle.club_files.specs.Copied.{HasCopyOf, HasCopyOrNone};
+ghost use Rattle.club_files.specs.Found.{AreFilesOf, AreFirstFilesOf, AreKept, AreRefused, AreSound, IsBackedUp};
+
+use crate::opening::{Again, open_in_turn, open_new};
+use crate::places::{Purpose, forget_log};
+use club_orders::{Report, back_up as copy_club, verify};
+use sessions::close;
+use sqlite::{Alter, Connection, FileFrom, FileStore, Leftover};
+use sqlite_disk::{Disk, Start};
+use store::{holds_exactly, holds_nothing};
+
+/// What a backup came to, and the copy, where its files were opened.
+pub struct BackedUp<D: Disk> {
+    pub report: Report,
+    pub copy: Option<Leftover<D>>,
+}
+
+impl<D: Disk + Drop> BackedUp<D> {
+    /// Gives the copy up: what was come to remains.
+    pub fn into_report(self) -> Report
+        ensures { result ≡ self.report }
+    {
+        let BackedUp { report, copy } = self;
+        if let Some(left) = copy {
+            let _files = left.into_files();
+        }
+        report
+    }
+}
+
+// Closes a copy that is whole: its log is copied into its file, and taken away.
+fn finish<T: Start>(
+    rt: &HostRuntime,
+    copy: Connection<FileStore<FileFrom<T>>>,
+    path: &str,
+) -> BackedUp<FileFrom<T>>
+    ensures named { (result.report ≡ Copied) ⊎ (result.report ≡ Uncopied) }
+    ensures whole { (content : _) → (HasCleanDisk (file_state copy) → IsExactly content (file_state copy)) →
+        result.report ≡ Copied → HasCopyOf content result.copy }
+    ensures cut_off { (content : _) → (HasCleanDisk (file_state copy) → IsExactly content (file_state copy)) →
+        HasCopyOrNone content result.copy }
+{
+    let files = match copy.close_files() {
+        Ok(files) => files,
+        Err((_, store)) => {
+            return BackedUp {
+                report: Report::Uncopied,
+                copy: Some(Leftover::Store(store)),
+            };
+        }
+    };
+    if !forget_log(rt, path) {
+        return BackedUp {
+            report: Report::Uncopied,
+            copy: Some(Leftover::Files(files)),
+        };
+    }
+    BackedUp {
+        report: Report::Copied,
+        copy: Some(Leftover::Files(files)),
+    }
+}
+
+// Copies a club that was taken over into new files at a path, which hold at first what `T` stands for.
+fn copy_into<S: Alter, T: Start>(
+    rt: &HostRuntime,
+    club: &mut Connection<S>,
+    path: &str,
+    start: T,
+) -> BackedUp<FileFrom<T>>
+    ensures reads { OnlyReads (state S.Store club.old) (state S.Store club.new) }
+    ensures named { IsOfCopy result.report }
+    ensures copied { HasCleanDisk (state S.Store club.new) → AreVoid (image_at T.Start) → (content : _) →
+        IsExactly content (state S.Store club.old) → result.report ≡ Copied → HasCopyOf content result.copy }
+    ensures cut_off { HasCleanDisk (state S.Store club.new) → AreVoid (image_at T.Start) → (content : _) →
+        IsExactly content (state S.Store club.old) → HasCopyOrNone content result.copy }
+{
+    let mut copy = match open_new(rt, path, start) {
+        Ok(copy) => copy,
+        Err(report) => return BackedUp { report, copy: None },
+    };
+    holds_nothing(&copy);
+    match copy_club(rt.alloc(), club, &mut copy) {
+        Report::Copied => finish(rt, copy, path),
+        report => BackedUp {
+            report,
+            copy: Some(Leftover::Store(copy.into_store())),
+        },
+    }
+}
+
+/// Copies the club in the files of a path, which hold at first what `S` stands for, into new files at another path,
+/// which hold at first what `T` stands for: opens the club's files as soon as no other program uses them, which it
+/// waits for up to five seconds, and takes the club over; only then makes the file of the copy, for its owner alone,
+/// where nothing stands; copies the club; and closes both. Gives what it came to, and the files where they were opened.
+///
+/// Later openings find in the club's files what this one found, of whatever a stop leaves. Tables that are not taken as
+/// a club's are blamed for it, and nothing is made of a copy. Where a copy is reported as made, the club is legal, and
+/// an opening of the copy finds its tables, of whatever a stop leaves, in the file of the copy alone. Another copy has
+/// no table, or is whole.
+pub fn back_up<S: Again, T: Start>(
+    rt: &HostRuntime,
+    file: &str,
+    path: &str,
+    start: S,
+    copy_start: T,
+) -> (BackedUp<FileFrom<T>>, Option<FileStore<FileFrom<S>>>)
+    ensures unopened { result.1 ≡ None → (result.0.copy ≡ None) × (((result.0.report ≡ InUse) ⊎
+        (result.0.report ≡ NotOpened)) ⊎ (result.0.report ≡ Unopened Foreign)) }
+    ensures kept { IfSome result.1 (λ store. IsClean (store_view store) →
+        AreKept (image_at S.Start) (store_state store).may_leave) }
+    ensures refuses { IfSome result.1 (λ store. IsClean (store_view store) → IfUnopened result.0.report
+        (AreRefused (image_at S.Start) (store_state store).may_leave)) }
+    ensures untaken { (fault : _) → result.0.report ≡ Unopened fault → result.0.copy ≡ None }
+    ensures older { IfSome result.1 (λ store. IsClean (store_view store) →
+        (s : ClubState) → AreFirstFilesOf s (image_at S.Start) → OnlyUnopened result.0.report IsOlder) }
+    ensures named { IfSome result.1 (λ store. IsClean (store_view store) →
+        (s : ClubState) → AreFilesOf s (image_at S.Start) → IsBackedUp result.0.report) }
+    ensures sound { IfSome result.1 (λ store. IsClean (store_view store) → result.0.report ≡ Copied →
+        AreSound (image_at S.Start)) }
+    ensures copied { IfSome result.1 (λ store. IsClean (store_view store) → AreVoid (image_at T.Start) →
+        (s : ClubState) → AreFilesOf s (image_at S.Start) → result.0.report ≡ Copied →
+        HasCopyOf (tables s) result.0.copy) }
+    ensures cut_off { IfSome result.1 (λ store. IsClean (store_view store) → AreVoid (image_at T.Start) →
+        (s : ClubState) → AreFilesOf s (image_at S.Start) → HasCopyOrNone (tables s) result.0.copy) }
+{
+    let conn = match open_in_turn(rt, file, Purpose::Ordering, start) {
+        Ok(conn) => conn,
+        Err(report) => return (BackedUp { report, copy: None }, None),
+    };
+    holds_exactly(&conn);
+    let (report, conn) = verify(rt.alloc(), conn);
+    let mut conn = conn;
+    match report {
+        Report::Sound => {
+            let done = copy_into(rt, &mut conn, path, copy_start);
+            (done, Some(close(conn)))
+        }
+        report => (BackedUp { report, copy: None }, Some(close(conn))),
+    }
+}

@@ -1,0 +1,49 @@
+//! What a club that is held is copied into.
+
+ghost use Rattle.std.specs.Prelude.{◌≡◌, ◌≤◌, ◌⊎◌, false};
+ghost use Rattle.sqlite.specs.State.{HasCleanDisk};
+ghost use Rattle.sqlite.specs.Held.{state};
+ghost use Rattle.sqlite_trees.specs.View.{doubt};
+ghost use Rattle.store_tables.specs.Club.{IsExactly, Leaves};
+ghost use Rattle.store_tables.specs.Contents.{IsEmpty, IsExactlyEmpty};
+ghost use Rattle.store_tables.specs.Reading.{OnlyReads};
+ghost use Rattle.store_sql.specs.Read.{KeepsContent};
+ghost use Rattle.club_orders.specs.Report.{IsOfCopy};
+
+use crate::report::Report;
+use club_copies::{CopyFault, copy_tables};
+use sqlite::{Alter, Connection};
+use std::alloc::Global;
+use store::StoreFault;
+
+/// Copies a club that was taken over into an empty database, by one transaction with one commit. The club is read and
+/// stays as it is. A copy that is reported as made has exactly the club's tables, now and after a stop; another one has
+/// no table, or is whole. It is the copy that failed where that is reported, and the club still holds what it held;
+/// where a call of the club's failed, or memory was refused, nothing was done to the copy.
+pub fn back_up<S: Alter, T: Alter>(
+    alloc: Global,
+    club: &mut Connection<S>,
+    copy: &mut Connection<T>,
+) -> Report
+    requires { copy.old.in_transaction ≡ false }
+    ensures idle { copy.new.in_transaction ≡ false }
+    ensures reads { OnlyReads (state S.Store club.old) (state S.Store club.new) }
+    ensures clean { doubt (state T.Store copy.old).is_clean ≤ doubt (state T.Store copy.new).is_clean }
+    ensures named { IsOfCopy result }
+    ensures copied { HasCleanDisk (state S.Store club.new) → HasCleanDisk (state T.Store copy.new) →
+        result ≡ Report.Copied → (content : _) → IsExactly content (state S.Store club.old) →
+        IsExactlyEmpty (state T.Store copy.old) → IsExactly content (state T.Store copy.new) }
+    ensures cut_off { HasCleanDisk (state S.Store club.new) → HasCleanDisk (state T.Store copy.new) →
+        (content : _) → IsExactly content (state S.Store club.old) → IsExactlyEmpty (state T.Store copy.old) →
+        (db : _) → (state T.Store copy.new).may_leave db → IsEmpty db ⊎ Leaves content db }
+    ensures goes_on { HasCleanDisk (state S.Store club.new) → result ≡ Report.Uncopied →
+        KeepsContent (state S.Store club.old) (state S.Store club.new) }
+    ensures untouched { (fault : _) → result ≡ Report.Stopped fault → copy.new ≡ copy.old }
+{
+    match copy_tables(alloc, club, copy) {
+        Ok(()) => Report::Copied,
+        Err(CopyFault::Club) => Report::Stopped(StoreFault::Store),
+        Err(CopyFault::Copy) => Report::Uncopied,
+        Err(CopyFault::Memory) => Report::Stopped(StoreFault::Memory),
+    }
+}

@@ -1,0 +1,12 @@
+-- What the program prints of a report over the file, beside what is printed of an order that the desk did.
+use Rattle.std.specs.Prelude.{◌++◌, ◌==◌, List, ℕ, [], if◌then◌else◌}
+use Rattle.club_orders.specs.declared.report.Report.{Report}
+use Rattle.club_orders.specs.Report.{report_status, report_text}
+use Rattle.officer_door.specs.Printed.{Print}
+
+-- what a question is shown, which is nothing at a command, and then the line of the report
+abbrev pub report_print : (shown : List ℕ) → Report → Print
+report_print shown report =
+    if report_status report == 0
+    then record { status = 0; out = shown ++ report_text report; err = [] }
+    else record { status = report_status report; out = shown; err = report_text report }
