@@ -1,7 +1,7 @@
+mod AnswerTextLemmas
 mod BoardLemmas
 mod ChallengeOrder
 mod OverdueLemmas
 mod RecordLemmas
 mod RecordsFound
-mod ShownLemmas
 mod ToldRows

@@ -14,7 +14,7 @@ use Rattle.club_core.specs.State.{AnyGame, draughts, shogi, place, terms_at}
 use Rattle.club_core.specs.Step.{ended, is_late as late_game, is_overdue, swept}
 use Rattle.club_core.proofs.Proved.{not-some, outside-alone, score-none}
 use Rattle.club_rows.specs.Club.{ClubGame, ClubState, both_games}
-use Rattle.club_lists.specs.Told.{is_late}
+use Rattle.club_lists.specs.GameSummary.{is_late}
 use Rattle.club_answers.specs.Games.{over_of, told_by_rules}
 use Rattle.club_answers.specs.Overdue.{IsCounted, IsSweptThen}
 

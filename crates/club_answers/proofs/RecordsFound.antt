@@ -9,14 +9,14 @@ use Rattle.club_core.specs.Events.{Event, event_kind, has_event_name}
 use Rattle.club_rows.specs.Club.{ClubState}
 use Rattle.club_questions.specs.declared.questions.Question.TheVariants as question
 use Rattle.club_lists.specs.EventRecords.{event_game_ids}
-use Rattle.club_lists.specs.Told.{Told}
+use Rattle.club_lists.specs.GameSummary.{GameSummary}
 use Rattle.club_answers.specs.EventRecords.{ids_in}
 use Rattle.club_answers.specs.Found.{AsksRecords}
 use Rattle.club_answers.specs.Games.{told_games}
 
 -- the name and the club's events as they were handed to each call
 pub asks_records : (s : ClubState) (name : String Global) (n1 n2 n3 : List ℕ) (e1 e2 e3 : List Event)
-    (games : List Told) (kind : GameKind) (ids : List ℕ) (is : Bool)
+    (games : List GameSummary) (kind : GameKind) (ids : List ℕ) (is : Bool)
     → n1 ≡ string_bytes name → n2 ≡ string_bytes name → n3 ≡ string_bytes name
     → e1 ≡ s.events → e2 ≡ s.events → e3 ≡ s.events → games ≡ told_games s
     → is ≡ list_any (has_event_name n1) e1 → is ≡ true → ids ≡ event_game_ids e2 n2 games → kind ≡ event_kind e3 n3

@@ -10,10 +10,10 @@ use Rattle.club_core.specs.Events.{event_kind, has_event_name}
 use Rattle.club_rows.specs.Club.{ClubState}
 use Rattle.club_questions.specs.declared.questions.Question.{Question}
 use Rattle.club_questions.specs.declared.questions.Question.TheVariants as question
-use Rattle.club_lists.specs.ToldViews.{all_by}
+use Rattle.club_lists.specs.SummaryViews.{all_by}
 use Rattle.club_answers.specs.EventRecords.{ids_in}
 use Rattle.club_answers.specs.Games.{moment_in, told_games}
-use Rattle.club_answers.specs.Shown.{IsRefused, IsText}
+use Rattle.club_answers.specs.AnswerTexts.{IsRefused, IsText}
 use Rattle.club_answers.specs.declared.found.Found.{Found}
 use Rattle.club_answers.specs.declared.found.Found.TheVariants.{Text, Refused, Record, Records}
 use Rattle.club_answers.specs.declared.read.ClubRead.{ClubRead}

@@ -10,7 +10,7 @@ use Rattle.club_core.specs.State.{draughts, shogi, place, terms_at}
 use Rattle.club_core.specs.declared.rows.GameEnd.{GameEnd}
 use Rattle.club_rows.specs.Club.{ClubGame, ClubState, both_games}
 use Rattle.club_rows.specs.Tables.{end_name_text}
-use Rattle.club_lists.specs.Told.{Over, Told}
+use Rattle.club_lists.specs.GameSummary.{Over, GameSummary}
 
 module _ {P M E T : Type 0} (rules : GameRules P M E T) where
   -- how a game ended, that side being to move
@@ -20,7 +20,7 @@ module _ {P M E T : Type 0} (rules : GameRules P M E T) where
       Some (record { end = end_name_text rules end; result = score_text (end_score rules turn end) })
 
   -- what is told of the game of this id
-  abbrev pub told_by_rules : Terms → ℕ → Game M → Told
+  abbrev pub told_by_rules : Terms → ℕ → Game M → GameSummary
   told_by_rules terms id game = record {
     id = id;
     event = game.event;
@@ -35,17 +35,17 @@ module _ {P M E T : Type 0} (rules : GameRules P M E T) where
   }
 
 -- the same of a game of the club
-abbrev pub told_of : ClubState → ℕ → ClubGame → Told
+abbrev pub told_of : ClubState → ℕ → ClubGame → GameSummary
 told_of s id (draughts game) = told_by_rules both_games.draughts (terms_at (place s.events game.event)) id game
 told_of s id (shogi game) = told_by_rules both_games.shogi (terms_at (place s.events game.event)) id game
 
 -- the same of some games, their ids counting up from this one
-abbrev pub told_from : ClubState → ℕ → List ClubGame → List Told
+abbrev pub told_from : ClubState → ℕ → List ClubGame → List GameSummary
 told_from s id [] = []
 told_from s id (game ∷ games) = told_of s id game ∷ told_from s (suc id) games
 
 -- all games of the club
-abbrev pub told_games : ClubState → List Told
+abbrev pub told_games : ClubState → List GameSummary
 told_games s = told_from s 1 s.games
 
 -- the moment that counts: a request does not go back behind the last one that was accepted

@@ -1,3 +1,4 @@
+pub mod AnswerTexts
 pub mod Boards
 pub mod Challenges
 pub mod EventRecords
@@ -6,5 +7,4 @@ pub mod Games
 pub mod Overdue
 pub mod Records
 pub mod Rows
-pub mod Shown
 pub mod Writing

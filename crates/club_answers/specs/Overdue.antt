@@ -2,7 +2,7 @@
 use Rattle.std.specs.Prelude.{◌≡◌, ◌≢◌, ◌↔◌, ℕ, true}
 use Rattle.club_core.specs.State.{is_late_any, swept_any}
 use Rattle.club_rows.specs.Club.{ClubGame, ClubState, both_games}
-use Rattle.club_lists.specs.Told.{is_late}
+use Rattle.club_lists.specs.GameSummary.{is_late}
 use Rattle.club_answers.specs.Games.{told_of}
 
 -- a game is told as overdue at a moment exactly where a sweep counts it

@@ -1,7 +1,7 @@
 -- What the row of a game has.
 use Rattle.std.specs.Prelude.{◌≡◌, ℕ, List, Option, Some, None, pos}
 use Rattle.store_tables.specs.declared.rows.GameRecord.{GameRecord}
-use Rattle.club_lists.specs.Told.{Over}
+use Rattle.club_lists.specs.GameSummary.{Over}
 use Rattle.club_answers.specs.declared.games.Numbers.{Numbers}
 
 -- the row has these numbers

@@ -9,7 +9,7 @@ ghost use Rattle.store_tables.specs.Reading.{OnlyReads};
 ghost use Rattle.club_rows.specs.Club.{ClubState, IsClub, tables};
 ghost use Rattle.club_views.specs.Exported.{KeepsUnlessCalled};
 ghost use Rattle.club_questions.specs.declared.questions.Question.TheVariants as question;
-ghost use Rattle.club_answers.specs.Shown.{HasShown, HasShownSome};
+ghost use Rattle.club_answers.specs.AnswerTexts.{HasShown, HasShownSome};
 ghost use Rattle.club_answers.specs.Writing.{IsWritten};
 
 use crate::found::{Found, find_shown};

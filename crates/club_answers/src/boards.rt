@@ -13,7 +13,7 @@ ghost use Rattle.club_changes.specs.Stored.{IsStoredGame};
 ghost use Rattle.club_lists.specs.Board.{board_by};
 ghost use Rattle.club_answers.specs.Boards.{board_of, diagram_of, shogi_diagram, IsBoardText};
 ghost use Rattle.club_answers.specs.Found.{IsFoundAs};
-ghost use Rattle.club_answers.specs.Shown.{IsNoGame};
+ghost use Rattle.club_answers.specs.AnswerTexts.{IsNoGame};
 
 use crate::found::Found;
 use crate::games::told_in;

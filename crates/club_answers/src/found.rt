@@ -9,7 +9,7 @@ ghost use Rattle.store_sql.specs.Read.{KeepsContent};
 ghost use Rattle.club_rows.specs.Club.{ClubState, IsClub, tables};
 ghost use Rattle.club_questions.specs.declared.questions.Question.TheVariants as question;
 ghost use Rattle.club_answers.specs.Found.{IsFound, IsFoundAs};
-ghost use Rattle.club_answers.specs.Shown.{lined, IsLegalText, IsNoGame, IsTableText, IsNoEvent, IsMembersText};
+ghost use Rattle.club_answers.specs.AnswerTexts.{lined, IsLegalText, IsNoGame, IsTableText, IsNoEvent, IsMembersText};
 
 use crate::boards::board;
 use crate::lists::of_lists;

@@ -9,7 +9,7 @@ ghost use Rattle.club_rows.specs.Club.{ClubGame, ClubState, IsClub, both_games};
 ghost use Rattle.club_rows.specs.Tables.{numbered_from, side_number};
 ghost use Rattle.club_changes.specs.Steps.{game_in};
 ghost use Rattle.store_tables.specs.Cells.{game_cells};
-ghost use Rattle.club_lists.specs.ToldViews.{all_by, over_by, told_by};
+ghost use Rattle.club_lists.specs.SummaryViews.{all_by, over_by, told_by};
 ghost use Rattle.club_answers.specs.Games.{told_games, told_of};
 ghost use Rattle.club_answers.specs.Rows.{HasNumbers, over_with};
 

@@ -9,8 +9,8 @@ ghost use Rattle.store_sql.specs.Read.{KeepsContent};
 ghost use Rattle.club_rows.specs.Club.{ClubState, IsClub, tables};
 ghost use Rattle.club_questions.specs.declared.questions.Question.TheVariants as question;
 ghost use Rattle.club_answers.specs.Found.{IsFound, IsFoundAs, IsReadOf};
-ghost use Rattle.club_answers.specs.Shown.{IsEventGamesText, IsEventsText, IsGamesText, IsInvitingText};
-ghost use Rattle.club_answers.specs.Shown.{IsNoEventNamed, IsNoKey, IsNoList};
+ghost use Rattle.club_answers.specs.AnswerTexts.{IsEventGamesText, IsEventsText, IsGamesText, IsInvitingText};
+ghost use Rattle.club_answers.specs.AnswerTexts.{IsNoEventNamed, IsNoKey, IsNoList};
 
 use crate::found::Found;
 use crate::read::{ClubRead, read_club};

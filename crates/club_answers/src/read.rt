@@ -7,7 +7,7 @@ ghost use Rattle.store_tables.specs.Club.{IsExactly};
 ghost use Rattle.store_tables.specs.Reading.{OnlyReads};
 ghost use Rattle.store_sql.specs.Read.{KeepsContent};
 ghost use Rattle.club_rows.specs.Club.{ClubState, IsClub, tables};
-ghost use Rattle.club_lists.specs.ToldViews.{all_by};
+ghost use Rattle.club_lists.specs.SummaryViews.{all_by};
 ghost use Rattle.club_answers.specs.Found.{IsReadOf};
 ghost use Rattle.club_answers.specs.Games.{told_games};
 

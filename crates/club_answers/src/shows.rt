@@ -8,7 +8,7 @@ ghost use Rattle.store_tables.specs.Reading.{OnlyReads};
 ghost use Rattle.store_sql.specs.Read.{KeepsContent};
 ghost use Rattle.club_rows.specs.Club.{ClubState, IsClub, tables};
 ghost use Rattle.club_answers.specs.Found.{IsFoundAs};
-ghost use Rattle.club_answers.specs.Shown.{IsClockText, IsMineText, IsNoGame, IsNoKey};
+ghost use Rattle.club_answers.specs.AnswerTexts.{IsClockText, IsMineText, IsNoGame, IsNoKey};
 
 use crate::challenges::all_challenges;
 use crate::found::Found;

@@ -6,8 +6,8 @@ use Rattle.std.proofs.lemmas.Bool.{and_parts}
 use Rattle.std.proofs.lemmas.Option.{same_Some}
 use Rattle.sqlite_rules.specs.Lists.{Has}
 use Rattle.club_core.specs.declared.challenges.Challenge.{Challenge}
-use Rattle.club_core.specs.declared.challenges.Standing.{Standing}
-use Rattle.club_core.specs.declared.challenges.Standing.TheVariants.{Open, Withdrawn, Refused, Accepted}
+use Rattle.club_core.specs.declared.challenges.ChallengeState.{ChallengeState}
+use Rattle.club_core.specs.declared.challenges.ChallengeState.TheVariants.{Open, Withdrawn, Refused, Accepted}
 use Rattle.club_core.specs.Challenges.{goes_by, pairing_for}
 use Rattle.club_core.specs.LegalState.{Each, AreApart, IsLegalChallenge}
 use Rattle.club_requests.specs.Limits.{is_challenge_number}
@@ -41,7 +41,7 @@ row-has (y ∷ ys) (suc n) x at = inr (row-has ys n x at)
 
 -- ---- the game of a challenge
 
-accepted-same : (a b : ℕ) → ◌≡◌ {A = Standing} (Accepted a) (Accepted b) → a ≡ b
+accepted-same : (a b : ℕ) → ◌≡◌ {A = ChallengeState} (Accepted a) (Accepted b) → a ≡ b
 accepted-same a b is = cc
 
 -- a game that an accepted challenge names, and whose row is of its event and its members, is the one
@@ -275,7 +275,7 @@ module _ (s : ClubState) where
         }
 
 -- the game that a challenge of a legal club names has a short id
-club-short : (s : ClubState) → IsClub s → (c : Challenge) → IsLegalChallenge s c → (t : Standing) → c.standing ≡ t
+club-short : (s : ClubState) → IsClub s → (c : Challenge) → IsLegalChallenge s c → (t : ChallengeState) → c.standing ≡ t
     → HasShortGame t
 club-short s club c legal Open is = tt
 club-short s club c legal Withdrawn is = tt

@@ -37,7 +37,7 @@ use Rattle.club_audit.specs.GameAudit.{HaveAll, StandsAt}
 use Rattle.club_rows.specs.EachOnce.{AreEachOnce}
 use Rattle.store_tables.specs.declared.rows.SeenRow.{SeenRow}
 use Rattle.club_rows.specs.Club.{ClubGame, ClubState, both_games}
-use Rattle.club_rows.specs.Shown.{AreRowsOf}
+use Rattle.club_rows.specs.LegalRows.{AreRowsOf}
 use Rattle.club_rows.specs.Tables.{declares_number, rule_row}
 use Rattle.club_rows.specs.Tables.{event_row, member_row, kind_number, game_row, move_rows, rows_of_seen}
 use Rattle.club_rows.specs.Seen.{seen_rows}

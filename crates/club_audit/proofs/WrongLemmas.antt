@@ -15,7 +15,7 @@ use Rattle.store_tables.specs.declared.names.Table.TheVariants.{Moves, Games, Se
 use Rattle.store_tables.specs.declared.names.Table.TheVariants.{Meta}
 use Rattle.club_rows.specs.EachOnce.{AreEachOnce}
 use Rattle.club_rows.specs.Seen.{seen_rows}
-use Rattle.club_rows.specs.Shown.{AreMovesOf, AreRowsOf}
+use Rattle.club_rows.specs.LegalRows.{AreMovesOf, AreRowsOf}
 use Rattle.club_rows.specs.Tables.{move_rows}
 use Rattle.club_rows.proofs.Proved.{columns-told}
 use Rattle.std.specs.Prelude.{IfSome, IsSome}

@@ -28,7 +28,7 @@ use Rattle.store_tables.specs.declared.names.Table.TheVariants.{Members, Events,
 use Rattle.store_tables.specs.declared.names.Table.TheVariants.{Games, Meta}
 use Rattle.club_rows.specs.Club.{ClubState, ClubGame, both_games}
 use Rattle.club_rows.specs.EachOnce.{AreEachOnce}
-use Rattle.club_rows.specs.Shown.{AreRowsOf}
+use Rattle.club_rows.specs.LegalRows.{AreRowsOf}
 use Rattle.club_audit.specs.ChallengeAudit.{AreChallenges}
 use Rattle.club_rows.specs.Tables.{member_row, event_row, rule_row, declares_number, numbered_from, row_of_game}
 use Rattle.club_rows.specs.Tables.{rows_of_moves, rows_of_seen}

@@ -1,7 +1,7 @@
 -- What the rows of challenges are tested for: those of the challenges of a legal club.
 use Rattle.std.specs.Prelude.{◌≡◌, ◌≢◌, ◌<◌, ◌≤◌, ℕ, pos, List, map, length, Some, IsTrue, slice_get}
 use Rattle.club_core.specs.declared.challenges.Challenge.{Challenge}
-use Rattle.club_core.specs.declared.challenges.Standing.TheVariants.{Accepted}
+use Rattle.club_core.specs.declared.challenges.ChallengeState.TheVariants.{Accepted}
 use Rattle.club_core.specs.Challenges.{goes_by, pairing_for}
 use Rattle.club_core.specs.LegalState.{Each, AreApart}
 use Rattle.club_requests.specs.Limits.{is_challenge_number}

@@ -19,7 +19,7 @@ use Rattle.club_audit.specs.Audit.{NamesRule, terms_told, until}
 use Rattle.club_rows.specs.Club.{both_games, ClubGame, ClubState}
 use Rattle.club_rows.specs.EachOnce.{AreEachOnce}
 use Rattle.club_rows.specs.Seen.{seen_rows}
-use Rattle.club_rows.specs.Shown.{AreMovesOf, AreRowsOf}
+use Rattle.club_rows.specs.LegalRows.{AreMovesOf, AreRowsOf}
 use Rattle.club_rows.specs.Tables.{kind_number}
 
 -- the rows are all those of some legal game of these rules and terms, up to the last moment

@@ -9,7 +9,7 @@ ghost use Rattle.club_audit.specs.ChallengeAudit.{AreChallenges, HasItsGame, IsC
 ghost use Rattle.club_audit.specs.ChallengeAudit.{IsGameAmong, IsRowOfPairing};
 ghost use Rattle.club_audit.specs.ChallengeKeys.{key_in};
 
-use club_core::{Challenge, Pairing, Standing};
+use club_core::{Challenge, ChallengeState, Pairing};
 use club_requests::is_challenge_number;
 use club_rows::challenge_of;
 use club_rules::Memory;
@@ -81,7 +81,7 @@ fn has_its_game(games: &[GameRecord], challenge: &Challenge) -> bool
     ensures complete { HasItsGame games.now challenge.now → result ≡ true }
 {
     match challenge.standing {
-        Standing::Accepted { game } => is_game_among(games, game, challenge.pairing()),
+        ChallengeState::Accepted { game } => is_game_among(games, game, challenge.pairing()),
         _ => true,
     }
 }

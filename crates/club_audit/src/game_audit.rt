@@ -18,7 +18,7 @@ use club_requests::OutsideEnd;
 use club_rows::kinds::kind_of;
 use club_rows::numbers::id;
 use club_rows::replay::Terms;
-use club_rows::view::{Shown, view_of};
+use club_rows::view::{CheckedRows, view_of};
 use club_rules::{GameKind, Memory, Rules};
 use squares::Side;
 use std::alloc::Global;
@@ -83,9 +83,9 @@ fn wrong_of_all<R: Rules>(
     ensures { IfOk result (IsFirstWrong (IsRightIn R.rules (terms_given terms) last game.now moves.now seen.now)) }
 {
     let played = match view_of::<R>(alloc, game, terms, moves)? {
-        Shown::Game(played) => played,
-        Shown::WrongMoves => return Ok(Some(Table::Moves)),
-        Shown::WrongGame => return Ok(Some(Table::Games)),
+        CheckedRows::Game(played) => played,
+        CheckedRows::WrongMoves => return Ok(Some(Table::Moves)),
+        CheckedRows::WrongGame => return Ok(Some(Table::Games)),
     };
     if !is_within_given(&played.view, Moment::new(Moment::LAST)) {
         return Ok(Some(Table::Games));

@@ -7,8 +7,8 @@ use Rattle.sqlite.specs.Order.{Row}
 use Rattle.sqlite.specs.declared.types.Value.TheVariants.{Int}
 use Rattle.sqlite_rules.specs.Lists.{Has}
 use Rattle.club_core.specs.declared.challenges.Challenge.{Challenge}
-use Rattle.club_core.specs.declared.challenges.Standing.{Standing}
-use Rattle.club_core.specs.declared.challenges.Standing.TheVariants.{Open, Withdrawn, Refused, Accepted}
+use Rattle.club_core.specs.declared.challenges.ChallengeState.{ChallengeState}
+use Rattle.club_core.specs.declared.challenges.ChallengeState.TheVariants.{Open, Withdrawn, Refused, Accepted}
 use Rattle.club_core.specs.Challenges.{challenge_under}
 use Rattle.club_core.specs.LegalState.{IsLegalChallenge}
 use Rattle.club_laws.proofs.Proved.{le-true, under-each, under-found, under-key}
@@ -23,11 +23,11 @@ use Rattle.store_tables.specs.declared.rows.ChallengeRow.{ChallengeRow}
 
 -- ---- types
 
-challenge_typed : (c : Challenge) (standing : Standing) → c.standing ≡ standing → IsChallenge (challenge_row c)
+challenge_typed : (c : Challenge) (standing : ChallengeState) → c.standing ≡ standing → IsChallenge (challenge_row c)
 challenge_typed c standing is = subst (λ s. IsChallenge (challenge_row (record c { standing = s }))) (sym is)
     (typed standing)
   where
-    typed : (s : Standing) → IsChallenge (challenge_row (record c { standing = s }))
+    typed : (s : ChallengeState) → IsChallenge (challenge_row (record c { standing = s }))
     typed Open =
         record {
           width = refl;

@@ -8,8 +8,8 @@ use Rattle.club_requests.specs.declared.answers.Outcome.TheVariants as given_is
 use Rattle.club_requests.specs.declared.answers.Answer.{Answer}
 use Rattle.club_core.specs.declared.challenges.Challenge.{Challenge}
 use Rattle.club_core.specs.declared.challenges.ChallengeDecision.TheVariants as decision
-use Rattle.club_core.specs.declared.challenges.Standing.{Standing}
-use Rattle.club_core.specs.declared.challenges.Standing.TheVariants.{Open, Withdrawn, Refused, Accepted}
+use Rattle.club_core.specs.declared.challenges.ChallengeState.{ChallengeState}
+use Rattle.club_core.specs.declared.challenges.ChallengeState.TheVariants.{Open, Withdrawn, Refused, Accepted}
 use Rattle.club_requests.specs.declared.refusals.Refusal.{Refusal}
 use Rattle.club_requests.specs.declared.refusals.Refusal.TheVariants.{UnknownChallenge}
 use Rattle.club_requests.specs.declared.requests.Caller.{Caller}
@@ -297,7 +297,8 @@ pub none_begun : (events : List Event) (moment : ℕ) (c : Challenge) (changes :
     → PutsBegun events moment c [] changes
 none_begun events moment c changes other puts = here c.standing refl
   where
-    stands_so : (z : Standing) → c.standing ≡ z → begun_games events moment c z ≡ [] → begun_seen events moment c z ≡ []
+    stands_so : (z : ChallengeState) → c.standing ≡ z → begun_games events moment c z ≡ []
+        → begun_seen events moment c z ≡ []
         → begun_meetings events moment c z ≡ [] → PutsBegun events moment c [] changes
     stands_so z is games seen met = record {
       puts =
@@ -310,7 +311,7 @@ none_begun events moment c changes other puts = here c.standing refl
       running = subst (λ y. begun_meetings events moment c y ≡ []) (sym is) met;
     }
 
-    here : (z : Standing) → c.standing ≡ z → PutsBegun events moment c [] changes
+    here : (z : ChallengeState) → c.standing ≡ z → PutsBegun events moment c [] changes
     here Open is = stands_so Open is refl refl refl
     here Withdrawn is = stands_so Withdrawn is refl refl refl
     here Refused is = stands_so Refused is refl refl refl

@@ -53,7 +53,7 @@ use Rattle.store_tables.specs.declared.rows.Changes.{Changes}
 use Rattle.club_changes.specs.declared.decided.Decided.{Decided}
 use Rattle.sqlite.specs.Order.{Row}
 use Rattle.store_tables.specs.Changed.{changed}
-use Rattle.club_changes.specs.declared.game.Counts.{Counts}
+use Rattle.club_changes.specs.declared.game.DerivedRows.{DerivedRows}
 use Rattle.club_changes.specs.Steps.{Puts, PutsScoresOf, PutsMove, PutsRow, PutsGame, no_rows}
 use Rattle.club_changes.specs.Steps.{HasSeen, IsSeenAfter, HasTwoPlayers, AreScoresAfter, answered_rows, left_answered}
 use Rattle.club_changes.specs.Steps.{seen_list, score_list, IsDecidedIn}
@@ -450,7 +450,7 @@ module _ {P M E T : Type 0} (laws : GameRules P M E T) (are_rules : AreRules law
   step_in = game_step laws terms g moment who command
 
   -- what is put of a game with this answer
-  abbrev pub ArePut : GameRow E → Answer → Counts → Changes → Type 0
+  abbrev pub ArePut : GameRow E → Answer → DerivedRows → Changes → Type 0
   ArePut row answer counts c =
       (terms : Terms) (new : Game M) → row.left_first < 2 ^ 63 → row.left_second < 2 ^ 63
       → left_answered answer < 2 ^ 63 → IsRowOf laws terms new row
@@ -474,7 +474,7 @@ module _ {P M E T : Type 0} (laws : GameRules P M E T) (are_rules : AreRules law
       (subst (λ n. PutsScoresOf table new.event n row.second row.result rows) is.first
       (subst (λ n. PutsScoresOf table n row.first row.second row.result rows) is.event put)))
 
-  move_puts : (row : GameRow E) (mv : Moved) (counts : Counts) (c : Changes) (m : M) → result_of laws g ≡ None
+  move_puts : (row : GameRow E) (mv : Moved) (counts : DerivedRows) (c : Changes) (m : M) → result_of laws g ≡ None
       → reply_of (answer_is.Moved mv) ≡ reply_of_move laws terms (played g m moment) (length g.entries + 1) m
       → IsRowOf laws terms (played g m moment) row → (seen : SeenRow) → counts.seen ≡ Some seen
       → IsSeenRow laws id (played g m moment) (laws.write_position (last_position laws (played g m moment)))
@@ -520,7 +520,7 @@ module _ {P M E T : Type 0} (laws : GameRules P M E T) (are_rules : AreRules law
         grown = made-last laws are_rules terms id g m moment (move_reply_of mv) legal.line.legal (sym reply_is);
       }
 
-  change_puts : (row : GameRow E) (answer : Answer) (counts : Counts) (c : Changes) (new : Game M)
+  change_puts : (row : GameRow E) (answer : Answer) (counts : DerivedRows) (c : Changes) (new : Game M)
       → result_of laws g ≡ None → IsChanged laws terms g moment new (reply_of answer) → IsRowOf laws terms new row
       → counts.seen ≡ None
       → PutsScoresOf table row.event row.first row.second row.result (score_list counts.scores)
@@ -574,7 +574,7 @@ module _ {P M E T : Type 0} (laws : GameRules P M E T) (are_rules : AreRules law
   unseen_made row made answer o seen none after =
       subst (λ x. IsSeenAfter laws id o (decision.Accepted row x answer) seen) none after
 
-  puts_either : {R : Type 0} (row : GameRow E) (made : Option (Made R P M E T)) (answer : Answer) (counts : Counts)
+  puts_either : {R : Type 0} (row : GameRow E) (made : Option (Made R P M E T)) (answer : Answer) (counts : DerivedRows)
       (c : Changes) (new : Game M) → result_of laws g ≡ None → IsMoved laws terms g moment new (reply_of answer)
       ⊎ IsChanged laws terms g moment new (reply_of answer)
       → IsRowOf laws terms new row → IsMade laws new (slice_get (moves_of new) (length g.entries)) made
@@ -602,8 +602,8 @@ module _ {P M E T : Type 0} (laws : GameRules P M E T) (are_rules : AreRules law
       (change_puts row answer counts c new running is is_row
       (unseen_made row made answer (accepted new (reply_of answer)) counts.seen unmade after) scores are)
 
-  change_decided : {R : Type 0} (row : GameRow E) (made : Option (Made R P M E T)) (answer : Answer) (counts : Counts)
-      (c : Changes) → IsConcluded laws terms g step_in (decision.Accepted row made answer)
+  change_decided : {R : Type 0} (row : GameRow E) (made : Option (Made R P M E T)) (answer : Answer)
+      (counts : DerivedRows) (c : Changes) → IsConcluded laws terms g step_in (decision.Accepted row made answer)
       → IsSeenAfter laws id step_in (decision.Accepted row made answer) counts.seen
       → PutsScoresOf table row.event row.first row.second row.result (score_list counts.scores)
       → ArePut row answer counts c
@@ -653,7 +653,7 @@ module _ {P M E T : Type 0} (laws : GameRules P M E T) (are_rules : AreRules law
         → d.changes ≡ None → IsDecidedIn laws terms id moment table g step_in d
     given_refused why d was = refused_decided laws terms id g moment table R step_in why d (subst decided_of was is)
 
-    pub given_change : (counts : Counts) → IsSeenAfter laws id step_in shown counts.seen
+    pub given_change : (counts : DerivedRows) → IsSeenAfter laws id step_in shown counts.seen
         → AreScoresAfter table shown counts.scores
         → (row : GameRow E) (made : Option (Made R P M E T)) (answer : Answer) (c : Changes)
         → shown ≡ decision.Accepted row made answer → ArePut row answer counts c

@@ -4,8 +4,8 @@ use Rattle.sqlite.specs.Order.{Row}
 use Rattle.club_core.specs.declared.challenges.Challenge.{Challenge}
 use Rattle.club_core.specs.declared.challenges.ChallengeDecision.{ChallengeDecision}
 use Rattle.club_core.specs.declared.challenges.ChallengeDecision.TheVariants as decision
-use Rattle.club_core.specs.declared.challenges.Standing.{Standing}
-use Rattle.club_core.specs.declared.challenges.Standing.TheVariants.{Open, Withdrawn, Refused, Accepted}
+use Rattle.club_core.specs.declared.challenges.ChallengeState.{ChallengeState}
+use Rattle.club_core.specs.declared.challenges.ChallengeState.TheVariants.{Open, Withdrawn, Refused, Accepted}
 use Rattle.club_core.specs.Challenges.{pairing_for}
 use Rattle.club_core.specs.Events.{Event}
 use Rattle.club_core.specs.State.{place}
@@ -15,19 +15,19 @@ use Rattle.store_tables.specs.declared.rows.Changes.{Changes}
 use Rattle.club_changes.specs.Steps.{Puts, started, started_seen, started_scores, no_rows}
 
 -- the row of the game that it starts, those of its positions, and the meetings that it is: it has no key
-abbrev pub begun_games : List Event → ℕ → Challenge → Standing → List Row
+abbrev pub begun_games : List Event → ℕ → Challenge → ChallengeState → List Row
 begun_games events moment c Open = []
 begun_games events moment c Withdrawn = []
 begun_games events moment c Refused = []
 begun_games events moment c (Accepted id) = started events id None (pairing_for c) moment ∷ []
 
-abbrev pub begun_seen : List Event → ℕ → Challenge → Standing → List Row
+abbrev pub begun_seen : List Event → ℕ → Challenge → ChallengeState → List Row
 begun_seen events moment c Open = []
 begun_seen events moment c Withdrawn = []
 begun_seen events moment c Refused = []
 begun_seen events moment c (Accepted id) = started_seen events id None (pairing_for c) moment
 
-abbrev pub begun_meetings : List Event → ℕ → Challenge → Standing → List Meeting
+abbrev pub begun_meetings : List Event → ℕ → Challenge → ChallengeState → List Meeting
 begun_meetings events moment c Open = []
 begun_meetings events moment c Withdrawn = []
 begun_meetings events moment c Refused = []
@@ -46,7 +46,7 @@ pub record PutsBegun (events : List Event) (moment : ℕ) (c : Challenge) (chall
   pub running : begun_meetings events moment c c.standing ≡ []
 
 -- how an accepted answer leaves the challenge: refused, or started with the next game
-abbrev pub standing_after : ℕ → Bool → Standing
+abbrev pub standing_after : ℕ → Bool → ChallengeState
 standing_after games true = Accepted (games + 1)
 standing_after games false = Refused
 

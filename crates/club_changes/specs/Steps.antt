@@ -25,7 +25,7 @@ use Rattle.club_core.specs.Answer.{answered, outcome_of, move_reply_of, who_of, 
 use Rattle.club_core.specs.Seats.{Pairing}
 use Rattle.club_core.specs.State.{Command, Request, place, kind_at, seated, seated_as, state_after, step, step_command}
 use Rattle.club_core.specs.State.{next}
-pub use Rattle.club_rows.specs.Shown.{IsRecordOf}
+pub use Rattle.club_rows.specs.LegalRows.{IsRecordOf}
 use Rattle.club_rows.specs.RowView.{row_at}
 use Rattle.club_rows.specs.Club.{ClubGame, both_games, ClubState, IsClub, tables}
 use Rattle.club_rows.specs.Made.{made_row}

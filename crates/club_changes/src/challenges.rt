@@ -17,7 +17,7 @@ use crate::decided::{Decided, at, unchanged};
 use crate::fault::ChangeFault;
 use crate::seats::seated_rows;
 use clocks::Moment;
-use club_core::{Challenge, ChallengeDecision, Event, KeyedGame, Standing};
+use club_core::{Challenge, ChallengeDecision, ChallengeState, Event, KeyedGame};
 use club_requests::Outcome;
 use club_rows::challenge_row;
 use club_rules::Memory;
@@ -71,7 +71,7 @@ fn begun_rows(
         place (events_of events.now) (pairing_for challenge).event ≡ None }
 {
     match challenge.standing {
-        Standing::Accepted { game } => {
+        ChallengeState::Accepted { game } => {
             let pairing = challenge.pairing();
             seated_rows(alloc, events, KeyedGame { game, pairing }, None, moment)
         }

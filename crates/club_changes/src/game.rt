@@ -28,7 +28,7 @@ use store_tables::{Changes, MoveRow, ScoreRow, SeenRow};
 
 /// The rows of the positions and of the scores that a decision puts.
 #[derive(Drop)]
-pub struct Counts {
+pub struct DerivedRows {
     /// The row of the position after a move. None where no move was made.
     pub seen: Option<SeenRow>,
     /// The rows of both players where the game has ended.
@@ -99,7 +99,7 @@ fn changed_rows<R: Rules>(
     game: u32,
     row: &GameRow<R::End>,
     answer: &Answer,
-    counts: Counts,
+    counts: DerivedRows,
     moment: Moment,
 ) -> Result<Changes, Memory>
     // Seconds that 63 bits hold are stored as they are.
@@ -126,7 +126,7 @@ pub fn put_decision<R: Rules>(
     alloc: Global,
     game: u32,
     shown: Decision<R>,
-    counts: Counts,
+    counts: DerivedRows,
     moment: Moment,
 ) -> Result<Decided, Memory>
     ensures acts { IfOk result IsWhole }

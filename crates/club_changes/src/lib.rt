@@ -18,7 +18,7 @@ pub mod sweep;
 pub use challenges::{put_answered, put_challenge};
 pub use decided::{Decided, unchanged};
 pub use fault::ChangeFault;
-pub use game::{Counts, put_decision};
+pub use game::{DerivedRows, put_decision};
 pub use imports::{Known, event_kind, put_rows};
 pub use people::{on_event, on_member};
 pub use seats::{event_at, seated_rows, terms_of};

@@ -3,8 +3,8 @@ use Rattle.std.specs.Prelude.{ℕ, ◌+◌, List, [], ◌∷◌, Option, Some, N
 use Rattle.std.specs.Prelude.{◌==◌, if◌then◌else◌}
 use Rattle.std.proofs.Math.Bool.{beq}
 use Rattle.club_core.specs.declared.challenges.Challenge.{Challenge}
-use Rattle.club_core.specs.declared.challenges.Standing.{Standing}
-use Rattle.club_core.specs.declared.challenges.Standing.TheVariants.{Open, Withdrawn, Refused, Accepted}
+use Rattle.club_core.specs.declared.challenges.ChallengeState.{ChallengeState}
+use Rattle.club_core.specs.declared.challenges.ChallengeState.TheVariants.{Open, Withdrawn, Refused, Accepted}
 use Rattle.club_requests.specs.declared.refusals.Refusal.{Refusal}
 use Rattle.club_requests.specs.declared.refusals.Refusal.TheVariants.{UnknownEvent, UnknownChallenge, Conflict}
 use Rattle.club_requests.specs.declared.refusals.Refusal.TheVariants.{BadValue}
@@ -39,13 +39,13 @@ abbrev pub put_challenge : List Challenge → Challenge → List Challenge
 put_challenge [] new = new ∷ []
 put_challenge (c ∷ cs) new = if is_under new.member new.number c then new ∷ cs else c ∷ put_challenge cs new
 
-abbrev pub is_open : Standing → Bool
+abbrev pub is_open : ChallengeState → Bool
 is_open Open = true
 is_open Withdrawn = false
 is_open Refused = false
 is_open (Accepted game) = false
 
-abbrev pub standing_as : Challenge → Standing → Challenge
+abbrev pub standing_as : Challenge → ChallengeState → Challenge
 standing_as c standing = record c { standing = standing }
 
 -- the event and the sides of the game that a challenge is to
@@ -101,16 +101,16 @@ opening_step members events under caller number event other first =
     first under
 
 -- the challenge was withdrawn before
-abbrev pub repeat_of_withdrawal : ℕ → Standing → Option Reply
+abbrev pub repeat_of_withdrawal : ℕ → ChallengeState → Option Reply
 repeat_of_withdrawal number Open = None
 repeat_of_withdrawal number Withdrawn = Some (challenge_withdrawn number)
 repeat_of_withdrawal number Refused = None
 repeat_of_withdrawal number (Accepted game) = None
 
-abbrev pub withdrawal_tests : Standing → List (Bool × Refusal)
+abbrev pub withdrawal_tests : ChallengeState → List (Bool × Refusal)
 withdrawal_tests standing = (not (is_open standing), Conflict) ∷ []
 
-abbrev pub withdrawal_refusal : Standing → Option Refusal
+abbrev pub withdrawal_refusal : ChallengeState → Option Refusal
 withdrawal_refusal standing = first_refusal (withdrawal_tests standing)
 
 -- a challenger takes an open challenge back
@@ -122,7 +122,7 @@ withdrawal_step (Some c) =
     (accepted (standing_as c Withdrawn) (challenge_withdrawn c.number)))
 
 -- the challenge was answered so before
-abbrev pub repeat_of_answer : ℕ → Standing → Bool → Option Reply
+abbrev pub repeat_of_answer : ℕ → ChallengeState → Bool → Option Reply
 repeat_of_answer number Open accept = None
 repeat_of_answer number Withdrawn accept = None
 repeat_of_answer number Refused true = None
@@ -130,7 +130,7 @@ repeat_of_answer number Refused false = Some (challenge_refused number)
 repeat_of_answer number (Accepted game) true = Some (challenge_accepted number game)
 repeat_of_answer number (Accepted game) false = None
 
-module _ (standing : Standing) (games : ℕ) (accept : Bool) where
+module _ (standing : ChallengeState) (games : ℕ) (accept : Bool) where
   abbrev pub answer_tests : List (Bool × Refusal)
   answer_tests =
       (not (is_open standing), Conflict)

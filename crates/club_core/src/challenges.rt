@@ -17,7 +17,7 @@ use club_requests::{Answer, Caller, OpenChallenge, Refusal};
 
 /// How a challenge stands.
 #[derive(Clone, Copy, Debug, PartialEq, Eq)]
-pub enum Standing {
+pub enum ChallengeState {
     /// It waits for its answer.
     Open,
     /// The challenger took it back.
@@ -37,7 +37,7 @@ pub struct Challenge {
     pub event: u32,
     pub other: u32,
     pub first: bool,
-    pub standing: Standing,
+    pub standing: ChallengeState,
 }
 
 /// What a command does to a challenge. Where it is accepted: the challenge as it is to stand, and the answer.
@@ -143,7 +143,7 @@ fn opening_found(
             event,
             other,
             first,
-            standing: Standing::Open,
+            standing: ChallengeState::Open,
         },
         answer: Answer::ChallengeOpened { number },
     }
@@ -193,14 +193,14 @@ pub fn withdraw(under: Option<Challenge>, caller: Caller) -> ChallengeDecision
         number: challenge.number,
     };
     match challenge.standing {
-        Standing::Open => ChallengeDecision::Accepted {
+        ChallengeState::Open => ChallengeDecision::Accepted {
             challenge: Challenge {
-                standing: Standing::Withdrawn,
+                standing: ChallengeState::Withdrawn,
                 ..challenge
             },
             answer,
         },
-        Standing::Withdrawn => ChallengeDecision::Repeated(answer),
+        ChallengeState::Withdrawn => ChallengeDecision::Repeated(answer),
         _ => ChallengeDecision::Refused(Refusal::Conflict),
     }
 }
@@ -211,14 +211,14 @@ fn repeat_of_answer(challenge: Challenge, accept: bool) -> Option<Answer>
 {
     let number = challenge.number;
     match challenge.standing {
-        Standing::Refused => {
+        ChallengeState::Refused => {
             if accept {
                 None
             } else {
                 Some(Answer::ChallengeRefused { number })
             }
         }
-        Standing::Accepted { game } => {
+        ChallengeState::Accepted { game } => {
             if accept {
                 Some(Answer::ChallengeAccepted { number, game })
             } else {
@@ -230,12 +230,12 @@ fn repeat_of_answer(challenge: Challenge, accept: bool) -> Option<Answer>
 }
 
 /// Why a challenge is not answered so.
-fn refusal_of_answer(standing: Standing, games: u32, accept: bool) -> Option<Refusal>
+fn refusal_of_answer(standing: ChallengeState, games: u32, accept: bool) -> Option<Refusal>
     ensures value { result ≡ answer_refusal standing games accept }
     ensures room { IfNone result (IsTrue accept → games < most_games) }
 {
     match standing {
-        Standing::Open => {}
+        ChallengeState::Open => {}
         _ => return Some(Refusal::Conflict),
     }
     if accept && games >= MOST_GAMES {
@@ -254,7 +254,7 @@ fn answered(challenge: Challenge, games: u32, accept: bool) -> ChallengeDecision
         let game = games + 1;
         ChallengeDecision::Accepted {
             challenge: Challenge {
-                standing: Standing::Accepted { game },
+                standing: ChallengeState::Accepted { game },
                 ..challenge
             },
             answer: Answer::ChallengeAccepted { number, game },
@@ -262,7 +262,7 @@ fn answered(challenge: Challenge, games: u32, accept: bool) -> ChallengeDecision
     } else {
         ChallengeDecision::Accepted {
             challenge: Challenge {
-                standing: Standing::Refused,
+                standing: ChallengeState::Refused,
                 ..challenge
             },
             answer: Answer::ChallengeRefused { number },

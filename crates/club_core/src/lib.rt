@@ -18,7 +18,7 @@ pub mod seats;
 pub mod settling;
 
 pub use challenges::{
-    Challenge, ChallengeDecision, Standing, answer_challenge, open_challenge, withdraw,
+    Challenge, ChallengeDecision, ChallengeState, answer_challenge, open_challenge, withdraw,
 };
 pub use decided::Decision;
 pub use decisions::{asked_ply, decide, refusal_without_game};

@@ -8,7 +8,7 @@ use Rattle.store_tables.specs.Reading.{OnlyReads}
 use Rattle.club_requests.specs.declared.refusals.Refusal.{Refusal}
 use Rattle.club_questions.specs.declared.questions.Question.{Question}
 use Rattle.club_rows.specs.Club.{ClubState}
-use Rattle.club_answers.specs.Shown.{IsShown, HasShown}
+use Rattle.club_answers.specs.AnswerTexts.{IsShown, HasShown}
 use Rattle.store.specs.Asking.{KeepsUnlessFault}
 use Rattle.store.specs.declared.fault.AskFault.{AskFault}
 use Rattle.store.specs.declared.fault.AskFault.TheVariants as asking
@@ -18,7 +18,7 @@ use Rattle.http_desk.specs.declared.faults.ClubFault.{ClubFault}
 use Rattle.http_desk.specs.Served.{IsOfCall}
 use Rattle.club_desk.specs.Faults.{told_asking}
 use Rattle.club_desk.specs.Served.{written}
-use Rattle.club_desk.specs.Standing.{IsServed, IsLeft, served_stays}
+use Rattle.club_desk.specs.ServedStates.{IsServed, IsLeft, served_stays}
 use Rattle.club_desk.proofs.ServeLemmas.{read_left, read_stands}
 
 -- what was written where nothing was before

@@ -17,7 +17,7 @@ use Rattle.http_desk.specs.declared.faults.ClubFault.{ClubFault}
 use Rattle.http_desk.specs.declared.faults.ClubFault.TheVariants.{Memory, Reopen}
 use Rattle.http_desk.specs.Served.{IsOfCall, Serves}
 use Rattle.club_desk.specs.Faults.{told, told_all}
-use Rattle.club_desk.specs.Standing.{IsServed, IsLeft, MayLeave, served_stays}
+use Rattle.club_desk.specs.ServedStates.{IsServed, IsLeft, MayLeave, served_stays}
 
 -- a club is shut or only read: then its disk was clean before
 pub clean_before : (shut : Bool) (old new : State) → (shut ≡ true → new ≡ old) → (shut ≡ false → OnlyReads old new)

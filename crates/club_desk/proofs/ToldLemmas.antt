@@ -10,7 +10,7 @@ use Rattle.club_opening.specs.declared.fault.OpenFault.{OpenFault}
 use Rattle.club_opening.specs.declared.fault.OpenFault.TheVariants as opening
 use Rattle.http_desk.specs.declared.faults.ClubFault.{ClubFault}
 use Rattle.club_desk.specs.Faults.{told_of_opening}
-use Rattle.club_desk.specs.Told.{IfTaken, IsOfClub, IsTold, fault_behind}
+use Rattle.club_desk.specs.ToldFault.{IfTaken, IsOfClub, IsTold, fault_behind}
 
 -- ---- the club was not taken over
 

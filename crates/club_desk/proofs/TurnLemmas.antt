@@ -14,7 +14,7 @@ use Rattle.store.specs.Histories.{Chapter, IsReachable, IsHistory, cut_session}
 use Rattle.club_changes.specs.Steps.{KeepsClub, club_next}
 use Rattle.store.proofs.Proved.{taken_session, one_leads, one_cut}
 use Rattle.club_desk.specs.Served.{served}
-use Rattle.club_desk.specs.Standing.{IsServed, IsLeft, MayLeave}
+use Rattle.club_desk.specs.ServedStates.{IsServed, IsLeft, MayLeave}
 use Rattle.club_desk.specs.Repeats.{stands_at}
 use Rattle.club_desk.specs.Turns.{IsTurn, IsOrder, IsTurnOf, AreTurns, IsWhole, AreWhole, IsHistoryOn, IsReachableOn}
 use Rattle.officer_door.specs.declared.orders.Errand.{Errand}

@@ -1,6 +1,6 @@
 pub mod Faults
 pub mod Repeats
 pub mod Served
-pub mod Standing
-pub mod Told
+pub mod ServedStates
+pub mod ToldFault
 pub mod Turns

@@ -7,13 +7,13 @@ use Rattle.club_core.specs.Answer.{answered}
 use Rattle.club_rows.specs.Club.{ClubState}
 use Rattle.club_views.specs.declared.viewed.ViewedGame.{ViewedGame}
 use Rattle.club_requests.specs.declared.refusals.Refusal.{Refusal}
-use Rattle.club_answers.specs.Shown.{IsShown}
+use Rattle.club_answers.specs.AnswerTexts.{IsShown}
 use Rattle.club_reads.specs.Keys.{holder_of}
 use Rattle.club_changes.specs.Steps.{club_step, club_next}
 use Rattle.club_changes.specs.Stored.{AreLegalRows}
 use Rattle.club_views.specs.Viewed.{IsViewed}
 use Rattle.http_desk.specs.Served.{Club}
-use Rattle.http_bodies.specs.Shown.{GameShown}
+use Rattle.http_bodies.specs.GameShown.{GameShown}
 use Rattle.http_bodies.specs.ShownViews.{texts_view}
 
 -- the name of the player of a side

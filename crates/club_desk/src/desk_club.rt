@@ -27,7 +27,7 @@ impl<S: Alter> ServedClub for DeskClub<S> {
     ghost use Rattle.club_rows.specs.Club.{ClubState};
     ghost use Rattle.http_desk.specs.declared.faults.ClubFault.TheVariants.{Reopen};
     ghost use Rattle.club_desk.specs.Served.{served};
-    ghost use Rattle.club_desk.specs.Standing.{IsLeft, IsServed, served_stays, served_settled, left_wider};
+    ghost use Rattle.club_desk.specs.ServedStates.{IsLeft, IsServed, served_stays, served_settled, left_wider};
 
     ghost State = { ClubState };
 

@@ -4,9 +4,9 @@
 mod desk_club;
 mod faults;
 pub mod laws;
+mod serving;
 mod shown;
-mod stretch;
 
 pub use desk_club::DeskClub;
 pub use faults::told_of_opening;
-pub use stretch::serve_stretch;
+pub use serving::serve_club;

@@ -27,7 +27,7 @@ use Rattle.club_opening.specs.Refused.{HoldClub, IsKept, IsRefusal}
 use Rattle.club_orders.specs.Refused.{IfTakesOver, IfUpgrade, IsUpgradeRefusal}
 use Rattle.http_desk.specs.declared.faults.ClubFault.{ClubFault}
 use Rattle.http_desk.specs.declared.faults.ClubFault.TheVariants.{Foreign, Schema, Damaged, Store, Reopen, Memory}
-use Rattle.club_desk.specs.Told.{IfTaken, IsTold}
+use Rattle.club_desk.specs.ToldFault.{IfTaken, IsTold}
 use Rattle.club_files.specs.Found.{AreCarriedOver, AreKept, AreNotUpgraded, AreRefused, AreSound, IsBackedUp}
 use Rattle.club_files.specs.Found.{IsToldOf}
 use Rattle.club_files.specs.Found.{club_database}

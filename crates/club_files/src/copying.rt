@@ -18,7 +18,7 @@ ghost use Rattle.club_orders.specs.Refused.{IsOlder};
 ghost use Rattle.club_files.specs.Copied.{HasCopyOf, HasCopyOrNone};
 ghost use Rattle.club_files.specs.Found.{AreFilesOf, AreFirstFilesOf, AreKept, AreRefused, AreSound, IsBackedUp};
 
-use crate::opening::{Again, open_in_turn, open_new};
+use crate::opening::{RepeatableStart, open_in_turn, open_new};
 use crate::places::{Purpose, forget_log};
 use club_orders::{Report, back_up as copy_club, verify};
 use sessions::close;
@@ -115,7 +115,7 @@ fn copy_into<S: Alter, T: Start>(
 /// a club's are blamed for it, and nothing is made of a copy. Where a copy is reported as made, the club is legal, and
 /// an opening of the copy finds its tables, of whatever a stop leaves, in the file of the copy alone. Another copy has
 /// no table, or is whole.
-pub fn back_up<S: Again, T: Start>(
+pub fn back_up<S: RepeatableStart, T: Start>(
     rt: &HostRuntime,
     file: &str,
     path: &str,

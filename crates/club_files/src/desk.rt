@@ -10,13 +10,13 @@ ghost use Rattle.club_opening.specs.declared.fault.OpenFault.TheVariants.{Foreig
 ghost use Rattle.club_orders.specs.declared.report.Report.TheVariants.{InUse, NotOpened, Unopened};
 ghost use Rattle.club_rows.specs.Club.{ClubState};
 ghost use Rattle.http_desk.specs.declared.faults.ClubFault as desk_fault;
-ghost use Rattle.club_desk.specs.Told.{IfTaken, IsOfClub};
+ghost use Rattle.club_desk.specs.ToldFault.{IfTaken, IsOfClub};
 ghost use Rattle.club_files.specs.Found.{AreFilesOf, AreSound, IsToldOf};
 ghost use Rattle.club_files.specs.ReachableOn.{AreReachableOn, AreReachableWhole};
 
-use crate::opening::{Again, open_in_turn};
+use crate::opening::{RepeatableStart, open_in_turn};
 use crate::places::Purpose;
-use club_desk::serve_stretch;
+use club_desk::serve_club;
 use club_orders::Report;
 use http_desk::ClubFault;
 use http_port::Visits;
@@ -32,7 +32,7 @@ use store::holds_exactly;
 /// leaves; where no fault is told, none of these was cut off. Files that are not taken over are blamed for it, and
 /// later openings find in them what this one found; those that are taken over are a club's, and of a club's files only
 /// a call that failed is told.
-pub fn stretch<S: Again, V: Visits>(
+pub fn serve_files<S: RepeatableStart, V: Visits>(
     rt: &HostRuntime,
     file: &str,
     start: S,
@@ -62,6 +62,6 @@ pub fn stretch<S: Again, V: Visits>(
         Err(report) => return (Err(report), None),
     };
     holds_exactly(&conn);
-    let (fault, conn) = serve_stretch(rt.alloc(), conn, visits);
+    let (fault, conn) = serve_club(rt.alloc(), conn, visits);
     (Ok(fault), Some(close(conn)))
 }

@@ -10,8 +10,8 @@ mod order;
 mod places;
 
 pub use copying::{BackedUp, back_up};
-pub use desk::stretch;
-pub use opening::Again;
+pub use desk::serve_files;
+pub use opening::RepeatableStart;
 pub use order::obey;
 use sqlite::{FileFrom, FileStore};
 use sqlite_disk::Start;

@@ -36,12 +36,12 @@ const FRAMES_OF_AN_ORDER: usize = 1;
 const FRAMES_OF_A_STRETCH: usize = 1000;
 
 /// What the files of a path hold at first, for as many openings as are tried.
-pub trait Again: Start + Sized {
+pub trait RepeatableStart: Start + Sized {
     /// The same again.
     fn again(&self) -> Self;
 }
 
-impl Again for Wary {
+impl RepeatableStart for Wary {
     fn again(&self) -> Wary {
         Wary
     }
@@ -117,7 +117,7 @@ fn names_no_file(file: &str) -> bool {
 /// Opens the files of a path, which hold at first what `S` stands for, where no other program uses them: an order waits
 /// five seconds for that, a stretch of serving does not wait. Where a club is made and there are none, they are made,
 /// for their owner alone; else it is said that there is no club, and nothing was touched.
-pub(crate) fn open_in_turn<S: Again>(
+pub(crate) fn open_in_turn<S: RepeatableStart>(
     rt: &HostRuntime,
     file: &str,
     purpose: Purpose,

@@ -22,7 +22,7 @@ ghost use Rattle.club_orders.specs.Refused.{IfTakesOver, IfUpgrade, IsOlder};
 ghost use Rattle.club_files.specs.Found.{AreCarriedOver, AreFilesOf, AreFirstFilesOf, AreKept, AreNotUpgraded};
 ghost use Rattle.club_files.specs.Found.{AreRefused, AreSound};
 
-use crate::opening::{Again, open_in_turn};
+use crate::opening::{RepeatableStart, open_in_turn};
 use crate::places::Purpose;
 use clocks::Moment;
 use club_orders::{Report, act};
@@ -53,7 +53,7 @@ fn purpose_of(task: &Task) -> Purpose
 /// session leads to that, or there is no table still. The answer is the machine's, what is shown is the club's, and a
 /// club's files are found sound. Files that are found sound are a club's; those that are not taken as a club's are
 /// blamed for it, and later openings find in them what this one found. Only a question writes to `out`.
-pub fn obey<S: Again, W: Write>(
+pub fn obey<S: RepeatableStart, W: Write>(
     rt: &HostRuntime,
     order: &Order,
     moment: Moment,

@@ -4,7 +4,7 @@ use Rattle.squares.specs.declared.draughts.moves.DMove.{DMove}
 use Rattle.squares.specs.DraughtsBoard.{Position}
 use Rattle.draughts_moves.specs.declared.checking.Illegal.{Illegal}
 use Rattle.draughts_moves.specs.Check.{check_of}
-use Rattle.draughts_draws.specs.declared.faults.Fault.TheVariants as line_fault
+use Rattle.draughts_draws.specs.declared.faults.DLineFault.TheVariants as line_fault
 use Rattle.draughts_draws.specs.Faults.{HasFault}
 use Rattle.pdn.specs.declared.faults.FenFault.TheVariants as fen_fault
 use Rattle.pdn.specs.declared.faults.MoveFault.{MoveFault}

@@ -6,7 +6,7 @@ use Rattle.shogi_moves.specs.declared.checking.Illegal.{Illegal}
 use Rattle.shogi_moves.specs.Rules.{FirstBroken}
 use Rattle.shogi_moves.proofs.Proved.{check_of-refused}
 use Rattle.shogi_repetition.specs.declared.ends.SEnd.{SEnd}
-use Rattle.shogi_repetition.specs.declared.faults.Fault.TheVariants as line_fault
+use Rattle.shogi_repetition.specs.declared.faults.SLineFault.TheVariants as line_fault
 use Rattle.shogi_repetition.specs.Computed.{end_of}
 use Rattle.shogi_repetition.specs.Ends.{EndsSo}
 use Rattle.shogi_repetition.specs.Faults.{HasFault}

@@ -4,7 +4,7 @@ ghost use Rattle.std.specs.Prelude.{◌≡◌};
 ghost use Rattle.club_games.specs.Draughts.{draughts, refusal_of};
 
 use club_rules::{EndName, GameKind, MoveRefusal, Rules};
-use draughts_draws::{DEnd, Fault, Tail};
+use draughts_draws::{DEnd, DLineFault, Tail};
 use draughts_moves::Illegal;
 use pdn::{FenFault, MoveFault};
 use squares::{DMove, DPos, Memory, Score, Side};
@@ -111,9 +111,9 @@ impl Rules for Draughts {
     fn judge(alloc: Global, start: &DPos, moves: &[DMove]) -> Result<Option<DEnd>, Memory> {
         match draughts_draws::judge(alloc, start, moves) {
             Ok(end) => Ok(end),
-            Err(Fault::Memory) => Err(Memory),
-            Err(Fault::Illegal { ply: _, cause: _ }) => unreachable!(),
-            Err(Fault::AfterEnd { ply: _ }) => unreachable!(),
+            Err(DLineFault::Memory) => Err(Memory),
+            Err(DLineFault::Illegal { ply: _, cause: _ }) => unreachable!(),
+            Err(DLineFault::AfterEnd { ply: _ }) => unreachable!(),
         }
     }
 

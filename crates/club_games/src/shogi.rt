@@ -6,7 +6,7 @@ ghost use Rattle.club_games.specs.Shogi.{shogi, refusal_of, same_move};
 use club_rules::{EndName, GameKind, MoveRefusal, Rules};
 use sfen::SfenFault;
 use shogi_moves::Illegal;
-use shogi_repetition::{Fault, SEnd, Tail};
+use shogi_repetition::{SEnd, SLineFault, Tail};
 use squares::{Memory, SMove, SPos, Score, Side};
 use std::alloc::Global;
 
@@ -120,9 +120,9 @@ impl Rules for Shogi {
     fn judge(alloc: Global, start: &SPos, moves: &[SMove]) -> Result<Option<SEnd>, Memory> {
         match shogi_repetition::judge(alloc, start, moves) {
             Ok(end) => Ok(end),
-            Err(Fault::Memory) => Err(Memory),
-            Err(Fault::Illegal { ply: _, cause: _ }) => unreachable!(),
-            Err(Fault::AfterEnd { ply: _ }) => unreachable!(),
+            Err(SLineFault::Memory) => Err(Memory),
+            Err(SLineFault::Illegal { ply: _, cause: _ }) => unreachable!(),
+            Err(SLineFault::AfterEnd { ply: _ }) => unreachable!(),
         }
     }
 

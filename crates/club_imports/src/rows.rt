@@ -20,12 +20,12 @@ use std::alloc::Global;
 
 /// Where a line stands after its moves, and what they left behind.
 #[derive(Drop)]
-struct Standing<R: Rules> {
+struct LineState<R: Rules> {
     position: R::Position,
     track: R::Track,
 }
 
-fn standing_after<R: Rules>(moves: &[R::Move]) -> Standing<R>
+fn line_state_after<R: Rules>(moves: &[R::Move]) -> LineState<R>
     requires line { IsPlayedLine R.rules R.rules.start moves.now }
     requires few { length moves.now ≤ most_plies }
     ensures position { result.position ≡ position_after R.rules R.rules.start moves.now }
@@ -39,7 +39,7 @@ fn standing_after<R: Rules>(moves: &[R::Move]) -> Standing<R>
         track = R::track_next(track, &position, made, &next);
         position = next;
     }
-    Standing { position, track }
+    LineState { position, track }
 }
 
 /// The seconds that both players have left.
@@ -129,12 +129,12 @@ pub fn imported_row<R: Rules>(
         (imported R.rules (Some key.now) (pairing_of pairing) start (recorded_of recorded.now)) row) }
 {
     let moves = recorded.moves.as_slice();
-    let standing = standing_after::<R>(moves);
+    let line_state = line_state_after::<R>(moves);
     let opening = R::start();
     let end = R::judge(alloc, &opening, moves)?;
     let left = left_after(budget, increment, moves.len());
     let key = String::from_str(alloc, key)?;
-    let position = R::write_position(alloc, &standing.position)?;
+    let position = R::write_position(alloc, &line_state.position)?;
     Ok(GameRow {
         key: Some(key),
         event: pairing.event,
@@ -145,7 +145,7 @@ pub fn imported_row<R: Rules>(
         plies: moves.len() as u32,
         left_first: left.first,
         left_second: left.second,
-        track: R::track_numbers(&standing.track),
+        track: R::track_numbers(&line_state.track),
         offer: None,
         end: end_of_record(end, recorded.score),
         result: Some(recorded.score),

@@ -13,8 +13,8 @@ use Rattle.club_rules.specs.declared.names.GameKind.TheVariants.{Draughts, Shogi
 use Rattle.club_rules.specs.GameRules.{GameRules}
 use Rattle.club_core.specs.ClubRules.{ClubRules}
 use Rattle.club_core.specs.declared.challenges.Challenge.{Challenge}
-use Rattle.club_core.specs.declared.challenges.Standing.{Standing}
-use Rattle.club_core.specs.declared.challenges.Standing.TheVariants.{Accepted}
+use Rattle.club_core.specs.declared.challenges.ChallengeState.{ChallengeState}
+use Rattle.club_core.specs.declared.challenges.ChallengeState.TheVariants.{Accepted}
 use Rattle.club_requests.specs.declared.requests.Caller.{Caller}
 use Rattle.club_requests.specs.declared.requests.Caller.TheVariants.{Officer, Member}
 use Rattle.club_requests.specs.declared.refusals.Refusal.{Refusal}
@@ -191,7 +191,7 @@ module _ {DM SM : Type 0} where
       }
 
   -- a challenge of a legal one's members and event is legal, where a game that it names is the one that it is to
-  pub restanding : (s : State DM SM) (c : Challenge) (standing : Standing) → IsLegalChallenge s c
+  pub restanding : (s : State DM SM) (c : Challenge) (standing : ChallengeState) → IsLegalChallenge s c
       → ((id : ℕ) → standing ≡ Accepted id → (game : AnyGame DM SM) × (place s.games id ≡ Some game)
       × (pairing_of game ≡ pairing_for c)) → IsLegalChallenge s (standing_as c standing)
   restanding s c standing is names =

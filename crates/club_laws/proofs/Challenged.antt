@@ -3,8 +3,8 @@ use Rattle.std.proofs.Common.{◌≡◌, ◌≢◌, ℕ, Option, Some, None, Boo
 use Rattle.std.specs.Prelude.{is_some, nat_le, ◌==◌}
 use Rattle.std.proofs.lemmas.Bool.{not-true, not-false, eqb-false}
 use Rattle.club_core.specs.declared.challenges.Challenge.{Challenge}
-use Rattle.club_core.specs.declared.challenges.Standing.{Standing}
-use Rattle.club_core.specs.declared.challenges.Standing.TheVariants.{Open, Withdrawn}
+use Rattle.club_core.specs.declared.challenges.ChallengeState.{ChallengeState}
+use Rattle.club_core.specs.declared.challenges.ChallengeState.TheVariants.{Open, Withdrawn}
 use Rattle.club_requests.specs.declared.refusals.Refusal.TheVariants.{UnknownChallenge}
 use Rattle.club_requests.specs.Limits.{most_games, is_challenge_number}
 use Rattle.club_requests.specs.Outcome.{Reply, challenge_opened, challenge_withdrawn, accepted}
@@ -34,7 +34,7 @@ later-challenge-trans a b c first second =
     }
 
 -- an open challenge may be closed
-pub closed-later : (c : Challenge) (standing : Standing) → is_open c.standing ≡ true
+pub closed-later : (c : Challenge) (standing : ChallengeState) → is_open c.standing ≡ true
     → IsLaterChallenge c (standing_as c standing)
 closed-later c standing waits = record {
   asks = refl;

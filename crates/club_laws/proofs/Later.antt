@@ -23,8 +23,8 @@ use Rattle.club_requests.specs.Outcome.{Reply, draw_offered, challenge_refused, 
 use Rattle.club_requests.specs.Outcome.{by_officer}
 use Rattle.club_requests.specs.Outcome.{first_refusal, unless, unless_repeat}
 use Rattle.club_core.specs.declared.challenges.Challenge.{Challenge}
-use Rattle.club_core.specs.declared.challenges.Standing.{Standing}
-use Rattle.club_core.specs.declared.challenges.Standing.TheVariants.{Withdrawn, Refused, Accepted}
+use Rattle.club_core.specs.declared.challenges.ChallengeState.{ChallengeState}
+use Rattle.club_core.specs.declared.challenges.ChallengeState.TheVariants.{Withdrawn, Refused, Accepted}
 use Rattle.club_core.specs.Members as members
 use Rattle.club_core.specs.Members.{find_id, member_refusal, same_member, member_step}
 use Rattle.club_rules.specs.declared.names.GameKind.{GameKind}
@@ -255,7 +255,7 @@ module _ {DM SM : Type 0} where
       }
 
   -- an open challenge is closed
-  close-later : (s : State DM SM) (moment member number : ℕ) (old : Challenge) (standing : Standing)
+  close-later : (s : State DM SM) (moment member number : ℕ) (old : Challenge) (standing : ChallengeState)
       → challenge_under s.challenges member number ≡ Some old → is_open old.standing ≡ true
       → IsLater s (with_challenge s moment (standing_as old standing))
   close-later s moment member number old standing found waited =

@@ -18,7 +18,7 @@ use Rattle.club_requests.specs.declared.outside_end.OutsideEnd.{OutsideEnd}
 use Rattle.club_requests.specs.declared.outside_end.OutsideEnd.TheVariants.{Resigned, Agreed, Time, Declared, Recorded}
 use Rattle.club_core.specs.declared.rows.Offer.{Offer}
 use Rattle.club_core.specs.declared.challenges.Challenge.{Challenge}
-use Rattle.club_core.specs.declared.challenges.Standing.TheVariants.{Open, Withdrawn, Refused, Accepted}
+use Rattle.club_core.specs.declared.challenges.ChallengeState.TheVariants.{Open, Withdrawn, Refused, Accepted}
 use Rattle.club_requests.specs.declared.requests.Caller.{Caller}
 use Rattle.club_requests.specs.declared.requests.Caller.TheVariants.{Officer, Member}
 use Rattle.club_requests.specs.declared.refusals.Refusal.{Refusal}

@@ -21,8 +21,8 @@ use Rattle.club_core.specs.ClubRules.{ClubRules}
 use Rattle.club_rules.specs.Line.{IsLegalLine}
 use Rattle.club_requests.specs.declared.outside_end.OutsideEnd.TheVariants.{Resigned, Agreed, Time, Declared}
 use Rattle.club_core.specs.declared.challenges.Challenge.{Challenge}
-use Rattle.club_core.specs.declared.challenges.Standing.{Standing}
-use Rattle.club_core.specs.declared.challenges.Standing.TheVariants.{Withdrawn, Refused, Accepted}
+use Rattle.club_core.specs.declared.challenges.ChallengeState.{ChallengeState}
+use Rattle.club_core.specs.declared.challenges.ChallengeState.TheVariants.{Withdrawn, Refused, Accepted}
 use Rattle.club_requests.specs.declared.refusals.Refusal.TheVariants.{NotAllowed}
 use Rattle.club_requests.specs.declared.requests.Caller.{Caller}
 use Rattle.club_requests.specs.declared.requests.Caller.TheVariants.{Officer, Member}
@@ -274,8 +274,8 @@ put-later s t moment new later =
     later.challenges new.member new.number new (under-put s.challenges new new.member new.number ∙ itself)
 
 -- a challenge that was closed stays so
-closed-stays : {DM SM : Type 0} (s t : State DM SM) (moment member number : ℕ) (old : Challenge) (standing : Standing)
-    → challenge_under s.challenges member number ≡ Some old → is_open standing ≡ false
+closed-stays : {DM SM : Type 0} (s t : State DM SM) (moment member number : ℕ) (old : Challenge)
+    (standing : ChallengeState) → challenge_under s.challenges member number ≡ Some old → is_open standing ≡ false
     → IsLater (with_challenge s moment (standing_as old standing)) t
     → challenge_under t.challenges member number ≡ Some (standing_as old standing)
 closed-stays s t moment member number old standing found closed later =
@@ -350,7 +350,7 @@ module _ {DM SM : Type 0} (s t : State DM SM) (moment again : ℕ) where
 
 -- the answer that closed a challenge is given again
 answered-again : {DM SM : Type 0} (s t : State DM SM) (moment again : ℕ) (challenger : List ℕ) (member number id : ℕ)
-    (accept : Bool) (old : Challenge) (standing : Standing) (reply : Reply)
+    (accept : Bool) (old : Challenge) (standing : ChallengeState) (reply : Reply)
     → find_id (has_member_name challenger) s.members ≡ Some member
     → challenge_under s.challenges member number ≡ Some old → (old.other == id) ≡ true → is_open standing ≡ false
     → repeat_of_answer old.number standing accept ≡ Some reply

@@ -11,11 +11,11 @@ use Rattle.club_questions.specs.declared.questions.Listing.{Listing}
 use Rattle.club_lists.specs.declared.told.ToldGame.{ToldGame}
 use Rattle.club_lists.specs.Lines.{StandsAs, IsGameLine, game_line, IsPart, AreGameLines}
 use Rattle.club_lists.specs.Listing.{is_listed}
-use Rattle.club_lists.specs.Told.{Told}
-use Rattle.club_lists.specs.ToldViews.{told_by, all_by}
+use Rattle.club_lists.specs.GameSummary.{GameSummary}
+use Rattle.club_lists.specs.SummaryViews.{told_by, all_by}
 
 module _ (members : List Member) (events : List Event) where
-  pub line_is : {E : Type 0} (told : Told) (stands : List ℕ) (made : Result (String Global) E)
+  pub line_is : {E : Type 0} (told : GameSummary) (stands : List ℕ) (made : Result (String Global) E)
       → StandsAs members told told.over stands
       → IfOk made (λ line. string_bytes line ≡ game_line members events told stands)
       → IfOk made (λ line. IsGameLine members events told (string_bytes line))

@@ -6,7 +6,7 @@ use Rattle.squares.specs.declared.sides.Side.TheVariants.{First, Second}
 use Rattle.club_rules.specs.declared.names.GameKind.{GameKind}
 use Rattle.club_rules.specs.declared.names.GameKind.TheVariants.{Draughts, Shogi}
 use Rattle.club_lists.specs.Clock.{left_now}
-use Rattle.club_lists.specs.Told.{Over, Told}
+use Rattle.club_lists.specs.GameSummary.{Over, GameSummary}
 use Rattle.club_lists.specs.declared.board.BoardView.{BoardView}
 
 -- the kind of a game, the names of its event and of its players, the diagram of its last position, and its moves as they
@@ -45,7 +45,7 @@ side_letter Shogi First = codes "B"
 side_letter Shogi Second = codes "W"
 
 -- `SIDE to move, ply PLIES, FIRST SECONDS, SECOND SECONDS`, with what each has left at this moment
-abbrev pub turn_line : ℕ → Told → Board → List ℕ
+abbrev pub turn_line : ℕ → GameSummary → Board → List ℕ
 turn_line moment told board =
     side_letter board.kind told.turn ++ (codes " to move, ply " ++ (decimal told.plies ++ (codes ", " ++ (board.first
     ++ (codes " " ++ (decimal (left_now moment First told) ++ (codes ", " ++ (board.second ++ (codes " "
@@ -55,7 +55,7 @@ turn_line moment told board =
 abbrev pub ended_line : Over → List ℕ
 ended_line over = codes "ended " ++ (over.end ++ (codes " " ++ (over.result ++ codes "\n")))
 
-abbrev pub standing_line : ℕ → Told → Board → Option Over → List ℕ
+abbrev pub standing_line : ℕ → GameSummary → Board → Option Over → List ℕ
 standing_line moment told board None = turn_line moment told board
 standing_line moment told board (Some over) = ended_line over
 
@@ -92,7 +92,7 @@ moves_from kind plies filled (text ∷ texts) =
 -- ---- all of it
 
 -- the game of which this is told, at a moment
-abbrev pub board_text : ℕ → Told → Board → List ℕ
+abbrev pub board_text : ℕ → GameSummary → Board → List ℕ
 board_text moment told board =
     heading told.id board
     ++ (standing_line moment told board told.over ++ (board.diagram ++ moves_from board.kind 0 0 board.moves))

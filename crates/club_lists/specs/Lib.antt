@@ -2,9 +2,9 @@ pub mod Board
 pub mod Clock
 pub mod Dates
 pub mod EventRecords
+pub mod GameSummary
 pub mod Json
 pub mod Lines
 pub mod Listing
 pub mod Shows
-pub mod Told
-pub mod ToldViews
+pub mod SummaryViews

@@ -10,7 +10,7 @@ use Rattle.club_core.specs.Members.{Member}
 use Rattle.club_questions.specs.declared.questions.Listing.{Listing}
 use Rattle.club_lists.specs.Dates.{IsUntil}
 use Rattle.club_lists.specs.Listing.{event_of, first_name, second_name, is_listed}
-use Rattle.club_lists.specs.Told.{Over, Told, deadline, is_over}
+use Rattle.club_lists.specs.GameSummary.{Over, GameSummary, deadline, is_over}
 
 -- the text of each element, one after another, the ids counting up from this one
 abbrev pub numbered : {A : Type 0} → (ℕ → A → List ℕ) → ℕ → List A → List ℕ
@@ -33,10 +33,10 @@ game_name Draughts = codes "draughts"
 game_name Shogi = codes "shogi"
 
 -- how many games an event has, and how many of them run
-abbrev pub games_of : ℕ → List Told → ℕ
+abbrev pub games_of : ℕ → List GameSummary → ℕ
 games_of event games = count_by (λ told. told.event == event) games
 
-abbrev pub running_of : ℕ → List Told → ℕ
+abbrev pub running_of : ℕ → List GameSummary → ℕ
 running_of event games = count_by (λ told. told.event == event && not (is_over told)) games
 
 -- `GAME BUDGET INCREMENT GAMES RUNNING`
@@ -51,10 +51,10 @@ abbrev pub event_text : ℕ → Event → (games running : ℕ) → List ℕ
 event_text id event games running =
     codes "event " ++ (decimal id ++ (codes " " ++ (event.name ++ (codes " " ++ event_tail event games running))))
 
-abbrev pub event_line : List Told → ℕ → Event → List ℕ
+abbrev pub event_line : List GameSummary → ℕ → Event → List ℕ
 event_line games id event = event_text id event (games_of id games) (running_of id games)
 
-abbrev pub event_lines : List Told → List Event → List ℕ
+abbrev pub event_lines : List GameSummary → List Event → List ℕ
 event_lines games events = numbered (event_line games) 1 events
 
 -- ---- games
@@ -65,41 +65,41 @@ key_text None = codes "="
 key_text (Some key) = key
 
 -- the name of the player of a side
-abbrev pub player_name : List Member → Side → Told → List ℕ
+abbrev pub player_name : List Member → Side → GameSummary → List ℕ
 player_name members First told = first_name members told
 player_name members Second told = second_name members told
 
 -- `end NAME RESULT`, or `turn NAME until` and the last second in which the move is in time
-abbrev pub StandsAs : List Member → Told → Option Over → List ℕ → Type 0
+abbrev pub StandsAs : List Member → GameSummary → Option Over → List ℕ → Type 0
 StandsAs members told (Some over) text = text ≡ codes "end " ++ (over.end ++ (codes " " ++ over.result))
 StandsAs members told None text = (second : List ℕ) × IsUntil (deadline told) second
     × (text ≡ codes "turn " ++ (player_name members told.turn told ++ (codes " until " ++ second)))
 
 -- `SECOND KEY ply PLIES`, and how the game stands
-abbrev pub game_tail : List Member → Told → List ℕ → List ℕ
+abbrev pub game_tail : List Member → GameSummary → List ℕ → List ℕ
 game_tail members told stands =
     second_name members told ++ (codes " " ++ (key_text told.key ++ (codes " ply " ++ (decimal told.plies
     ++ (codes " " ++ (stands ++ codes "\n"))))))
 
 -- `game ID EVENT FIRST`, and the rest
-abbrev pub game_line : List Member → List Event → Told → List ℕ → List ℕ
+abbrev pub game_line : List Member → List Event → GameSummary → List ℕ → List ℕ
 game_line members events told stands =
     codes "game " ++ (decimal told.id ++ (codes " " ++ (event_of events told ++ (codes " " ++ (first_name members told
     ++ (codes " " ++ game_tail members told stands))))))
 
 module _ (members : List Member) (events : List Event) where
   -- the line of a game
-  abbrev pub IsGameLine : Told → List ℕ → Type 0
+  abbrev pub IsGameLine : GameSummary → List ℕ → Type 0
   IsGameLine told line = (stands : List ℕ) × StandsAs members told told.over stands
       × (line ≡ game_line members events told stands)
 
   -- what a list has of a game: its line where it is listed
-  abbrev pub IsPart : Bool → Told → List ℕ → Type 0
+  abbrev pub IsPart : Bool → GameSummary → List ℕ → Type 0
   IsPart true told text = IsGameLine told text
   IsPart false told text = text ≡ []
 
   -- the lines of those games that are listed, in their order
-  abbrev pub AreGameLines : Listing → ℕ → List Told → List ℕ → Type 0
+  abbrev pub AreGameLines : Listing → ℕ → List GameSummary → List ℕ → Type 0
   AreGameLines listing moment [] text = text ≡ []
   AreGameLines listing moment (told ∷ games) text =
       (part : List ℕ) × (rest : List ℕ) × IsPart (is_listed members events listing moment told) told part

@@ -13,7 +13,7 @@ use Rattle.club_core.specs.State.{place}
 use Rattle.club_questions.specs.declared.questions.Listing.{Listing}
 use Rattle.club_questions.specs.declared.questions.Which.{Which}
 use Rattle.club_questions.specs.declared.questions.Which.TheVariants.{All, Running, Overdue}
-use Rattle.club_lists.specs.Told.{Told, is_late, is_over}
+use Rattle.club_lists.specs.GameSummary.{GameSummary, is_late, is_over}
 
 -- the name of a member, and of an event, that is there
 abbrev pub member_name : Option Member → List ℕ
@@ -30,7 +30,7 @@ is_asked None name = true
 is_asked (Some asked) name = bytes_eq name asked
 
 -- the moment counts for the overdue games alone: those that a sweep at it ends
-abbrev pub is_which : Which → ℕ → Told → Bool
+abbrev pub is_which : Which → ℕ → GameSummary → Bool
 is_which All moment told = true
 is_which Running moment told = not (is_over told)
 is_which Overdue moment told = is_late moment told
@@ -40,17 +40,17 @@ abbrev pub is_unknown : {A : Type 0} → (List ℕ → A → Bool) → List A �
 is_unknown has all None = false
 is_unknown has all (Some name) = not (list_any (has name) all)
 
-abbrev pub first_name : List Member → Told → List ℕ
+abbrev pub first_name : List Member → GameSummary → List ℕ
 first_name members told = member_name (place members told.first)
 
-abbrev pub second_name : List Member → Told → List ℕ
+abbrev pub second_name : List Member → GameSummary → List ℕ
 second_name members told = member_name (place members told.second)
 
-abbrev pub event_of : List Event → Told → List ℕ
+abbrev pub event_of : List Event → GameSummary → List ℕ
 event_of events told = event_name (place events told.event)
 
 -- a player of the game has the name that is asked for, if one is
-abbrev pub has_asked : List Member → Option (List ℕ) → Told → Bool
+abbrev pub has_asked : List Member → Option (List ℕ) → GameSummary → Bool
 has_asked members asked told = is_asked asked (first_name members told) || is_asked asked (second_name members told)
 
 module _ (members : List Member) (events : List Event) (listing : Listing) where
@@ -61,7 +61,7 @@ module _ (members : List Member) (events : List Event) (listing : Listing) where
   member_asked = option_map (λ name. string_bytes name) listing.member
 
   -- the game is of the event that is asked for and has the player who is, and is one of those
-  abbrev pub is_listed : ℕ → Told → Bool
+  abbrev pub is_listed : ℕ → GameSummary → Bool
   is_listed moment told =
       is_asked event_asked (event_of events told)
       && (has_asked members member_asked told && is_which listing.which moment told)

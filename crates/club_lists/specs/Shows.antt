@@ -5,8 +5,8 @@ use Rattle.std.specs.Prelude.{codes, if◌then◌else◌}
 use Rattle.std.specs.Option.{option_map}
 use Rattle.std.specs.Str.{bytes_eq}
 use Rattle.club_core.specs.declared.challenges.Challenge.{Challenge}
-use Rattle.club_core.specs.declared.challenges.Standing.{Standing}
-use Rattle.club_core.specs.declared.challenges.Standing.TheVariants.{Open, Withdrawn, Refused, Accepted}
+use Rattle.club_core.specs.declared.challenges.ChallengeState.{ChallengeState}
+use Rattle.club_core.specs.declared.challenges.ChallengeState.TheVariants.{Open, Withdrawn, Refused, Accepted}
 use Rattle.club_core.specs.Events.{Event}
 use Rattle.club_core.specs.Members.{Member}
 use Rattle.club_core.specs.State.{has_member_key, place}
@@ -14,7 +14,7 @@ use Rattle.club_lists.specs.Clock.{deadline_within}
 use Rattle.club_lists.specs.Json.{quoted, quoted_or_null, number_or_null, field, named, counted, array}
 use Rattle.club_lists.specs.Lines.{game_name, player_name}
 use Rattle.club_lists.specs.Listing.{event_name, event_of, first_name, has_asked, member_name, second_name}
-use Rattle.club_lists.specs.Told.{Told, is_over}
+use Rattle.club_lists.specs.GameSummary.{GameSummary, is_over}
 
 -- the name of the member who has the key
 abbrev pub name_by : List ℕ → List Member → Option (List ℕ)
@@ -23,7 +23,7 @@ name_by key (member ∷ members) = if has_member_key key member then Some member
 
 -- ---- the games of an event
 
-unfoldable pub event_game_text : List Member → Told → List ℕ
+unfoldable pub event_game_text : List Member → GameSummary → List ℕ
 event_game_text members told =
     field (codes "{") (codes "end") (quoted_or_null (option_map (λ o. o.end) told.over))
     ++ (named (codes ",") (codes "first") (first_name members told)
@@ -32,13 +32,13 @@ event_game_text members told =
     ++ (field (codes ",") (codes "result") (quoted_or_null (option_map (λ o. o.result) told.over))
     ++ (named (codes ",") (codes "second") (second_name members told) ++ codes "}")))))
 
-abbrev pub is_of_event : List Event → List ℕ → Told → Bool
+abbrev pub is_of_event : List Event → List ℕ → GameSummary → Bool
 is_of_event events name told = bytes_eq (event_of events told) name
 
-abbrev pub event_game_texts : List Member → List Event → List ℕ → List Told → List (List ℕ)
+abbrev pub event_game_texts : List Member → List Event → List ℕ → List GameSummary → List (List ℕ)
 event_game_texts members events name games = map (event_game_text members) (filter (is_of_event events name) games)
 
-abbrev pub event_games_text : List Member → List Event → List ℕ → List Told → List ℕ
+abbrev pub event_games_text : List Member → List Event → List ℕ → List GameSummary → List ℕ
 event_games_text members events name games =
     field (codes "{") (codes "games") (array (event_game_texts members events name games)) ++ codes "}"
 
@@ -67,53 +67,53 @@ inviting_text key members events =
 -- ---- what a member plays and is challenged to
 
 -- the name of the player who offers a draw
-abbrev pub offerer : List Member → Told → Option (List ℕ)
+abbrev pub offerer : List Member → GameSummary → Option (List ℕ)
 offerer members told = option_map (λ side. player_name members side told) told.offer
 
 -- a running game of the one who asks, up to its id, and the rest
-unfoldable pub own_game_front : List Member → List Event → Told → List ℕ
+unfoldable pub own_game_front : List Member → List Event → GameSummary → List ℕ
 own_game_front members events told =
     field (codes "{") (codes "deadline") (number_or_null (deadline_within told))
     ++ (named (codes ",") (codes "event") (event_of events told)
     ++ (named (codes ",") (codes "first") (first_name members told) ++ counted (codes ",") (codes "game") told.id))
 
-unfoldable pub own_game_back : List Member → Told → List ℕ
+unfoldable pub own_game_back : List Member → GameSummary → List ℕ
 own_game_back members told =
     field (codes ",") (codes "offer") (quoted_or_null (offerer members told))
     ++ (counted (codes ",") (codes "ply") told.plies
     ++ (named (codes ",") (codes "second") (second_name members told)
     ++ (named (codes ",") (codes "turn") (player_name members told.turn told) ++ codes "}")))
 
-abbrev pub own_game_text : List Member → List Event → Told → List ℕ
+abbrev pub own_game_text : List Member → List Event → GameSummary → List ℕ
 own_game_text members events told = own_game_front members events told ++ own_game_back members told
 
 -- a running game of the member of this name
-abbrev pub is_own : List Member → List ℕ → Told → Bool
+abbrev pub is_own : List Member → List ℕ → GameSummary → Bool
 is_own members name told = not (is_over told) && has_asked members (Some name) told
 
-abbrev pub own_game_texts : List Member → List Event → List ℕ → List Told → List (List ℕ)
+abbrev pub own_game_texts : List Member → List Event → List ℕ → List GameSummary → List (List ℕ)
 own_game_texts members events name games = map (own_game_text members events) (filter (is_own members name) games)
 
-abbrev pub is_open : Standing → Bool
+abbrev pub is_open : ChallengeState → Bool
 is_open Open = true
 is_open Withdrawn = false
 is_open Refused = false
 is_open (Accepted game) = false
 
 -- the game that a challenge has started, if it was accepted
-abbrev pub started : Standing → Option ℕ
+abbrev pub started : ChallengeState → Option ℕ
 started Open = None
 started Withdrawn = None
 started Refused = None
 started (Accepted game) = Some game
 
-abbrev pub is_accepted : Standing → Bool
+abbrev pub is_accepted : ChallengeState → Bool
 is_accepted Open = false
 is_accepted Withdrawn = false
 is_accepted Refused = false
 is_accepted (Accepted game) = true
 
-abbrev pub state_text : Standing → List ℕ
+abbrev pub state_text : ChallengeState → List ℕ
 state_text Open = codes "open"
 state_text Withdrawn = codes "withdrawn"
 state_text Refused = codes "refused"
@@ -162,7 +162,7 @@ module _ (members : List Member) where
   challenge_texts events name challenges = map (challenge_text events) (filter (is_shown name) challenges)
 
 -- the challenges and the running games of the member of this name
-abbrev pub mine_text : List Member → List Event → List ℕ → ℕ → List Challenge → List Told → List ℕ
+abbrev pub mine_text : List Member → List Event → List ℕ → ℕ → List Challenge → List GameSummary → List ℕ
 mine_text members events name moment challenges games =
     field (codes "{") (codes "challenges") (array (challenge_texts members events name challenges))
     ++ (field (codes ",") (codes "games") (array (own_game_texts members events name games))

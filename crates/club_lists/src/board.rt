@@ -3,7 +3,7 @@
 ghost use Rattle.std.specs.Prelude.{◌≡◌, ◌++◌, ◌<◌, ◌^◌, IfOk, OnOk, codes, decimal, map, string_bytes};
 ghost use Rattle.club_lists.specs.Board.{board_by, board_text, filled_with, gap, heading, line_end, move_text};
 ghost use Rattle.club_lists.specs.Board.{moves_from, side_letter, standing_line, turn_line};
-ghost use Rattle.club_lists.specs.ToldViews.{told_by};
+ghost use Rattle.club_lists.specs.SummaryViews.{told_by};
 
 use crate::clock::{first_now, second_now};
 use crate::told::ToldGame;

@@ -6,7 +6,7 @@ ghost use Rattle.club_core.specs.Answer.{members_of};
 ghost use Rattle.club_lists.specs.Clock.{clock_text, deadline_within, is_running_side, left_now, while_running};
 ghost use Rattle.club_lists.specs.Json.{number_or_null, quoted_or_null};
 ghost use Rattle.club_lists.specs.Lines.{player_name};
-ghost use Rattle.club_lists.specs.ToldViews.{told_by};
+ghost use Rattle.club_lists.specs.SummaryViews.{told_by};
 
 use crate::json::{push_counted, push_field, quoted, two};
 use crate::lines::turn_name;

@@ -4,7 +4,7 @@ ghost use Rattle.std.specs.Prelude.{◌≡◌, IfOk};
 ghost use Rattle.club_core.specs.Answer.{events_of};
 ghost use Rattle.club_core.specs.Events.{event_kind};
 ghost use Rattle.club_lists.specs.EventRecords.{event_game_ids};
-ghost use Rattle.club_lists.specs.ToldViews.{all_by};
+ghost use Rattle.club_lists.specs.SummaryViews.{all_by};
 
 use crate::shows::is_of_event;
 use crate::told::ToldGame;

@@ -9,8 +9,8 @@ ghost use Rattle.club_lists.specs.Lines.{event_line, game_tail};
 ghost use Rattle.club_lists.specs.Lines.{event_lines, key_text, player_name, game_line, StandsAs, IsGameLine, IsPart};
 ghost use Rattle.club_lists.specs.Lines.{AreGameLines};
 ghost use Rattle.club_lists.specs.Listing.{is_listed};
-ghost use Rattle.club_lists.specs.Told.{deadline, is_over};
-ghost use Rattle.club_lists.specs.ToldViews.{told_by, all_by};
+ghost use Rattle.club_lists.specs.GameSummary.{deadline, is_over};
+ghost use Rattle.club_lists.specs.SummaryViews.{told_by, all_by};
 
 use crate::dates::date_text;
 use crate::listing::{event_name, is_listed, member_name};

@@ -9,7 +9,7 @@ ghost use Rattle.club_core.specs.Seats.{has_member_name};
 ghost use Rattle.club_core.specs.State.{place};
 ghost use Rattle.club_lists.specs.Listing.{member_name, event_name, is_asked, has_asked, is_which, is_listed};
 ghost use Rattle.club_lists.specs.Listing.{listing_refusal};
-ghost use Rattle.club_lists.specs.ToldViews.{told_by};
+ghost use Rattle.club_lists.specs.SummaryViews.{told_by};
 
 use crate::told::ToldGame;
 use clocks::Moment;

@@ -6,61 +6,61 @@ ghost use Rattle.club_lists.specs.Json.{number_or_null};
 ghost use Rattle.club_lists.specs.Shows.{challenge_text, challenge_texts, first_of, is_shown, mine_text};
 ghost use Rattle.club_lists.specs.Shows.{second_of, started, state_text, is_open, is_accepted};
 ghost use Rattle.club_lists.specs.Shows.{challenge_back, challenge_front};
-ghost use Rattle.club_lists.specs.ToldViews.{all_by};
+ghost use Rattle.club_lists.specs.SummaryViews.{all_by};
 
 use crate::json::{array, push_counted, push_field, push_named};
 use crate::listing::{event_name, member_name};
 use crate::shows::own_game_texts;
 use crate::told::ToldGame;
 use clocks::Moment;
-use club_core::{Challenge, Event, Member, Standing};
+use club_core::{Challenge, ChallengeState, Event, Member};
 use std::alloc::{AllocError, Global};
 
 // The game that a challenge has started, or null.
-fn started_text(alloc: Global, standing: Standing) -> Result<String, AllocError>
+fn started_text(alloc: Global, standing: ChallengeState) -> Result<String, AllocError>
     ensures { IfOk result (λ text. string_bytes text ≡ number_or_null (started standing)) }
 {
     match standing {
-        Standing::Accepted { game } => format!(in alloc; "{game}"),
-        Standing::Open => String::from_str(alloc, "null"),
-        Standing::Withdrawn => String::from_str(alloc, "null"),
-        Standing::Refused => String::from_str(alloc, "null"),
+        ChallengeState::Accepted { game } => format!(in alloc; "{game}"),
+        ChallengeState::Open => String::from_str(alloc, "null"),
+        ChallengeState::Withdrawn => String::from_str(alloc, "null"),
+        ChallengeState::Refused => String::from_str(alloc, "null"),
     }
 }
 
 // How a challenge stands.
-fn state_text(standing: Standing) -> &'static str
+fn state_text(standing: ChallengeState) -> &'static str
     ensures { result.now ≡ state_text standing }
 {
     match standing {
-        Standing::Open => "open",
-        Standing::Withdrawn => "withdrawn",
-        Standing::Refused => "refused",
-        Standing::Accepted { game: _ } => "accepted",
+        ChallengeState::Open => "open",
+        ChallengeState::Withdrawn => "withdrawn",
+        ChallengeState::Refused => "refused",
+        ChallengeState::Accepted { game: _ } => "accepted",
     }
 }
 
 // Whether a challenge waits for its answer.
-fn is_open(standing: Standing) -> bool
+fn is_open(standing: ChallengeState) -> bool
     ensures { result ≡ is_open standing }
 {
     match standing {
-        Standing::Open => true,
-        Standing::Withdrawn => false,
-        Standing::Refused => false,
-        Standing::Accepted { game: _ } => false,
+        ChallengeState::Open => true,
+        ChallengeState::Withdrawn => false,
+        ChallengeState::Refused => false,
+        ChallengeState::Accepted { game: _ } => false,
     }
 }
 
 // Whether a challenge was accepted.
-fn is_accepted(standing: Standing) -> bool
+fn is_accepted(standing: ChallengeState) -> bool
     ensures { result ≡ is_accepted standing }
 {
     match standing {
-        Standing::Open => false,
-        Standing::Withdrawn => false,
-        Standing::Refused => false,
-        Standing::Accepted { game: _ } => true,
+        ChallengeState::Open => false,
+        ChallengeState::Withdrawn => false,
+        ChallengeState::Refused => false,
+        ChallengeState::Accepted { game: _ } => true,
     }
 }
 

@@ -8,7 +8,7 @@ ghost use Rattle.club_lists.specs.Shows.{event_data, event_game_text, event_game
 ghost use Rattle.club_lists.specs.Shows.{inviting_text};
 ghost use Rattle.club_lists.specs.Shows.{is_of_event, is_other, is_own, name_by, offerer, other_texts, own_game_text};
 ghost use Rattle.club_lists.specs.Shows.{own_game_back, own_game_front, own_game_texts};
-ghost use Rattle.club_lists.specs.ToldViews.{all_by, told_by};
+ghost use Rattle.club_lists.specs.SummaryViews.{all_by, told_by};
 
 use crate::clock::deadline_text;
 use crate::json::{array, push_counted, push_field, push_named, quoted};

@@ -2,8 +2,8 @@
 
 ghost use Rattle.std.specs.Prelude.{◌≡◌, ◌≤◌, ◌↔◌, IsSome, IfSome};
 ghost use Rattle.club_requests.specs.Limits.{last_moment};
-ghost use Rattle.club_lists.specs.Told.{deadline, is_late, is_over, left_in};
-ghost use Rattle.club_lists.specs.ToldViews.{told_by};
+ghost use Rattle.club_lists.specs.GameSummary.{deadline, is_late, is_over, left_in};
+ghost use Rattle.club_lists.specs.SummaryViews.{told_by};
 
 use clocks::{Clock, Moment};
 use squares::Side;

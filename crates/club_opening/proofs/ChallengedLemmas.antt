@@ -24,8 +24,8 @@ use Rattle.store_tables.specs.declared.rows.Rows.{Rows}
 use Rattle.store_tables.proofs.Proved.{has_map, has_mapped}
 use Rattle.store_sql.specs.Read.{IsReadAs}
 use Rattle.club_core.specs.declared.challenges.Challenge.{Challenge}
-use Rattle.club_core.specs.declared.challenges.Standing.{Standing}
-use Rattle.club_core.specs.declared.challenges.Standing.TheVariants.{Open, Withdrawn, Refused, Accepted}
+use Rattle.club_core.specs.declared.challenges.ChallengeState.{ChallengeState}
+use Rattle.club_core.specs.declared.challenges.ChallengeState.TheVariants.{Open, Withdrawn, Refused, Accepted}
 use Rattle.club_core.specs.Challenges.{pairing_for}
 use Rattle.club_core.specs.Events.{Event}
 use Rattle.club_core.specs.Members.{Member}
@@ -114,7 +114,7 @@ module _ (games : List GameRecord) (rows : List Row) (same : HaveSame rows (map 
 
 -- ---- challenges
 
-short_standing : (c : Challenge) (standing : Standing) → c.standing ≡ standing
+short_standing : (c : Challenge) (standing : ChallengeState) → c.standing ≡ standing
     → ((id : ℕ) → c.standing ≡ Accepted id → id < 2 ^ 32) → HasShortGame standing
 short_standing c Open is short = tt
 short_standing c Withdrawn is short = tt

@@ -28,7 +28,7 @@ use Rattle.club_rules.specs.declared.names.GameKind.{GameKind}
 use Rattle.club_rules.specs.declared.names.GameKind.TheVariants.{Draughts, Shogi}
 use Rattle.club_core.specs.Events.{Terms}
 use Rattle.club_rows.specs.Club.{both_games, ClubGame, ClubState}
-use Rattle.club_rows.specs.Shown.{AreMovesOf}
+use Rattle.club_rows.specs.LegalRows.{AreMovesOf}
 use Rattle.club_rows.specs.Tables.{at_start, rows_of_seen, row_of_game, rows_of_moves, tables_of}
 use Rattle.club_audit.specs.Audit.{terms_told, AreAllOf, IsGameAt, HasPeople}
 use Rattle.club_audit.specs.GameAudit.{IsRightAt, IsRightOf}

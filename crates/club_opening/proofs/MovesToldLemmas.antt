@@ -9,7 +9,7 @@ use Rattle.sqlite_rules.specs.Lists.{Has}
 use Rattle.sqlite_rules.proofs.ListLemmas.{has_filtered, has_got, has_kept}
 use Rattle.club_rows.proofs.Proved.{same-pos}
 use Rattle.club_rows.specs.Club.{ClubState, both_games}
-use Rattle.club_rows.specs.Shown.{AreMovesOf}
+use Rattle.club_rows.specs.LegalRows.{AreMovesOf}
 use Rattle.club_rows.specs.Tables.{declares_number, event_row, rule_row}
 use Rattle.club_rules.specs.GameRules.{GameRules}
 use Rattle.club_rules.specs.declared.names.GameKind.{GameKind}

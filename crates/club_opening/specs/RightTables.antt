@@ -22,7 +22,7 @@ use Rattle.club_rows.specs.Scores.{scores_in}
 use Rattle.club_rows.specs.FirstSchema.{IsClubOf, tables_at}
 use Rattle.club_rows.specs.Tables.{challenge_row, event_row, number, numbered_from, row_of_game}
 use Rattle.club_core.specs.declared.challenges.Challenge.{Challenge}
-use Rattle.club_core.specs.declared.challenges.Standing.TheVariants.{Accepted}
+use Rattle.club_core.specs.declared.challenges.ChallengeState.TheVariants.{Accepted}
 use Rattle.club_core.specs.Challenges.{goes_by, pairing_for}
 use Rattle.club_core.specs.LegalState.{AreApart, Each}
 use Rattle.club_core.specs.Seats.{Pairing}

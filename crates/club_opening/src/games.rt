@@ -26,7 +26,7 @@ use store_tables::{GameRecord, MoveRow, Rows, SeenRow, Table};
 
 /// How many rows of moves and of positions there are.
 #[derive(Clone, Copy, Drop)]
-pub(crate) struct Counts {
+pub(crate) struct RowCounts {
     pub moves: usize,
     pub seen: usize,
 }
@@ -34,7 +34,7 @@ pub(crate) struct Counts {
 /// What was found of the rows of a game: how many are its own, and the first wrong table, if there is one.
 #[derive(Clone, Copy, Drop)]
 struct Found {
-    own: Counts,
+    own: RowCounts,
     wrong: Option<Table>,
 }
 
@@ -169,7 +169,7 @@ fn examine_game<S: Alter>(
     };
     match wrong_game(alloc, rows, place, game, &moves, &seen, given(last)) {
         Ok(wrong) => Ok(Found {
-            own: Counts {
+            own: RowCounts {
                 moves: moves.len(),
                 seen: seen.len(),
             },
@@ -187,7 +187,7 @@ pub(crate) fn examine_games<S: Alter>(
     conn: &mut Connection<S>,
     rows: &Rows,
     last: Option<Moment>,
-    all: Counts,
+    all: RowCounts,
     known: Option<Table>,
 ) -> Result<Option<Table>, OpenFault>
     requires last { IsMomentOf rows.now.meta.last last }

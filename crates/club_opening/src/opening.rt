@@ -20,7 +20,7 @@ ghost use Rattle.club_opening.specs.RightTables.{IsLater, NamesExamined, NamesFi
 
 use crate::audit::audit;
 use crate::fault::OpenFault;
-use crate::games::{Counts, count_of, examine_games};
+use crate::games::{RowCounts, count_of, examine_games};
 use crate::read::{Register, read, read_rows};
 use clocks::Moment;
 use club_audit::scores_are;
@@ -65,7 +65,7 @@ fn examine_play<S: Alter>(
         Ok(count) => count,
         Err(fault) => return Err(fault),
     };
-    match examine_games(alloc, conn, rows, last, Counts { moves, seen }, known) {
+    match examine_games(alloc, conn, rows, last, RowCounts { moves, seen }, known) {
         Ok(wrong) => Ok(wrong),
         Err(fault) => Err(fault),
     }

@@ -181,13 +181,13 @@ fn other_schema(found: &MetaRow) -> OpenFault
 
 /// What the row of `meta` tells, or what stands for it where there is not one row, with the id 1.
 #[derive(Drop)]
-pub(crate) struct Told {
+pub(crate) struct FileHead {
     version: Version,
     meta: MetaRow,
 }
 
 /// What the row of `meta` tells of the version of the tables and of the last moment.
-fn read_told<S: Alter>(conn: &mut Connection<S>) -> Result<Told, OpenFault>
+fn read_version<S: Alter>(conn: &mut Connection<S>) -> Result<FileHead, OpenFault>
     ensures reads { OnlyReads (state S.Store conn.old) (state S.Store conn.new) }
     ensures found { HasCleanDisk (state S.Store conn.new) → IfOk result (λ told.
         IsClubSchema (state S.Store conn.old).now.schema →
@@ -202,7 +202,7 @@ fn read_told<S: Alter>(conn: &mut Connection<S>) -> Result<Told, OpenFault>
     let found = match read_meta(conn) {
         Ok(Some(found)) => found,
         Ok(None) => {
-            return Ok(Told {
+            return Ok(FileHead {
                 version: Version::Current,
                 meta: no_meta(),
             });
@@ -210,7 +210,7 @@ fn read_told<S: Alter>(conn: &mut Connection<S>) -> Result<Told, OpenFault>
         Err(fault) => return Err(fault),
     };
     match version_of(found.schema) {
-        Some(version) => Ok(Told {
+        Some(version) => Ok(FileHead {
             version,
             meta: found,
         }),
@@ -427,7 +427,7 @@ pub struct Register {
 }
 
 /// What the row of `meta` tells, where the version is taken, from the oldest on, and all its tables stand.
-fn read_head<S: Alter>(conn: &mut Connection<S>, oldest: Version) -> Result<Told, OpenFault>
+fn read_head<S: Alter>(conn: &mut Connection<S>, oldest: Version) -> Result<FileHead, OpenFault>
     ensures reads { OnlyReads (state S.Store conn.old) (state S.Store conn.new) }
     ensures found { HasCleanDisk (state S.Store conn.new) → IfOk result (λ told.
         IsClubSchema (state S.Store conn.old).now.schema →
@@ -442,7 +442,7 @@ fn read_head<S: Alter>(conn: &mut Connection<S>, oldest: Version) -> Result<Told
     ensures undamaged { HasCleanDisk (state S.Store conn.new) → IfErr result (λ e.
         IsClubSchema (state S.Store conn.old).now.schema → (t : Table) → e ≢ OpenFault.Damaged t) }
 {
-    let told = match read_told(conn) {
+    let told = match read_version(conn) {
         Ok(told) => told,
         Err(fault) => return Err(fault),
     };
@@ -466,7 +466,7 @@ fn read_shaped<S: Alter>(
     alloc: Global,
     conn: &mut Connection<S>,
     oldest: Version,
-) -> Result<Told, OpenFault>
+) -> Result<FileHead, OpenFault>
     ensures reads { OnlyReads (state S.Store conn.old) (state S.Store conn.new) }
     ensures shape { IfOk result (λ told. is_of_club told.version (state S.Store conn.old).now.schema ≡ true) }
     ensures found { HasCleanDisk (state S.Store conn.new) → IfOk result (λ told.
@@ -522,7 +522,7 @@ pub(crate) fn read_rows<S: Alter>(
     ensures first { HasCleanDisk (state S.Store conn.new) → IfErr result (λ e.
         IsClubSchema (state S.Store conn.old).now.schema → NamesFirst (state S.Store conn.old).now e) }
 {
-    let Told { version, meta } = match read_shaped(alloc, conn, oldest) {
+    let FileHead { version, meta } = match read_shaped(alloc, conn, oldest) {
         Ok(told) => told,
         Err(fault) => return Err(fault),
     };

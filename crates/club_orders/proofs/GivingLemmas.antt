@@ -5,7 +5,7 @@ use Rattle.std.specs.Prelude.{IfSome}
 use Rattle.sqlite.specs.State.{State}
 use Rattle.club_requests.specs.declared.refusals.Refusal.{Refusal}
 use Rattle.club_questions.specs.declared.questions.Question.{Question}
-use Rattle.club_answers.specs.Shown.{HasShown}
+use Rattle.club_answers.specs.AnswerTexts.{HasShown}
 use Rattle.club_rows.specs.Club.{ClubState}
 use Rattle.store.specs.Asking.{KeepsUnlessFault}
 use Rattle.store_tables.specs.Contents.{Content}

@@ -3,7 +3,7 @@ use Rattle.std.proofs.Common.{◌≡◌, ◌⊎◌, inl, inr, ℕ, List, Option,
 use Rattle.std.specs.Prelude.{IfOk, IfErr}
 use Rattle.club_requests.specs.declared.refusals.Refusal.{Refusal}
 use Rattle.club_questions.specs.declared.questions.Question.{Question}
-use Rattle.club_answers.specs.Shown.{HasShown, HasShownSome}
+use Rattle.club_answers.specs.AnswerTexts.{HasShown, HasShownSome}
 use Rattle.club_rows.specs.Club.{ClubState}
 use Rattle.store.specs.declared.fault.AskFault.{AskFault}
 use Rattle.store.specs.declared.fault.AskFault.TheVariants as ask_fault

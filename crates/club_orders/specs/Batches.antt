@@ -12,7 +12,7 @@ use Rattle.club_requests.specs.AnswerText.{outcome_text}
 use Rattle.club_core.specs.Answer.{answered, outcome_of, request_of}
 use Rattle.club_rows.specs.Club.{ClubState}
 use Rattle.club_questions.specs.declared.questions.Question.{Question}
-use Rattle.club_answers.specs.Shown.{IsRefused, IsText}
+use Rattle.club_answers.specs.AnswerTexts.{IsRefused, IsText}
 use Rattle.club_opening.specs.declared.fault.OpenFault.TheVariants as open_fault
 use Rattle.store.specs.declared.fault.StoreFault.{StoreFault}
 use Rattle.store.specs.declared.fault.StoreFault.TheVariants as store_fault

@@ -18,8 +18,8 @@ use Rattle.explanations.specs.Causes.{refusal_explained}
 use Rattle.explanations.specs.Lines.{line_of}
 use Rattle.explanations.specs.declared.causes.Explanation.{Explanation}
 use Rattle.explanations.specs.declared.causes.Explanation.TheVariants as explanation
-use Rattle.explanations.specs.declared.causes.Fault.{Fault}
-use Rattle.explanations.specs.declared.causes.Fault.TheVariants as fault
+use Rattle.explanations.specs.declared.causes.ExplainedFault.{ExplainedFault}
+use Rattle.explanations.specs.declared.causes.ExplainedFault.TheVariants as fault
 use Rattle.explanations.specs.declared.causes.WrongValue.TheVariants.{ListedMember}
 use Rattle.club_orders.specs.declared.report.Report.{Report}
 use Rattle.club_orders.specs.declared.report.Report.TheVariants.{Ready, Sound, Answered, Shown, Unwritten}
@@ -44,23 +44,23 @@ task_explained (task.Ask question) refusal = question_explained question refusal
 task_explained _ refusal = explanation.Refusal refusal
 
 -- 70: a club is made where nothing stands, and else there has to be one
-abbrev pub foreign_explained : Task → Fault
+abbrev pub foreign_explained : Task → ExplainedFault
 foreign_explained task.Init = fault.NotEmpty
 foreign_explained _ = fault.NoClub
 
 -- 71: schema 1 is that of earlier versions of the program
-abbrev pub schema_explained : ℤ → Fault
+abbrev pub schema_explained : ℤ → ExplainedFault
 schema_explained (pos n) = if n == 1 then fault.OlderSchema else fault.LaterSchema
 schema_explained (negsuc n) = fault.LaterSchema
 
-abbrev pub opening_explained : Task → OpenFault → Fault
+abbrev pub opening_explained : Task → OpenFault → ExplainedFault
 opening_explained task open_fault.Foreign = foreign_explained task
 opening_explained task (open_fault.Schema number) = schema_explained number
 opening_explained task (open_fault.Damaged table) = fault.Damaged
 opening_explained task open_fault.Store = fault.Store
 opening_explained task open_fault.Memory = fault.Memory
 
-abbrev pub stop_explained : StoreFault → Fault
+abbrev pub stop_explained : StoreFault → ExplainedFault
 stop_explained store_fault.Store = fault.Store
 stop_explained store_fault.Reopen = fault.Reopen
 stop_explained store_fault.Memory = fault.Memory
@@ -92,7 +92,7 @@ report_explained task (Batched batched) = None
 report_explained task (Listening port) = None
 
 -- the line of a report could not be made, or where it was done not be written
-abbrev pub lost_explained : Report → Fault
+abbrev pub lost_explained : Report → ExplainedFault
 lost_explained report = if report_status report == 0 then fault.NoOutput else fault.Memory
 
 -- where the program ends with the report's own status the report is explained, and else that its line was lost

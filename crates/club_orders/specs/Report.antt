@@ -27,7 +27,7 @@ use Rattle.store.specs.FaultText.{store_fault_text}
 use Rattle.store.specs.Histories.{Chapter, IsReachable, answered_session, cut_session, upgraded}
 use Rattle.club_changes.specs.Steps.{request}
 use Rattle.club_questions.specs.declared.questions.Question.{Question}
-use Rattle.club_answers.specs.Shown.{HasShown, HasShownSome}
+use Rattle.club_answers.specs.AnswerTexts.{HasShown, HasShownSome}
 use Rattle.club_orders.specs.declared.report.Report.{Report}
 use Rattle.club_orders.specs.declared.report.Report.TheVariants.{Ready, Sound, Answered, Shown, Unwritten}
 use Rattle.club_orders.specs.declared.report.Report.TheVariants.{Unopened, Stopped, InUse, NotOpened, NoMoment, Unread}

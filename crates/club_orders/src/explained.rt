@@ -12,7 +12,7 @@ use crate::written::write_out;
 use club_questions::Question;
 use club_requests::{Outcome, Refusal};
 use club_words::Task;
-use explanations::{Explanation, Fault, WrongValue, refused};
+use explanations::{ExplainedFault, Explanation, WrongValue, refused};
 use std::io::Write;
 use store::{OpenFault, StoreFault};
 
@@ -40,30 +40,30 @@ fn task_explained(task: &Task, refusal: Refusal) -> Explanation
 }
 
 // What it is about that a file was not taken as a club's.
-fn opening_explained(task: &Task, fault: OpenFault) -> Fault
+fn opening_explained(task: &Task, fault: OpenFault) -> ExplainedFault
     ensures { result ≡ opening_explained task.now fault }
 {
     match fault {
         OpenFault::Foreign => match task {
-            Task::Init => Fault::NotEmpty,
-            _ => Fault::NoClub,
+            Task::Init => ExplainedFault::NotEmpty,
+            _ => ExplainedFault::NoClub,
         },
-        OpenFault::Schema(1) => Fault::OlderSchema,
-        OpenFault::Schema(_) => Fault::LaterSchema,
-        OpenFault::Damaged(_) => Fault::Damaged,
-        OpenFault::Store => Fault::Store,
-        OpenFault::Memory => Fault::Memory,
+        OpenFault::Schema(1) => ExplainedFault::OlderSchema,
+        OpenFault::Schema(_) => ExplainedFault::LaterSchema,
+        OpenFault::Damaged(_) => ExplainedFault::Damaged,
+        OpenFault::Store => ExplainedFault::Store,
+        OpenFault::Memory => ExplainedFault::Memory,
     }
 }
 
 // What a fault of an open club is about.
-fn stop_explained(fault: StoreFault) -> Fault
+fn stop_explained(fault: StoreFault) -> ExplainedFault
     ensures { result ≡ stop_explained fault }
 {
     match fault {
-        StoreFault::Store => Fault::Store,
-        StoreFault::Reopen => Fault::Reopen,
-        StoreFault::Memory => Fault::Memory,
+        StoreFault::Store => ExplainedFault::Store,
+        StoreFault::Reopen => ExplainedFault::Reopen,
+        StoreFault::Memory => ExplainedFault::Memory,
     }
 }
 
@@ -85,14 +85,14 @@ fn report_explained(task: &Task, report: &Report) -> Option<Explanation>
         Report::Answered(outcome) => answer_explained(task, outcome),
         Report::Unopened(fault) => Some(Explanation::Fault(opening_explained(task, *fault))),
         Report::Stopped(fault) => Some(Explanation::Fault(stop_explained(*fault))),
-        Report::Unwritten => Some(Explanation::Fault(Fault::NoOutput)),
-        Report::Uncopied => Some(Explanation::Fault(Fault::NoCopy)),
-        Report::InUse => Some(Explanation::Fault(Fault::InUse)),
-        Report::NotOpened => Some(Explanation::Fault(Fault::NotOpened)),
-        Report::NoMoment => Some(Explanation::Fault(Fault::NoClock)),
-        Report::Unread => Some(Explanation::Fault(Fault::NoRecord)),
-        Report::Unbound => Some(Explanation::Fault(Fault::NoPort)),
-        Report::NoMemory => Some(Explanation::Fault(Fault::Memory)),
+        Report::Unwritten => Some(Explanation::Fault(ExplainedFault::NoOutput)),
+        Report::Uncopied => Some(Explanation::Fault(ExplainedFault::NoCopy)),
+        Report::InUse => Some(Explanation::Fault(ExplainedFault::InUse)),
+        Report::NotOpened => Some(Explanation::Fault(ExplainedFault::NotOpened)),
+        Report::NoMoment => Some(Explanation::Fault(ExplainedFault::NoClock)),
+        Report::Unread => Some(Explanation::Fault(ExplainedFault::NoRecord)),
+        Report::Unbound => Some(Explanation::Fault(ExplainedFault::NoPort)),
+        Report::NoMemory => Some(Explanation::Fault(ExplainedFault::Memory)),
         Report::Ready => None,
         Report::Sound => None,
         Report::Upgraded => None,
@@ -106,13 +106,13 @@ fn report_explained(task: &Task, report: &Report) -> Option<Explanation>
 }
 
 // What it is about that the line of a report could not be made or written: where the order was done, its output failed.
-fn lost_explained(report: &Report) -> Fault
+fn lost_explained(report: &Report) -> ExplainedFault
     ensures { result ≡ lost_explained report.now }
 {
     if report.status() == DONE {
-        Fault::NoOutput
+        ExplainedFault::NoOutput
     } else {
-        Fault::Memory
+        ExplainedFault::Memory
     }
 }
 

@@ -43,8 +43,7 @@ pub fn is_printed_alike()
     ensures shown { (text : List ℕ) → shown_printed (Ok text) ≡ report_print text report.Shown }
     ensures refused { (refusal : Refusal) →
         shown_printed (Err refusal) ≡ report_print [] (report.Answered (outcome.Refused refusal)) }
-{
-}
+{}
 
 /// Has the desk that holds the file do what the words order, and prints what it answered: the status, or none where
 /// there is no such desk, or it gave no answer. Then the order was done once, or not at all, and is given again.

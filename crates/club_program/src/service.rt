@@ -5,7 +5,7 @@ ghost use Rattle.std.specs.Prelude.{◌≤◌};
 use crate::course::{Course, course_of, lasts};
 use crate::orders::done;
 use crate::printing::{print_report, print_without_room};
-use club_files::{give_up, stretch};
+use club_files::{give_up, serve_files};
 use club_orders::{DONE, Report};
 use club_words::{Order, Service, Task};
 use http_desk::ClubFault;
@@ -41,7 +41,7 @@ fn ask_or_open(rt: &HostRuntime, file: &str, callers: &mut Callers<'_>) -> Optio
 fn serve_stretch(rt: &HostRuntime, file: &str, callers: &mut Callers<'_>) -> Course {
     let _leave = ask_or_open(rt, file, callers);
     callers.begin();
-    course_of(give_up(stretch(rt, file, Wary, callers)))
+    course_of(give_up(serve_files(rt, file, Wary, callers)))
 }
 
 // Tells those who are to be served now, and where the fault lasts those who come for a while, why there is no club.

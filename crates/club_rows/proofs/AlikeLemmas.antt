@@ -23,7 +23,7 @@ use Rattle.club_rows.specs.Tables.{game_row, move_rows, entry_row, entry_rows, w
 use Rattle.club_rows.specs.Tables.{side_number, end_name_text}
 use Rattle.club_rows.proofs.NextLemmas.{six-parts}
 use Rattle.club_rows.proofs.SameLemmas.{seventeen-parts, same-int, same-bytes, same-texts, option_map-itself}
-use Rattle.club_rows.proofs.ToldLemmas.{same-pos}
+use Rattle.club_rows.proofs.HeaderLemmas.{same-pos}
 use Rattle.club_rows.proofs.WholeLemmas.{rows-alike}
 
 pub heads-alike : {A : Type 0} (x y : A) (xs ys : List A) → x ∷ xs ≡ y ∷ ys → x ≡ y

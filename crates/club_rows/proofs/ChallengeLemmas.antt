@@ -11,8 +11,8 @@ use Rattle.club_rules.specs.declared.names.GameKind.{GameKind}
 use Rattle.club_rules.specs.declared.names.GameKind.TheVariants.{Draughts, Shogi}
 use Rattle.club_core.specs.ClubRules.{ClubRules}
 use Rattle.club_core.specs.declared.challenges.Challenge.{Challenge}
-use Rattle.club_core.specs.declared.challenges.Standing.{Standing}
-use Rattle.club_core.specs.declared.challenges.Standing.TheVariants.{Open, Withdrawn, Refused, Accepted}
+use Rattle.club_core.specs.declared.challenges.ChallengeState.{ChallengeState}
+use Rattle.club_core.specs.declared.challenges.ChallengeState.TheVariants.{Open, Withdrawn, Refused, Accepted}
 use Rattle.club_core.specs.Challenges.{goes_by, is_under, challenge_under, put_challenge}
 use Rattle.club_core.specs.LegalState.{AreApart}
 use Rattle.club_core.specs.Seats.{Pairing}
@@ -45,7 +45,7 @@ firsts-alike false true is = cc
 ids-alike : (a b : ℕ) → or_null number (Some a) ≡ or_null number (Some b) → a ≡ b
 ids-alike a b is = numbers-alike a b is
 
-standings-alike : (s t : Standing) → standing_number s ≡ standing_number t
+standings-alike : (s t : ChallengeState) → standing_number s ≡ standing_number t
     → or_null number (game_started s) ≡ or_null number (game_started t) → s ≡ t
 standings-alike Open Open is game = refl
 standings-alike Open Withdrawn is game = cc

@@ -11,13 +11,13 @@ pub mod SameLemmas
 pub mod ScoreAfter
 pub mod ScoreLemmas
 pub mod ScoreRows
-pub mod ShownLemmas
+pub mod LegalRowsLemmas
 pub mod SumLemmas
 pub mod PlainTexts
 pub mod DraughtsTexts
 pub mod ShogiTexts
 pub mod TextLemmas
-pub mod ToldLemmas
+pub mod HeaderLemmas
 pub mod WholeLemmas
 pub mod TallyLemmas
 pub mod GatheredLemmas

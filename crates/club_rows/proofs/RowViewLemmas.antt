@@ -36,21 +36,21 @@ use Rattle.store_tables.specs.declared.rows.GameRecord.{GameRecord}
 use Rattle.store_tables.specs.declared.rows.MoveRow.{MoveRow}
 use Rattle.club_rows.specs.Tables.{move_rows, side_number}
 use Rattle.club_rows.specs.RowView.{HasCounts, AreCounts, HasLastStood, IsPlayed, row_at}
-use Rattle.club_rows.specs.Shown.{IsRecordOf}
-use Rattle.club_rows.specs.Told.{HasNumbers}
-use Rattle.club_rows.specs.declared.row_view.Counts.{Counts}
+use Rattle.club_rows.specs.LegalRows.{IsRecordOf}
+use Rattle.club_rows.specs.GameHeader.{HasNumbers}
+use Rattle.club_rows.specs.declared.row_view.GameProgress.{GameProgress}
 use Rattle.club_rows.specs.declared.tally.Stood.{Stood}
 use Rattle.club_rows.proofs.NextLemmas.{six-parts}
 use Rattle.club_rows.proofs.SameLemmas.{seventeen-parts, same-int, same-bytes}
 use Rattle.club_rows.proofs.TallyLemmas.{last-stood}
-use Rattle.club_rows.proofs.ToldLemmas.{IsToldBy, columns-told, told-outside, told-recorded, same-pos, is_some-none}
-use Rattle.club_rows.proofs.ToldLemmas.{spend-since}
+use Rattle.club_rows.proofs.HeaderLemmas.{IsToldBy, columns-told, told-outside, told-recorded, same-pos, is_some-none}
+use Rattle.club_rows.proofs.HeaderLemmas.{spend-since}
 use Rattle.club_rows.proofs.WholeLemmas.{rows-from, rows-count, entry-left, entry-more}
 
 -- ---- the counts of a row
 
 -- the numbers of a game that stand in its row
-abbrev pub counts_of : {P M E T : Type 0} → GameRules P M E T → Terms → Game M → Counts
+abbrev pub counts_of : {P M E T : Type 0} → GameRules P M E T → Terms → Game M → GameProgress
 counts_of rules terms game = record {
   since = (clocks_of game terms).since;
   plies = length game.entries;
@@ -113,7 +113,7 @@ module _ {P M E T : Type 0} (rules : GameRules P M E T) (terms : Terms) (id : �
       }
 
   -- what counts a row has is told by it
-  pub counts-same : (counts : Counts) → HasCounts stored counts → counts ≡ counts_of rules terms game
+  pub counts-same : (counts : GameProgress) → HasCounts stored counts → counts ≡ counts_of rules terms game
   counts-same counts has =
       let mine = counts-are in
       let a = same-pos _ _ (sym has.since ∙ mine.since) in
@@ -127,7 +127,7 @@ module _ {P M E T : Type 0} (rules : GameRules P M E T) (terms : Terms) (id : �
   -- ---- the end of the game
 
   module _ (tell : TracksTellEnds rules) (give : NumbersGiveTracks rules) (stood : Stood)
-      (stands : HasLastStood rules game stood) (counts : Counts) (has : HasCounts stored counts) (position : P)
+      (stands : HasLastStood rules game stood) (counts : GameProgress) (has : HasCounts stored counts) (position : P)
       (last : position ≡ last_position rules game) where
     pub ruled-is : rules.track_end (rules.track_of counts.track.0 counts.track.1) position counts.plies stood.times
         stood.first_ply ≡ rule_end rules game
@@ -191,7 +191,7 @@ module _ {P M E T : Type 0} (rules : GameRules P M E T) (terms : Terms) (id : �
         same-pos start game.start (sym has.start ∙ mine.start),
       )
 
-  pub clocks-are : (counts : Counts) → HasCounts stored counts
+  pub clocks-are : (counts : GameProgress) → HasCounts stored counts
       →
       ◌≡◌ {A = Clocks}
       (record { left_first = counts.left_first; left_second = counts.left_second; since = counts.since })
@@ -199,10 +199,11 @@ module _ {P M E T : Type 0} (rules : GameRules P M E T) (terms : Terms) (id : �
   clocks-are counts has = let same = counts-same counts has in
       λ i. record { left_first = (same i).left_first; left_second = (same i).left_second; since = (same i).since }
 
-  pub plies-are : (counts : Counts) → HasCounts stored counts → counts.plies ≡ length game.entries
+  pub plies-are : (counts : GameProgress) → HasCounts stored counts → counts.plies ≡ length game.entries
   plies-are counts has = ap (λ c. c.plies) (counts-same counts has)
 
-  pub numbers-are : (counts : Counts) → HasCounts stored counts → counts.track ≡ line_numbers rules (moves_of game)
+  pub numbers-are : (counts : GameProgress) → HasCounts stored counts
+      → counts.track ≡ line_numbers rules (moves_of game)
   numbers-are counts has = ap (λ c. c.track) (counts-same counts has)
 
 not-some : {A : Type 0} (o : Option A) → o ≡ None → IsSome o → ⊥

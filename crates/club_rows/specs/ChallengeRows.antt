@@ -4,19 +4,19 @@ use Rattle.std.specs.Option.{option_map}
 use Rattle.sqlite.specs.Order.{Row}
 use Rattle.sqlite_rules.specs.Lists.{Has}
 use Rattle.club_core.specs.declared.challenges.Challenge.{Challenge}
-use Rattle.club_core.specs.declared.challenges.Standing.{Standing}
+use Rattle.club_core.specs.declared.challenges.ChallengeState.{ChallengeState}
 use Rattle.store_tables.specs.Cells.{challenge_cells}
 use Rattle.store_tables.specs.Content.{same_key}
 use Rattle.store_tables.specs.declared.rows.ChallengeRow.{ChallengeRow}
 use Rattle.club_rows.specs.Tables.{number, standing_number, game_started}
 
 -- the columns of how a challenge stands have these values
-pub record StandsAs (state : ℤ) (game : Option ℤ) (standing : Standing) : Type 0 where
+pub record StandsAs (state : ℤ) (game : Option ℤ) (standing : ChallengeState) : Type 0 where
   pub state_is : state ≡ pos (standing_number standing)
   pub game_is : game ≡ option_map pos (game_started standing)
 
 -- a game that was started has an id of 32 bits
-abbrev pub HasShortGame : Standing → Type 0
+abbrev pub HasShortGame : ChallengeState → Type 0
 HasShortGame standing = IfSome (game_started standing) (λ id. id < 2 ^ 32)
 
 -- ids and numbers of 32 bits

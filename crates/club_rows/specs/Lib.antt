@@ -11,7 +11,7 @@ pub mod Replay
 pub mod Scores
 pub mod Seen
 pub mod RowView
-pub mod Shown
+pub mod LegalRows
 pub mod Tables
 pub mod Tally
-pub mod Told
+pub mod GameHeader

@@ -12,12 +12,12 @@ use Rattle.store_tables.specs.Cells.{move_cells}
 use Rattle.store_tables.specs.declared.rows.GameRecord.{GameRecord}
 use Rattle.club_rows.specs.Tables.{move_rows}
 use Rattle.club_rows.specs.Tally.{HasStood}
-use Rattle.club_rows.specs.declared.row_view.Counts.{Counts}
+use Rattle.club_rows.specs.declared.row_view.GameProgress.{GameProgress}
 use Rattle.club_rows.specs.declared.row_view.PlyRows.{PlyRows}
 use Rattle.club_rows.specs.declared.tally.Stood.{Stood}
 
 -- the row has these counts
-pub record HasCounts (stored : GameRecord) (counts : Counts) : Type 0 where
+pub record HasCounts (stored : GameRecord) (counts : GameProgress) : Type 0 where
   pub since : stored.since ≡ pos counts.since
   pub plies : stored.plies ≡ pos counts.plies
   pub left_first : stored.left1 ≡ pos counts.left_first
@@ -26,7 +26,7 @@ pub record HasCounts (stored : GameRecord) (counts : Counts) : Type 0 where
   pub track_second : stored.track_b ≡ pos counts.track.1
 
 -- counts that the row of a game may have
-pub record AreCounts (counts : Counts) : Type 0 where
+pub record AreCounts (counts : GameProgress) : Type 0 where
   pub since : counts.since ≤ last_moment
   pub plies : counts.plies ≤ most_plies
   pub left_first : counts.left_first < 2 ^ 63

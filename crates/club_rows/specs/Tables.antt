@@ -15,8 +15,8 @@ use Rattle.club_requests.specs.OutsideEnd.{outside_text}
 use Rattle.club_core.specs.ClubRules.{ClubRules}
 use Rattle.club_rules.specs.EndName.{end_text}
 use Rattle.club_core.specs.declared.challenges.Challenge.{Challenge}
-use Rattle.club_core.specs.declared.challenges.Standing.{Standing}
-use Rattle.club_core.specs.declared.challenges.Standing.TheVariants.{Open, Withdrawn, Refused, Accepted}
+use Rattle.club_core.specs.declared.challenges.ChallengeState.{ChallengeState}
+use Rattle.club_core.specs.declared.challenges.ChallengeState.TheVariants.{Open, Withdrawn, Refused, Accepted}
 use Rattle.club_core.specs.declared.rows.GameEnd.{GameEnd}
 use Rattle.club_core.specs.declared.rows.GameEnd.TheVariants.{Rule, Outside}
 use Rattle.club_core.specs.Members.{Member}
@@ -40,7 +40,7 @@ kind_number Draughts = 0
 kind_number Shogi = 1
 
 -- how a challenge stands
-abbrev pub standing_number : Standing → ℕ
+abbrev pub standing_number : ChallengeState → ℕ
 standing_number Open = 0
 standing_number Withdrawn = 1
 standing_number Refused = 2
@@ -132,7 +132,7 @@ abbrev pub meta_row : ℕ → ℕ → Row
 meta_row schema last = number 1 ∷ number schema ∷ number last ∷ []
 
 -- the game that a challenge has started, if it was accepted
-abbrev pub game_started : Standing → Option ℕ
+abbrev pub game_started : ChallengeState → Option ℕ
 game_started Open = None
 game_started Withdrawn = None
 game_started Refused = None

@@ -3,33 +3,33 @@
 ghost use Rattle.std.specs.Prelude.{◌≡◌, ◌≢◌, Bool, pos, None, Some, IfSome, Option};
 ghost use Rattle.std.specs.Option.{option_map};
 ghost use Rattle.club_core.specs.declared.challenges.Challenge as core;
-ghost use Rattle.club_core.specs.declared.challenges.Standing as stands;
+ghost use Rattle.club_core.specs.declared.challenges.ChallengeState as stands;
 ghost use Rattle.store_tables.specs.Cells.{challenge_cells};
 ghost use Rattle.club_rows.specs.ChallengeRows.{HasShortGame, HasShortNumbers, StandsAs};
 ghost use Rattle.club_rows.specs.Tables.{challenge_row, first_number, game_started, standing_number};
 
 use crate::numbers::id;
-use club_core::{Challenge, Standing};
+use club_core::{Challenge, ChallengeState};
 use store_tables::ChallengeRow;
 
 // The number of how a challenge stands.
-fn standing_number(standing: Standing) -> i64
+fn standing_number(standing: ChallengeState) -> i64
     ensures { result ≡ pos (standing_number standing) }
 {
     match standing {
-        Standing::Open => 0,
-        Standing::Withdrawn => 1,
-        Standing::Refused => 2,
-        Standing::Accepted { game: _ } => 3,
+        ChallengeState::Open => 0,
+        ChallengeState::Withdrawn => 1,
+        ChallengeState::Refused => 2,
+        ChallengeState::Accepted { game: _ } => 3,
     }
 }
 
 // The id of the game that a challenge has started.
-fn game_started(standing: Standing) -> Option<i64>
+fn game_started(standing: ChallengeState) -> Option<i64>
     ensures { result ≡ option_map pos (game_started standing) }
 {
     match standing {
-        Standing::Accepted { game } => Some(i64::from(game)),
+        ChallengeState::Accepted { game } => Some(i64::from(game)),
         _ => None,
     }
 }
@@ -62,24 +62,25 @@ fn first_of(number: i64) -> Option<bool>
 }
 
 // How a challenge that has started no game stands, by the number of its row.
-fn standing_alone(state: i64) -> Option<Standing>
+fn standing_alone(state: i64) -> Option<ChallengeState>
     ensures some { IfSome result (λ s. state ≡ pos (standing_number s)) }
     ensures alone { IfSome result (λ s. game_started s ≡ None) }
-    ensures none { result ≡ None → (s : stands.Standing) → game_started s ≡ None → state ≢ pos (standing_number s) }
+    ensures none { result ≡ None → (s : stands.ChallengeState) → game_started s ≡ None →
+        state ≢ pos (standing_number s) }
 {
     match state {
-        0 => Some(Standing::Open),
-        1 => Some(Standing::Withdrawn),
-        2 => Some(Standing::Refused),
+        0 => Some(ChallengeState::Open),
+        1 => Some(ChallengeState::Withdrawn),
+        2 => Some(ChallengeState::Refused),
         _ => None,
     }
 }
 
 // How a challenge stands, by the number and the game of its row.
-fn standing_of(state: i64, game: Option<i64>) -> Option<Standing>
+fn standing_of(state: i64, game: Option<i64>) -> Option<ChallengeState>
     ensures some { IfSome result (λ s. StandsAs state game s) }
     ensures range { IfSome result (λ s. HasShortGame s) }
-    ensures none { result ≡ None → (s : stands.Standing) → HasShortGame s → ¬ StandsAs state game s }
+    ensures none { result ≡ None → (s : stands.ChallengeState) → HasShortGame s → ¬ StandsAs state game s }
 {
     let game = match game {
         Some(game) => game,
@@ -88,7 +89,7 @@ fn standing_of(state: i64, game: Option<i64>) -> Option<Standing>
     match id(game) {
         Some(game) => {
             if state == 3 {
-                Some(Standing::Accepted { game })
+                Some(ChallengeState::Accepted { game })
             } else {
                 None
             }

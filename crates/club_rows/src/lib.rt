@@ -25,4 +25,4 @@ pub use row_view::{PlyRows, ask_rows, view_of_row};
 pub use scores::{ScorePair, score_after};
 pub use seen::{first_seen, seen_after, stood_in};
 pub use tally::{Stood, Tally};
-pub use view::{Played, Shown, view_of};
+pub use view::{CheckedRows, Played, view_of};

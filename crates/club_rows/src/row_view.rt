@@ -9,8 +9,8 @@ ghost use Rattle.club_core.specs.Step.{move_at};
 ghost use Rattle.club_core.specs.View.{IsAsked, IsRowOf, IsSound, Shows, ShowsPly, terms_of};
 ghost use Rattle.club_rows.specs.Replay.{terms_given};
 ghost use Rattle.club_rows.specs.RowView.{HasCounts, AreCounts, HasLastStood, AreRowsAt, IsPlayed};
-ghost use Rattle.club_rows.specs.Shown.{IsRecordOf};
-ghost use Rattle.club_rows.specs.Told.{HasNumbers};
+ghost use Rattle.club_rows.specs.LegalRows.{IsRecordOf};
+ghost use Rattle.club_rows.specs.GameHeader.{HasNumbers};
 
 use crate::numbers::{counted, id, moment};
 use crate::records::copied;
@@ -29,7 +29,7 @@ const MOST_TRACK: u32 = u32::MAX - 1;
 
 // The numbers of a row that a move changes.
 #[derive(Clone, Copy)]
-struct Counts {
+struct GameProgress {
     since: Moment,
     plies: u32,
     left_first: u64,
@@ -50,7 +50,7 @@ fn at_most(number: i64, most: u32) -> Option<u32>
 }
 
 // The counts of a row, if a game may have them.
-fn counts_in(row: &GameRecord) -> Option<Counts>
+fn counts_in(row: &GameRecord) -> Option<GameProgress>
     ensures some { IfSome result (HasCounts row.now) }
     ensures range { IfSome result AreCounts }
     ensures none { result ≡ None → (counts : _) → AreCounts counts → ¬ HasCounts row.now counts }
@@ -79,7 +79,7 @@ fn counts_in(row: &GameRecord) -> Option<Counts>
         Some(second) => second,
         None => return None,
     };
-    Some(Counts {
+    Some(GameProgress {
         since,
         plies,
         left_first,
@@ -92,7 +92,7 @@ fn counts_in(row: &GameRecord) -> Option<Counts>
 fn row_in<R: Rules>(
     row: &GameRecord,
     numbers: &Numbers,
-    counts: &Counts,
+    counts: &GameProgress,
     position: &R::Position,
     stood: Stood,
 ) -> Result<GameRow<R::End>, Memory>

@@ -15,10 +15,11 @@ ghost use Rattle.club_requests.specs.OutsideEnd.{outside_text};
 ghost use Rattle.club_rows.specs.Tables.{side_number};
 ghost use Rattle.club_rows.specs.Replay.{IsCounted, IsReplayed, Replays, WasReplayed, game_from, terms_given};
 ghost use Rattle.club_requests.specs.Limits.{is_budget, is_increment};
-ghost use Rattle.club_rows.specs.Shown.{AreRowsOf, IsUnstarted, IsWrongAsTold, ShowsGame, IsSoundIfShown, StandsAs};
-ghost use Rattle.club_rows.specs.declared.view.Told.{Told};
-ghost use Rattle.club_rows.specs.Told.{HasNumbers, IsTold, AreIds, game_told, may_have_key, may_have_offer};
-ghost use Rattle.club_rows.specs.Told.{may_have_end, may_declare, may_stand};
+ghost use Rattle.club_rows.specs.LegalRows.{AreRowsOf, IsUnstarted, IsWrongAsTold, ShowsGame, IsSoundIfShown, StandsAs};
+ghost use Rattle.club_rows.specs.declared.view.GameHeader.{GameHeader};
+ghost use Rattle.club_rows.specs.GameHeader.{HasNumbers, IsHeaderOf, AreIds, game_of_header, may_have_key};
+ghost use Rattle.club_rows.specs.GameHeader.{may_have_offer};
+ghost use Rattle.club_rows.specs.GameHeader.{may_have_end, may_declare, may_stand};
 
 use crate::ends::{outside_of, score_of, side_of};
 use crate::numbers::{id, moment};
@@ -121,7 +122,7 @@ pub struct Played<R: Rules> {
 
 /// What the rows of a game show.
 #[derive(Drop)]
-pub enum Shown<R: Rules> {
+pub enum CheckedRows<R: Rules> {
     /// A legal game.
     Game(Played<R>),
     /// Moves that no legal game has.
@@ -193,7 +194,7 @@ pub(crate) fn end_with<E: Copy + Drop>(
 
 // What a row tells of a game beside its moves.
 #[derive(Drop)]
-struct Told<E: Copy + Drop> {
+struct GameHeader<E: Copy + Drop> {
     key: Option<String>,
     numbers: Numbers,
     offer: Option<Offer>,
@@ -202,11 +203,11 @@ struct Told<E: Copy + Drop> {
 }
 
 // What a row tells of a game whose moves were replayed.
-fn told_in<R: Rules>(
+fn header_in<R: Rules>(
     row: &GameRecord,
     numbers: Numbers,
     game: &Replayed<R>,
-) -> Result<Told<R::End>, Memory>
+) -> Result<GameHeader<R::End>, Memory>
     requires line { IsPlayedLine R.rules R.rules.start game.now.line.items }
     requires position { game.now.position ≡ position_after R.rules R.rules.start game.now.line.items }
     requires counted { IsCounted R.rules game.now }
@@ -228,7 +229,7 @@ fn told_in<R: Rules>(
     let outside = outside_left(row, ruled.is_some());
     let offer = offer_in(row);
     let key = copied(&row.key)?;
-    Ok(Told {
+    Ok(GameHeader {
         key,
         numbers,
         offer,
@@ -238,9 +239,9 @@ fn told_in<R: Rules>(
 }
 
 // The view of a game that was replayed, with what its row tells.
-fn with_told<R: Rules>(
+fn with_header<R: Rules>(
     alloc: Global,
-    told: Told<R::End>,
+    told: GameHeader<R::End>,
     terms: Terms,
     game: Replayed<R>,
 ) -> Result<Played<R>, Memory>
@@ -257,7 +258,7 @@ fn with_told<R: Rules>(
     ensures shows { IfOk result (λ played. (entries : List (Entry R.Move)) →
         told.ruled ≡ R.rules.judge R.rules.start game.line.items →
         Replays R.rules (terms_given terms) (game_from told.numbers.start entries) game →
-        Shows R.rules (game_told told entries) played.view) }
+        Shows R.rules (game_of_header told entries) played.view) }
 {
     let position = R::write_position(alloc, &game.position)?;
     let end = end_with(told.ruled, told.outside);
@@ -311,13 +312,13 @@ fn viewed<R: Rules>(
     ensures terms { IfOk result (λ played. terms_of played.view ≡ terms_given terms) }
     ensures line { IfOk result (λ played. played.line.items ≡ game.line.items) }
     ensures tally { IfOk result (λ played. played.tally ≡ game.tally) }
-    ensures shows { IfOk result (λ played. (told : Told R.End)
-        × IsTold R.rules row.now numbers.now game.line.items told × ((entries : List (Entry R.Move)) →
+    ensures shows { IfOk result (λ played. (told : GameHeader R.End)
+        × IsHeaderOf R.rules row.now numbers.now game.line.items told × ((entries : List (Entry R.Move)) →
         Replays R.rules (terms_given terms) (game_from numbers.now.start entries) game →
-        Shows R.rules (game_told told entries) played.view)) }
+        Shows R.rules (game_of_header told entries) played.view)) }
 {
-    let told = told_in(row, *numbers, &game)?;
-    let played = with_told(alloc, told, terms, game)?;
+    let told = header_in(row, *numbers, &game)?;
+    let played = with_header(alloc, told, terms, game)?;
     Ok(played)
 }
 
@@ -396,7 +397,7 @@ fn stands<R: Rules>(
     row: &GameRecord,
     game: u32,
     played: Played<R>,
-) -> Result<Shown<R>, Memory>
+) -> Result<CheckedRows<R>, Memory>
     requires plies { played.view.row.plies ≤ 600 }
     requires first { played.view.row.left_first < 2 ^ 63 }
     requires second { played.view.row.left_second < 2 ^ 63 }
@@ -404,23 +405,23 @@ fn stands<R: Rules>(
 {
     let declares = may_declare(&played.view);
     if !may_stand::<R>(&played.view.row, declares) {
-        return Ok(Shown::WrongGame);
+        return Ok(CheckedRows::WrongGame);
     }
     let made = record_of::<R>(alloc, game, &played.view.row)?;
     if !is_same(&made, row) {
-        return Ok(Shown::WrongGame);
+        return Ok(CheckedRows::WrongGame);
     }
-    Ok(Shown::Game(played))
+    Ok(CheckedRows::Game(played))
 }
 
 // What is shown where the id or the start of a row is none: with these moves, no game.
-fn shown_without_start<R: Rules>(moves: &[MoveRow]) -> Shown<R>
+fn shown_without_start<R: Rules>(moves: &[MoveRow]) -> CheckedRows<R>
     ensures { IsUnstarted moves.now result }
 {
     if moves.is_empty() {
-        Shown::WrongGame
+        CheckedRows::WrongGame
     } else {
-        Shown::WrongMoves
+        CheckedRows::WrongMoves
     }
 }
 
@@ -432,7 +433,7 @@ pub fn view_of<R: Rules>(
     row: &GameRecord,
     terms: Terms,
     moves: &[MoveRow],
-) -> Result<Shown<R>, Memory>
+) -> Result<CheckedRows<R>, Memory>
     ensures sound { IfOk result (IsSoundIfShown R.rules (terms_given terms) row.now moves.now) }
     ensures complete { IfOk result (λ shown. (id : ℕ) (game : Game R.Move) →
         AreRowsOf R.rules (terms_given terms) id row.now moves.now game →
@@ -450,11 +451,11 @@ pub fn view_of<R: Rules>(
     };
     let game = match replay::<R>(alloc, terms, number, start, moves)? {
         Some(game) => game,
-        None => return Ok(Shown::WrongMoves),
+        None => return Ok(CheckedRows::WrongMoves),
     };
     let numbers = match numbers_in(row) {
         Some(numbers) => numbers,
-        None => return Ok(Shown::WrongGame),
+        None => return Ok(CheckedRows::WrongGame),
     };
     let played = viewed(alloc, row, &numbers, terms, game)?;
     let shown = stands(alloc, row, numbers.game, played)?;

@@ -14,8 +14,9 @@ use Rattle.shogi_moves.specs.declared.checking.Illegal.{Illegal}
 use Rattle.shogi_moves.specs.Rules.{Legal, FirstBroken, play}
 use Rattle.shogi_moves.specs.Computed.{check_of}
 use Rattle.shogi_moves.specs.Laws.{CheckIs}
-use Rattle.shogi_repetition.specs.declared.faults.Fault.{Fault}
-use Rattle.shogi_repetition.specs.declared.faults.Fault.TheVariants.{Memory as memory, AfterEnd, Illegal as illegal}
+use Rattle.shogi_repetition.specs.declared.faults.SLineFault.{SLineFault}
+use Rattle.shogi_repetition.specs.declared.faults.SLineFault.TheVariants.{Memory as memory, AfterEnd}
+use Rattle.shogi_repetition.specs.declared.faults.SLineFault.TheVariants.{Illegal as illegal}
 use Rattle.shogi_repetition.specs.Line.{last_position}
 use Rattle.shogi_repetition.specs.Ends.{EndsSo}
 use Rattle.shogi_repetition.specs.Faults.{GoesOn, IsPlayed, HasFault}
@@ -47,7 +48,7 @@ legal-unbroken laws p m rule legal broken =
     cc
 
 -- A line that was played up to its last move has its fault at that move.
-pub made-fault : CheckIs → NoLineHasTwoEnds → (ms : List SMove) (m : SMove) (f : Fault)
+pub made-fault : CheckIs → NoLineHasTwoEnds → (ms : List SMove) (m : SMove) (f : SLineFault)
     → IsPlayed opening ms (length ms) → HasFault opening (ms ++ m ∷ []) f → RefusesMade ms m (fault_of f)
 made-fault laws one ms m memory played h = tt
 made-fault laws one ms m (AfterEnd ply) played (k, end, ply_is, within, before, ended) =

@@ -6,8 +6,8 @@ use Rattle.shogi_repetition.specs.Line.{last_position}
 use Rattle.shogi_repetition.specs.Counting.{Follows}
 use Rattle.shogi_repetition.specs.Ends.{EndsSo}
 use Rattle.shogi_repetition.specs.declared.ends.SEnd.{SEnd}
-use Rattle.shogi_repetition.specs.declared.faults.Fault.{Fault}
-use Rattle.shogi_repetition.specs.declared.faults.Fault.TheVariants as line_fault
+use Rattle.shogi_repetition.specs.declared.faults.SLineFault.{SLineFault}
+use Rattle.shogi_repetition.specs.declared.faults.SLineFault.TheVariants as line_fault
 use Rattle.shogi_moves.specs.Rules.{FirstBroken}
 use Rattle.csa.specs.declared.faults.CsaFault.{CsaFault}
 use Rattle.csa.specs.declared.faults.CsaFault.TheVariants as fault
@@ -18,7 +18,7 @@ use Rattle.csa.specs.Moves.{Means, MeanAll}
 use Rattle.csa.specs.Replays.{written_in, RefusesNext}
 
 -- The position and the marks of a replay are those of its moves.
-pub record Stands (replay : Replay) : Type 0 where
+pub record IsConsistent (replay : Replay) : Type 0 where
   pub follows : Follows opening replay.moves.items replay.marks
   pub position : replay.position ≡ last_position opening replay.moves.items
 
@@ -48,7 +48,7 @@ RefusesMade ms m (fault.Illegal ply cause) = (ply ≡ length ms + 1) × EndsSo o
     × FirstBroken (last_position opening ms) m cause
 RefusesMade ms m _ = ⊥
 
-abbrev pub fault_of : Fault → CsaFault
+abbrev pub fault_of : SLineFault → CsaFault
 fault_of line_fault.Memory = fault.Memory
 fault_of (line_fault.Illegal ply cause) = fault.Illegal ply cause
 fault_of (line_fault.AfterEnd ply) = fault.AfterEnd ply

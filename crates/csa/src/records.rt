@@ -3,7 +3,7 @@ ghost use Rattle.std.specs.Prelude.{◌≡◌, true, IfOk, IfErr};
 ghost use Rattle.squares.specs.ShogiOpening.{opening};
 ghost use Rattle.csa.specs.Moves.{MeanAll};
 ghost use Rattle.csa.specs.Replays.{written_moves};
-ghost use Rattle.csa.specs.Replaying.{Stands};
+ghost use Rattle.csa.specs.Replaying.{IsConsistent};
 ghost use Rattle.csa.specs.Records.{is_even, begins_even, end_in, IsRecordOf, RecordFails};
 
 use crate::end_words::EndWord;
@@ -54,7 +54,7 @@ fn end_in(placed: &[Placed]) -> Option<EndWord>
 
 // The game of a record whose moves are played by the rules.
 fn game_of(placed: &[Placed], replay: Replay) -> Result<CsaGame, CsaFault>
-    requires stands { Stands replay }
+    requires stands { IsConsistent replay }
     requires even { begins_even placed.now ≡ true }
     requires mean { MeanAll opening (written_moves placed.now) replay.moves.items }
     ensures game { IfOk result (IsRecordOf placed.now) }

@@ -3,7 +3,8 @@ ghost use Rattle.std.specs.Prelude.{[], ◌∷◌, ◌++◌, ◌≡◌, IfOk, If
 ghost use Rattle.squares.specs.ShogiOpening.{opening};
 ghost use Rattle.csa.specs.Moves.{Means, MeanAll};
 ghost use Rattle.csa.specs.Replays.{written_moves, RefusesNext, RefusesMoves};
-ghost use Rattle.csa.specs.Replaying.{Stands, GrowsBy, GrowsWith, RefusesMade, RefusesWritten, RefusesIn, fault_of};
+ghost use Rattle.csa.specs.Replaying.{IsConsistent, GrowsBy, GrowsWith, RefusesMade, RefusesWritten, RefusesIn};
+ghost use Rattle.csa.specs.Replaying.{fault_of};
 ghost use Rattle.squares.specs.declared.shogi.moves.SMove.{SMove};
 
 use crate::faults::CsaFault;
@@ -13,7 +14,7 @@ use crate::statements::{Statement, WrittenMove};
 use shogi_moves::laws::check_is;
 use shogi_moves::{Illegal, play};
 use shogi_repetition::laws::each_line_has_one_end;
-use shogi_repetition::{Fault, Marks};
+use shogi_repetition::{Marks, SLineFault};
 use squares::{SMove, SPos};
 use std::alloc::Global;
 
@@ -27,7 +28,7 @@ pub struct Replay {
 
 // The replay of no move.
 fn beginning(alloc: Global) -> Result<Replay, CsaFault>
-    ensures stands { IfOk result Stands }
+    ensures stands { IfOk result IsConsistent }
     ensures bare { IfOk result (λ replay. replay.moves.items ≡ []) }
     ensures fault { IfErr result (λ fault. fault ≡ CsaFault.Memory) }
 {
@@ -44,7 +45,7 @@ fn beginning(alloc: Global) -> Result<Replay, CsaFault>
 
 // The fault of a written move that means no move of the position.
 fn no_move(replay: &Replay, written: &WrittenMove) -> CsaFault
-    requires stands { Stands replay.now }
+    requires stands { IsConsistent replay.now }
     requires none { (m : SMove) → Means replay.now.position written.now m → ⊥ }
     ensures { RefusesNext replay.now.moves.items written.now result }
 {
@@ -59,20 +60,20 @@ fn no_move(replay: &Replay, written: &WrittenMove) -> CsaFault
 }
 
 // The fault of a record, where the marks refuse its next move.
-fn fault_of(fault: Fault) -> CsaFault
+fn fault_of(fault: SLineFault) -> CsaFault
     ensures { result ≡ fault_of fault }
 {
     match fault {
-        Fault::Memory => CsaFault::Memory,
-        Fault::Illegal { ply, cause } => CsaFault::Illegal { ply, cause },
-        Fault::AfterEnd { ply } => CsaFault::AfterEnd { ply },
+        SLineFault::Memory => CsaFault::Memory,
+        SLineFault::Illegal { ply, cause } => CsaFault::Illegal { ply, cause },
+        SLineFault::AfterEnd { ply } => CsaFault::AfterEnd { ply },
     }
 }
 
 // One move more, which a written move means.
 fn push_move(replay: &mut Replay, played: SMove) -> Result<(), CsaFault>
-    requires { Stands replay.old }
-    ensures stands { OnOk result (Stands replay.new) }
+    requires { IsConsistent replay.old }
+    ensures stands { OnOk result (IsConsistent replay.new) }
     ensures grown { OnOk result (replay.new.moves.items ≡ replay.old.moves.items ++ played ∷ []) }
     ensures fault { IfErr result (RefusesMade replay.old.moves.items played) }
 {
@@ -90,8 +91,8 @@ fn push_move(replay: &mut Replay, played: SMove) -> Result<(), CsaFault>
 
 // One written move more. It is refused where the game has ended, or where it means no legal move.
 fn push(replay: &mut Replay, written: &WrittenMove) -> Result<(), CsaFault>
-    requires { Stands replay.old }
-    ensures stands { OnOk result (Stands replay.new) }
+    requires { IsConsistent replay.old }
+    ensures stands { OnOk result (IsConsistent replay.new) }
     ensures grown { OnOk result (GrowsBy written.now replay.old.moves.items replay.new.moves.items) }
     ensures fault { IfErr result (RefusesWritten replay.old.moves.items written.now) }
 {
@@ -103,8 +104,8 @@ fn push(replay: &mut Replay, written: &WrittenMove) -> Result<(), CsaFault>
 
 // One statement more, which may be a move.
 fn push_statement(replay: &mut Replay, statement: Statement) -> Result<(), CsaFault>
-    requires { Stands replay.old }
-    ensures stands { OnOk result (Stands replay.new) }
+    requires { IsConsistent replay.old }
+    ensures stands { OnOk result (IsConsistent replay.new) }
     ensures grown { OnOk result (GrowsWith statement replay.old.moves.items replay.new.moves.items) }
     ensures fault { IfErr result (RefusesIn replay.old.moves.items statement) }
 {
@@ -116,7 +117,7 @@ fn push_statement(replay: &mut Replay, statement: Statement) -> Result<(), CsaFa
 
 /// The moves of a record. It fails at the first written move that means no move that the rules allow.
 pub fn replay_of(alloc: Global, placed: &[Placed]) -> Result<Replay, CsaFault>
-    ensures stands { IfOk result Stands }
+    ensures stands { IfOk result IsConsistent }
     ensures mean { IfOk result (λ replay. MeanAll opening (written_moves placed.now) replay.moves.items) }
     ensures fault { IfErr result (RefusesMoves (written_moves placed.now)) }
 {

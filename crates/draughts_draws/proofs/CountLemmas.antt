@@ -17,12 +17,12 @@ use Rattle.draughts_moves.specs.declared.checking.Illegal.{Illegal}
 use Rattle.draughts_moves.specs.Legal.{Legal, play}
 use Rattle.draughts_moves.specs.Check.{check_of}
 use Rattle.draughts_moves.specs.Search.{has_move}
-use Rattle.draughts_draws.specs.declared.counts.Counts.{Counts}
+use Rattle.draughts_draws.specs.declared.counts.DrawCounts.{DrawCounts}
 use Rattle.draughts_draws.specs.declared.ends.DEnd.{DEnd}
 use Rattle.draughts_draws.specs.declared.ends.DEnd.TheVariants.{NoMove, Repetition, KingMoves}
 use Rattle.draughts_draws.specs.declared.ends.DEnd.TheVariants.{PlyLimit}
-use Rattle.draughts_draws.specs.declared.faults.Fault.{Fault}
-use Rattle.draughts_draws.specs.declared.faults.Fault.TheVariants.{Memory as memory, AfterEnd, Illegal as illegal}
+use Rattle.draughts_draws.specs.declared.faults.DLineFault.{DLineFault}
+use Rattle.draughts_draws.specs.declared.faults.DLineFault.TheVariants.{Memory as memory, AfterEnd, Illegal as illegal}
 use Rattle.draughts_draws.specs.declared.tails.Class.{Class}
 use Rattle.draughts_draws.specs.declared.tails.Tail.{Tail}
 use Rattle.draughts_draws.specs.Line.{last_position, positions}
@@ -91,7 +91,7 @@ found : (b : Bool) (n : ℕ) (o : Option ℕ) → unwrap_or (cond b (Some n) o) 
 found true n o = refl
 found false n o = refl
 
-pub start-follows : (p : Position) (counts : Counts) → counts.last ≡ p → counts.plies ≡ 0 → counts.times ≡ 1
+pub start-follows : (p : Position) (counts : DrawCounts) → counts.last ≡ p → counts.plies ≡ 0 → counts.times ≡ 1
     → counts.tail ≡ first_tail p
     → ((q : Position) → get same_position counts.seen q ≡ cond (same_position p q) (Some 1) None) → Follows p [] counts
 start-follows p counts last plies times tail seen =
@@ -132,7 +132,7 @@ module _ (start : Position) (xs ys : List DMove) where
   pub played-longer : (n : ℕ) → n ≤ length xs → IsPlayed start xs n → IsPlayed start (xs ++ ys) n
   played-longer n h played k below = goes-longer k (omega (arith, h, below)) (played k below)
 
-  fault-longer : (fault : Fault) → HasFault start xs fault → HasFault start (xs ++ ys) fault
+  fault-longer : (fault : DLineFault) → HasFault start xs fault → HasFault start (xs ++ ys) fault
   fault-longer memory h = tt
   fault-longer (AfterEnd ply) (k, ply_is, within, played, ended) =
       let long = length-append xs ys in (
@@ -155,12 +155,12 @@ module _ (start : Position) (xs ys : List DMove) where
       )
 
 -- a fault of a beginning is the line's
-pub fault-of-beginning : (start : Position) (ms : List DMove) (n : ℕ) (fault : Fault) → HasFault start (take n ms) fault
-    → HasFault start ms fault
+pub fault-of-beginning : (start : Position) (ms : List DMove) (n : ℕ) (fault : DLineFault)
+    → HasFault start (take n ms) fault → HasFault start ms fault
 fault-of-beginning start ms n fault h = subst (λ l. HasFault start l fault) (take-append-drop n ms)
     (fault-longer start (take n ms) (drop n ms) fault h)
 
-pub end-is : (start : Position) (ms : List DMove) (counts : Counts) → Follows start ms counts
+pub end-is : (start : Position) (ms : List DMove) (counts : DrawCounts) → Follows start ms counts
     → end_by counts.tail counts.last counts.plies counts.times ≡ end_of start ms
 end-is start ms counts follows = (λ i. end_by (follows.tail i) (follows.last i) (follows.plies i) (follows.times i))
     ∙ ends-by-tail start ms
@@ -212,7 +212,7 @@ module _ (start : Position) (ms : List DMove) (m : DMove) where
       one : (x y : DMove) → Some x ≡ Some y → x ≡ y
       one x y e = cc
 
-  module _ (counts : Counts) (follows : Follows start ms counts) where
+  module _ (counts : DrawCounts) (follows : Follows start ms counts) where
     ended : end_by counts.tail counts.last counts.plies counts.times ≡ end_of start ms
     ended = end-is start ms counts follows
 
@@ -271,7 +271,7 @@ module _ (start : Position) (ms : List DMove) (m : DMove) where
       stood-more q false times e is = let there = follows.stood q in omega (arith, there)
 
       -- the counts of the line with one move more
-      pub next-follows : (new : Counts) → end_by counts.tail counts.last counts.plies counts.times ≡ None
+      pub next-follows : (new : DrawCounts) → end_by counts.tail counts.last counts.plies counts.times ≡ None
           → Legal counts.last m
           → new.last ≡ next → new.plies ≡ counts.plies + 1 → new.tail ≡ next_tail counts.tail counts.last m next
           → new.times ≡ unwrap_or (get same_position counts.seen next) 0 + 1

@@ -4,17 +4,17 @@ use Rattle.std.specs.HashMap.{get}
 use Rattle.squares.specs.declared.draughts.moves.DMove.{DMove}
 use Rattle.squares.specs.DraughtsBoard.{Position}
 use Rattle.squares.specs.DraughtsSamePosition.{same_position}
-use Rattle.draughts_draws.specs.declared.counts.Counts.{Counts}
+use Rattle.draughts_draws.specs.declared.counts.DrawCounts.{DrawCounts}
 use Rattle.draughts_draws.specs.Line.{last_position, positions}
 use Rattle.draughts_draws.specs.Tails.{tail_of, times_stood}
 use Rattle.draughts_draws.specs.declared.ends.DEnd.{DEnd}
-use Rattle.draughts_draws.specs.declared.faults.Fault.{Fault}
+use Rattle.draughts_draws.specs.declared.faults.DLineFault.{DLineFault}
 use Rattle.draughts_draws.specs.Ends.{end_of}
 use Rattle.draughts_draws.specs.Faults.{IsPlayed, HasFault}
 
 -- The line is played by the rules, and the counts have its last position, its plies, its tail, and how often each
 -- position stood in it.
-pub record Follows (start : Position) (ms : List DMove) (counts : Counts) : Type 0 where
+pub record Follows (start : Position) (ms : List DMove) (counts : DrawCounts) : Type 0 where
   pub played : IsPlayed start ms (length ms)
   pub last : counts.last ≡ last_position start ms
   pub plies : counts.plies ≡ length ms
@@ -24,18 +24,18 @@ pub record Follows (start : Position) (ms : List DMove) (counts : Counts) : Type
       ≡ count_by (λ q. same_position q p) (positions start ms)
 
 -- Where the counts are those of a line, they are then those of the line with this move more.
-abbrev pub GrowsBy : DMove → Counts → Counts → Type 0
+abbrev pub GrowsBy : DMove → DrawCounts → DrawCounts → Type 0
 GrowsBy m old new = (start : Position) (ms : List DMove) → Follows start ms old → Follows start (ms ++ m ∷ []) new
 
 -- Where the counts are those of a line, the line with this move more has the fault.
-abbrev pub IsRefused : DMove → Counts → Fault → Type 0
+abbrev pub IsRefused : DMove → DrawCounts → DLineFault → Type 0
 IsRefused m old fault = (start : Position) (ms : List DMove) → Follows start ms old
     → HasFault start (ms ++ m ∷ []) fault
 
 -- The counts are still those of the same line.
-abbrev pub StaysSo : Counts → Counts → Type 0
+abbrev pub StaysSo : DrawCounts → DrawCounts → Type 0
 StaysSo old new = (start : Position) (ms : List DMove) → Follows start ms old → Follows start ms new
 
 -- Where the counts are those of a line, this is its end.
-abbrev pub TellsEnd : Counts → Option DEnd → Type 0
+abbrev pub TellsEnd : DrawCounts → Option DEnd → Type 0
 TellsEnd counts end = (start : Position) (ms : List DMove) → Follows start ms counts → end ≡ end_of start ms

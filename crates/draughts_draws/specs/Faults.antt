@@ -4,8 +4,8 @@ use Rattle.squares.specs.declared.draughts.moves.DMove.{DMove}
 use Rattle.squares.specs.DraughtsBoard.{Position}
 use Rattle.draughts_moves.specs.Check.{check_of}
 use Rattle.draughts_moves.specs.Legal.{Legal}
-use Rattle.draughts_draws.specs.declared.faults.Fault.{Fault}
-use Rattle.draughts_draws.specs.declared.faults.Fault.TheVariants.{Memory, Illegal, AfterEnd}
+use Rattle.draughts_draws.specs.declared.faults.DLineFault.{DLineFault}
+use Rattle.draughts_draws.specs.declared.faults.DLineFault.TheVariants.{Memory, Illegal, AfterEnd}
 use Rattle.draughts_draws.specs.Line.{last_position}
 use Rattle.draughts_draws.specs.Ends.{end_of}
 
@@ -21,7 +21,7 @@ IsPlayed start ms n = (k : ℕ) → k < n → GoesOn start ms k
 -- Plies count from 1. A line has a fault at the first ply that is not played by the rules. It is that of a move after
 -- the end, where the game ended before that ply, whatever the move is. Otherwise it is that of an illegal move, with
 -- its refusal.
-abbrev pub HasFault : Position → List DMove → Fault → Type 0
+abbrev pub HasFault : Position → List DMove → DLineFault → Type 0
 HasFault start ms Memory = Unit {0}
 HasFault start ms (AfterEnd ply) = (k : ℕ) × (ply ≡ k + 1) × (k < length ms) × IsPlayed start ms k
     × IsSome (end_of start (take k ms))

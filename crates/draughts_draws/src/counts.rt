@@ -4,7 +4,7 @@ ghost use Rattle.std.specs.HashMap.{get};
 ghost use Rattle.squares.specs.DraughtsSamePosition.{same_position};
 
 use crate::ends::DEnd;
-use crate::faults::Fault;
+use crate::faults::DLineFault;
 use crate::tails::Tail;
 use draughts_moves::{check, play};
 use squares::{DMove, DPos};
@@ -13,7 +13,7 @@ use std::collections::HashMap;
 
 /// What a line of moves comes to, ply by ply: each push costs as much however long the line is.
 #[derive(Drop)]
-pub struct Counts {
+pub struct DrawCounts {
     last: DPos,
     plies: usize,
     /// How often the last position stood.
@@ -26,18 +26,18 @@ pub struct Counts {
     ghost few_positions: { tail.class_positions ≤ plies + 1 },
 }
 
-impl Counts {
+impl DrawCounts {
     ghost use Rattle.draughts_draws.specs.Counting.{Follows, GrowsBy, IsRefused, StaysSo, TellsEnd};
     ghost use Rattle.draughts_draws.specs.Tails.{end_by};
 
     /// The line without a move from a position.
-    pub fn start(alloc: Global, position: &DPos) -> Result<Counts, Fault>
+    pub fn start(alloc: Global, position: &DPos) -> Result<DrawCounts, DLineFault>
         ensures follows { IfOk result (Follows position.now []) }
-        ensures fault { IfErr result (λ fault. fault ≡ Fault.Memory) }
+        ensures fault { IfErr result (λ fault. fault ≡ DLineFault.Memory) }
     {
         let mut seen = HashMap::new(alloc);
         seen.insert(*position, 1)?;
-        Ok(Counts {
+        Ok(DrawCounts {
             last: *position,
             plies: 0,
             times: 1,
@@ -48,20 +48,20 @@ impl Counts {
 
     /// The line with one move more. It fails where the game has ended, or where the move is not legal, with the fault
     /// that `judge` has of that ply, or where memory is refused; then the line stays as it was.
-    pub fn push(&mut self, played: &DMove) -> Result<(), Fault>
+    pub fn push(&mut self, played: &DMove) -> Result<(), DLineFault>
         ensures follows { OnOk result (GrowsBy played.now self.old self.new) }
         ensures fault { IfErr result (IsRefused played.now self.old) }
         ensures kept { OnErr result (StaysSo self.old self.new) }
     {
         match self.end_by_tail() {
-            Some(_) => return Err(Fault::AfterEnd {
+            Some(_) => return Err(DLineFault::AfterEnd {
                 ply: self.plies + 1,
             }),
             None => {}
         }
         match check(&self.last, played) {
             Ok(()) => {}
-            Err(cause) => return Err(Fault::Illegal {
+            Err(cause) => return Err(DLineFault::Illegal {
                 ply: self.plies + 1,
                 cause,
             }),

@@ -10,8 +10,8 @@ mod king_moves;
 pub mod laws;
 pub mod tails;
 
-pub use counts::Counts;
+pub use counts::DrawCounts;
 pub use ends::DEnd;
-pub use faults::Fault;
+pub use faults::DLineFault;
 pub use judging::judge;
 pub use tails::{Class, Tail};

@@ -12,8 +12,8 @@ use Rattle.club_requests.specs.declared.refusals.Refusal.{Refusal}
 use Rattle.club_requests.specs.declared.refusals.Refusal.TheVariants as refusal
 use Rattle.explanations.specs.declared.causes.WrongValue.{WrongValue}
 use Rattle.explanations.specs.declared.causes.WrongValue.TheVariants as value
-use Rattle.explanations.specs.declared.causes.Fault.{Fault}
-use Rattle.explanations.specs.declared.causes.Fault.TheVariants as fault
+use Rattle.explanations.specs.declared.causes.ExplainedFault.{ExplainedFault}
+use Rattle.explanations.specs.declared.causes.ExplainedFault.TheVariants as fault
 use Rattle.explanations.specs.declared.causes.Explanation.{Explanation}
 use Rattle.explanations.specs.declared.causes.Explanation.TheVariants as explanation
 use Rattle.explanations.specs.declared.texts.TheConstants.{UNKNOWN_KEY, NOT_ALLOWED, UNKNOWN_EVENT, UNKNOWN_GAME}
@@ -101,7 +101,7 @@ value_line value.MoveText = MOVE_TEXT.now
 value_line value.ListedMember = LISTED_MEMBER.now
 
 -- the file, memory, what is read and what is written
-abbrev pub fault_line : Fault → List ℕ
+abbrev pub fault_line : ExplainedFault → List ℕ
 fault_line fault.NoClub = NO_CLUB.now
 fault_line fault.NotEmpty = NOT_EMPTY.now
 fault_line fault.OlderSchema = OLDER_SCHEMA.now

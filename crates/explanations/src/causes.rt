@@ -42,7 +42,7 @@ pub enum WrongValue {
 
 /// Why an order was not done, where that lies in no value of it.
 #[derive(Clone, Copy, Debug, PartialEq, Eq)]
-pub enum Fault {
+pub enum ExplainedFault {
     /// 70: there is no club in the file.
     NoClub,
     /// 70: a club was to be made, and the file has tables already.
@@ -83,7 +83,7 @@ pub enum Explanation {
     /// The value that is refused by 65.
     Value(WrongValue),
     /// A fault of the store, of what is read or of what is written.
-    Fault(Fault),
+    Fault(ExplainedFault),
 }
 
 impl Explanation {

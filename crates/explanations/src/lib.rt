@@ -4,4 +4,4 @@
 pub mod causes;
 mod texts;
 
-pub use causes::{Explanation, Fault, WrongValue, refused};
+pub use causes::{ExplainedFault, Explanation, WrongValue, refused};

@@ -3,7 +3,7 @@
 ghost use Rattle.std.specs.Prelude.{◌≡◌};
 ghost use Rattle.explanations.specs.Lines.{fault_line, move_line, record_line, refusal_line, value_line};
 
-use crate::causes::{Fault, WrongValue};
+use crate::causes::{ExplainedFault, WrongValue};
 use club_requests::Refusal;
 use club_rules::{GameKind, MoveRefusal, RecordFormat, RecordRefusal};
 
@@ -275,24 +275,24 @@ pub(crate) fn value_line(value: WrongValue) -> &'static str
 }
 
 /// The line of a fault.
-pub(crate) fn fault_line(fault: Fault) -> &'static str
+pub(crate) fn fault_line(fault: ExplainedFault) -> &'static str
     ensures { result.now ≡ fault_line fault }
 {
     match fault {
-        Fault::NoClub => NO_CLUB,
-        Fault::NotEmpty => NOT_EMPTY,
-        Fault::OlderSchema => OLDER_SCHEMA,
-        Fault::LaterSchema => LATER_SCHEMA,
-        Fault::Damaged => DAMAGED,
-        Fault::InUse => IN_USE,
-        Fault::NotOpened => NOT_OPENED,
-        Fault::Store => STORE,
-        Fault::Reopen => REOPEN,
-        Fault::Memory => MEMORY,
-        Fault::NoClock => NO_CLOCK,
-        Fault::NoRecord => NO_RECORD,
-        Fault::NoPort => NO_PORT,
-        Fault::NoOutput => NO_OUTPUT,
-        Fault::NoCopy => NO_COPY,
+        ExplainedFault::NoClub => NO_CLUB,
+        ExplainedFault::NotEmpty => NOT_EMPTY,
+        ExplainedFault::OlderSchema => OLDER_SCHEMA,
+        ExplainedFault::LaterSchema => LATER_SCHEMA,
+        ExplainedFault::Damaged => DAMAGED,
+        ExplainedFault::InUse => IN_USE,
+        ExplainedFault::NotOpened => NOT_OPENED,
+        ExplainedFault::Store => STORE,
+        ExplainedFault::Reopen => REOPEN,
+        ExplainedFault::Memory => MEMORY,
+        ExplainedFault::NoClock => NO_CLOCK,
+        ExplainedFault::NoRecord => NO_RECORD,
+        ExplainedFault::NoPort => NO_PORT,
+        ExplainedFault::NoOutput => NO_OUTPUT,
+        ExplainedFault::NoCopy => NO_COPY,
     }
 }

@@ -18,7 +18,7 @@ use Rattle.club_requests.specs.Outcome.{MoveReply, Reply, member_added, event_ad
 use Rattle.club_requests.specs.Outcome.{game_ended, games_swept, challenge_opened, challenge_withdrawn}
 use Rattle.club_requests.specs.Outcome.{challenge_refused}
 use Rattle.club_requests.specs.Outcome.{challenge_accepted}
-use Rattle.http_bodies.specs.Shown.{GameShown, end_name}
+use Rattle.http_bodies.specs.GameShown.{GameShown, end_name}
 use Rattle.http_bodies.specs.ShownViews.{texts_view}
 use Rattle.http_bodies.specs.Bodies.{texts, text_or_null, moves_data, number_data, lefts, game_front, game_object}
 use Rattle.http_bodies.specs.Bodies.{game_data, moved_data, reply_data, json_of}

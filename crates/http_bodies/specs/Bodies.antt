@@ -14,7 +14,7 @@ use Rattle.club_requests.specs.Outcome.{game_ended, games_swept, challenge_opene
 use Rattle.club_requests.specs.Outcome.{challenge_refused}
 use Rattle.club_requests.specs.Outcome.{challenge_accepted}
 use Rattle.club_core.specs.State.{Command, open_challenge, answer_challenge}
-use Rattle.http_bodies.specs.Shown.{GameShown, end_name}
+use Rattle.http_bodies.specs.GameShown.{GameShown, end_name}
 
 -- ---- replies: the keys of an object stand in byte order
 

@@ -1,5 +1,5 @@
 pub mod Refusals
 pub mod Reply
-pub mod Shown
+pub mod GameShown
 pub mod ShownViews
 pub mod Bodies

@@ -4,7 +4,7 @@ use Rattle.std.specs.declared.alloc.Global.{Global}
 use Rattle.std.specs.declared.vec.Vec.{Vec}
 use Rattle.club_requests.specs.declared.refusals.Refusal.{Refusal}
 use Rattle.http_bodies.specs.declared.shown.GameShown as given
-use Rattle.http_bodies.specs.Shown.{GameShown}
+use Rattle.http_bodies.specs.GameShown.{GameShown}
 
 abbrev pub texts_view : List (String Global) → List (List ℕ)
 texts_view texts = map string_bytes texts

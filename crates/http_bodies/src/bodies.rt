@@ -7,7 +7,7 @@ ghost use Rattle.squares.specs.Sides.{score_text};
 ghost use Rattle.club_rules.specs.EndName.{end_text};
 ghost use Rattle.club_requests.specs.OutsideEnd.{outside_text};
 ghost use Rattle.club_core.specs.Answer.{move_reply_of, reply_of};
-ghost use Rattle.http_bodies.specs.Shown.{end_name};
+ghost use Rattle.http_bodies.specs.GameShown.{end_name};
 ghost use Rattle.http_bodies.specs.ShownViews.{texts_view, game_view};
 ghost use Rattle.http_bodies.specs.Bodies.{texts, text_or_null, moves_data, lefts, number_data, game_front};
 ghost use Rattle.http_bodies.specs.Bodies.{game_object, game_data, moved_data, offered_data, ended_data, added_data};

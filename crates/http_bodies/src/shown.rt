@@ -1,6 +1,6 @@
 //! What a club shows of a game.
 ghost use Rattle.std.specs.Prelude.{◌≡◌};
-ghost use Rattle.http_bodies.specs.Shown.{end_name};
+ghost use Rattle.http_bodies.specs.GameShown.{end_name};
 
 use club_core::GameEnd;
 use club_rules::EndName;

@@ -15,7 +15,7 @@ use Rattle.http_bodies.specs.declared.refusals.Refusal.{Refusal}
 use Rattle.http_bodies.specs.declared.refusals.Refusal.TheVariants.{Head, NoRoute, WrongMethod, BadBody, Club as OfClub}
 use Rattle.http_desk.specs.declared.faults.ClubFault.{ClubFault}
 use Rattle.http_desk.specs.Faults.{club_fault_number, club_fault_name}
-use Rattle.http_desk.specs.Routes.{Turn, make_move, offer_draw, accept_draw, resign, claim_time, declare}
+use Rattle.http_desk.specs.Routes.{GameAction, make_move, offer_draw, accept_draw, resign, claim_time, declare}
 use Rattle.http_desk.specs.Routes.{Asking, Asked, members_page, game_view, legal_moves, question, on_game, challenge}
 use Rattle.http_desk.specs.Routes.{withdraw, answer, asked_of, method_of, is_for_all}
 use Rattle.http_desk.specs.Questions.{Asks}
@@ -23,11 +23,11 @@ use Rattle.club_questions.specs.declared.questions.Question.{Question}
 use Rattle.http_bodies.specs.declared.reply.Kind.{Kind}
 use Rattle.http_bodies.specs.declared.reply.Kind.TheVariants.{Json}
 use Rattle.http_bodies.specs.Reply.{refusal_reply, shown_reply, page_reply, fault_reply}
-use Rattle.http_bodies.specs.Shown.{GameShown}
+use Rattle.http_bodies.specs.GameShown.{GameShown}
 use Rattle.http_bodies.specs.Bodies.{game_data, moves_data, reply_data, move_text, challenge_of, answer_of}
 use Rattle.http_desk.specs.Served.{Club, IsOfCall, Serves}
-use Rattle.http_desk.specs.declared.desk.Fault.{Fault}
-use Rattle.http_desk.specs.declared.desk.Fault.TheVariants as stop
+use Rattle.http_desk.specs.declared.desk.AnswerFault.{AnswerFault}
+use Rattle.http_desk.specs.declared.desk.AnswerFault.TheVariants as stop
 
 -- what a reply shows
 pub data Answer : Type 0 where
@@ -78,7 +78,7 @@ abbrev pub move_given : ℕ → Option (List ℕ) → Option play.GameCommand
 move_given ply None = None
 move_given ply (Some text) = Some (play.move ply text)
 
-abbrev pub command_given : Turn → List ℕ → Option play.GameCommand
+abbrev pub command_given : GameAction → List ℕ → Option play.GameCommand
 command_given (make_move ply) body = move_given ply (move_text body)
 command_given (offer_draw ply) body = Some (play.offer_draw ply)
 command_given (accept_draw ply) body = Some (play.accept_draw ply)
@@ -168,18 +168,18 @@ caller_behind club s (refused r) = None
 caller_behind club s (whole request) = caller club s request
 
 -- why an open club gives no answer
-abbrev pub IsStop : Fault → Type 0
+abbrev pub IsStop : AnswerFault → Type 0
 IsStop (stop.Club fault) = IsOfCall fault
 IsStop stop.Memory = ⊤
 
 -- what a call leaves to which this is due
 abbrev pub ServesDue : {S A : Type 0} → Club S → (S → Type 0) → (S → S → Type 0) → (A → Answer) → S → S × Due
-    → Result A Fault → Type 0
+    → Result A AnswerFault → Type 0
 ServesDue club stands leaves view s due result =
     Serves stands leaves s due.0 (λ a. IsDue club s due.1 (view a)) IsStop result
 
 -- who is told to have asked: the one who is due, or at a fault that one or nobody
-abbrev pub TellsCaller : {A : Type 0} → Option (List ℕ) → Option (List ℕ) → Result A Fault → Type 0
+abbrev pub TellsCaller : {A : Type 0} → Option (List ℕ) → Option (List ℕ) → Result A AnswerFault → Type 0
 TellsCaller due told (Ok a) = told ≡ due
 TellsCaller due told (Err fault) = (told ≡ None) ⊎ (told ≡ due)
 

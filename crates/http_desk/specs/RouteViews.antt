@@ -1,22 +1,22 @@
 -- What the values of the code's routes stand for.
-use Rattle.http_desk.specs.declared.routes.Turn as given_turn
-use Rattle.http_desk.specs.declared.routes.Turn.TheVariants as turn
+use Rattle.http_desk.specs.declared.routes.GameAction as given_action
+use Rattle.http_desk.specs.declared.routes.GameAction.TheVariants as turn
 use Rattle.http_desk.specs.declared.routes.Asked as given
 use Rattle.http_desk.specs.declared.routes.Asked.TheVariants as asked
-use Rattle.http_desk.specs.Routes.{Turn, make_move, offer_draw, accept_draw, resign, claim_time, declare}
+use Rattle.http_desk.specs.Routes.{GameAction, make_move, offer_draw, accept_draw, resign, claim_time, declare}
 use Rattle.http_desk.specs.declared.questions.Asking as given_asking
 use Rattle.http_desk.specs.declared.questions.Asking.TheVariants as asking
 use Rattle.http_desk.specs.Routes.{Asking, of_game, of_event, of_member}
 use Rattle.http_desk.specs.Routes.{Asked, members_page, game_view, legal_moves, question, on_game, challenge}
 use Rattle.http_desk.specs.Routes.{withdraw, answer}
 
-abbrev pub turn_view : given_turn.Turn → Turn
-turn_view (turn.MakeMove ply) = make_move ply
-turn_view (turn.OfferDraw ply) = offer_draw ply
-turn_view (turn.AcceptDraw ply) = accept_draw ply
-turn_view turn.Resign = resign
-turn_view turn.ClaimTime = claim_time
-turn_view (turn.Declare ply) = declare ply
+abbrev pub action_view : given_action.GameAction → GameAction
+action_view (turn.MakeMove ply) = make_move ply
+action_view (turn.OfferDraw ply) = offer_draw ply
+action_view (turn.AcceptDraw ply) = accept_draw ply
+action_view turn.Resign = resign
+action_view turn.ClaimTime = claim_time
+action_view (turn.Declare ply) = declare ply
 
 abbrev pub asking_view : given_asking.Asking → Asking
 asking_view (asking.OfGame topic game) = of_game topic game
@@ -28,7 +28,7 @@ asked_view asked.MembersPage = members_page
 asked_view (asked.GameView game) = game_view game
 asked_view (asked.LegalMoves game) = legal_moves game
 asked_view (asked.Question about) = question (asking_view about)
-asked_view (asked.OnGame game turn) = on_game game (turn_view turn)
+asked_view (asked.OnGame game turn) = on_game game (action_view turn)
 asked_view (asked.Challenge number) = challenge number
 asked_view (asked.Withdraw number) = withdraw number
 asked_view (asked.Answer member number) = answer member.now number

@@ -94,13 +94,13 @@ abbrev pub fourth_part : List ℕ → List ℕ
 fourth_part path = before slash (behind slash (behind slash (behind slash (behind slash path))))
 
 -- what a path asks of a game that changes it
-pub data Turn : Type 0 where
-  make_move : (ply : ℕ) → Turn
-  offer_draw : (ply : ℕ) → Turn
-  accept_draw : (ply : ℕ) → Turn
-  resign : Turn
-  claim_time : Turn
-  declare : (ply : ℕ) → Turn
+pub data GameAction : Type 0 where
+  make_move : (ply : ℕ) → GameAction
+  offer_draw : (ply : ℕ) → GameAction
+  accept_draw : (ply : ℕ) → GameAction
+  resign : GameAction
+  claim_time : GameAction
+  declare : (ply : ℕ) → GameAction
 
 -- what a path asks the club: of a game, of an event, or of the member who shows the key
 pub data Asking : Type 0 where
@@ -114,7 +114,7 @@ pub data Asked : Type 0 where
   game_view : (game : ℕ) → Asked
   legal_moves : (game : ℕ) → Asked
   question : Asking → Asked
-  on_game : (game : ℕ) → Turn → Asked
+  on_game : (game : ℕ) → GameAction → Asked
   challenge : (number : ℕ) → Asked
   withdraw : (number : ℕ) → Asked
   answer : (member : List ℕ) → (number : ℕ) → Asked
@@ -125,11 +125,11 @@ about_game topic game = question (of_game topic game)
 abbrev pub about_event : OfEvent → List ℕ → Asked
 about_event topic event = question (of_event topic event)
 
-abbrev pub turn_asked : Turn → Option ℕ → Option Asked
-turn_asked turn None = None
-turn_asked turn (Some game) = Some (on_game game turn)
+abbrev pub action_asked : GameAction → Option ℕ → Option Asked
+action_asked turn None = None
+action_asked turn (Some game) = Some (on_game game turn)
 
-abbrev pub ply_asked : (ℕ → Turn) → Option ℕ → Option ℕ → Option Asked
+abbrev pub ply_asked : (ℕ → GameAction) → Option ℕ → Option ℕ → Option Asked
 ply_asked turn None ply = None
 ply_asked turn (Some game) None = None
 ply_asked turn (Some game) (Some ply) = Some (on_game game (turn ply))
@@ -154,8 +154,8 @@ asked_of_page (Some MakeMove) path = ply_asked make_move (number_of (second_part
 asked_of_page (Some OfferDraw) path = ply_asked offer_draw (number_of (second_part path)) (number_of (fourth_part path))
 asked_of_page (Some AcceptDraw) path = ply_asked accept_draw (number_of (second_part path))
     (number_of (fourth_part path))
-asked_of_page (Some Resign) path = turn_asked resign (number_of (second_part path))
-asked_of_page (Some ClaimTime) path = turn_asked claim_time (number_of (second_part path))
+asked_of_page (Some Resign) path = action_asked resign (number_of (second_part path))
+asked_of_page (Some ClaimTime) path = action_asked claim_time (number_of (second_part path))
 asked_of_page (Some Declare) path = ply_asked declare (number_of (second_part path)) (number_of (fourth_part path))
 asked_of_page (Some Challenge) path = option_map challenge (number_of (second_part path))
 asked_of_page (Some Withdraw) path = option_map withdraw (number_of (second_part path))

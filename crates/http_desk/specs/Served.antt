@@ -4,7 +4,7 @@ use Rattle.club_requests.specs.Outcome.{Outcome}
 use Rattle.club_requests.specs.declared.refusals.Refusal.{Refusal}
 use Rattle.club_questions.specs.declared.questions.Question.{Question}
 use Rattle.club_core.specs.State.{Request}
-use Rattle.http_bodies.specs.Shown.{GameShown}
+use Rattle.http_bodies.specs.GameShown.{GameShown}
 use Rattle.http_desk.specs.declared.faults.ClubFault.{ClubFault}
 use Rattle.http_desk.specs.declared.faults.ClubFault.TheVariants.{Store, Memory}
 

@@ -3,14 +3,14 @@ ghost use Rattle.std.specs.Prelude.{◌≡◌, IfOk, option_map, string_bytes};
 ghost use Rattle.serde_json.specs.Written.{compact_text};
 ghost use Rattle.club_core.specs.Answer.{command_of, game_command_of, outcome_of, reply_of, who_of};
 ghost use Rattle.club_core.specs.State.{key_holder, on_game, withdraw_challenge};
-ghost use Rattle.http_desk.specs.RouteViews.{turn_view};
+ghost use Rattle.http_desk.specs.RouteViews.{action_view};
 ghost use Rattle.http_bodies.specs.Bodies.{reply_data};
 ghost use Rattle.http_bodies.specs.declared.reply.Kind.TheVariants.{Json};
 ghost use Rattle.http_desk.specs.Desk.{shows, command_given, outcome_answer, serve_command, ServesDue};
 ghost use Rattle.http_desk.specs.DeskViews.{answer_view, command_view};
 
-use crate::desk::{Fault, Shown};
-use crate::routes::Turn;
+use crate::desk::{AnswerFault, DeskAnswer};
+use crate::routes::GameAction;
 use crate::served::ServedClub;
 use clocks::Moment;
 use club_requests::{Answer, Command, GameCommand, OnGame, Outcome, Who, Withdraw};
@@ -18,47 +18,51 @@ use http_bodies::{Kind, Refusal, answer_text, move_text};
 use std::alloc::{AllocError, Global};
 
 // What a path and a body give to do in a game.
-fn command_given(alloc: Global, turn: Turn, body: &[u8]) -> Result<Option<GameCommand>, AllocError>
-    ensures { IfOk result (λ command. command_view command ≡ command_given (turn_view turn) body.now) }
+fn command_given(
+    alloc: Global,
+    turn: GameAction,
+    body: &[u8],
+) -> Result<Option<GameCommand>, AllocError>
+    ensures { IfOk result (λ command. command_view command ≡ command_given (action_view turn) body.now) }
 {
     match turn {
-        Turn::MakeMove(ply) => match move_text(alloc, body)? {
+        GameAction::MakeMove(ply) => match move_text(alloc, body)? {
             None => Ok(None),
             Some(text) => Ok(Some(GameCommand::Move {
                 ply: u64::from(ply),
                 text,
             })),
         },
-        Turn::OfferDraw(ply) => Ok(Some(GameCommand::OfferDraw {
+        GameAction::OfferDraw(ply) => Ok(Some(GameCommand::OfferDraw {
             ply: u64::from(ply),
         })),
-        Turn::AcceptDraw(ply) => Ok(Some(GameCommand::AcceptDraw {
+        GameAction::AcceptDraw(ply) => Ok(Some(GameCommand::AcceptDraw {
             ply: u64::from(ply),
         })),
-        Turn::Resign => Ok(Some(GameCommand::Resign)),
-        Turn::ClaimTime => Ok(Some(GameCommand::ClaimTime)),
-        Turn::Declare(ply) => Ok(Some(GameCommand::Declare {
+        GameAction::Resign => Ok(Some(GameCommand::Resign)),
+        GameAction::ClaimTime => Ok(Some(GameCommand::ClaimTime)),
+        GameAction::Declare(ply) => Ok(Some(GameCommand::Declare {
             ply: u64::from(ply),
         })),
     }
 }
 
 // The answer to a command that stands.
-fn answer_shown(alloc: Global, game: u32, answer: Answer) -> Result<Shown, AllocError>
+fn answer_shown(alloc: Global, game: u32, answer: Answer) -> Result<DeskAnswer, AllocError>
     ensures { IfOk result (λ shown. answer_view shown ≡ shows Json (compact_text (reply_data game (reply_of answer)))) }
 {
     let text = answer_text(alloc, game, answer)?;
-    Ok(Shown::Shows(Kind::Json, text.into_bytes()))
+    Ok(DeskAnswer::Shows(Kind::Json, text.into_bytes()))
 }
 
 // What a command is answered: the same whether it was accepted now or before.
-fn outcome_shown(alloc: Global, game: u32, outcome: Outcome) -> Result<Shown, AllocError>
+fn outcome_shown(alloc: Global, game: u32, outcome: Outcome) -> Result<DeskAnswer, AllocError>
     ensures { IfOk result (λ shown. answer_view shown ≡ outcome_answer game (outcome_of outcome)) }
 {
     match outcome {
         Outcome::Accepted(answer) => answer_shown(alloc, game, answer),
         Outcome::Repeated(answer) => answer_shown(alloc, game, answer),
-        Outcome::Refused(refusal) => Ok(Shown::Refused(Refusal::Club(refusal))),
+        Outcome::Refused(refusal) => Ok(DeskAnswer::Refused(Refusal::Club(refusal))),
     }
 }
 
@@ -84,11 +88,11 @@ fn on_game(game: u32, command: GameCommand) -> Command
 pub(crate) fn turn_given(
     alloc: Global,
     game: u32,
-    turn: Turn,
+    turn: GameAction,
     body: &[u8],
 ) -> Result<Option<Command>, AllocError>
     ensures { IfOk result (λ command.
-        option_map command_of command ≡ option_map (on_game game) (command_given (turn_view turn) body.now)) }
+        option_map command_of command ≡ option_map (on_game game) (command_given (action_view turn) body.now)) }
 {
     match command_given(alloc, turn, body)? {
         Some(command) => Ok(Some(on_game(game, command))),
@@ -113,14 +117,14 @@ pub(crate) fn serve_command<C: ServedClub>(
     id: u32,
     command: Option<Command>,
     moment: Moment,
-) -> Result<Shown, Fault>
+) -> Result<DeskAnswer, AnswerFault>
     ensures clean { C.IsClean club.new → C.IsClean club.old }
     ensures serves { C.IsClean club.new → (s : C.State) → C.Stands club.old s →
         ServesDue C.club (C.Stands club.new) (C.Leaves club.new) answer_view s
         (serve_command C.club s moment key.now id (option_map command_of command)) result }
 {
     let Some(command) = command else {
-        return Ok(Shown::Refused(Refusal::BadBody));
+        return Ok(DeskAnswer::Refused(Refusal::BadBody));
     };
     let who = key_holder(alloc, key)?;
     let outcome = club.apply(alloc, &who, &command, moment)?;

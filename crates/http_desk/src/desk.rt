@@ -27,7 +27,7 @@ use std::alloc::{AllocError, Global};
 
 /// What a reply shows.
 #[derive(Drop)]
-pub(crate) enum Shown {
+pub(crate) enum DeskAnswer {
     Refused(Refusal),
     Shows(Kind, Vec<u8>),
     /// The page on which members play.
@@ -37,7 +37,7 @@ pub(crate) enum Shown {
 // What is shown, and to whom: the name of the member whose key was shown, as soon as that is known.
 #[derive(Drop)]
 struct Served {
-    shown: Result<Shown, Fault>,
+    shown: Result<DeskAnswer, AnswerFault>,
     caller: Option<String>,
 }
 
@@ -52,30 +52,30 @@ pub struct Replied {
 
 /// Why there is no answer.
 #[derive(Clone, Copy)]
-pub(crate) enum Fault {
+pub(crate) enum AnswerFault {
     Club(ClubFault),
     Memory,
 }
 
-impl From<ClubFault> for Fault {
+impl From<ClubFault> for AnswerFault {
     ghost use Rattle.std.specs.Prelude.{◌≡◌};
-    ghost use Rattle.http_desk.specs.declared.desk.Fault.TheVariants.{Club};
+    ghost use Rattle.http_desk.specs.declared.desk.AnswerFault.TheVariants.{Club};
 
     ghost from_gives = { λ fault given. given ≡ Club fault };
 
-    fn from(fault: ClubFault) -> Fault {
-        Fault::Club(fault)
+    fn from(fault: ClubFault) -> AnswerFault {
+        AnswerFault::Club(fault)
     }
 }
 
-impl From<AllocError> for Fault {
+impl From<AllocError> for AnswerFault {
     ghost use Rattle.std.specs.Prelude.{◌≡◌};
-    ghost use Rattle.http_desk.specs.declared.desk.Fault.TheVariants.{Memory};
+    ghost use Rattle.http_desk.specs.declared.desk.AnswerFault.TheVariants.{Memory};
 
     ghost from_gives = { λ _ given. given ≡ Memory };
 
-    fn from(_error: AllocError) -> Fault {
-        Fault::Memory
+    fn from(_error: AllocError) -> AnswerFault {
+        AnswerFault::Memory
     }
 }
 
@@ -87,14 +87,14 @@ fn serve_page<C: ServedClub>(
     body: &[u8],
     asked: Asked<'_>,
     moment: Moment,
-) -> Result<Shown, Fault>
+) -> Result<DeskAnswer, AnswerFault>
     ensures clean { C.IsClean club.new → C.IsClean club.old }
     ensures serves { C.IsClean club.new → (s : C.State) → C.Stands club.old s →
         ServesDue C.club (C.Stands club.new) (C.Leaves club.new) answer_view s
         (serve_page C.club s moment key.now body.now (asked_view asked.entry)) result }
 {
     match asked {
-        Asked::MembersPage => Ok(Shown::Page),
+        Asked::MembersPage => Ok(DeskAnswer::Page),
         Asked::GameView(game) => serve_game(alloc, club, game),
         Asked::LegalMoves(game) => serve_legal(alloc, club, game),
         Asked::Question(asking) => serve_question(alloc, club, key, asking, moment),
@@ -160,7 +160,7 @@ fn serve_known<C: ServedClub>(
 {
     let Some(key) = key_text(key) else {
         return Served {
-            shown: Ok(Shown::Refused(Refusal::Club(ClubRefusal::UnknownKey))),
+            shown: Ok(DeskAnswer::Refused(Refusal::Club(ClubRefusal::UnknownKey))),
             caller: None,
         };
     };
@@ -170,11 +170,11 @@ fn serve_known<C: ServedClub>(
             caller: Some(name),
         },
         Ok(None) => Served {
-            shown: Ok(Shown::Refused(Refusal::Club(ClubRefusal::UnknownKey))),
+            shown: Ok(DeskAnswer::Refused(Refusal::Club(ClubRefusal::UnknownKey))),
             caller: None,
         },
         Err(fault) => Served {
-            shown: Err(Fault::Club(fault)),
+            shown: Err(AnswerFault::Club(fault)),
             caller: None,
         },
     }
@@ -202,7 +202,7 @@ fn serve_caller<C: ServedClub>(
 {
     if asked.is_for_all() {
         Served {
-            shown: Ok(Shown::Page),
+            shown: Ok(DeskAnswer::Page),
             caller: None,
         }
     } else {
@@ -231,7 +231,7 @@ fn serve_asked<C: ServedClub>(
 {
     match asked {
         None => Served {
-            shown: Ok(Shown::Refused(Refusal::NoRoute)),
+            shown: Ok(DeskAnswer::Refused(Refusal::NoRoute)),
             caller: None,
         },
         Some(asked) => {
@@ -240,7 +240,7 @@ fn serve_asked<C: ServedClub>(
                 serve_caller(alloc, club, request, asked, moment)
             } else {
                 Served {
-                    shown: Ok(Shown::Refused(Refusal::WrongMethod(method))),
+                    shown: Ok(DeskAnswer::Refused(Refusal::WrongMethod(method))),
                     caller: None,
                 }
             }
@@ -273,13 +273,17 @@ fn serve<C: ServedClub>(
 }
 
 // The reply that shows an answer.
-fn answer_reply(alloc: Global, answer: Shown, without_body: bool) -> Result<Vec<u8>, AllocError>
+fn answer_reply(
+    alloc: Global,
+    answer: DeskAnswer,
+    without_body: bool,
+) -> Result<Vec<u8>, AllocError>
     ensures { IfOk result (λ v. v.items ≡ answer_reply (answer_view answer) without_body) }
 {
     match answer {
-        Shown::Refused(refusal) => refusal_reply(alloc, refusal, without_body),
-        Shown::Shows(kind, bytes) => shown_reply(alloc, kind, &bytes, without_body),
-        Shown::Page => page_reply(alloc, without_body),
+        DeskAnswer::Refused(refusal) => refusal_reply(alloc, refusal, without_body),
+        DeskAnswer::Shows(kind, bytes) => shown_reply(alloc, kind, &bytes, without_body),
+        DeskAnswer::Page => page_reply(alloc, without_body),
     }
 }
 
@@ -310,8 +314,8 @@ fn reply_whole<C: ServedClub>(
             let reply = answer_reply(alloc, answer, without_body)?;
             Ok(Replied { reply, caller })
         }
-        Err(Fault::Memory) => Err(DeskFault::Memory),
-        Err(Fault::Club(fault)) => {
+        Err(AnswerFault::Memory) => Err(DeskFault::Memory),
+        Err(AnswerFault::Club(fault)) => {
             let reply = fault_reply(alloc, fault.number(), fault.name(), without_body)?;
             Ok(Replied { reply, caller })
         }

@@ -4,7 +4,7 @@ ghost use Rattle.http_desk.specs.RouteViews.{asking_view};
 ghost use Rattle.http_desk.specs.Desk.{game_page, legal_page, question_page, ServesDue};
 ghost use Rattle.http_desk.specs.DeskViews.{answer_view};
 
-use crate::desk::{Fault, Shown};
+use crate::desk::{AnswerFault, DeskAnswer};
 use crate::questions::{Asking, question_of};
 use crate::served::ServedClub;
 use clocks::Moment;
@@ -17,17 +17,17 @@ pub(crate) fn serve_game<C: ServedClub>(
     alloc: Global,
     club: &mut C,
     game: u32,
-) -> Result<Shown, Fault>
+) -> Result<DeskAnswer, AnswerFault>
     ensures clean { C.IsClean club.new → C.IsClean club.old }
     ensures serves { C.IsClean club.new → (s : C.State) → C.Stands club.old s →
         ServesDue C.club (C.Stands club.new) (C.Leaves club.new) answer_view s
         (s, game_page game) result }
 {
     match club.view_game(alloc, u64::from(game))? {
-        None => Ok(Shown::Refused(Refusal::Club(ClubRefusal::UnknownGame))),
+        None => Ok(DeskAnswer::Refused(Refusal::Club(ClubRefusal::UnknownGame))),
         Some(found) => {
             let text = game_text(alloc, game, found)?;
-            Ok(Shown::Shows(Kind::Json, text.into_bytes()))
+            Ok(DeskAnswer::Shows(Kind::Json, text.into_bytes()))
         }
     }
 }
@@ -37,17 +37,17 @@ pub(crate) fn serve_legal<C: ServedClub>(
     alloc: Global,
     club: &mut C,
     game: u32,
-) -> Result<Shown, Fault>
+) -> Result<DeskAnswer, AnswerFault>
     ensures clean { C.IsClean club.new → C.IsClean club.old }
     ensures serves { C.IsClean club.new → (s : C.State) → C.Stands club.old s →
         ServesDue C.club (C.Stands club.new) (C.Leaves club.new) answer_view s
         (s, legal_page game) result }
 {
     match club.legal_rows(alloc, u64::from(game))? {
-        None => Ok(Shown::Refused(Refusal::Club(ClubRefusal::UnknownGame))),
+        None => Ok(DeskAnswer::Refused(Refusal::Club(ClubRefusal::UnknownGame))),
         Some(rows) => {
             let text = moves_text(alloc, rows)?;
-            Ok(Shown::Shows(Kind::Json, text.into_bytes()))
+            Ok(DeskAnswer::Shows(Kind::Json, text.into_bytes()))
         }
     }
 }
@@ -59,7 +59,7 @@ pub(crate) fn serve_question<C: ServedClub>(
     key: &str,
     asking: Asking<'_>,
     moment: Moment,
-) -> Result<Shown, Fault>
+) -> Result<DeskAnswer, AnswerFault>
     ensures clean { C.IsClean club.new → C.IsClean club.old }
     ensures serves { C.IsClean club.new → (s : C.State) → C.Stands club.old s →
         ServesDue C.club (C.Stands club.new) (C.Leaves club.new) answer_view s
@@ -67,7 +67,7 @@ pub(crate) fn serve_question<C: ServedClub>(
 {
     let (question, kind) = question_of(alloc, asking, key)?;
     match club.ask(alloc, &question, moment)? {
-        Ok(bytes) => Ok(Shown::Shows(kind, bytes)),
-        Err(refusal) => Ok(Shown::Refused(Refusal::Club(refusal))),
+        Ok(bytes) => Ok(DeskAnswer::Shows(kind, bytes)),
+        Err(refusal) => Ok(DeskAnswer::Refused(Refusal::Club(refusal))),
     }
 }

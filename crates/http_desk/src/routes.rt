@@ -5,10 +5,10 @@ ghost use Rattle.matchit.specs.Route.{parse_route};
 ghost use Rattle.http_head.specs.Head.{number_of};
 ghost use Rattle.http_desk.specs.Routes.{before, behind, begins, path_behind, path_of, with_route, routes, page_of};
 ghost use Rattle.http_desk.specs.Routes.{second_part, third_part, fourth_part, make_move, offer_draw, accept_draw};
-ghost use Rattle.http_desk.specs.Routes.{declare, turn_asked, ply_asked, answer_asked, text_of};
+ghost use Rattle.http_desk.specs.Routes.{declare, action_asked, ply_asked, answer_asked, text_of};
 ghost use Rattle.http_desk.specs.Routes.{about_game, about_event, asked_of_page};
 ghost use Rattle.http_desk.specs.Routes.{asked_of_path, asked_of, method_of, is_for_all};
-ghost use Rattle.http_desk.specs.RouteViews.{turn_view, asked_view};
+ghost use Rattle.http_desk.specs.RouteViews.{action_view, asked_view};
 
 use crate::questions::{Asking, OfEvent, OfGame, OfMember};
 use http_bodies::Method;
@@ -39,7 +39,7 @@ pub enum Page {
 
 /// What a path asks of a game that changes it. Plies count from 1.
 #[derive(Clone, Copy, Debug, PartialEq, Eq)]
-pub enum Turn {
+pub enum GameAction {
     MakeMove(u32),
     OfferDraw(u32),
     AcceptDraw(u32),
@@ -57,7 +57,7 @@ pub enum Asked<'p> {
     LegalMoves(u32),
     Question(Asking<'p>),
     /// The game of that number.
-    OnGame(u32, Turn),
+    OnGame(u32, GameAction),
     Challenge(u32),
     Withdraw(u32),
     /// The member who challenged, and the number of the challenge.
@@ -273,8 +273,8 @@ fn second_number(path: &[u8]) -> Option<u32>
 }
 
 // What is asked of the game of a path.
-fn turn_asked<'p>(turn: Turn, path: &'p [u8]) -> Option<Asked<'p>>
-    ensures { option_map asked_view result ≡ turn_asked (turn_view turn) (number_of (second_part path.now)) }
+fn action_asked<'p>(turn: GameAction, path: &'p [u8]) -> Option<Asked<'p>>
+    ensures { option_map asked_view result ≡ action_asked (action_view turn) (number_of (second_part path.now)) }
 {
     match second_number(path) {
         None => None,
@@ -291,7 +291,7 @@ fn move_asked<'p>(path: &'p [u8]) -> Option<Asked<'p>>
         None => None,
         Some(game) => match number_of(fourth_part(path)) {
             None => None,
-            Some(ply) => Some(Asked::OnGame(game, Turn::MakeMove(ply))),
+            Some(ply) => Some(Asked::OnGame(game, GameAction::MakeMove(ply))),
         },
     }
 }
@@ -304,7 +304,7 @@ fn offer_asked<'p>(path: &'p [u8]) -> Option<Asked<'p>>
         None => None,
         Some(game) => match number_of(fourth_part(path)) {
             None => None,
-            Some(ply) => Some(Asked::OnGame(game, Turn::OfferDraw(ply))),
+            Some(ply) => Some(Asked::OnGame(game, GameAction::OfferDraw(ply))),
         },
     }
 }
@@ -317,7 +317,7 @@ fn accept_asked<'p>(path: &'p [u8]) -> Option<Asked<'p>>
         None => None,
         Some(game) => match number_of(fourth_part(path)) {
             None => None,
-            Some(ply) => Some(Asked::OnGame(game, Turn::AcceptDraw(ply))),
+            Some(ply) => Some(Asked::OnGame(game, GameAction::AcceptDraw(ply))),
         },
     }
 }
@@ -330,7 +330,7 @@ fn declare_asked<'p>(path: &'p [u8]) -> Option<Asked<'p>>
         None => None,
         Some(game) => match number_of(fourth_part(path)) {
             None => None,
-            Some(ply) => Some(Asked::OnGame(game, Turn::Declare(ply))),
+            Some(ply) => Some(Asked::OnGame(game, GameAction::Declare(ply))),
         },
     }
 }
@@ -390,8 +390,8 @@ fn asked_of_page<'p>(page: Option<Page>, path: &'p [u8]) -> Option<Asked<'p>>
         Some(Page::MakeMove) => move_asked(path),
         Some(Page::OfferDraw) => offer_asked(path),
         Some(Page::AcceptDraw) => accept_asked(path),
-        Some(Page::Resign) => turn_asked(Turn::Resign, path),
-        Some(Page::ClaimTime) => turn_asked(Turn::ClaimTime, path),
+        Some(Page::Resign) => action_asked(GameAction::Resign, path),
+        Some(Page::ClaimTime) => action_asked(GameAction::ClaimTime, path),
         Some(Page::Declare) => declare_asked(path),
         Some(Page::Challenge) => match second_number(path) {
             None => None,

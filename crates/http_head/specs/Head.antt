@@ -27,18 +27,18 @@ values name [] = []
 values name (field ∷ fields) = if is_name name field.0 then field.1 ∷ values name fields else values name fields
 
 -- how often a field stands
-pub data Stands : Type 0 where
-  absent : Stands
-  once : List ℕ → Stands
-  twice : Stands
+pub data Occurrence : Type 0 where
+  absent : Occurrence
+  once : List ℕ → Occurrence
+  twice : Occurrence
 
-abbrev pub stands_among : List (List ℕ) → Stands
-stands_among [] = absent
-stands_among (value ∷ []) = once value
-stands_among (value ∷ other ∷ values) = twice
+abbrev pub occurrence_among : List (List ℕ) → Occurrence
+occurrence_among [] = absent
+occurrence_among (value ∷ []) = once value
+occurrence_among (value ∷ other ∷ values) = twice
 
-abbrev pub stands : List ℕ → Fields → Stands
-stands name fields = stands_among (values name fields)
+abbrev pub stands : List ℕ → Fields → Occurrence
+stands name fields = occurrence_among (values name fields)
 
 -- ---- numbers
 
@@ -68,24 +68,24 @@ named_number None = Err BadHead
 named_number (Some n) = Ok (Some n)
 
 -- the length that Content-Length names, if there is one: nothing where it names none well
-abbrev pub named_length : Stands → Result (Option ℕ) HeadRefusal
+abbrev pub named_length : Occurrence → Result (Option ℕ) HeadRefusal
 named_length absent = Ok None
 named_length (once value) = named_number (number_of value)
 named_length twice = Err BadHead
 
 -- Host stands once, or not at all in HTTP/1.0
-abbrev pub has_good_host : ℕ → Stands → Bool
+abbrev pub has_good_host : ℕ → Occurrence → Bool
 has_good_host minor absent = minor == 0
 has_good_host minor (once value) = true
 has_good_host minor twice = false
 
-abbrev pub is_absent : Stands → Bool
+abbrev pub is_absent : Occurrence → Bool
 is_absent absent = true
 is_absent (once value) = false
 is_absent twice = false
 
 -- the one value of a field that stands once
-abbrev pub only : Stands → Option (List ℕ)
+abbrev pub only : Occurrence → Option (List ℕ)
 only absent = None
 only (once value) = Some value
 only twice = None

@@ -4,12 +4,12 @@ use Rattle.http_head.specs.declared.head.Given.{Given}
 use Rattle.http_head.specs.declared.head.Given.TheVariants.{Absent, Once, Twice}
 use Rattle.http_head.specs.declared.head.Outline as code
 use Rattle.http_head.specs.declared.refusals.HeadRefusal.{HeadRefusal}
-use Rattle.http_head.specs.Head.{Stands, absent, once, twice, Outline}
+use Rattle.http_head.specs.Head.{Occurrence, absent, once, twice, Outline}
 
-abbrev pub stands_view : Given → Stands
-stands_view Absent = absent
-stands_view (Once value) = once value.now
-stands_view Twice = twice
+abbrev pub occurrence_view : Given → Occurrence
+occurrence_view Absent = absent
+occurrence_view (Once value) = once value.now
+occurrence_view Twice = twice
 
 abbrev pub outline_view : code.Outline → Outline
 outline_view o =

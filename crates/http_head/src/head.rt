@@ -9,7 +9,7 @@ ghost use Rattle.httparse.specs.Spans.{IsWithin, IsHeaderWithin, span_bytes, hea
 ghost use Rattle.http_head.specs.Framing.{scan_start, end_from};
 ghost use Rattle.http_head.specs.Head.{is_name, stands, is_number, number_of, named_length, has_good_host, is_absent};
 ghost use Rattle.http_head.specs.Head.{only, body_length, outline_from, outline_of, IsReadAs};
-ghost use Rattle.http_head.specs.HeadViews.{stands_view, outline_result};
+ghost use Rattle.http_head.specs.HeadViews.{occurrence_view, outline_result};
 
 use crate::refusals::HeadRefusal;
 use httparse::Status;
@@ -42,7 +42,7 @@ fn is_name(name: &[u8], other: &[u8]) -> bool
 // How often a field of this name stands.
 fn field<'b>(head: &'b [u8], spans: &[HeaderSpan], name: &[u8]) -> Given<'b>
     requires { All (IsHeaderWithin (length head.now)) spans.now }
-    ensures { stands_view result ≡ stands name.now (map (header_bytes head.now) spans.now) }
+    ensures { occurrence_view result ≡ stands name.now (map (header_bytes head.now) spans.now) }
 {
     let mut found = Given::Absent;
     for span in spans {
@@ -102,7 +102,7 @@ pub fn number_of(text: &[u8]) -> Option<u32>
 
 // The length that Content-Length names.
 fn named_length(field: Given<'_>) -> Result<Option<u32>, HeadRefusal>
-    ensures { result ≡ named_length (stands_view field.entry) }
+    ensures { result ≡ named_length (occurrence_view field.entry) }
 {
     match field {
         Given::Absent => Ok(None),
@@ -116,7 +116,7 @@ fn named_length(field: Given<'_>) -> Result<Option<u32>, HeadRefusal>
 
 // Whether Host stands as it must.
 fn has_good_host(minor: u8, field: Given<'_>) -> bool
-    ensures { result ≡ has_good_host minor (stands_view field.entry) }
+    ensures { result ≡ has_good_host minor (occurrence_view field.entry) }
 {
     match field {
         Given::Absent => minor == 0,
@@ -126,7 +126,7 @@ fn has_good_host(minor: u8, field: Given<'_>) -> bool
 }
 
 fn is_absent(field: Given<'_>) -> bool
-    ensures { result ≡ is_absent (stands_view field.entry) }
+    ensures { result ≡ is_absent (occurrence_view field.entry) }
 {
     match field {
         Given::Absent => true,
@@ -137,7 +137,7 @@ fn is_absent(field: Given<'_>) -> bool
 
 // The one value of a field.
 fn only<'b>(field: Given<'b>) -> Option<&'b [u8]>
-    ensures { option_map (λ v. v.now) result ≡ only (stands_view field.entry) }
+    ensures { option_map (λ v. v.now) result ≡ only (occurrence_view field.entry) }
 {
     match field {
         Given::Absent => None,

@@ -15,7 +15,7 @@ use Rattle.club_rules.specs.GameRules.{GameRules}
 use Rattle.club_core.specs.Events.{Terms}
 use Rattle.club_core.specs.Game.{Game, moves_of, result_of}
 use Rattle.club_rows.specs.Replay.{IsPlayedAs, WasReplayed, game_from}
-use Rattle.club_rows.specs.Shown.{IsRecordOf}
+use Rattle.club_rows.specs.LegalRows.{IsRecordOf}
 use Rattle.club_rows.specs.Tables.{game_row, move_rows}
 use Rattle.club_rows.specs.declared.replay.Replayed.{Replayed}
 use Rattle.club_rows.proofs.Proved.{played-count}

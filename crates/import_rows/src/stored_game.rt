@@ -5,7 +5,7 @@ ghost use Rattle.club_core.specs.Game.{Game, result_of};
 ghost use Rattle.club_core.specs.Events as core;
 ghost use Rattle.club_imports.specs.Importing.{IsPlayedOf};
 ghost use Rattle.club_rows.specs.Replay.{terms_given};
-ghost use Rattle.club_rows.specs.Shown.{IsRecordOf};
+ghost use Rattle.club_rows.specs.LegalRows.{IsRecordOf};
 ghost use Rattle.club_rows.specs.Tables.{game_row, move_rows};
 ghost use Rattle.store_tables.specs.Cells.{game_cells, move_cells};
 ghost use Rattle.store_tables.specs.Changes.{HaveSame};

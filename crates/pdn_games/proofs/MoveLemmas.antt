@@ -14,8 +14,8 @@ use Rattle.draughts_moves.specs.declared.checking.Illegal.{Illegal}
 use Rattle.draughts_moves.specs.Check.{check_of}
 use Rattle.draughts_moves.specs.Laws.{CheckIs}
 use Rattle.draughts_moves.specs.Legal.{Legal, play}
-use Rattle.draughts_draws.specs.declared.faults.Fault.{Fault}
-use Rattle.draughts_draws.specs.declared.faults.Fault.TheVariants.{Memory as memory, AfterEnd, Illegal as illegal}
+use Rattle.draughts_draws.specs.declared.faults.DLineFault.{DLineFault}
+use Rattle.draughts_draws.specs.declared.faults.DLineFault.TheVariants.{Memory as memory, AfterEnd, Illegal as illegal}
 use Rattle.draughts_draws.specs.Line.{last_position}
 use Rattle.draughts_draws.specs.Ends.{end_of}
 use Rattle.draughts_draws.specs.Faults.{IsPlayed, HasFault}
@@ -39,7 +39,7 @@ unended-some : (start : Position) (ms : List DMove) → end_of start ms ≡ None
 unended-some start ms none some = let never : false ≡ true = sym (ap is_some none) ∙ some in cc
 
 -- A legal move after a line that was played and has not ended is refused for want of memory alone.
-pub only-memory : CheckIs → (ms : List DMove) (m : DMove) (f : Fault) → IsPlayed opening ms (length ms)
+pub only-memory : CheckIs → (ms : List DMove) (m : DMove) (f : DLineFault) → IsPlayed opening ms (length ms)
     → end_of opening ms ≡ None → Legal (last_position opening ms) m → HasFault opening (ms ++ m ∷ []) f → f ≡ memory
 only-memory laws ms m memory played unended legal h = refl
 only-memory laws ms m (AfterEnd ply) played unended legal (k, ply_is, within, before, ended) =

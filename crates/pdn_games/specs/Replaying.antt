@@ -4,8 +4,8 @@ use Rattle.squares.specs.declared.draughts.moves.DMove.{DMove}
 use Rattle.squares.specs.DraughtsOpening.{opening}
 use Rattle.draughts_draws.specs.Line.{last_position}
 use Rattle.draughts_draws.specs.Counting.{Follows}
-use Rattle.draughts_draws.specs.declared.faults.Fault.{Fault}
-use Rattle.draughts_draws.specs.declared.faults.Fault.TheVariants as line_fault
+use Rattle.draughts_draws.specs.declared.faults.DLineFault.{DLineFault}
+use Rattle.draughts_draws.specs.declared.faults.DLineFault.TheVariants as line_fault
 use Rattle.pdn.specs.Forms.{Form}
 use Rattle.pdn.specs.Grammar.{HasForm}
 use Rattle.pdn.specs.ReadMove.{IsRead}
@@ -34,7 +34,7 @@ HaveForms [] = Unit {0}
 HaveForms (placed ∷ more) = HasItsForm placed.token × HaveForms more
 
 -- The position and the counts of a replay are those of its moves.
-pub record Stands (replay : Replay) : Type 0 where
+pub record IsConsistent (replay : Replay) : Type 0 where
   pub follows : Follows opening replay.moves.items replay.counts
   pub position : replay.position ≡ last_position opening replay.moves.items
 
@@ -63,7 +63,7 @@ at_ply ply (move_fault.BadText offset) = fault.BadText offset
 at_ply ply move_fault.Ambiguous = fault.Ambiguous ply
 at_ply ply (move_fault.Illegal cause) = fault.Illegal ply cause
 
-abbrev pub fault_of : Fault → PdnFault
+abbrev pub fault_of : DLineFault → PdnFault
 fault_of line_fault.Memory = fault.Memory
 fault_of (line_fault.Illegal ply cause) = fault.Illegal ply cause
 fault_of (line_fault.AfterEnd ply) = fault.AfterEnd ply

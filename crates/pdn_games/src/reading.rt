@@ -6,7 +6,7 @@ ghost use Rattle.pdn.specs.ReadFen.{IsFen};
 ghost use Rattle.pdn_games.specs.Contents.{first_tag, is_other_type, move_texts, HasOpening};
 ghost use Rattle.pdn_games.specs.Moves.{MeanAll};
 ghost use Rattle.pdn_games.specs.Reading.{told, IsOfClub, IsGameOf, Fails, AreTokens, IsTextOf, IsRefused};
-ghost use Rattle.pdn_games.specs.Replaying.{HaveForms, Stands};
+ghost use Rattle.pdn_games.specs.Replaying.{HaveForms, IsConsistent};
 ghost use Rattle.pdn_games.specs.TokenValues.{all_placed};
 
 use crate::contents::{first_tag, is_other_type, result_in};
@@ -87,7 +87,7 @@ fn check_kind(alloc: Global, placed: &[Placed<'_>]) -> Result<(), PdnFault>
 
 // The game of a text whose moves are played by the rules.
 fn game_of(placed: &[Placed<'_>], replay: Replay) -> Result<PdnGame, PdnFault>
-    requires stands { Stands replay }
+    requires stands { IsConsistent replay }
     requires of_club { IsOfClub (all_placed placed.now) }
     requires mean { MeanAll opening (move_texts (all_placed placed.now)) replay.moves.items }
     ensures game { IfOk result (IsGameOf (all_placed placed.now)) }

@@ -6,13 +6,14 @@ ghost use Rattle.draughts_draws.specs.Ends.{end_of};
 ghost use Rattle.pdn.specs.ReadMove.{IsRead, HasReadFault};
 ghost use Rattle.pdn_games.specs.Contents.{move_texts};
 ghost use Rattle.pdn_games.specs.Moves.{MeanAll, RefusesMoves};
-ghost use Rattle.pdn_games.specs.Replaying.{IsMoveForm, HasItsForm, HaveForms, Stands, GrowsBy, GrowsWith, RefusesText};
+ghost use Rattle.pdn_games.specs.Replaying.{IsMoveForm, HasItsForm, HaveForms, IsConsistent, GrowsBy, GrowsWith};
+ghost use Rattle.pdn_games.specs.Replaying.{RefusesText};
 ghost use Rattle.pdn_games.specs.Replaying.{RefusesIn, at_ply, fault_of};
 ghost use Rattle.pdn_games.specs.TokenValues.{token_of, all_placed};
 
 use crate::faults::PdnFault;
 use crate::tokens::{Placed, Token};
-use draughts_draws::{Counts, Fault};
+use draughts_draws::{DLineFault, DrawCounts};
 use draughts_moves::laws::check_is;
 use draughts_moves::play;
 use pdn::laws::forms_are_texts;
@@ -24,18 +25,18 @@ use std::alloc::Global;
 #[derive(Drop)]
 pub struct Replay {
     pub position: DPos,
-    pub counts: Counts,
+    pub counts: DrawCounts,
     pub moves: Vec<DMove>,
 }
 
 // The replay of no move.
 fn beginning(alloc: Global) -> Result<Replay, PdnFault>
-    ensures stands { IfOk result Stands }
+    ensures stands { IfOk result IsConsistent }
     ensures bare { IfOk result (λ replay. replay.moves.items ≡ []) }
     ensures fault { IfErr result (λ fault. fault ≡ PdnFault.Memory) }
 {
     let position = DPos::opening();
-    match Counts::start(alloc, &position) {
+    match DrawCounts::start(alloc, &position) {
         Err(_) => Err(PdnFault::Memory),
         Ok(counts) => Ok(Replay {
             position,
@@ -58,13 +59,13 @@ fn at_ply(ply: usize, fault: MoveFault) -> PdnFault
 }
 
 // The fault of a text, where the counts refuse its next move.
-fn fault_of(fault: Fault) -> PdnFault
+fn fault_of(fault: DLineFault) -> PdnFault
     ensures { result ≡ fault_of fault }
 {
     match fault {
-        Fault::Memory => PdnFault::Memory,
-        Fault::Illegal { ply, cause } => PdnFault::Illegal { ply, cause },
-        Fault::AfterEnd { ply } => PdnFault::AfterEnd(ply),
+        DLineFault::Memory => PdnFault::Memory,
+        DLineFault::Illegal { ply, cause } => PdnFault::Illegal { ply, cause },
+        DLineFault::AfterEnd { ply } => PdnFault::AfterEnd(ply),
     }
 }
 
@@ -82,10 +83,10 @@ fn read_text(alloc: Global, position: &DPos, text: &[u8]) -> Result<DMove, MoveF
 
 // One legal move more of a game that goes on.
 fn push_move(replay: &mut Replay, played: DMove) -> Result<(), PdnFault>
-    requires stands { Stands replay.old }
+    requires stands { IsConsistent replay.old }
     requires unended { end_of opening replay.old.moves.items ≡ None }
     requires legal { Legal replay.old.position played }
-    ensures stands { OnOk result (Stands replay.new) }
+    ensures stands { OnOk result (IsConsistent replay.new) }
     ensures grown { OnOk result (replay.new.moves.items ≡ replay.old.moves.items ++ played ∷ []) }
     ensures fault { IfErr result (λ fault. fault ≡ PdnFault.Memory) }
 {
@@ -102,9 +103,9 @@ fn push_move(replay: &mut Replay, played: DMove) -> Result<(), PdnFault>
 
 // One text more. It is refused where the game has ended, or where it means no legal move.
 fn push(alloc: Global, replay: &mut Replay, text: &[u8]) -> Result<(), PdnFault>
-    requires stands { Stands replay.old }
+    requires stands { IsConsistent replay.old }
     requires form { IsMoveForm text.now }
-    ensures stands { OnOk result (Stands replay.new) }
+    ensures stands { OnOk result (IsConsistent replay.new) }
     ensures grown { OnOk result (GrowsBy text.now replay.old.moves.items replay.new.moves.items) }
     ensures fault { IfErr result (RefusesText replay.old.moves.items text.now) }
 {
@@ -122,9 +123,9 @@ fn push(alloc: Global, replay: &mut Replay, text: &[u8]) -> Result<(), PdnFault>
 
 // One token more, which may be a move.
 fn push_token(alloc: Global, replay: &mut Replay, token: Token<'_>) -> Result<(), PdnFault>
-    requires stands { Stands replay.old }
+    requires stands { IsConsistent replay.old }
     requires form { HasItsForm (token_of token) }
-    ensures stands { OnOk result (Stands replay.new) }
+    ensures stands { OnOk result (IsConsistent replay.new) }
     ensures grown { OnOk result
         (GrowsWith (token_of token.entry) replay.old.moves.items replay.new.moves.items) }
     ensures fault { IfErr result (RefusesIn replay.old.moves.items (token_of token.entry)) }
@@ -138,7 +139,7 @@ fn push_token(alloc: Global, replay: &mut Replay, token: Token<'_>) -> Result<()
 /// The moves of a text. It fails at the first of them that the rules refuse.
 pub fn replay_of(alloc: Global, placed: &[Placed<'_>]) -> Result<Replay, PdnFault>
     requires { HaveForms (all_placed placed.now) }
-    ensures stands { IfOk result Stands }
+    ensures stands { IfOk result IsConsistent }
     ensures mean { IfOk result
         (λ replay. MeanAll opening (move_texts (all_placed placed.now)) replay.moves.items) }
     ensures fault { IfErr result (RefusesMoves (move_texts (all_placed placed.now))) }

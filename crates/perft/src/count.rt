@@ -4,23 +4,23 @@ ghost use Rattle.std.specs.Prelude.{◌≡◌, ◌+◌, IfOk, OnOk};
 ghost use Rattle.std.specs.Io.KnownBytes.{Appends};
 ghost use Rattle.perft.specs.Lines.{HasLines, IsPrinted, count_line, total_line};
 
-use crate::fault::Fault;
+use crate::fault::PerftFault;
 use crate::game::Game;
 use std::alloc::Global;
 use std::io::Write;
 
 // The sum, if 64 bits hold it.
-fn plus(a: u64, b: u64) -> Result<u64, Fault>
+fn plus(a: u64, b: u64) -> Result<u64, PerftFault>
     ensures { IfOk result (λ sum. sum ≡ a + b) }
 {
     match a.checked_add(b) {
         Some(sum) => Ok(sum),
-        None => Err(Fault::TooMany),
+        None => Err(PerftFault::TooMany),
     }
 }
 
 /// How many lines of so many legal moves a position has.
-pub fn leaves<G: Game>(alloc: Global, position: &G::Position, depth: u32) -> Result<u64, Fault>
+pub fn leaves<G: Game>(alloc: Global, position: &G::Position, depth: u32) -> Result<u64, PerftFault>
     ensures { IfOk result (λ count. HasLines G.Legal G.order G.after depth position.now count) }
 {
     if depth == 0 {
@@ -40,7 +40,12 @@ pub fn leaves<G: Game>(alloc: Global, position: &G::Position, depth: u32) -> Res
 }
 
 // Prints a move's text and the number of its lines.
-fn print_count<W: Write>(alloc: Global, text: &str, count: u64, out: &mut W) -> Result<(), Fault>
+fn print_count<W: Write>(
+    alloc: Global,
+    text: &str,
+    count: u64,
+    out: &mut W,
+) -> Result<(), PerftFault>
     ensures { OnOk result (Appends (W.contents out.old) (W.contents out.new) (count_line text.now count)) }
 {
     let line = format!(in alloc; "{text} {count}\n")?;
@@ -49,7 +54,7 @@ fn print_count<W: Write>(alloc: Global, text: &str, count: u64, out: &mut W) -> 
 }
 
 // Prints the number of all lines.
-fn print_total<W: Write>(alloc: Global, total: u64, out: &mut W) -> Result<(), Fault>
+fn print_total<W: Write>(alloc: Global, total: u64, out: &mut W) -> Result<(), PerftFault>
     ensures { OnOk result (Appends (W.contents out.old) (W.contents out.new) (total_line total)) }
 {
     let line = format!(in alloc; "total {total}\n")?;
@@ -64,7 +69,7 @@ pub fn print_counts<G: Game, W: Write>(
     position: &G::Position,
     depth: u32,
     out: &mut W,
-) -> Result<(), Fault>
+) -> Result<(), PerftFault>
     ensures { OnOk result
         (IsPrinted G.Legal G.order G.after G.Writes depth position.now (W.contents out.old) (W.contents out.new)) }
 {

@@ -1,6 +1,6 @@
 //! Lines of draughts.
 
-use crate::fault::Fault;
+use crate::fault::PerftFault;
 use crate::game::Game;
 use squares::{DMove, DPos};
 use std::alloc::Global;
@@ -25,7 +25,7 @@ impl Game for Draughts {
 
     ghost Writes = { texts.IsMoveText };
 
-    fn legal(alloc: Global, position: &DPos) -> Result<Vec<DMove>, Fault> {
+    fn legal(alloc: Global, position: &DPos) -> Result<Vec<DMove>, PerftFault> {
         Ok(draughts_moves::legal(alloc, position)?)
     }
 
@@ -33,7 +33,7 @@ impl Game for Draughts {
         draughts_moves::play(position, played)
     }
 
-    fn write_move(alloc: Global, position: &DPos, played: &DMove) -> Result<String, Fault> {
+    fn write_move(alloc: Global, position: &DPos, played: &DMove) -> Result<String, PerftFault> {
         Ok(pdn::write_move(alloc, position, played)?)
     }
 }

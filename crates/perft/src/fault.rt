@@ -5,7 +5,7 @@ use std::alloc::AllocError;
 
 /// Why lines are not counted, or the counts not printed to their end.
 #[derive(Clone, Copy, Debug, PartialEq, Eq)]
-pub enum Fault {
+pub enum PerftFault {
     /// Memory was refused.
     Memory,
     /// There are more lines than 64 bits count.
@@ -14,20 +14,20 @@ pub enum Fault {
     Output,
 }
 
-impl From<Memory> for Fault {
-    fn from(_refused: Memory) -> Fault {
-        Fault::Memory
+impl From<Memory> for PerftFault {
+    fn from(_refused: Memory) -> PerftFault {
+        PerftFault::Memory
     }
 }
 
-impl From<AllocError> for Fault {
-    fn from(_refused: AllocError) -> Fault {
-        Fault::Memory
+impl From<AllocError> for PerftFault {
+    fn from(_refused: AllocError) -> PerftFault {
+        PerftFault::Memory
     }
 }
 
-impl From<std::io::Error> for Fault {
-    fn from(_failed: std::io::Error) -> Fault {
-        Fault::Output
+impl From<std::io::Error> for PerftFault {
+    fn from(_failed: std::io::Error) -> PerftFault {
+        PerftFault::Output
     }
 }

@@ -4,7 +4,7 @@ ghost use Rattle.std.specs.Prelude.{◌≡◌, List, ℕ, IfOk, string_bytes};
 ghost use Rattle.std.specs.declared.cmp.Ordering.{Ordering};
 ghost use Rattle.perft.specs.Lines.{AreTheMoves};
 
-use crate::fault::Fault;
+use crate::fault::PerftFault;
 use std::alloc::Global;
 
 /// A game whose lines of moves are counted.
@@ -22,7 +22,7 @@ pub trait Game {
     ghost Writes: { Self.Position → Self.Move → List ℕ → Type 0 };
 
     /// The legal moves, each once, in the order of the game.
-    fn legal(alloc: Global, position: &Self::Position) -> Result<Vec<Self::Move>, Fault>
+    fn legal(alloc: Global, position: &Self::Position) -> Result<Vec<Self::Move>, PerftFault>
         ensures { IfOk result (λ moves. AreTheMoves Legal order position.now moves.items) };
 
     /// The position after a legal move.
@@ -35,7 +35,7 @@ pub trait Game {
         alloc: Global,
         position: &Self::Position,
         played: &Self::Move,
-    ) -> Result<String, Fault>
+    ) -> Result<String, PerftFault>
         requires { Legal position.now played.now }
         ensures { IfOk result (λ text. Writes position.now played.now (string_bytes text)) };
 }

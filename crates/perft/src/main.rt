@@ -10,7 +10,7 @@ mod words;
 
 use crate::count::print_counts;
 use crate::draughts::Draughts;
-use crate::fault::Fault;
+use crate::fault::PerftFault;
 use crate::shogi::Shogi;
 use crate::words::{Asked, BadWords, Start, read_words};
 use std::alloc::AllocError;
@@ -48,7 +48,7 @@ fn texts<'a>(rt: &HostRuntime, words: &'a [String]) -> Result<Vec<&'a str>, Allo
 }
 
 // Prints what is asked for.
-fn print_asked<W: Write>(rt: &HostRuntime, asked: &Asked, out: &mut W) -> Result<(), Fault> {
+fn print_asked<W: Write>(rt: &HostRuntime, asked: &Asked, out: &mut W) -> Result<(), PerftFault> {
     match &asked.start {
         Start::Draughts(position) => {
             print_counts::<Draughts, W>(rt.alloc(), position, asked.depth, out)
@@ -70,9 +70,9 @@ fn status_of(rt: &HostRuntime, words: &[String]) -> u8 {
     };
     match print_asked(rt, &asked, &mut rt.stdout()) {
         Ok(()) => DONE,
-        Err(Fault::TooMany) => stop(&mut err, "too many lines", FAULT),
-        Err(Fault::Memory) => stop(&mut err, "out of memory", FAULT),
-        Err(Fault::Output) => stop(&mut err, "the output fails", FAULT),
+        Err(PerftFault::TooMany) => stop(&mut err, "too many lines", FAULT),
+        Err(PerftFault::Memory) => stop(&mut err, "out of memory", FAULT),
+        Err(PerftFault::Output) => stop(&mut err, "the output fails", FAULT),
     }
 }
 

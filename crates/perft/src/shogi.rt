@@ -1,6 +1,6 @@
 //! Lines of shogi.
 
-use crate::fault::Fault;
+use crate::fault::PerftFault;
 use crate::game::Game;
 use squares::{SMove, SPos};
 use std::alloc::Global;
@@ -29,7 +29,7 @@ impl Game for Shogi {
 
     ghost Writes = { λ position played text. text ≡ texts.usi_text played };
 
-    fn legal(alloc: Global, position: &SPos) -> Result<Vec<SMove>, Fault> {
+    fn legal(alloc: Global, position: &SPos) -> Result<Vec<SMove>, PerftFault> {
         Ok(shogi_moves::legal(alloc, position)?)
     }
 
@@ -37,7 +37,7 @@ impl Game for Shogi {
         shogi_moves::play(position, played)
     }
 
-    fn write_move(alloc: Global, _position: &SPos, played: &SMove) -> Result<String, Fault> {
+    fn write_move(alloc: Global, _position: &SPos, played: &SMove) -> Result<String, PerftFault> {
         Ok(sfen::write_usi(alloc, played)?)
     }
 }

@@ -3,7 +3,7 @@
 use crate::draughts_questions::{made, position};
 use crate::unanswered::Unanswered;
 use crate::words::{push_word, said, side, told_score, yes};
-use draughts_draws::{Counts, DEnd, Fault, judge};
+use draughts_draws::{DEnd, DLineFault, DrawCounts, judge};
 use squares::{DMove, DPos};
 use std::alloc::Global;
 
@@ -40,7 +40,7 @@ fn end(name: &str) -> Result<DEnd, Unanswered> {
     }
 }
 
-fn told(alloc: Global, judged: Result<Option<DEnd>, Fault>) -> Result<String, Unanswered> {
+fn told(alloc: Global, judged: Result<Option<DEnd>, DLineFault>) -> Result<String, Unanswered> {
     match judged {
         Ok(end) => said(alloc, told_end(end)),
         Err(fault) => Ok(format!(in alloc; "{fault}")?),
@@ -48,8 +48,8 @@ fn told(alloc: Global, judged: Result<Option<DEnd>, Fault>) -> Result<String, Un
 }
 
 // What the line has come to by its counts, which are kept move by move.
-fn counted(alloc: Global, start: &DPos, moves: &[DMove]) -> Result<Option<DEnd>, Fault> {
-    let mut counts = Counts::start(alloc, start)?;
+fn counted(alloc: Global, start: &DPos, moves: &[DMove]) -> Result<Option<DEnd>, DLineFault> {
+    let mut counts = DrawCounts::start(alloc, start)?;
     for made in moves {
         counts.push(made)?;
     }
@@ -83,7 +83,7 @@ fn judged_so_far(
 
 // What becomes of each move that is added to the line, where one that is refused changes nothing.
 fn pushed(alloc: Global, start: &str, texts: &str) -> Result<String, Unanswered> {
-    let Ok(mut counts) = Counts::start(alloc, &position(alloc, start)?) else {
+    let Ok(mut counts) = DrawCounts::start(alloc, &position(alloc, start)?) else {
         return Err(Unanswered::Memory);
     };
     let mut text = String::new(alloc);

@@ -32,8 +32,8 @@ fn cause(name: &str) -> Result<Illegal, Unanswered> {
 fn memory(alloc: Global, crate_name: &str) -> Result<String, Unanswered> {
     match crate_name {
         "squares" => told(alloc, &Memory),
-        "draughts_draws" => told(alloc, &draughts_draws::Fault::Memory),
-        "shogi_repetition" => told(alloc, &shogi_repetition::Fault::Memory),
+        "draughts_draws" => told(alloc, &draughts_draws::DLineFault::Memory),
+        "shogi_repetition" => told(alloc, &shogi_repetition::SLineFault::Memory),
         "pdn-move" => told(alloc, &MoveFault::Memory),
         "pdn-fen" => told(alloc, &FenFault::Memory),
         "record_writer" => told(alloc, &WriteFault::Memory),
@@ -55,7 +55,7 @@ pub fn answer(alloc: Global, asked: &str, parts: &[String]) -> Result<String, Un
         }
         ("shogi-after-end", [ply]) => {
             let ply = ply.as_str().parse()?;
-            told(alloc, &shogi_repetition::Fault::AfterEnd { ply })
+            told(alloc, &shogi_repetition::SLineFault::AfterEnd { ply })
         }
         ("pdn-ambiguous", [ply]) => told(alloc, &PdnFault::Ambiguous(ply.as_str().parse()?)),
         ("pdn-after-end", [ply]) => told(alloc, &PdnFault::AfterEnd(ply.as_str().parse()?)),

@@ -3,7 +3,7 @@
 use crate::shogi_questions::{made, position};
 use crate::unanswered::Unanswered;
 use crate::words::{said, side, told_score};
-use shogi_repetition::{Fault, Marks, SEnd, Tail, judge};
+use shogi_repetition::{Marks, SEnd, SLineFault, Tail, judge};
 use squares::{SMove, SPos, Side};
 use std::alloc::Global;
 
@@ -38,7 +38,7 @@ fn end(name: &str) -> Result<SEnd, Unanswered> {
     }
 }
 
-fn told(alloc: Global, judged: Result<Option<SEnd>, Fault>) -> Result<String, Unanswered> {
+fn told(alloc: Global, judged: Result<Option<SEnd>, SLineFault>) -> Result<String, Unanswered> {
     match judged {
         Ok(end) => said(alloc, told_end(end)),
         Err(fault) => Ok(format!(in alloc; "{fault}")?),
@@ -46,7 +46,7 @@ fn told(alloc: Global, judged: Result<Option<SEnd>, Fault>) -> Result<String, Un
 }
 
 // What the line has come to by its marks, which are kept move by move.
-fn marked(alloc: Global, start: &SPos, moves: &[SMove]) -> Result<Option<SEnd>, Fault> {
+fn marked(alloc: Global, start: &SPos, moves: &[SMove]) -> Result<Option<SEnd>, SLineFault> {
     let mut marks = Marks::start(alloc, start)?;
     for made in moves {
         marks.push(made)?;

@@ -22,8 +22,9 @@ use Rattle.shogi_moves.specs.Rules.{Legal, FirstBroken, play}
 use Rattle.shogi_moves.specs.Computed.{has_move}
 use Rattle.shogi_repetition.specs.declared.ends.SEnd.{SEnd}
 use Rattle.shogi_repetition.specs.declared.ends.SEnd.TheVariants.{NoMove, PlyLimit}
-use Rattle.shogi_repetition.specs.declared.faults.Fault.{Fault}
-use Rattle.shogi_repetition.specs.declared.faults.Fault.TheVariants.{Memory as memory, AfterEnd, Illegal as illegal}
+use Rattle.shogi_repetition.specs.declared.faults.SLineFault.{SLineFault}
+use Rattle.shogi_repetition.specs.declared.faults.SLineFault.TheVariants.{Memory as memory, AfterEnd}
+use Rattle.shogi_repetition.specs.declared.faults.SLineFault.TheVariants.{Illegal as illegal}
 use Rattle.shogi_repetition.specs.declared.marks.Marks.{Marks}
 use Rattle.shogi_repetition.specs.declared.marks.Stood.{Stood}
 use Rattle.shogi_repetition.specs.declared.tails.Tail.{Tail}
@@ -106,7 +107,7 @@ module _ (start : ShogiPosition) (xs ys : List SMove) where
   pub played-longer : (n : ℕ) → n ≤ length xs → IsPlayed start xs n → IsPlayed start (xs ++ ys) n
   played-longer n h played k below = goes-longer k (omega (arith, h, below)) (played k below)
 
-  fault-longer : (fault : Fault) → HasFault start xs fault → HasFault start (xs ++ ys) fault
+  fault-longer : (fault : SLineFault) → HasFault start xs fault → HasFault start (xs ++ ys) fault
   fault-longer memory h = tt
   fault-longer (AfterEnd ply) (k, end, ply_is, within, played, ended) =
       let long = length-append xs ys in (
@@ -140,7 +141,7 @@ module _ (start : ShogiPosition) (xs ys : List SMove) where
       }
 
 -- a fault of a beginning is the line's
-pub fault-of-beginning : (start : ShogiPosition) (ms : List SMove) (n : ℕ) (fault : Fault)
+pub fault-of-beginning : (start : ShogiPosition) (ms : List SMove) (n : ℕ) (fault : SLineFault)
     → HasFault start (take n ms) fault → HasFault start ms fault
 fault-of-beginning start ms n fault h = subst (λ l. HasFault start l fault) (take-append-drop n ms)
     (fault-longer start (take n ms) (drop n ms) fault h)

@@ -6,7 +6,7 @@ use Rattle.squares.specs.ShogiSets.{ShogiPosition}
 use Rattle.squares.specs.ShogiSamePosition.{same_shogi_position}
 use Rattle.squares.specs.ShogiOrder.{position_cmp}
 use Rattle.shogi_repetition.specs.declared.ends.SEnd.{SEnd}
-use Rattle.shogi_repetition.specs.declared.faults.Fault.{Fault}
+use Rattle.shogi_repetition.specs.declared.faults.SLineFault.{SLineFault}
 use Rattle.shogi_repetition.specs.declared.marks.Marks.{Marks}
 use Rattle.shogi_repetition.specs.declared.marks.Stood.{Stood}
 use Rattle.shogi_repetition.specs.Line.{last_position, position_after, positions}
@@ -47,7 +47,7 @@ abbrev pub GrowsBy : SMove → Marks → Marks → Type 0
 GrowsBy m old new = (start : ShogiPosition) (ms : List SMove) → Follows start ms old → Follows start (ms ++ m ∷ []) new
 
 -- Where the marks are those of a line, the line with this move more has the fault.
-abbrev pub IsRefused : SMove → Marks → Fault → Type 0
+abbrev pub IsRefused : SMove → Marks → SLineFault → Type 0
 IsRefused m old fault = (start : ShogiPosition) (ms : List SMove) → Follows start ms old
     → HasFault start (ms ++ m ∷ []) fault
 

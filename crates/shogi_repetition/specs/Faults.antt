@@ -4,8 +4,8 @@ use Rattle.squares.specs.declared.shogi.moves.SMove.{SMove}
 use Rattle.squares.specs.ShogiSets.{ShogiPosition}
 use Rattle.shogi_moves.specs.Rules.{Legal, FirstBroken}
 use Rattle.shogi_repetition.specs.declared.ends.SEnd.{SEnd}
-use Rattle.shogi_repetition.specs.declared.faults.Fault.{Fault}
-use Rattle.shogi_repetition.specs.declared.faults.Fault.TheVariants.{Memory, Illegal, AfterEnd}
+use Rattle.shogi_repetition.specs.declared.faults.SLineFault.{SLineFault}
+use Rattle.shogi_repetition.specs.declared.faults.SLineFault.TheVariants.{Memory, Illegal, AfterEnd}
 use Rattle.shogi_repetition.specs.Line.{position_after}
 use Rattle.shogi_repetition.specs.Ends.{EndsSo}
 
@@ -21,7 +21,7 @@ IsPlayed start ms n = (k : ℕ) → k < n → GoesOn start ms k
 -- Plies count from 1. A line has a fault at the first ply that is not played by the rules. It is that of a move after
 -- the end, where the game ended before that ply, whatever the move is. Otherwise it is that of an illegal move, with
 -- the first rule that the move breaks.
-abbrev pub HasFault : ShogiPosition → List SMove → Fault → Type 0
+abbrev pub HasFault : ShogiPosition → List SMove → SLineFault → Type 0
 HasFault start ms Memory = Unit {0}
 HasFault start ms (AfterEnd ply) = (k : ℕ) × (end : SEnd) × (ply ≡ k + 1) × (k < length ms) × IsPlayed start ms k
     × EndsSo start (take k ms) (Some end)

@@ -7,7 +7,7 @@ use std::fmt;
 
 /// Why a line of moves is not judged. Plies count from 1.
 #[derive(Clone, Copy, Debug, PartialEq, Eq)]
-pub enum Fault {
+pub enum SLineFault {
     /// Memory was refused.
     Memory,
     /// The move of this ply is not legal, and why.
@@ -16,7 +16,7 @@ pub enum Fault {
     AfterEnd { ply: usize },
 }
 
-impl fmt::Display for Fault {
+impl fmt::Display for SLineFault {
     ghost use Rattle.std.specs.Prelude.{Some};
     ghost use Rattle.shogi_repetition.specs.FaultText.{fault_text};
 
@@ -24,22 +24,22 @@ impl fmt::Display for Fault {
 
     fn fmt<W: fmt::Write>(&self, f: &mut fmt::Formatter<W>) -> fmt::Result {
         match self {
-            Fault::Memory => f.write_str("out of memory"),
-            Fault::Illegal { ply, cause } => write!(f, "ply {ply}: {cause}"),
-            Fault::AfterEnd { ply } => write!(f, "ply {ply}: the game has ended"),
+            SLineFault::Memory => f.write_str("out of memory"),
+            SLineFault::Illegal { ply, cause } => write!(f, "ply {ply}: {cause}"),
+            SLineFault::AfterEnd { ply } => write!(f, "ply {ply}: the game has ended"),
         }
     }
 }
 
-impl Error for Fault {}
+impl Error for SLineFault {}
 
-impl<T: Drop> From<AllocFailed<T>> for Fault {
+impl<T: Drop> From<AllocFailed<T>> for SLineFault {
     ghost use Rattle.std.specs.Prelude.{◌≡◌};
-    ghost use Rattle.shogi_repetition.specs.declared.faults.Fault.TheVariants.{Memory};
+    ghost use Rattle.shogi_repetition.specs.declared.faults.SLineFault.TheVariants.{Memory};
 
     ghost from_gives = { λ _ e. e ≡ Memory };
 
-    fn from(_e: AllocFailed<T>) -> Fault {
-        Fault::Memory
+    fn from(_e: AllocFailed<T>) -> SLineFault {
+        SLineFault::Memory
     }
 }

@@ -10,7 +10,7 @@ mod repeating;
 pub mod tails;
 
 pub use ends::SEnd;
-pub use faults::Fault;
+pub use faults::SLineFault;
 pub use judging::judge;
 pub use marks::{Marks, Stood};
 pub use tails::Tail;

@@ -4,7 +4,7 @@ ghost use Rattle.std.specs.BTreeMap.{get};
 ghost use Rattle.squares.specs.ShogiOrder.{position_cmp};
 
 use crate::ends::SEnd;
-use crate::faults::Fault;
+use crate::faults::SLineFault;
 use crate::tails::Tail;
 use shogi_moves::{check, play};
 use squares::{SMove, SPos};
@@ -38,9 +38,9 @@ impl Marks {
     ghost use Rattle.shogi_repetition.specs.Tails.{end_by};
 
     /// The line without a move from a position.
-    pub fn start(alloc: Global, position: &SPos) -> Result<Marks, Fault>
+    pub fn start(alloc: Global, position: &SPos) -> Result<Marks, SLineFault>
         ensures follows { IfOk result (Follows position.now []) }
-        ensures fault { IfErr result (λ fault. fault ≡ Fault.Memory) }
+        ensures fault { IfErr result (λ fault. fault ≡ SLineFault.Memory) }
     {
         let stood = Stood { times: 1, first: 0 };
         let mut seen = BTreeMap::new(alloc);
@@ -56,20 +56,20 @@ impl Marks {
 
     /// The line with one move more. It fails where the game has ended, or where the move is not legal, with the fault
     /// that `judge` has of that ply, or where memory is refused; then the line stays as it was.
-    pub fn push(&mut self, played: &SMove) -> Result<(), Fault>
+    pub fn push(&mut self, played: &SMove) -> Result<(), SLineFault>
         ensures follows { OnOk result (GrowsBy played.now self.old self.new) }
         ensures fault { IfErr result (IsRefused played.now self.old) }
         ensures kept { OnErr result (StaysSo self.old self.new) }
     {
         match self.end_by_tail() {
-            Some(_) => return Err(Fault::AfterEnd {
+            Some(_) => return Err(SLineFault::AfterEnd {
                 ply: self.plies + 1,
             }),
             None => {}
         }
         match check(&self.last, played) {
             Ok(()) => {}
-            Err(cause) => return Err(Fault::Illegal {
+            Err(cause) => return Err(SLineFault::Illegal {
                 ply: self.plies + 1,
                 cause,
             }),

@@ -21,7 +21,7 @@ ghost use Rattle.club_changes.specs.Steps.{TellsMoves, TellsSeen};
 ghost use Rattle.club_changes.specs.Whole.{IsWhole};
 
 use clocks::Moment;
-use club_changes::{Counts, Decided, StoredGame, put_decision};
+use club_changes::{Decided, DerivedRows, StoredGame, put_decision};
 use club_core::{Decision, GameView, asked_ply, conclude, decide, settle};
 use club_reads::{CallFault, asked_view, scores_by, seen_by, stood_by};
 use club_requests::{Caller, GameCommand};
@@ -33,7 +33,7 @@ use std::alloc::Global;
 #[derive(Drop)]
 struct Concluded<R: Rules> {
     decision: Decision<R>,
-    counts: Counts,
+    counts: DerivedRows,
 }
 
 // The decision with its end, by how often the position after its move has stood, and the rows that go with it.
@@ -64,7 +64,7 @@ fn counted<R: Rules, S: Alter>(
     let scores = scores_by(alloc, conn, &decision)?;
     Ok(Concluded {
         decision,
-        counts: Counts { seen, scores },
+        counts: DerivedRows { seen, scores },
     })
 }
 

@@ -8,7 +8,7 @@ use Rattle.sqlite_schema.specs.declared.schema.Schema.{Schema}
 use Rattle.store_tables.specs.declared.names.Version.{Version}
 use Rattle.store_tables.specs.declared.names.Version.TheVariants.{First, Current}
 use Rattle.table_shapes.specs.Shapes.{have_both, has_table, is_of_club}
-use Rattle.table_shapes.specs.Told.{has_version}
+use Rattle.table_shapes.specs.TableVersions.{has_version}
 use Rattle.table_shapes.specs.declared.tables.Versions.{Versions}
 use Rattle.store_tables.specs.Tables.{challenges, events, event_rules, games, members, meta, moves, scores, seen}
 use Rattle.store_tables.specs.Texts as t

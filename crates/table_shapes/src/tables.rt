@@ -7,7 +7,7 @@ ghost use Rattle.sqlite_schema.specs.declared.schema.Table as made;
 ghost use Rattle.store_tables.specs.Tables.{event_rules};
 ghost use Rattle.store_tables.specs.declared.names.Version.{Version};
 ghost use Rattle.table_shapes.specs.Shapes as spec;
-ghost use Rattle.table_shapes.specs.Told.{has_version};
+ghost use Rattle.table_shapes.specs.TableVersions.{has_version};
 
 use crate::columns::{has_columns_as, key_name};
 use crate::keys::has_keys_as;

@@ -6,7 +6,7 @@ ghost use Rattle.sqlite.specs.Held.{state};
 ghost use Rattle.store_tables.specs.Club.{IsExactly};
 ghost use Rattle.store_tables.specs.Reading.{OnlyReads};
 ghost use Rattle.club_rows.specs.Club.{ClubState, IsClub, tables};
-ghost use Rattle.club_answers.specs.Shown.{HasShown, HasShownSome};
+ghost use Rattle.club_answers.specs.AnswerTexts.{HasShown, HasShownSome};
 ghost use Rattle.store.specs.Asking.{KeepsUnlessFault};
 
 use super::Club;

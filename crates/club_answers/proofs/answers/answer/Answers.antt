@@ -6,8 +6,8 @@ use Rattle.sqlite.specs.State.{HasCleanDisk}
 use Rattle.store_tables.specs.Tables.{club_schema}
 use Rattle.club_rows.specs.Club.{tables}
 use Rattle.club_answers.specs.Found.{IsFound}
-use Rattle.club_answers.specs.Shown.{HasShown, HasShownSome}
-use Rattle.club_answers.proofs.ShownLemmas.{keeps_then, records_shown, some_records_shown, text_begun}
+use Rattle.club_answers.specs.AnswerTexts.{HasShown, HasShownSome}
+use Rattle.club_answers.proofs.AnswerTextLemmas.{keeps_then, records_shown, some_records_shown, text_begun}
 use Rattle.club_answers.proofs.answers.answer.Goals as goal
 
 pub returns-in-Record-clause-kept : goal.returns-in-Record-clause-kept

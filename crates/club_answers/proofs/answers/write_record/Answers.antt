@@ -1,6 +1,6 @@
 use Rattle.std.proofs.Common.{subst}
 use Rattle.club_views.specs.Exported.{IsExported}
-use Rattle.club_answers.proofs.ShownLemmas.{some_record_shown, record_shown}
+use Rattle.club_answers.proofs.AnswerTextLemmas.{some_record_shown, record_shown}
 use Rattle.club_answers.proofs.answers.write_record.Goals as goal
 
 pub returns-in-Ok-true-clause-shown : goal.returns-in-Ok-true-clause-shown

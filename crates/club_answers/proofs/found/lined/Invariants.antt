@@ -1,6 +1,6 @@
 use Rattle.std.proofs.Common.{◌≡◌, ◌++◌, drop, map}
 use Rattle.std.specs.Prelude.{string_bytes}
-use Rattle.club_answers.specs.Shown.{lined}
+use Rattle.club_answers.specs.AnswerTexts.{lined}
 use Rattle.club_answers.proofs.found.lined.Given as goal
 
 abbrev pub invariant-loop-line : goal.invariant-loop-line

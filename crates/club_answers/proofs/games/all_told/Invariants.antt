@@ -3,7 +3,7 @@ use Rattle.club_rows.specs.Club.{ClubState, IsClub}
 use Rattle.club_rows.specs.Tables.{numbered_from}
 use Rattle.club_changes.specs.Steps.{game_in}
 use Rattle.store_tables.specs.Cells.{game_cells}
-use Rattle.club_lists.specs.ToldViews.{all_by}
+use Rattle.club_lists.specs.SummaryViews.{all_by}
 use Rattle.club_answers.specs.Games.{told_from, told_games}
 use Rattle.club_answers.proofs.games.all_told.Given as goal
 

@@ -1,6 +1,6 @@
 use Rattle.std.proofs.Common.{ap, ◌∙◌}
 use Rattle.club_core.specs.Answer.{events_of}
-use Rattle.club_lists.specs.ToldViews.{all_by}
+use Rattle.club_lists.specs.SummaryViews.{all_by}
 use Rattle.club_answers.proofs.RecordsFound.{asks_records}
 use Rattle.club_answers.proofs.lists.event_records.Goals as goal
 

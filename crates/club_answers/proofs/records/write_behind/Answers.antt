@@ -2,7 +2,7 @@ use Rattle.std.proofs.Common.{inl, true, subst}
 use Rattle.sqlite.specs.Held.{state}
 use Rattle.club_views.specs.Exported.{IsExported, IsWrittenSome}
 use Rattle.club_answers.proofs.RecordLemmas.{behind_added, behind_begun}
-use Rattle.club_answers.proofs.ShownLemmas.{keeps_all}
+use Rattle.club_answers.proofs.AnswerTextLemmas.{keeps_all}
 use Rattle.club_answers.proofs.records.write_behind.Goals as goal
 
 pub returns-in_err-write_front-clause-kept : goal.returns-in_err-write_front-clause-kept

@@ -9,7 +9,7 @@ use Rattle.club_requests.specs.declared.refusals.Refusal.{Refusal}
 use Rattle.club_rows.specs.Club.{tables}
 use Rattle.club_answers.specs.Writing.{HasRecords}
 use Rattle.club_answers.proofs.RecordLemmas.{more_begun, more_written, not_first, so_far}
-use Rattle.club_answers.proofs.ShownLemmas.{keeps_failed}
+use Rattle.club_answers.proofs.AnswerTextLemmas.{keeps_failed}
 use Rattle.club_answers.proofs.records.write_records.Goals as goal
 
 pub loop-id-init : goal.loop-id-init

@@ -5,7 +5,7 @@ use Rattle.store_tables.specs.Tables.{club_schema}
 use Rattle.club_core.specs.Answer.{events_of, members_of}
 use Rattle.club_rows.specs.Club.{tables}
 use Rattle.club_lists.specs.Shows.{mine_text, name_by}
-use Rattle.club_lists.specs.ToldViews.{all_by}
+use Rattle.club_lists.specs.SummaryViews.{all_by}
 use Rattle.club_answers.proofs.shows.mine.Goals as goal
 
 pub returns-in_default-clause-kept : goal.returns-in_default-clause-kept

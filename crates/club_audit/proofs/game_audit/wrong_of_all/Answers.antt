@@ -1,7 +1,7 @@
 use Rattle.std.proofs.Common.{◌≡◌, sym, subst, arith}
 use Rattle.std.proofs.lemmas.Int.{ints}
 use Rattle.club_rows.specs.Replay.{terms_given}
-use Rattle.club_rows.specs.Shown.{IsSoundIfShown, ShowsGame}
+use Rattle.club_rows.specs.LegalRows.{IsSoundIfShown, ShowsGame}
 use Rattle.club_rows.proofs.Proved.{columns-told}
 use Rattle.club_audit.proofs.WrongLemmas.{given-last, last-given, late-end, late-game, moves-by, none-late, seen-by}
 use Rattle.club_audit.proofs.WrongLemmas.{wrong-seen}

@@ -11,8 +11,8 @@ use Rattle.club_imports.specs.OneMoment.{at_moment, clocks_with}
 use Rattle.club_imports.proofs.RowLemmas.{row-plies, row-clocks, row-track, row-position, row-end, row-result}
 use Rattle.club_imports.proofs.rows.imported_row.Goals as goal
 
-pub standing_after-standing-requires-clause-few : goal.standing_after-standing-requires-clause-few
-standing_after-standing-requires-clause-few g c =
+pub line_state_after-line_state-requires-clause-few : goal.line_state_after-line_state-requires-clause-few
+line_state_after-line_state-requires-clause-few g c =
     let met = g.met.R.Rules in
     let are = are_rules g.R.Rules.rules met.first_starts met.turn_passes met.same_is met.ends_at_limit in
     subst (λ ms. length ms ≤ most_plies) (sym c.as_slice-moves.ensures.value)
@@ -41,9 +41,9 @@ returns g c = λ declares.
     let key = Some c.args.key.now in
     let pairing = pairing_of c.args.pairing in
     let value = c.as_slice-moves.ensures.value in
-    let standing = c.standing_after-standing.ensures in
-    let position = standing.position ∙ ap (position_after laws laws.start) value in
-    let track = standing.track ∙ ap (line_track laws laws.start) value in
+    let line_state = c.line_state_after-line_state.ensures in
+    let position = line_state.position ∙ ap (position_after laws laws.start) value in
+    let track = line_state.track ∙ ap (line_track laws laws.start) value in
     let end = c.in_ok-end.ensures ∙ (λ i. laws.judge (c.start-opening.ensures i) (value i)) in
     let left = c.left_after-left.ensures c.args.start
     ∙ ap
@@ -60,10 +60,10 @@ returns g c = λ declares.
           (record { budget = c.args.budget; increment = c.args.increment; declares = declares })
           c.left_after-left.result.first c.left_after-left.result.second left;
       track = c.track_numbers.ensures ∙ ap laws.track_numbers
-          (row-track laws key pairing c.args.start r c.standing_after-standing.result.track track);
+          (row-track laws key pairing c.args.start r c.line_state_after-line_state.result.track track);
       offer = refl;
       end = c.end_of_record.ensures ∙ row-end laws key pairing c.args.start r c.in_ok-end.end end;
       result = row-result laws key pairing c.args.start r c.requires.by_rules;
       position = c.in_ok-position.ensures ∙ ap laws.write_position
-          (row-position laws key pairing c.args.start r c.standing_after-standing.result.position position);
+          (row-position laws key pairing c.args.start r c.line_state_after-line_state.result.position position);
     }

@@ -2,7 +2,7 @@ use Rattle.std.proofs.Common.{sym, ◌∙◌}
 use Rattle.std.specs.Prelude.{string_bytes}
 use Rattle.club_core.specs.Answer.{events_of, members_of}
 use Rattle.club_lists.specs.Shows.{own_game_text, is_own}
-use Rattle.club_lists.specs.ToldViews.{told_by}
+use Rattle.club_lists.specs.SummaryViews.{told_by}
 use Rattle.club_lists.proofs.Picked.{one_left, one_picked}
 use Rattle.club_lists.proofs.shows.own_game_texts.Goals as goal
 

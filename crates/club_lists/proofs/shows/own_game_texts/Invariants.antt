@@ -2,7 +2,7 @@ use Rattle.std.proofs.Common.{◌≡◌, ◌++◌, drop, map}
 use Rattle.std.specs.Prelude.{string_bytes}
 use Rattle.club_core.specs.Answer.{events_of, members_of}
 use Rattle.club_lists.specs.Shows.{own_game_texts}
-use Rattle.club_lists.specs.ToldViews.{all_by}
+use Rattle.club_lists.specs.SummaryViews.{all_by}
 use Rattle.club_lists.proofs.shows.own_game_texts.Given as goal
 
 abbrev pub invariant-loop-game : goal.invariant-loop-game

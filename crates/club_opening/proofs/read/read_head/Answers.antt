@@ -16,7 +16,7 @@ returns-in-Err-clause-blames g c clean has =
 pub returns-in-Err-check_rules-clause-blames : goal.returns-in-Err-check_rules-clause-blames
 returns-in-Err-check_rules-clause-blames g c clean has =
     let s0 = state g.S.Store c.args.conn.now in
-    let s1 = state g.S.Store c.read_told.new.conn in
+    let s1 = state g.S.Store c.read_version.new.conn in
     let clean1 : HasCleanDisk s1 = omega (arith, c.check_rules.ensures.reads.clean) in
     let told = c.in-Ok.told in
     let found = c.in-Ok.ensures.found clean1 has in
@@ -35,7 +35,7 @@ returns-in-Err-check_rules-clause-blames g c clean has =
 pub returns-in-Some-clause-blames : goal.returns-in-Some-clause-blames
 returns-in-Some-clause-blames g c clean has =
     let s0 = state g.S.Store c.args.conn.now in
-    let s1 = state g.S.Store c.read_told.new.conn in
+    let s1 = state g.S.Store c.read_version.new.conn in
     let clean1 : HasCleanDisk s1 = omega (arith, c.check_rules.ensures.reads.clean) in
     let told = c.in-Ok.told in
     let found = c.in-Ok.ensures.found clean1 has in
@@ -48,7 +48,7 @@ returns-in-Some-clause-blames g c clean has =
 pub returns-in-Err-check_tables-clause-blames : goal.returns-in-Err-check_tables-clause-blames
 returns-in-Err-check_tables-clause-blames g c clean has =
     let s0 = state g.S.Store c.args.conn.now in
-    let s1 = state g.S.Store c.read_told.new.conn in
+    let s1 = state g.S.Store c.read_version.new.conn in
     let s2 = state g.S.Store c.check_rules.new.conn in
     let clean2 : HasCleanDisk s2 = omega (arith, c.check_tables.ensures.reads.clean) in
     let clean1 : HasCleanDisk s1 = omega (arith, c.check_rules.ensures.reads.clean, c.check_tables.ensures.reads.clean)
@@ -60,7 +60,7 @@ returns-in-Err-check_tables-clause-blames g c clean has =
 pub returns-in-Ok-check_tables-clause-found : goal.returns-in-Ok-check_tables-clause-found
 returns-in-Ok-check_tables-clause-found g c clean has =
     let s0 = state g.S.Store c.args.conn.now in
-    let s1 = state g.S.Store c.read_told.new.conn in
+    let s1 = state g.S.Store c.read_version.new.conn in
     let s2 = state g.S.Store c.check_rules.new.conn in
     let s3 = state g.S.Store c.check_tables.new.conn in
     let clean2 : HasCleanDisk s2 = omega (arith, c.check_tables.ensures.reads.clean) in
@@ -81,7 +81,7 @@ returns-in-Ok-check_tables-clause-found g c clean has =
 pub returns-in-Ok-check_tables-clause-same : goal.returns-in-Ok-check_tables-clause-same
 returns-in-Ok-check_tables-clause-same g c clean has =
     let s0 = state g.S.Store c.args.conn.now in
-    let s1 = state g.S.Store c.read_told.new.conn in
+    let s1 = state g.S.Store c.read_version.new.conn in
     let s2 = state g.S.Store c.check_rules.new.conn in
     let s3 = state g.S.Store c.check_tables.new.conn in
     let clean2 : HasCleanDisk s2 = omega (arith, c.check_tables.ensures.reads.clean) in
@@ -111,7 +111,7 @@ returns-in-Some-clause-undamaged g c clean has =
 pub returns-in-Err-check_tables-clause-undamaged : goal.returns-in-Err-check_tables-clause-undamaged
 returns-in-Err-check_tables-clause-undamaged g c clean has =
     let s0 = state g.S.Store c.args.conn.now in
-    let s1 = state g.S.Store c.read_told.new.conn in
+    let s1 = state g.S.Store c.read_version.new.conn in
     let s2 = state g.S.Store c.check_rules.new.conn in
     let clean2 : HasCleanDisk s2 = omega (arith, c.check_tables.ensures.reads.clean) in
     let clean1 : HasCleanDisk s1 = omega (arith, c.check_rules.ensures.reads.clean, c.check_tables.ensures.reads.clean)

@@ -1,7 +1,7 @@
 use Rattle.std.proofs.Common.{◌≡◌, Ok, refl, sym, ◌∙◌, subst}
 use Rattle.std.specs.Prelude.{IfSome}
 use Rattle.club_rows.proofs.RowViewLemmas.{one-text}
-use Rattle.club_rows.proofs.ToldLemmas.{same-pos}
+use Rattle.club_rows.proofs.HeaderLemmas.{same-pos}
 use Rattle.club_rows.proofs.row_view.asked_in.Goals as goal
 
 pub returns-clause-shows : goal.returns-clause-shows

@@ -4,8 +4,9 @@ use Rattle.std.specs.Prelude.{IfSome, IsTrue}
 use Rattle.club_requests.specs.Limits.{is_budget, is_increment}
 use Rattle.club_rows.specs.Replay.{IsCounted, IsReplayed, WasReplayed, terms_given}
 use Rattle.club_rows.specs.Tally.{IsTallyOf}
-use Rattle.club_rows.proofs.ShownLemmas.{WasViewed, moves-right, moves-wrong, row-wrong, same-numbers, shown-complete}
-use Rattle.club_rows.proofs.ShownLemmas.{shown-sound, told-wrong}
+use Rattle.club_rows.proofs.LegalRowsLemmas.{WasViewed, moves-right, moves-wrong, row-wrong, same-numbers}
+use Rattle.club_rows.proofs.LegalRowsLemmas.{shown-complete}
+use Rattle.club_rows.proofs.LegalRowsLemmas.{shown-sound, told-wrong}
 use Rattle.club_rows.proofs.view.view_of.Goals as goal
 
 pub returns-in-None-2-clause-wrong : goal.returns-in-None-2-clause-wrong

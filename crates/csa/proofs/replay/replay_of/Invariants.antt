@@ -2,7 +2,7 @@ use Rattle.std.proofs.Common.{take}
 use Rattle.squares.specs.ShogiOpening.{opening}
 use Rattle.csa.specs.Moves.{MeanAll}
 use Rattle.csa.specs.Replays.{written_moves}
-use Rattle.csa.specs.Replaying.{Stands}
+use Rattle.csa.specs.Replaying.{IsConsistent}
 use Rattle.csa.proofs.replay.replay_of.Given as goal
 
 pub record Replayed (IsStanding IsMeant : Type 0) : Type 0 where
@@ -11,4 +11,4 @@ pub record Replayed (IsStanding IsMeant : Type 0) : Type 0 where
 
 abbrev pub invariant-loop-each : goal.invariant-loop-each
 invariant-loop-each l =
-    Replayed (Stands l.replay) (MeanAll opening (written_moves (take l.each-index l.placed)) l.replay.moves.items)
+    Replayed (IsConsistent l.replay) (MeanAll opening (written_moves (take l.each-index l.placed)) l.replay.moves.items)

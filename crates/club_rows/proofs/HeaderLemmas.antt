@@ -26,8 +26,8 @@ use Rattle.store_tables.specs.declared.rows.MoveRow.{MoveRow}
 use Rattle.club_requests.specs.OutsideEnd.{outside_text}
 use Rattle.club_rows.specs.Tables.{game_row, move_rows, side_number, end_name_text}
 use Rattle.club_rows.specs.Replay.{IsPlayedAs, game_from}
-use Rattle.club_rows.specs.Shown.{AreRowsOf}
-use Rattle.club_rows.specs.Told.{HasNumbers, may_have_key, may_have_offer, may_have_end, may_stand}
+use Rattle.club_rows.specs.LegalRows.{AreRowsOf}
+use Rattle.club_rows.specs.GameHeader.{HasNumbers, may_have_key, may_have_offer, may_have_end, may_stand}
 use Rattle.club_rows.proofs.SameLemmas.{seventeen-parts, same-int, same-texts, same-ints, option_map-itself}
 
 -- what the columns of the row of a game are

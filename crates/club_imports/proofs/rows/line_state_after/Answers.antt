@@ -1,6 +1,6 @@
 use Rattle.std.proofs.Common.{◌∙◌}
 use Rattle.club_imports.proofs.StandingLemmas.{next-legal, next-position, next-track}
-use Rattle.club_imports.proofs.rows.standing_after.Goals as goal
+use Rattle.club_imports.proofs.rows.line_state_after.Goals as goal
 
 pub play-next-requires : goal.play-next-requires
 play-next-requires g c =

@@ -1,7 +1,7 @@
 use Rattle.std.proofs.Common.{inl, inr, refl, rules}
 use Rattle.sqlite.specs.Held.{state}
 use Rattle.club_opening.proofs.BlameLemmas.{has_number}
-use Rattle.club_opening.proofs.read.read_told.Goals as goal
+use Rattle.club_opening.proofs.read.read_version.Goals as goal
 
 pub returns-in-Ok-None-clause-found : goal.returns-in-Ok-None-clause-found
 returns-in-Ok-None-clause-found g c clean has =

@@ -1,6 +1,6 @@
 use Rattle.std.proofs.Common.{◌≡◌, take}
 use Rattle.club_rules.specs.Line.{position_after, line_track}
-use Rattle.club_imports.proofs.rows.standing_after.Given as goal
+use Rattle.club_imports.proofs.rows.line_state_after.Given as goal
 
 abbrev pub invariant-loop-i : goal.invariant-loop-i
 invariant-loop-i g l =

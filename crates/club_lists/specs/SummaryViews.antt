@@ -3,12 +3,12 @@ use Rattle.std.specs.Prelude.{List, map, string_bytes}
 use Rattle.std.specs.Option.{option_map}
 use Rattle.club_lists.specs.declared.told.GameOver.{GameOver}
 use Rattle.club_lists.specs.declared.told.ToldGame.{ToldGame}
-use Rattle.club_lists.specs.Told.{Over, Told}
+use Rattle.club_lists.specs.GameSummary.{Over, GameSummary}
 
 abbrev pub over_by : GameOver → Over
 over_by over = record { end = string_bytes over.end; result = string_bytes over.result }
 
-abbrev pub told_by : ToldGame → Told
+abbrev pub told_by : ToldGame → GameSummary
 told_by game = record {
   id = game.id;
   event = game.event;
@@ -23,5 +23,5 @@ told_by game = record {
 }
 
 -- those of several games
-abbrev pub all_by : List ToldGame → List Told
+abbrev pub all_by : List ToldGame → List GameSummary
 all_by games = map told_by games

@@ -17,17 +17,17 @@ use Rattle.store_tables.specs.declared.rows.MoveRow.{MoveRow}
 use Rattle.club_rows.specs.Tables.{game_row}
 use Rattle.club_rows.specs.Replay.{WasReplayed, IsPlayedAs, Replays, game_from}
 use Rattle.club_rows.specs.Tally.{IsTallyOf}
-use Rattle.club_rows.specs.Shown.{AreMovesOf, IsHistoryOf, AreRowsOf, IsUnstarted, IsWrongAsTold, ShowsGame}
-use Rattle.club_rows.specs.Shown.{IsSoundIfShown, StandsAs}
-use Rattle.club_rows.specs.Told.{HasNumbers, AreIds, IsTold, game_told, may_declare}
+use Rattle.club_rows.specs.LegalRows.{AreMovesOf, IsHistoryOf, AreRowsOf, IsUnstarted, IsWrongAsTold, ShowsGame}
+use Rattle.club_rows.specs.LegalRows.{IsSoundIfShown, StandsAs}
+use Rattle.club_rows.specs.GameHeader.{HasNumbers, AreIds, IsHeaderOf, game_of_header, may_declare}
 use Rattle.club_rows.specs.declared.replay.Replayed.{Replayed}
 use Rattle.club_rows.specs.declared.view.Numbers.{Numbers}
-use Rattle.club_rows.specs.declared.view.Told.{Told}
+use Rattle.club_rows.specs.declared.view.GameHeader.{GameHeader}
 use Rattle.club_rows.specs.declared.view.Played.{Played}
-use Rattle.club_rows.specs.declared.view.Shown.{Shown}
-use Rattle.club_rows.specs.declared.view.Shown.TheVariants as shown
-use Rattle.club_rows.proofs.ToldLemmas.{IsToldBy, columns-told, same-pos, told-outside, told-recorded, rows-played}
-use Rattle.club_rows.proofs.ToldLemmas.{declares, row-stands, stands-legal, legal-stands, is_some-none}
+use Rattle.club_rows.specs.declared.view.CheckedRows.{CheckedRows}
+use Rattle.club_rows.specs.declared.view.CheckedRows.TheVariants as shown
+use Rattle.club_rows.proofs.HeaderLemmas.{IsToldBy, columns-told, same-pos, told-outside, told-recorded, rows-played}
+use Rattle.club_rows.proofs.HeaderLemmas.{declares, row-stands, stands-legal, legal-stands, is_some-none}
 use Rattle.club_rows.proofs.WholeLemmas.{none-played, played-count, rows-alike}
 
 -- games with the same parts are one
@@ -54,10 +54,10 @@ pub record WasViewed {R P M E T : Type 0} (rules : GameRules P M E T) (terms : T
   pub has : HasNumbers stored given.game given.event given.first given.second given.start
   pub ids : AreIds given.game given.event given.first given.second given.start
   pub was : WasReplayed rules terms given.game given.start moves (length moves) replayed
-  pub told : Told E
-  pub is_told : IsTold rules stored given replayed.line.items told
+  pub told : GameHeader E
+  pub is_told : IsHeaderOf rules stored given replayed.line.items told
   pub shows : (entries : List (Entry M)) → Replays rules terms (game_from given.start entries) replayed
-      → Shows rules (game_told told entries) full.view
+      → Shows rules (game_of_header told entries) full.view
   pub terms_are : terms_of full.view ≡ terms
   pub sound : IsSound rules full.view
   pub line : full.line.items ≡ replayed.line.items
@@ -70,7 +70,7 @@ module _ {R P M E T : Type 0} (rules : GameRules P M E T) (terms : Terms) (store
   view = full.view
 
   abbrev shown_game : Game M
-  shown_game = game_told known.told known.was.entries
+  shown_game = game_of_header known.told known.was.entries
 
   showing : Shows rules shown_game view
   showing = known.shows known.was.entries known.was.replays
@@ -93,7 +93,7 @@ module _ {R P M E T : Type 0} (rules : GameRules P M E T) (terms : Terms) (store
   ruled-is : known.told.ruled ≡ rule_end rules shown_game
   ruled-is = known.is_told.ruled ∙ ap (rules.judge rules.start) known.was.replays.line
 
-  pub shown-sound : (s : Shown R P M E T) → StandsAs rules stored given.game full s
+  pub shown-sound : (s : CheckedRows R P M E T) → StandsAs rules stored given.game full s
       → IsSoundIfShown rules terms stored moves s
   shown-sound shown.WrongMoves stands = tt
   shown-sound shown.WrongGame stands = tt
@@ -193,7 +193,8 @@ module _ {R P M E T : Type 0} (rules : GameRules P M E T) (terms : Terms) (store
     row-it : IsRowOf rules terms game view.row
     row-it = subst (λ x. IsRowOf rules terms x view.row) game-same row-of
 
-    pub shown-complete : (s : Shown R P M E T) → StandsAs rules stored given.game full s → ShowsGame rules terms game s
+    pub shown-complete : (s : CheckedRows R P M E T) → StandsAs rules stored given.game full s
+        → ShowsGame rules terms game s
     shown-complete shown.WrongMoves stands = stands
     shown-complete shown.WrongGame stands =
         stands terms game row-it (row-stands rules terms game view.row _ row-it (declares-is game shows-it)
@@ -239,7 +240,7 @@ module _ {P M E T : Type 0} (rules : GameRules P M E T) (terms : Terms) (stored 
 -- with a row that has no id, or no start, only a game without moves goes
 pub unstarted-wrong : {R P M E T : Type 0} (rules : GameRules P M E T) (terms : Terms) (stored : GameRecord)
     (moves : List MoveRow) → ((id start : ℕ) → stored.id ≡ pos id → stored.start ≡ pos start → id < 2 ^ 32
-    → start ≤ 253402300799 → ⊥) → (s : Shown R P M E T) → IsUnstarted moves s
+    → start ≤ 253402300799 → ⊥) → (s : CheckedRows R P M E T) → IsUnstarted moves s
     → IsWrongAsTold rules terms stored moves s
 unstarted-wrong rules terms stored moves never (shown.Game v) is = tt
 unstarted-wrong rules terms stored moves never shown.WrongMoves some = λ are. elim are [
@@ -255,7 +256,7 @@ unstarted-wrong rules terms stored moves never shown.WrongGame empty = (
 
 -- of what was shown after a replay nothing but the row can be wrong
 pub told-wrong : {R P M E T : Type 0} (rules : GameRules P M E T) (terms : Terms) (stored : GameRecord)
-    (moves : List MoveRow) → AreMovesOf rules terms stored moves → (s : Shown R P M E T)
+    (moves : List MoveRow) → AreMovesOf rules terms stored moves → (s : CheckedRows R P M E T)
     → (given : ℕ) (full : Played R P M E T) → StandsAs rules stored given full s
     → ((id : ℕ) (game : Game M) → AreRowsOf rules terms id stored moves game → ShowsGame rules terms game s)
     → IsWrongAsTold rules terms stored moves s

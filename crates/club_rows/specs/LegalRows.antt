@@ -7,7 +7,7 @@ use Rattle.club_core.specs.Game.{Game, moves_of}
 use Rattle.club_core.specs.Legal.{IsLegalGame}
 use Rattle.club_core.specs.LegalState.{Each}
 use Rattle.club_rows.specs.Replay.{IsPlayedAs}
-use Rattle.club_rows.specs.Told.{may_declare, may_stand}
+use Rattle.club_rows.specs.GameHeader.{may_declare, may_stand}
 use Rattle.club_core.specs.View.{IsRowOf, Shows, IsSound, terms_of}
 use Rattle.store_tables.specs.Cells.{game_cells, move_cells}
 use Rattle.store_tables.specs.declared.rows.GameRecord.{GameRecord}
@@ -15,8 +15,8 @@ use Rattle.store_tables.specs.declared.rows.MoveRow.{MoveRow}
 use Rattle.club_rows.specs.Tables.{game_row, move_rows}
 use Rattle.club_rows.specs.Tally.{IsTallyOf}
 use Rattle.club_rows.specs.declared.view.Played.{Played}
-use Rattle.club_rows.specs.declared.view.Shown.{Shown}
-use Rattle.club_rows.specs.declared.view.Shown.TheVariants as shown
+use Rattle.club_rows.specs.declared.view.CheckedRows.{CheckedRows}
+use Rattle.club_rows.specs.declared.view.CheckedRows.TheVariants as shown
 
 -- the game's values fit their columns: a key that is a name, ids of 32 bits, and no moment past the last one
 pub record FitsTables {M : Type 0} (number : ℕ) (game : Game M) : Type 0 where
@@ -70,7 +70,7 @@ pub record IsHistoryOf {R P M E T : Type 0} (rules : GameRules P M E T) (game : 
   pub tally : IsTallyOf rules (moves_of game) played.tally
 
 -- a view is shown, by these terms, and it shows the game
-abbrev pub ShowsGame : {R P M E T : Type 0} → GameRules P M E T → Terms → Game M → Shown R P M E T → Type 0
+abbrev pub ShowsGame : {R P M E T : Type 0} → GameRules P M E T → Terms → Game M → CheckedRows R P M E T → Type 0
 ShowsGame rules terms game (shown.Game played) =
     (terms_of played.view ≡ terms) × Shows rules game played.view × IsHistoryOf rules game played
 ShowsGame rules terms game shown.WrongMoves = ⊥
@@ -78,7 +78,7 @@ ShowsGame rules terms game shown.WrongGame = ⊥
 
 -- where a view is shown, the rows are those of a legal game that it shows
 abbrev pub IsSoundIfShown : {R P M E T : Type 0} → GameRules P M E T → Terms → GameRecord → List MoveRow
-    → Shown R P M E T → Type 0
+    → CheckedRows R P M E T → Type 0
 IsSoundIfShown {R} {P} {M} {E} {T} rules terms row moves (shown.Game played) =
     (id : ℕ) × (game : Game M) × AreRowsOf rules terms id row moves game × (terms_of played.view ≡ terms)
     × Shows rules game played.view × IsSound rules played.view × IsHistoryOf rules game played
@@ -87,21 +87,21 @@ IsSoundIfShown rules terms row moves shown.WrongGame = Unit {0}
 
 -- moves that are called wrong are wrong; those of a row that is called wrong are not, and the row is
 abbrev pub IsWrongAsTold : {R P M E T : Type 0} → GameRules P M E T → Terms → GameRecord → List MoveRow
-    → Shown R P M E T → Type 0
+    → CheckedRows R P M E T → Type 0
 IsWrongAsTold rules terms row moves (shown.Game played) = Unit {0}
 IsWrongAsTold rules terms row moves shown.WrongMoves = ¬ AreMovesOf rules terms row moves
 IsWrongAsTold {M = M} rules terms row moves shown.WrongGame =
     AreMovesOf rules terms row moves × ((id : ℕ) (game : Game M) → ¬ AreRowsOf rules terms id row moves game)
 
 -- with a row that has no id or no start the moves are called wrong, where there are some, and else the row
-abbrev pub IsUnstarted : {R P M E T : Type 0} → List MoveRow → Shown R P M E T → Type 0
+abbrev pub IsUnstarted : {R P M E T : Type 0} → List MoveRow → CheckedRows R P M E T → Type 0
 IsUnstarted moves (shown.Game played) = ⊥
 IsUnstarted moves shown.WrongMoves = moves ≢ []
 IsUnstarted moves shown.WrongGame = moves ≡ []
 
 -- a game is shown where its row may stand and is the one that is stored under that id
-abbrev pub StandsAs : {R P M E T : Type 0} → GameRules P M E T → GameRecord → ℕ → Played R P M E T → Shown R P M E T
-    → Type 0
+abbrev pub StandsAs : {R P M E T : Type 0} → GameRules P M E T → GameRecord → ℕ → Played R P M E T
+    → CheckedRows R P M E T → Type 0
 StandsAs {R} {P} {M} {E} {T} rules stored id played (shown.Game p) =
     (p ≡ played) × (may_stand rules.has_draw_offers (may_declare rules played.view) played.view.row ≡ true)
     × ((terms : Terms) (game : Game M) → IsRowOf rules terms game played.view.row

@@ -1,7 +1,7 @@
 use Rattle.std.proofs.Common.{refl, sym, ◌∙◌, ap, is_ok, arith}
 use Rattle.draughts_draws.proofs.CountLemmas.{unlimited, next-king_plies, next-class_positions, after-end, not-legal}
 use Rattle.draughts_draws.proofs.CountLemmas.{few, next-follows}
-use Rattle.draughts_draws.proofs.counts.Counts.push.Goals as goal
+use Rattle.draughts_draws.proofs.counts.DrawCounts.push.Goals as goal
 
 pub returns-in-Some-clause-fault : goal.returns-in-Some-clause-fault
 returns-in-Some-clause-fault c = λ start moves follows.

@@ -3,7 +3,7 @@ use Rattle.std.specs.Prelude.{Some, cond}
 use Rattle.std.specs.Map.{lookup}
 use Rattle.squares.specs.DraughtsSamePosition.{same_position}
 use Rattle.draughts_draws.proofs.CountLemmas.{start-follows}
-use Rattle.draughts_draws.proofs.counts.Counts.start.Goals as goal
+use Rattle.draughts_draws.proofs.counts.DrawCounts.start.Goals as goal
 
 pub returns-clause-follows : goal.returns-clause-follows
 returns-clause-follows c = start-follows c.args.position.now _ refl refl refl c.start.ensures (λ q.

@@ -7,28 +7,28 @@ use Rattle.store_tables.specs.Tables.{schema_of}
 use Rattle.sessions.proofs.Proved.{was_clean}
 use Rattle.club_files.proofs.FoundLemmas.{taken_files, told_files}
 use Rattle.club_desk.specs.Repeats.{stands_at}
-use Rattle.club_files.proofs.desk.stretch.Goals as goal
+use Rattle.club_files.proofs.desk.serve_files.Goals as goal
 
 pub returns-clause-led : goal.returns-clause-led
 returns-clause-led g c clean sessions led left may found finds =
     let after = was_clean _ _ c.close.ensures.clean clean in
-    let before = c.serve_stretch-fault.ensures.clean after in
+    let before = c.serve_club-fault.ensures.clean after in
     let opened = c.in-Ok.ensures.opened before in
     let here = c.in-Ok.ensures.found before in
     ∥∥₁_elim (led _ (record { holds = here.holds; reads = here.reads })) squash₁ (λ was.
-    let on = c.serve_stretch-fault.ensures.led after opened.0 opened.1 sessions was in
+    let on = c.serve_club-fault.ensures.led after opened.0 opened.1 sessions was in
     ∥∥₁_map (c.close.ensures.member clean left may found finds.holds)
     (λ now. record { turns = on.turns; are_turns = on.are_turns; led = on.led found now }))
 
 pub returns-clause-whole : goal.returns-clause-whole
 returns-clause-whole g c clean none sessions led left may found finds =
     let after = was_clean _ _ c.close.ensures.clean clean in
-    let before = c.serve_stretch-fault.ensures.clean after in
+    let before = c.serve_club-fault.ensures.clean after in
     let opened = c.in-Ok.ensures.opened before in
     let here = c.in-Ok.ensures.found before in
-    let nothing : c.serve_stretch-fault.result.0 ≡ None = cc in
+    let nothing : c.serve_club-fault.result.0 ≡ None = cc in
     ∥∥₁_elim (led _ (record { holds = here.holds; reads = here.reads })) squash₁ (λ was.
-    let on = c.serve_stretch-fault.ensures.stands after opened.0 opened.1 nothing sessions was in
+    let on = c.serve_club-fault.ensures.stands after opened.0 opened.1 nothing sessions was in
     ∥∥₁_map (c.close.ensures.member clean left may found finds.holds) (λ now. (
       record {
         turns = on.turns;
@@ -47,31 +47,31 @@ returns-clause-whole g c clean none sessions led left may found finds =
 pub returns-clause-told : goal.returns-clause-told
 returns-clause-told g c clean =
     let after = was_clean _ _ c.close.ensures.clean clean in
-    let before = c.serve_stretch-fault.ensures.clean after in
+    let before = c.serve_club-fault.ensures.clean after in
     let opened = c.in-Ok.ensures.opened before in (
-      c.serve_stretch-fault.result.0,
+      c.serve_club-fault.result.0,
       refl,
       told_files (image_at g.S.Start) (file_state c.in-Ok.conn) (c.in-Ok.ensures.found before)
-          (file_state c.serve_stretch-fault.result.1) (store_state c.close.result).may_leave
+          (file_state c.serve_club-fault.result.1) (store_state c.close.result).may_leave
           (c.close.ensures.member clean) opened.0 (λ version. c.holds_exactly.ensures opened.0 opened.1
           (schema_of version))
-          c.serve_stretch-fault.result.0 (c.serve_stretch-fault.ensures.told after),
+          c.serve_club-fault.result.0 (c.serve_club-fault.ensures.told after),
     )
 
 pub returns-clause-taken : goal.returns-clause-taken
 returns-clause-taken g c clean =
     let after = was_clean _ _ c.close.ensures.clean clean in
-    let before = c.serve_stretch-fault.ensures.clean after in
+    let before = c.serve_club-fault.ensures.clean after in
     let opened = c.in-Ok.ensures.opened before in
     taken_files (image_at g.S.Start) (file_state c.in-Ok.conn) (c.in-Ok.ensures.found before)
-    (λ version. c.holds_exactly.ensures opened.0 opened.1 (schema_of version)) c.serve_stretch-fault.result.0
-    (λ schema. c.serve_stretch-fault.ensures.taken after opened.0 opened.1 schema)
+    (λ version. c.holds_exactly.ensures opened.0 opened.1 (schema_of version)) c.serve_club-fault.result.0
+    (λ schema. c.serve_club-fault.ensures.taken after opened.0 opened.1 schema)
 
 pub returns-clause-good : goal.returns-clause-good
 returns-clause-good g c clean s are =
     let after = was_clean _ _ c.close.ensures.clean clean in
-    let before = c.serve_stretch-fault.ensures.clean after in
+    let before = c.serve_club-fault.ensures.clean after in
     let opened = c.in-Ok.ensures.opened before in
     let here = c.in-Ok.ensures.found before in
-    c.serve_stretch-fault.ensures.good after opened.0 opened.1 s are.legal
+    c.serve_club-fault.ensures.good after opened.0 opened.1 s are.legal
     (are.finds _ (record { holds = here.holds; reads = here.reads }))

@@ -8,7 +8,7 @@ ghost use Rattle.store_tables.specs.Club.{Leaves};
 ghost use Rattle.store_tables.specs.Tables.{IsClubSchema};
 ghost use Rattle.club_rows.specs.Club.{ClubState, IsClub, tables};
 ghost use Rattle.club_opening.specs.Refused.{HoldClub};
-ghost use Rattle.club_desk.specs.Told.{IfTaken, IsOfClub, IsTold, fault_behind};
+ghost use Rattle.club_desk.specs.ToldFault.{IfTaken, IsOfClub, IsTold, fault_behind};
 ghost use Rattle.club_desk.specs.Turns.{IsHistoryOn, IsReachableOn};
 
 use crate::desk_club::DeskClub;
@@ -62,7 +62,7 @@ fn fault_behind(has_failed: bool) -> Option<ClubFault>
 /// call on it failed. Sessions that led to what the opening found lead, with commands of members and of the officer
 /// added, each a session of its own, to whatever a stop leaves; where no fault is told, none of these was cut off.
 /// Tables that are not taken over are blamed, and stay as they were found.
-pub fn serve_stretch<S: Alter, V: Visits>(
+pub fn serve_club<S: Alter, V: Visits>(
     alloc: Global,
     conn: Connection<S>,
     visits: &mut V,

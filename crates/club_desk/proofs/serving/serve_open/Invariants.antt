@@ -3,7 +3,7 @@ use Rattle.sqlite.specs.State.{HasCleanDisk}
 use Rattle.sqlite.specs.Held.{state}
 use Rattle.store.specs.Histories.{Chapter, IsHistory}
 use Rattle.club_desk.specs.Turns.{IsHistoryOn}
-use Rattle.club_desk.proofs.stretch.serve_open.Given as goal
+use Rattle.club_desk.proofs.serving.serve_open.Given as goal
 
 abbrev pub invariant-loop : goal.invariant-loop
 invariant-loop g l = record {

@@ -16,7 +16,7 @@ use Rattle.club_questions.specs.declared.questions.Question.TheVariants.{ClockOf
 use Rattle.club_rules.specs.declared.names.GameKind.{GameKind}
 use Rattle.club_answers.specs.Found.{AsksRecords, IsFound, IsFoundAs}
 use Rattle.club_answers.specs.EventRecords.{BeginsRecords, AreRecords, ids_in}
-use Rattle.club_answers.specs.Shown.{BeginsShown, HasShown, HasShownSome, IsRefused, IsText}
+use Rattle.club_answers.specs.AnswerTexts.{BeginsShown, HasShown, HasShownSome, IsRefused, IsText}
 use Rattle.club_answers.specs.Writing.{HasRecords}
 use Rattle.club_answers.proofs.RecordLemmas.{record_added, record_begun, records_begun}
 use Rattle.club_answers.specs.declared.found.Found.{Found}

@@ -19,7 +19,7 @@ use Rattle.squares.specs.Sides.{score_text}
 use Rattle.club_requests.specs.OutsideEnd.{outside_text}
 use Rattle.club_rows.specs.Tables.{side_number}
 use Rattle.club_rows.specs.declared.view.Numbers.{Numbers}
-use Rattle.club_rows.specs.declared.view.Told.{Told}
+use Rattle.club_rows.specs.declared.view.GameHeader.{GameHeader}
 
 -- the stored row has these ids and this start
 pub record HasNumbers (stored : GameRecord) (game_id event_id first_id second_id moment : ℕ) : Type 0 where
@@ -38,8 +38,8 @@ pub record AreIds (game_id event_id first_id second_id moment : ℕ) : Type 0 wh
   pub start : moment ≤ last_moment
 
 -- the game of which these are the entries
-abbrev pub game_told : {E M : Type 0} → Told E → List (Entry M) → Game M
-game_told told entries =
+abbrev pub game_of_header : {E M : Type 0} → GameHeader E → List (Entry M) → Game M
+game_of_header told entries =
     record {
       key = option_map (λ s. string_bytes s) told.key;
       event = told.numbers.event;
@@ -83,8 +83,8 @@ may_stand allowed declares row =
     && may_have_end (is_some row.key) (is_some row.offer) declares row.start row.since row.end
 
 -- what is told is what the stored row says, beside the end that the rules give to the line
-pub record IsTold {P M E T : Type 0} (rules : GameRules P M E T) (stored : GameRecord) (given : Numbers) (line : List M)
-    (told : Told E) : Type 0 where
+pub record IsHeaderOf {P M E T : Type 0} (rules : GameRules P M E T) (stored : GameRecord) (given : Numbers)
+    (line : List M) (told : GameHeader E) : Type 0 where
   pub key : option_map (λ s. string_bytes s) told.key ≡ option_map (λ s. string_bytes s) stored.key
   pub numbers : told.numbers ≡ given
   pub ruled : told.ruled ≡ rules.judge rules.start line

@@ -10,7 +10,7 @@ pub record Over : Type 0 where
 
 -- its id, those of its event and of its players, its key if it has one, how many plies were played, the side to move,
 -- the clocks, the side that offers a draw, and how it ended, if it has
-pub record Told : Type 0 where
+pub record GameSummary : Type 0 where
   pub id : ℕ
   pub event : ℕ
   pub first : ℕ
@@ -23,16 +23,16 @@ pub record Told : Type 0 where
   pub over : Option Over
 
 -- the seconds that the side to move had left after its last move
-abbrev pub left_in : Told → ℕ
+abbrev pub left_in : GameSummary → ℕ
 left_in told = left_of told.turn told.clocks
 
 -- the last second in which a move is in time
-abbrev pub deadline : Told → ℕ
+abbrev pub deadline : GameSummary → ℕ
 deadline told = told.clocks.since + left_in told
 
-abbrev pub is_over : Told → Bool
+abbrev pub is_over : GameSummary → Bool
 is_over told = is_some told.over
 
 -- the game goes on, and more seconds have gone by this moment than the side to move had left
-abbrev pub is_late : ℕ → Told → Bool
+abbrev pub is_late : ℕ → GameSummary → Bool
 is_late moment told = not (is_over told) && nat_lt (left_in told) (moment - told.clocks.since)

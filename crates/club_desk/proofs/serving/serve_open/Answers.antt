@@ -1,7 +1,7 @@
 use Rattle.std.proofs.Common.{◌≡◌, false, rules}
 use Rattle.sqlite.specs.Held.{state}
 use Rattle.club_desk.proofs.TurnLemmas.{stands_first, stands_led, turn_led, turn_stands}
-use Rattle.club_desk.proofs.stretch.serve_open.Goals as goal
+use Rattle.club_desk.proofs.serving.serve_open.Goals as goal
 
 pub loop-init : goal.loop-init
 loop-init g c =

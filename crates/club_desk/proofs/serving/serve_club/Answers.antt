@@ -7,7 +7,7 @@ use Rattle.store_tables.specs.Club.{IsOpened}
 use Rattle.club_desk.specs.Turns.{IsHistoryOn, IsReachableOn}
 use Rattle.club_desk.proofs.ToldLemmas.{untaken, good_told, served_told, served_taken, served_good, none_failed, stood}
 use Rattle.club_desk.proofs.TurnLemmas.{reads_led}
-use Rattle.club_desk.proofs.stretch.serve_stretch.Goals as goal
+use Rattle.club_desk.proofs.serving.serve_club.Goals as goal
 
 pub returns-in-Err-clause-led : goal.returns-in-Err-clause-led
 returns-in-Err-clause-led g c clean opens live sessions led =
