@@ -1,6 +1,7 @@
 pub mod Faults
 pub mod Routes
 pub mod RouteViews
+pub mod Taken
 pub mod Questions
 pub mod Served
 pub mod Desk

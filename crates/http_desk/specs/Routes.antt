@@ -1,6 +1,6 @@
 -- What a target asks for.
 use Rattle.std.specs.Prelude.{ℕ, Bool, ◌&&◌, ◌==◌, List, [], ◌∷◌, Option, Some, None, Result, Ok, Err, option_map}
-use Rattle.std.specs.Prelude.{codes, length, take, drop, nat_lt, if◌then◌else◌, true, false}
+use Rattle.std.specs.Prelude.{codes, length, map, take, drop, nat_lt, if◌then◌else◌, true, false}
 use Rattle.std.specs.Str.{bytes_eq, is_utf8}
 use Rattle.matchit.specs.Rows.{RowsOf}
 use Rattle.matchit.specs.Router.{RouteOf, route_from}
@@ -8,16 +8,14 @@ use Rattle.matchit.specs.Order.{placed}
 use Rattle.matchit.specs.Route.{Scan, parse_route}
 use Rattle.matchit.specs.Seek.{first}
 use Rattle.matchit.specs.declared.error.InsertError.{InsertError}
+use Rattle.http_desk.specs.declared.routes.TheConstants.{TABLE}
 use Rattle.http_desk.specs.declared.routes.Page.{Page}
 use Rattle.http_desk.specs.declared.routes.Page.TheVariants.{GameView, LegalMoves, AskGame, AskEvent, AskMember}
 use Rattle.http_desk.specs.declared.routes.Page.TheVariants.{MakeMove, OfferDraw, AcceptDraw, Resign, ClaimTime, Declare}
 use Rattle.http_desk.specs.declared.routes.Page.TheVariants.{Challenge, Withdraw, Answer, Members}
 use Rattle.http_desk.specs.declared.questions.OfGame.{OfGame}
-use Rattle.http_desk.specs.declared.questions.OfGame.TheVariants.{Record, Clock}
 use Rattle.http_desk.specs.declared.questions.OfEvent.{OfEvent}
-use Rattle.http_desk.specs.declared.questions.OfEvent.TheVariants as of_events
 use Rattle.http_desk.specs.declared.questions.OfMember.{OfMember}
-use Rattle.http_desk.specs.declared.questions.OfMember.TheVariants as of_members
 use Rattle.http_bodies.specs.declared.refusals.Method.{Method}
 use Rattle.http_bodies.specs.declared.refusals.Method.TheVariants.{Get, Post}
 use Rattle.http_head.specs.Head.{number_of}
@@ -58,26 +56,14 @@ abbrev pub with_route : Result Scan InsertError → Page → RowsOf (RouteOf Pag
 with_route (Ok scan) page rows = placed (scan.pattern, route_from scan page) rows
 with_route (Err e) page rows = rows
 
+-- the rows with the routes of a list put in one after the other
+abbrev pub with_routes : List (List ℕ × Page) → RowsOf (RouteOf Page) → RowsOf (RouteOf Page)
+with_routes [] rows = rows
+with_routes ((route, page) ∷ more) rows = with_routes more (with_route (parse_route route) page rows)
+
+-- the routes of the desk: those of its table
 unfoldable pub routes : RowsOf (RouteOf Page)
-routes =
-    with_route (parse_route (codes "/play")) Members
-    (with_route (parse_route (codes "/answers/{member}/{number}")) Answer
-    (with_route (parse_route (codes "/challenges/{number}/withdraw")) Withdraw
-    (with_route (parse_route (codes "/challenges/{number}")) Challenge
-    (with_route (parse_route (codes "/games/{id}/declare/{ply}")) Declare
-    (with_route (parse_route (codes "/games/{id}/claim-time")) ClaimTime
-    (with_route (parse_route (codes "/games/{id}/resign")) Resign
-    (with_route (parse_route (codes "/games/{id}/draw/{ply}/accept")) AcceptDraw
-    (with_route (parse_route (codes "/games/{id}/draw/{ply}/offer")) OfferDraw
-    (with_route (parse_route (codes "/games/{id}/moves/{ply}")) MakeMove
-    (with_route (parse_route (codes "/me/events")) (AskMember of_members.Events)
-    (with_route (parse_route (codes "/me")) (AskMember of_members.Games)
-    (with_route (parse_route (codes "/events/{name}/games")) (AskEvent of_events.Games)
-    (with_route (parse_route (codes "/events/{name}/table")) (AskEvent of_events.Table)
-    (with_route (parse_route (codes "/games/{id}/clock")) (AskGame Clock)
-    (with_route (parse_route (codes "/games/{id}/record")) (AskGame Record)
-    (with_route (parse_route (codes "/games/{id}/legal")) LegalMoves
-    (with_route (parse_route (codes "/games/{id}")) GameView [])))))))))))))))))
+routes = with_routes (map (λ (route, page). (route.now, page)) TABLE) []
 
 -- the page that `matchit` gives of a path
 abbrev pub page_of : List ℕ → Option Page

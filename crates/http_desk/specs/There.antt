@@ -1,5 +1,5 @@
 -- That every route of the desk is in its table, and is found.
-use Rattle.std.specs.Prelude.{◌≡◌, ℕ, List, Some, option_map, Ok, codes}
+use Rattle.std.specs.Prelude.{◌≡◌, ℕ, List, Some, option_map, Ok, codes, length}
 use Rattle.matchit.specs.Order.{lookup}
 use Rattle.matchit.specs.Route.{Scan, parse_route}
 use Rattle.http_desk.specs.declared.routes.Page.{Page}
@@ -17,6 +17,7 @@ pub record LeadsTo (text : List ℕ) (page : Page) : Type 0 where
   pub reads : parse_route text ≡ Ok scan
   pub leads : option_map (λ route. route.value) (lookup scan.pattern routes) ≡ Some page
 
+-- all routes of the table, and no more than these
 pub record AreThere : Type 0 where
   pub game : LeadsTo (codes "/games/{id}") GameView
   pub legal : LeadsTo (codes "/games/{id}/legal") LegalMoves
@@ -36,6 +37,7 @@ pub record AreThere : Type 0 where
   pub withdraws : LeadsTo (codes "/challenges/{number}/withdraw") Withdraw
   pub answers : LeadsTo (codes "/answers/{member}/{number}") Answer
   pub play : LeadsTo (codes "/play") Members
+  pub no_more : length routes ≡ 18
 
 -- the page of a path of each kind
 pub record AreFound : Type 0 where

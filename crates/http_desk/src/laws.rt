@@ -14,7 +14,7 @@ pub fn repeats_are_answered_alike()
         outcome_answer game (accepted tt reply) ≡ outcome_answer game (repeated reply) }
 {}
 
-/// Each route of the desk reads, and is in its table under its page.
+/// Each route of the desk reads, and is in its table under its page; and there are no others.
 pub fn routes_are_there()
     ensures { AreThere }
 {}

@@ -1,19 +1,19 @@
 //! What a target asks for.
-ghost use Rattle.std.specs.Prelude.{◌≡◌, ◌≤◌, IfOk, OnOk, Ok, length, option_map, take, drop};
+ghost use Rattle.std.specs.Prelude.{◌≡◌, ◌≤◌, [], IfOk, OnOk, Ok, codes, length, map, option_map, take, drop};
 ghost use Rattle.std.specs.Str.{bytes_eq};
+ghost use Rattle.matchit.specs.Params.{AllText, named};
 ghost use Rattle.matchit.specs.Route.{parse_route};
-ghost use Rattle.http_head.specs.Head.{number_of};
-ghost use Rattle.http_desk.specs.Routes.{before, behind, begins, path_behind, path_of, with_route, routes, page_of};
-ghost use Rattle.http_desk.specs.Routes.{second_part, third_part, fourth_part, make_move, offer_draw, accept_draw};
-ghost use Rattle.http_desk.specs.Routes.{declare, action_asked, ply_asked, answer_asked, text_of};
-ghost use Rattle.http_desk.specs.Routes.{about_game, about_event, asked_of_page};
+ghost use Rattle.http_desk.specs.Routes.{before, begins, path_behind, path_of, with_routes};
+ghost use Rattle.http_desk.specs.Routes.{make_move, offer_draw, accept_draw, declare, text_of};
+ghost use Rattle.http_desk.specs.Routes.{action_asked, ply_asked, answer_asked, about_game, about_event};
 ghost use Rattle.http_desk.specs.Routes.{asked_of_path, asked_of, method_of, is_for_all};
 ghost use Rattle.http_desk.specs.RouteViews.{action_view, asked_view};
+ghost use Rattle.http_desk.specs.Taken.{parts_taken, number_named, asked_by};
 
 use crate::questions::{Asking, OfEvent, OfGame, OfMember};
 use http_bodies::Method;
 use http_head::number_of;
-use matchit::{InsertError, Router};
+use matchit::{InsertError, Params, Router};
 use std::alloc::Global;
 use std::marker::Model;
 
@@ -98,17 +98,14 @@ impl<'p> Asked<'p> {
     }
 }
 
-// What stands before the first such byte, and what behind it.
-fn cut(bytes: &[u8], byte: u8) -> (&[u8], &[u8])
-    ensures before { result.0.now ≡ before byte bytes.now }
-    ensures behind { result.1.now ≡ behind byte bytes.now }
+// What stands before the first such byte.
+fn front(bytes: &[u8], byte: u8) -> &[u8]
+    ensures { result.now ≡ before byte bytes.now }
 {
-    for (i, other) in bytes.iter().enumerate() {
-        if *other == byte {
-            return (&bytes[..i], &bytes[i + 1..]);
-        }
+    match bytes.iter().position(|other| *other == byte) {
+        Some(i) => &bytes[..i],
+        None => bytes,
     }
-    (bytes, &[])
 }
 
 /// Whether bytes begin with others.
@@ -123,8 +120,7 @@ pub fn begins(bytes: &[u8], front: &[u8]) -> bool
 fn path_behind(bytes: &[u8]) -> Option<&[u8]>
     ensures { option_map (λ p. p.now) result ≡ path_behind (length (before 47 bytes.now)) bytes.now }
 {
-    let (authority, _) = cut(bytes, b'/');
-    let n = authority.len();
+    let n = front(bytes, b'/').len();
     if n == 0 {
         return None;
     }
@@ -138,7 +134,7 @@ fn path_behind(bytes: &[u8]) -> Option<&[u8]>
 pub fn path_of(target: &[u8]) -> Option<&[u8]>
     ensures { option_map (λ p. p.now) result ≡ path_of target.now }
 {
-    let (bytes, _) = cut(target, b'?');
+    let bytes = front(target, b'?');
     if begins(bytes, b"/") {
         return Some(bytes);
     }
@@ -148,29 +144,36 @@ pub fn path_of(target: &[u8]) -> Option<&[u8]>
     None
 }
 
-// The table of the desk's routes.
-fn table(alloc: Global) -> Result<Router<Page>, InsertError>
-    ensures { IfOk result (λ router. router ≡ routes) }
+// The routes of the desk, each with its page.
+const TABLE: [(&str, Page); 18] = [
+    ("/games/{id}", Page::GameView),
+    ("/games/{id}/legal", Page::LegalMoves),
+    ("/games/{id}/record", Page::AskGame(OfGame::Record)),
+    ("/games/{id}/clock", Page::AskGame(OfGame::Clock)),
+    ("/events/{name}/table", Page::AskEvent(OfEvent::Table)),
+    ("/events/{name}/games", Page::AskEvent(OfEvent::Games)),
+    ("/me", Page::AskMember(OfMember::Games)),
+    ("/me/events", Page::AskMember(OfMember::Events)),
+    ("/games/{id}/moves/{ply}", Page::MakeMove),
+    ("/games/{id}/draw/{ply}/offer", Page::OfferDraw),
+    ("/games/{id}/draw/{ply}/accept", Page::AcceptDraw),
+    ("/games/{id}/resign", Page::Resign),
+    ("/games/{id}/claim-time", Page::ClaimTime),
+    ("/games/{id}/declare/{ply}", Page::Declare),
+    ("/challenges/{number}", Page::Challenge),
+    ("/challenges/{number}/withdraw", Page::Withdraw),
+    ("/answers/{member}/{number}", Page::Answer),
+    ("/play", Page::Members),
+];
+
+// A router with these routes.
+fn router_of(alloc: Global, routes: &[(&str, Page)]) -> Result<Router<Page>, InsertError>
+    ensures { IfOk result (λ router. router ≡ with_routes (map (λ (route, page). (route.now, page)) routes.now) []) }
 {
     let mut router = Router::new(alloc);
-    router.insert("/games/{id}", Page::GameView)?;
-    router.insert("/games/{id}/legal", Page::LegalMoves)?;
-    router.insert("/games/{id}/record", Page::AskGame(OfGame::Record))?;
-    router.insert("/games/{id}/clock", Page::AskGame(OfGame::Clock))?;
-    router.insert("/events/{name}/table", Page::AskEvent(OfEvent::Table))?;
-    router.insert("/events/{name}/games", Page::AskEvent(OfEvent::Games))?;
-    router.insert("/me", Page::AskMember(OfMember::Games))?;
-    router.insert("/me/events", Page::AskMember(OfMember::Events))?;
-    router.insert("/games/{id}/moves/{ply}", Page::MakeMove)?;
-    router.insert("/games/{id}/draw/{ply}/offer", Page::OfferDraw)?;
-    router.insert("/games/{id}/draw/{ply}/accept", Page::AcceptDraw)?;
-    router.insert("/games/{id}/resign", Page::Resign)?;
-    router.insert("/games/{id}/claim-time", Page::ClaimTime)?;
-    router.insert("/games/{id}/declare/{ply}", Page::Declare)?;
-    router.insert("/challenges/{number}", Page::Challenge)?;
-    router.insert("/challenges/{number}/withdraw", Page::Withdraw)?;
-    router.insert("/answers/{member}/{number}", Page::Answer)?;
-    router.insert("/play", Page::Members)?;
+    for (route, page) in routes {
+        router.insert(route, *page)?;
+    }
     Ok(router)
 }
 
@@ -197,18 +200,8 @@ impl Model for Routes {
 impl Routes {
     /// The routes.
     pub fn new(alloc: Global) -> Result<Routes, InsertError> {
-        let router = table(alloc)?;
+        let router = router_of(alloc, &TABLE)?;
         Ok(Routes { router })
-    }
-
-    // The page of a path.
-    fn page_of(&self, path: &str) -> Option<Page>
-        ensures { result ≡ page_of path.now }
-    {
-        match self.router.at(path) {
-            Ok(found) => Some(*found.value),
-            Err(_) => None,
-        }
     }
 
     /// What a target asks for.
@@ -218,10 +211,13 @@ impl Routes {
         let Some(path) = path_of(target) else {
             return None;
         };
-        let Some(text) = text_of(path) else {
+        let Some(path) = text_of(path) else {
             return None;
         };
-        asked_of_page(self.page_of(text), path)
+        match self.router.at(path) {
+            Ok(found) => asked_of_page(*found.value, &found.params),
+            Err(_) => None,
+        }
     }
 }
 
@@ -235,100 +231,80 @@ pub fn text_of(bytes: &[u8]) -> Option<&str>
     }
 }
 
-fn second_part(path: &[u8]) -> &[u8]
-    ensures { result.now ≡ second_part path.now }
+// The part of that name as a number.
+fn number_named(params: &Params<'_, '_>, name: &str) -> Option<u32>
+    requires { AllText (parts_taken params.now) }
+    ensures { result ≡ number_named name.now (parts_taken params.now) }
 {
-    let (_, rest) = cut(path, b'/');
-    let (_, rest) = cut(rest, b'/');
-    let (part, _) = cut(rest, b'/');
-    part
+    match params.get(name) {
+        None => None,
+        Some(part) => number_of(part.as_bytes()),
+    }
 }
 
-fn third_part(path: &[u8]) -> &[u8]
-    ensures { result.now ≡ third_part path.now }
+// What is asked of the game that a path names.
+fn action_asked<'p>(turn: GameAction, params: &Params<'_, 'p>) -> Option<Asked<'p>>
+    requires { AllText (parts_taken params.now) }
+    ensures { option_map asked_view result ≡
+        action_asked (action_view turn) (number_named (codes "id") (parts_taken params.now)) }
 {
-    let (_, rest) = cut(path, b'/');
-    let (_, rest) = cut(rest, b'/');
-    let (_, rest) = cut(rest, b'/');
-    let (part, _) = cut(rest, b'/');
-    part
-}
-
-fn fourth_part(path: &[u8]) -> &[u8]
-    ensures { result.now ≡ fourth_part path.now }
-{
-    let (_, rest) = cut(path, b'/');
-    let (_, rest) = cut(rest, b'/');
-    let (_, rest) = cut(rest, b'/');
-    let (_, rest) = cut(rest, b'/');
-    let (part, _) = cut(rest, b'/');
-    part
-}
-
-// The number of a path's second part.
-fn second_number(path: &[u8]) -> Option<u32>
-    ensures { result ≡ number_of (second_part path.now) }
-{
-    number_of(second_part(path))
-}
-
-// What is asked of the game of a path.
-fn action_asked<'p>(turn: GameAction, path: &'p [u8]) -> Option<Asked<'p>>
-    ensures { option_map asked_view result ≡ action_asked (action_view turn) (number_of (second_part path.now)) }
-{
-    match second_number(path) {
+    match number_named(params, "id") {
         None => None,
         Some(game) => Some(Asked::OnGame(game, turn)),
     }
 }
 
-// What is asked at the ply of a path.
-fn move_asked<'p>(path: &'p [u8]) -> Option<Asked<'p>>
-    ensures { option_map asked_view result ≡
-        ply_asked make_move (number_of (second_part path.now)) (number_of (fourth_part path.now)) }
+// What is asked at the ply that a path names.
+fn move_asked<'p>(params: &Params<'_, 'p>) -> Option<Asked<'p>>
+    requires { AllText (parts_taken params.now) }
+    ensures { option_map asked_view result ≡ ply_asked make_move (number_named (codes "id") (parts_taken params.now))
+        (number_named (codes "ply") (parts_taken params.now)) }
 {
-    match second_number(path) {
+    match number_named(params, "id") {
         None => None,
-        Some(game) => match number_of(fourth_part(path)) {
+        Some(game) => match number_named(params, "ply") {
             None => None,
             Some(ply) => Some(Asked::OnGame(game, GameAction::MakeMove(ply))),
         },
     }
 }
 
-fn offer_asked<'p>(path: &'p [u8]) -> Option<Asked<'p>>
-    ensures { option_map asked_view result ≡
-        ply_asked offer_draw (number_of (second_part path.now)) (number_of (fourth_part path.now)) }
+fn offer_asked<'p>(params: &Params<'_, 'p>) -> Option<Asked<'p>>
+    requires { AllText (parts_taken params.now) }
+    ensures { option_map asked_view result ≡ ply_asked offer_draw (number_named (codes "id") (parts_taken params.now))
+        (number_named (codes "ply") (parts_taken params.now)) }
 {
-    match second_number(path) {
+    match number_named(params, "id") {
         None => None,
-        Some(game) => match number_of(fourth_part(path)) {
+        Some(game) => match number_named(params, "ply") {
             None => None,
             Some(ply) => Some(Asked::OnGame(game, GameAction::OfferDraw(ply))),
         },
     }
 }
 
-fn accept_asked<'p>(path: &'p [u8]) -> Option<Asked<'p>>
-    ensures { option_map asked_view result ≡
-        ply_asked accept_draw (number_of (second_part path.now)) (number_of (fourth_part path.now)) }
+fn accept_asked<'p>(params: &Params<'_, 'p>) -> Option<Asked<'p>>
+    requires { AllText (parts_taken params.now) }
+    ensures { option_map asked_view result ≡ ply_asked accept_draw (number_named (codes "id") (parts_taken params.now))
+        (number_named (codes "ply") (parts_taken params.now)) }
 {
-    match second_number(path) {
+    match number_named(params, "id") {
         None => None,
-        Some(game) => match number_of(fourth_part(path)) {
+        Some(game) => match number_named(params, "ply") {
             None => None,
             Some(ply) => Some(Asked::OnGame(game, GameAction::AcceptDraw(ply))),
         },
     }
 }
 
-fn declare_asked<'p>(path: &'p [u8]) -> Option<Asked<'p>>
-    ensures { option_map asked_view result ≡
-        ply_asked declare (number_of (second_part path.now)) (number_of (fourth_part path.now)) }
+fn declare_asked<'p>(params: &Params<'_, 'p>) -> Option<Asked<'p>>
+    requires { AllText (parts_taken params.now) }
+    ensures { option_map asked_view result ≡ ply_asked declare (number_named (codes "id") (parts_taken params.now))
+        (number_named (codes "ply") (parts_taken params.now)) }
 {
-    match second_number(path) {
+    match number_named(params, "id") {
         None => None,
-        Some(game) => match number_of(fourth_part(path)) {
+        Some(game) => match number_named(params, "ply") {
             None => None,
             Some(ply) => Some(Asked::OnGame(game, GameAction::Declare(ply))),
         },
@@ -336,13 +312,14 @@ fn declare_asked<'p>(path: &'p [u8]) -> Option<Asked<'p>>
 }
 
 // Which challenge a path answers.
-fn answer_asked<'p>(path: &'p [u8]) -> Option<Asked<'p>>
-    ensures { option_map asked_view result ≡
-        answer_asked (text_of (second_part path.now)) (number_of (third_part path.now)) }
+fn answer_asked<'p>(params: &Params<'_, 'p>) -> Option<Asked<'p>>
+    requires { AllText (parts_taken params.now) }
+    ensures { option_map asked_view result ≡ answer_asked (named (codes "member") (parts_taken params.now))
+        (number_named (codes "number") (parts_taken params.now)) }
 {
-    match text_of(second_part(path)) {
+    match params.get("member") {
         None => None,
-        Some(member) => match number_of(third_part(path)) {
+        Some(member) => match number_named(params, "number") {
             None => None,
             Some(number) => Some(Asked::Answer(member, number)),
         },
@@ -350,57 +327,61 @@ fn answer_asked<'p>(path: &'p [u8]) -> Option<Asked<'p>>
 }
 
 // What is asked of the game whose number a path names.
-fn game_asked<'p>(topic: OfGame, path: &'p [u8]) -> Option<Asked<'p>>
-    ensures { option_map asked_view result ≡ option_map (about_game topic) (number_of (second_part path.now)) }
+fn game_asked<'p>(topic: OfGame, params: &Params<'_, 'p>) -> Option<Asked<'p>>
+    requires { AllText (parts_taken params.now) }
+    ensures { option_map asked_view result ≡
+        option_map (about_game topic) (number_named (codes "id") (parts_taken params.now)) }
 {
-    match second_number(path) {
+    match number_named(params, "id") {
         None => None,
         Some(game) => Some(Asked::Question(Asking::OfGame(topic, game))),
     }
 }
 
 // What is asked of the event that a path names.
-fn event_asked<'p>(topic: OfEvent, path: &'p [u8]) -> Option<Asked<'p>>
-    ensures { option_map asked_view result ≡ option_map (about_event topic) (text_of (second_part path.now)) }
+fn event_asked<'p>(topic: OfEvent, params: &Params<'_, 'p>) -> Option<Asked<'p>>
+    requires { AllText (parts_taken params.now) }
+    ensures { option_map asked_view result ≡
+        option_map (about_event topic) (named (codes "name") (parts_taken params.now)) }
 {
-    match text_of(second_part(path)) {
+    match params.get("name") {
         None => None,
         Some(event) => Some(Asked::Question(Asking::OfEvent(topic, event))),
     }
 }
 
-// What a page of a path asks for.
-fn asked_of_page<'p>(page: Option<Page>, path: &'p [u8]) -> Option<Asked<'p>>
-    ensures { option_map asked_view result ≡ asked_of_page page path.now }
+// What a page asks for by the parts of its path.
+fn asked_of_page<'p>(page: Page, params: &Params<'_, 'p>) -> Option<Asked<'p>>
+    requires { AllText (parts_taken params.now) }
+    ensures { option_map asked_view result ≡ asked_by page (parts_taken params.now) }
 {
     match page {
-        None => None,
-        Some(Page::Members) => Some(Asked::MembersPage),
-        Some(Page::GameView) => match second_number(path) {
+        Page::Members => Some(Asked::MembersPage),
+        Page::GameView => match number_named(params, "id") {
             None => None,
             Some(game) => Some(Asked::GameView(game)),
         },
-        Some(Page::LegalMoves) => match second_number(path) {
+        Page::LegalMoves => match number_named(params, "id") {
             None => None,
             Some(game) => Some(Asked::LegalMoves(game)),
         },
-        Some(Page::AskGame(topic)) => game_asked(topic, path),
-        Some(Page::AskEvent(topic)) => event_asked(topic, path),
-        Some(Page::AskMember(topic)) => Some(Asked::Question(Asking::OfMember(topic))),
-        Some(Page::MakeMove) => move_asked(path),
-        Some(Page::OfferDraw) => offer_asked(path),
-        Some(Page::AcceptDraw) => accept_asked(path),
-        Some(Page::Resign) => action_asked(GameAction::Resign, path),
-        Some(Page::ClaimTime) => action_asked(GameAction::ClaimTime, path),
-        Some(Page::Declare) => declare_asked(path),
-        Some(Page::Challenge) => match second_number(path) {
+        Page::AskGame(topic) => game_asked(topic, params),
+        Page::AskEvent(topic) => event_asked(topic, params),
+        Page::AskMember(topic) => Some(Asked::Question(Asking::OfMember(topic))),
+        Page::MakeMove => move_asked(params),
+        Page::OfferDraw => offer_asked(params),
+        Page::AcceptDraw => accept_asked(params),
+        Page::Resign => action_asked(GameAction::Resign, params),
+        Page::ClaimTime => action_asked(GameAction::ClaimTime, params),
+        Page::Declare => declare_asked(params),
+        Page::Challenge => match number_named(params, "number") {
             None => None,
             Some(number) => Some(Asked::Challenge(number)),
         },
-        Some(Page::Withdraw) => match second_number(path) {
+        Page::Withdraw => match number_named(params, "number") {
             None => None,
             Some(number) => Some(Asked::Withdraw(number)),
         },
-        Some(Page::Answer) => answer_asked(path),
+        Page::Answer => answer_asked(params),
     }
 }

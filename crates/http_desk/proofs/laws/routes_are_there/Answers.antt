@@ -24,4 +24,5 @@ returns c = record {
   withdraws = record { scan = _; reads = refl; leads = refl };
   answers = record { scan = _; reads = refl; leads = refl };
   play = record { scan = _; reads = refl; leads = refl };
+  no_more = refl;
 }

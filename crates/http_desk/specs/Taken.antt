@@ -1,0 +1,41 @@
+-- What the parameters of a route took from its path, and what a page asks for by them.
+use Rattle.std.specs.Prelude.{ℕ, List, Option, Some, option_map, option_and_then, codes}
+use Rattle.matchit.specs.Params.{walk, named}
+use Rattle.matchit.specs.declared.params.Params.{Params}
+use Rattle.http_desk.specs.declared.routes.Page.{Page}
+use Rattle.http_desk.specs.declared.routes.Page.TheVariants.{GameView, LegalMoves, AskGame, AskEvent, AskMember}
+use Rattle.http_desk.specs.declared.routes.Page.TheVariants.{MakeMove, OfferDraw, AcceptDraw, Resign, ClaimTime, Declare}
+use Rattle.http_desk.specs.declared.routes.Page.TheVariants.{Challenge, Withdraw, Answer, Members}
+use Rattle.http_desk.specs.Routes.{Asked, members_page, game_view, legal_moves, question, challenge, withdraw, of_member}
+use Rattle.http_desk.specs.Routes.{make_move, offer_draw, accept_draw, resign, claim_time, declare}
+use Rattle.http_desk.specs.Routes.{about_game, about_event, action_asked, ply_asked, answer_asked}
+use Rattle.http_head.specs.Head.{number_of}
+
+-- the names of parameters, each with the part of the path that it took
+abbrev pub Parts : Type 0
+Parts = List (List ℕ × List ℕ)
+
+abbrev pub parts_taken : Params → Parts
+parts_taken params = walk params.pattern.now params.text.now params.path.now params.names.now 0 0
+
+-- the number that the part of this name is
+abbrev pub number_named : List ℕ → Parts → Option ℕ
+number_named name parts = option_and_then number_of (named name parts)
+
+-- what a page asks for by the parts that its route names
+abbrev pub asked_by : Page → Parts → Option Asked
+asked_by Members parts = Some members_page
+asked_by GameView parts = option_map game_view (number_named (codes "id") parts)
+asked_by LegalMoves parts = option_map legal_moves (number_named (codes "id") parts)
+asked_by (AskGame topic) parts = option_map (about_game topic) (number_named (codes "id") parts)
+asked_by (AskEvent topic) parts = option_map (about_event topic) (named (codes "name") parts)
+asked_by (AskMember topic) parts = Some (question (of_member topic))
+asked_by MakeMove parts = ply_asked make_move (number_named (codes "id") parts) (number_named (codes "ply") parts)
+asked_by OfferDraw parts = ply_asked offer_draw (number_named (codes "id") parts) (number_named (codes "ply") parts)
+asked_by AcceptDraw parts = ply_asked accept_draw (number_named (codes "id") parts) (number_named (codes "ply") parts)
+asked_by Resign parts = action_asked resign (number_named (codes "id") parts)
+asked_by ClaimTime parts = action_asked claim_time (number_named (codes "id") parts)
+asked_by Declare parts = ply_asked declare (number_named (codes "id") parts) (number_named (codes "ply") parts)
+asked_by Challenge parts = option_map challenge (number_named (codes "number") parts)
+asked_by Withdraw parts = option_map withdraw (number_named (codes "number") parts)
+asked_by Answer parts = answer_asked (named (codes "member") parts) (number_named (codes "number") parts)
