@@ -1,18 +1,17 @@
 -- A diagram of Japanese programs tells the position.
-use Rattle.std.proofs.Common.{◌≡◌, ℕ, ◌≤◌, List, [], ◌∷◌, ◌++◌, drop, length, refl, sym, ap, ◌∙◌, arith, append_assoc}
+use Rattle.std.proofs.Common.{◌≡◌, ℕ, List, [], ◌∷◌, ◌++◌, drop, length, refl, sym, ap, ◌∙◌, arith, append_assoc}
 use Rattle.std.proofs.Math.Utf8.{encode}
 use Rattle.std.proofs.lemmas.List.{append_cancel_left}
 use Rattle.squares.specs.declared.sides.Side.{Side}
 use Rattle.squares.specs.declared.sides.Side.TheVariants.{First, Second}
-use Rattle.squares.specs.declared.shogi.piece.HandKind.{HandKind}
-use Rattle.squares.specs.declared.shogi.piece.HandKind.TheVariants as in_hand
 use Rattle.squares.specs.ShogiBoard.{ShogiBoard}
-use Rattle.squares.specs.ShogiSets.{ShogiPosition, IsShogiPosition, set_size}
+use Rattle.squares.specs.ShogiSets.{ShogiPosition, IsShogiPosition}
 use Rattle.diagrams.specs.BodDiagram.{heading, board_text, hand_name, hand_text, hand_line, bod_text, turn_line}
-use Rattle.diagrams.specs.ShogiDiagram.{hand_kinds}
+use Rattle.diagrams.specs.ShogiLines.{hand_kinds}
 use Rattle.diagrams.specs.Laws.{KeepsToShogiSquares}
 use Rattle.diagrams.proofs.BodCells.{rest-same, board-same}
-use Rattle.diagrams.proofs.BodHands.{IsFew, IsLineEnd, hands-apart}
+use Rattle.diagrams.proofs.BodHands.{IsLineEnd, hands-apart}
+use Rattle.diagrams.proofs.HandLemmas.{few-first, few-second}
 
 before-board : (board : ShogiBoard) (more : List ℕ) → IsLineEnd (10 ∷ (board_text board ++ more))
 unfolding board_text heading hand_kinds encode
@@ -30,21 +29,6 @@ turns-apart First First e = refl
 turns-apart First Second e = let count : 0 ≡ 10 = ap length e in absurd (omega (arith, count))
 turns-apart Second First e = let count : 10 ≡ 0 = ap length e in absurd (omega (arith, count))
 turns-apart Second Second e = refl
-
-set-small : (kind : HandKind) → set_size kind ≤ 18
-set-small in_hand.Rook = omega arith
-set-small in_hand.Bishop = omega arith
-set-small in_hand.Gold = omega arith
-set-small in_hand.Silver = omega arith
-set-small in_hand.Knight = omega arith
-set-small in_hand.Lance = omega arith
-set-small in_hand.Pawn = omega arith
-
-few-first : (p : ShogiPosition) → IsShogiPosition p.board p.hands → IsFew p.hands.first
-few-first p sound kind = omega (arith, sound.sets kind, set-small kind)
-
-few-second : (p : ShogiPosition) → IsShogiPosition p.board p.hands → IsFew p.hands.second
-few-second p sound kind = omega (arith, sound.sets kind, set-small kind)
 
 -- what follows White's hand, and what follows the board
 abbrev after_board : ShogiPosition → List ℕ

@@ -1,47 +1,10 @@
--- A diagram of Japanese programs that grows by a square, a rank or a kind in the hand.
-use Rattle.std.proofs.Common.{◌≡◌, ◌≢◌, ℕ, zero, suc, ◌+◌, ◌-◌, ◌<◌, List}
-use Rattle.std.proofs.Common.{[], ◌∷◌, ◌++◌, length, get_or, drop, sym, ap, ◌∙◌}
-use Rattle.std.proofs.Common.{refl, append_assoc, append-nil, add-one, length-append, arith}
-use Rattle.std.specs.FinMap as map
-use Rattle.std.proofs.lemmas.List.{at_drop_more}
+-- The text of some pieces of a kind in a diagram of Japanese programs.
+use Rattle.std.proofs.Common.{◌≡◌, ◌≢◌, ℕ, zero, suc, List, ◌++◌, refl}
 use Rattle.squares.specs.declared.shogi.piece.HandKind.{HandKind}
-use Rattle.squares.specs.declared.shogi.hand.Hand.{Hand}
-use Rattle.squares.specs.ShogiBoard.{ShogiBoard}
-use Rattle.squares.specs.ShogiGeometry.{shogi_number}
-use Rattle.squares.specs.ShogiHands.{count_of}
 use Rattle.squares.specs.ShogiPieces.{on_board, demoted}
-use Rattle.diagrams.specs.BodNames.{role_name, count_name, cell_text, wide_blank, nothing}
-use Rattle.diagrams.specs.BodDiagram.{squares_text, rank_text, ranks_text, held_text, kinds_text, or_none}
+use Rattle.diagrams.specs.BodNames.{role_name, count_name, wide_blank}
+use Rattle.diagrams.specs.BodDiagram.{held_text}
 use Rattle.diagrams.proofs.Joined.{three-joined}
-
-module _ (board : ShogiBoard) (rank k : ℕ) (whole text : List ℕ)
-    (before : text ++ squares_text board rank (9 - k) ≡ whole) where
-  -- a square more
-  pub squares-more : (new : List ℕ) → k < 9
-      → new ≡ text ++ cell_text (map.get board (shogi_number (9 - k) rank))
-      → new ++ squares_text board rank (9 - (k + 1)) ≡ whole
-  squares-more new h is =
-      let e : 9 - k ≡ suc (9 - (k + 1)) = omega arith in
-      let left : List ℕ = squares_text board rank (9 - (k + 1)) in
-      ap (λ t. t ++ left) is
-      ∙ append_assoc text (cell_text (map.get board (shogi_number (9 - k) rank))) left
-      ∙ ap (λ n. text ++ (cell_text (map.get board (shogi_number n rank)) ++ left)) e
-      ∙ sym (ap (λ n. text ++ squares_text board rank n) e)
-      ∙ before
-
-module _ (board : ShogiBoard) (rank : ℕ) (whole text : List ℕ)
-    (before : text ++ ranks_text board rank (10 - rank) ≡ whole) where
-  -- a rank more
-  pub ranks-more : (new : List ℕ) → rank < 10 → new ≡ text ++ rank_text board rank
-      → new ++ ranks_text board (rank + 1) (10 - (rank + 1)) ≡ whole
-  ranks-more new h is =
-      let e : 10 - rank ≡ suc (10 - (rank + 1)) = omega arith in
-      let left : List ℕ = ranks_text board (rank + 1) (10 - (rank + 1)) in
-      ap (λ t. t ++ left) is
-      ∙ append_assoc text (rank_text board rank) left
-      ∙ ap (λ n. text ++ (rank_text board rank ++ ranks_text board n (10 - (rank + 1)))) (add-one rank)
-      ∙ sym (ap (λ n. text ++ ranks_text board rank n) e)
-      ∙ before
 
 -- some pieces of a kind
 pub held-written : (kind : HandKind) (n : ℕ) (text t1 t2 t3 : List ℕ) → n ≢ 0
@@ -50,39 +13,3 @@ pub held-written : (kind : HandKind) (n : ℕ) (text t1 t2 t3 : List ℕ) → n 
 held-written kind zero text t1 t2 t3 h e1 e2 e3 = absurd (h refl)
 held-written kind (suc n) text t1 t2 t3 h e1 e2 e3 =
     three-joined text (role_name (demoted (on_board kind))) (count_name (suc n)) wide_blank t1 t2 t3 e1 e2 e3
-
--- a kind more of a hand
-pub kinds-more : (hand : Hand) (kinds : List HandKind) (k : ℕ) (d : HandKind) (whole text new : List ℕ)
-    → k < length kinds → text ++ kinds_text hand (drop k kinds) ≡ whole
-    → new ≡ text ++ held_text (get_or kinds k d) (count_of (get_or kinds k d) hand)
-    → new ++ kinds_text hand (drop (k + 1) kinds) ≡ whole
-kinds-more hand kinds k d whole text new h before is =
-    ap (λ t. t ++ kinds_text hand (drop (k + 1) kinds)) is
-    ∙ append_assoc text (held_text (get_or kinds k d) (count_of (get_or kinds k d) hand))
-    (kinds_text hand (drop (k + 1) kinds))
-    ∙ sym (ap (λ t. text ++ t) (at_drop_more (kinds_text hand) kinds k d h))
-    ∙ before
-
-some-text : (held : List ℕ) → 0 < length held → or_none held ≡ held
-some-text [] h = absurd (omega (arith, h))
-some-text (c ∷ held) h = refl
-
-no-text : (held : List ℕ) → length held ≡ 0 → held ≡ []
-no-text [] h = refl
-no-text (c ∷ held) h = absurd (omega (arith, h))
-
-module _ (text held new : List ℕ) (is : new ≡ text ++ held) where
-  held-length : length new ≡ length text + length held
-  held-length = ap length is ∙ length-append text held
-
-  -- a hand that is not empty
-  pub some-hand : length new ≢ length text → new ≡ text ++ or_none held
-  some-hand more = is ∙ ap (λ t. text ++ t) (sym (some-text held (omega (arith, held-length, more))))
-
-  -- an empty hand
-  pub no-hand : (last : List ℕ) → length new ≡ length text → last ≡ new ++ nothing
-      → last ≡ text ++ or_none held
-  no-hand last same ends =
-      let none : held ≡ [] = no-text held (omega (arith, held-length, same)) in
-      ends ∙ ap (λ t. t ++ nothing) (is ∙ ap (λ t. text ++ t) none ∙ append-nil text)
-      ∙ ap (λ t. text ++ or_none t) (sym none)

@@ -6,5 +6,6 @@ pub mod DraughtsLemmas
 pub mod DraughtsWriting
 pub mod HandLemmas
 pub mod Joined
+pub mod LetterHands
 pub mod ShogiLemmas
 pub mod ShogiWriting

@@ -1,6 +1,6 @@
 -- What the diagram of a position of shogi tells.
 use Rattle.std.proofs.Common.{◌≡◌, ℕ, ◌+◌, ◌*◌, ◌/◌, ◌%◌, ◌-◌, ◌<◌}
-use Rattle.std.proofs.Common.{◌≤◌, ◌==◌, List, [], ◌∷◌, ◌++◌, get_or, drop, Option}
+use Rattle.std.proofs.Common.{◌==◌, List, [], ◌∷◌, ◌++◌, get_or, drop, Option}
 use Rattle.std.proofs.Common.{Some, None, refl, sym, ap, ◌∙◌, arith, inl, inr, if◌then◌else◌, nat_lt, append_assoc}
 use Rattle.std.specs.Prelude.{map as list_map, codes}
 use Rattle.std.specs.List.{range_with_len}
@@ -11,18 +11,18 @@ use Rattle.std.proofs.lemmas.Bool.{cases_lt}
 use Rattle.std.proofs.lemmas.List.FromFn.{get_or-map-range_with_len}
 use Rattle.squares.specs.declared.sides.Side.{Side}
 use Rattle.squares.specs.declared.sides.Side.TheVariants.{First, Second}
-use Rattle.squares.specs.declared.shogi.piece.HandKind.{HandKind}
-use Rattle.squares.specs.declared.shogi.piece.HandKind.TheVariants as in_hand
 use Rattle.squares.specs.declared.shogi.piece.Role.{Role}
 use Rattle.squares.specs.declared.shogi.piece.Role.TheVariants as role
 use Rattle.squares.specs.declared.shogi.piece.SPiece.{SPiece}
 use Rattle.squares.specs.ShogiBoard.{ShogiBoard}
 use Rattle.squares.specs.ShogiPieces.{is_promoted, kind_of}
-use Rattle.squares.specs.ShogiSets.{ShogiPosition, IsShogiPosition, set_size}
+use Rattle.squares.specs.ShogiSets.{ShogiPosition, IsShogiPosition}
 use Rattle.diagrams.specs.ShogiLetters.{piece_letter, cell_mark, cell_letter}
-use Rattle.diagrams.specs.ShogiDiagram.{rank_text, heading, board_text, hand_kinds, hand_text, hand_line, shogi_text}
+use Rattle.diagrams.specs.ShogiDiagram.{rank_text, heading, board_text, hand_text, hand_line, shogi_text}
+use Rattle.diagrams.specs.ShogiLines.{hand_kinds}
 use Rattle.diagrams.specs.Laws.{KeepsToShogiSquares}
-use Rattle.diagrams.proofs.HandLemmas.{IsFew, IsLineEnd, hands-apart}
+use Rattle.diagrams.proofs.HandLemmas.{few-first, few-second}
+use Rattle.diagrams.proofs.LetterHands.{IsLineEnd, hands-apart}
 
 -- what a mark and a letter stand for
 abbrev read_role : ℕ → ℕ → Role
@@ -164,21 +164,6 @@ module _ (a b : ShogiBoard) (r s : List ℕ) (same : board_text a ++ r ≡ board
 
     pub board-same : a ≡ b
     board-same = map.same_map nat_cmp_total nat_cmp-IsAntisymmetric a b each
-
-set-small : (kind : HandKind) → set_size kind ≤ 18
-set-small in_hand.Rook = omega arith
-set-small in_hand.Bishop = omega arith
-set-small in_hand.Gold = omega arith
-set-small in_hand.Silver = omega arith
-set-small in_hand.Knight = omega arith
-set-small in_hand.Lance = omega arith
-set-small in_hand.Pawn = omega arith
-
-few-first : (p : ShogiPosition) → IsShogiPosition p.board p.hands → IsFew p.hands.first
-few-first p sound kind = omega (arith, sound.sets kind, set-small kind)
-
-few-second : (p : ShogiPosition) → IsShogiPosition p.board p.hands → IsFew p.hands.second
-few-second p sound kind = omega (arith, sound.sets kind, set-small kind)
 
 -- what follows White's hand, and what follows the board
 abbrev after_board : ShogiPosition → List ℕ

@@ -1,24 +1,20 @@
 -- The diagram of a position of shogi that Japanese programs read and write (BOD).
-use Rattle.std.specs.Prelude.{ℕ, zero, suc, List, [], ◌∷◌, ◌++◌, codes}
-use Rattle.std.specs.FinMap as map
+use Rattle.std.specs.Prelude.{ℕ, zero, suc, List, [], ◌++◌, codes}
 use Rattle.std.proofs.Math.Utf8.{encodes}
 use Rattle.squares.specs.declared.sides.Side.{Side}
 use Rattle.squares.specs.declared.sides.Side.TheVariants.{First, Second}
 use Rattle.squares.specs.declared.shogi.piece.HandKind.{HandKind}
 use Rattle.squares.specs.declared.shogi.hand.Hand.{Hand}
 use Rattle.squares.specs.ShogiBoard.{ShogiBoard}
-use Rattle.squares.specs.ShogiGeometry.{shogi_number}
-use Rattle.squares.specs.ShogiHands.{count_of}
 use Rattle.squares.specs.ShogiPieces.{on_board, demoted}
 use Rattle.squares.specs.ShogiSets.{ShogiPosition}
 use Rattle.diagrams.specs.BodNames.{role_name, digit_name, count_name, cell_text, wide_blank, nothing}
-use Rattle.diagrams.specs.ShogiDiagram.{hand_kinds}
+use Rattle.diagrams.specs.ShogiLines as lines
+use Rattle.diagrams.specs.ShogiLines.{hand_kinds}
 
 -- the squares of a rank from that file down to file 1
 abbrev pub squares_text : ShogiBoard → ℕ → ℕ → List ℕ
-squares_text board rank zero = []
-squares_text board rank (suc file) =
-    cell_text (map.get board (shogi_number (suc file) rank)) ++ squares_text board rank file
+squares_text = lines.squares_text cell_text
 
 -- a rank between bars, and its name
 unfoldable pub rank_text : ShogiBoard → ℕ → List ℕ
@@ -27,8 +23,7 @@ rank_text board rank =
 
 -- so many ranks from a rank on
 abbrev pub ranks_text : ShogiBoard → ℕ → ℕ → List ℕ
-ranks_text board rank zero = []
-ranks_text board rank (suc more) = rank_text board rank ++ ranks_text board (suc rank) more
+ranks_text board = lines.ranks_text (rank_text board)
 
 -- the numbers of the files
 unfoldable pub heading : List ℕ
@@ -48,13 +43,11 @@ held_text kind (suc n) = role_name (demoted (on_board kind)) ++ (count_name (suc
 
 -- the pieces of these kinds in a hand
 abbrev pub kinds_text : Hand → List HandKind → List ℕ
-kinds_text hand [] = []
-kinds_text hand (kind ∷ kinds) = held_text kind (count_of kind hand) ++ kinds_text hand kinds
+kinds_text = lines.kinds_text held_text
 
 -- a word for nothing
 abbrev pub or_none : List ℕ → List ℕ
-or_none [] = nothing
-or_none (c ∷ text) = c ∷ text
+or_none = lines.or_else nothing
 
 unfoldable pub hand_text : Hand → List ℕ
 hand_text hand = or_none (kinds_text hand hand_kinds)

@@ -5,3 +5,4 @@ pub mod Laws
 pub mod Numbers
 pub mod ShogiDiagram
 pub mod ShogiLetters
+pub mod ShogiLines

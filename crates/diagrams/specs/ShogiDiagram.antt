@@ -1,23 +1,23 @@
 -- The diagram of a position of shogi: White's hand, the numbers of the files, the nine ranks, Black's hand.
-use Rattle.std.specs.Prelude.{ℕ, zero, suc, ◌+◌, List, [], ◌∷◌, ◌++◌, codes}
+use Rattle.std.specs.Prelude.{ℕ, zero, suc, ◌+◌, List, [], ◌∷◌, ◌++◌, codes, Option}
 use Rattle.std.specs.Fmt.{decimal}
-use Rattle.std.specs.FinMap as map
 use Rattle.squares.specs.declared.shogi.piece.HandKind.{HandKind}
-use Rattle.squares.specs.declared.shogi.piece.HandKind.TheVariants as in_hand
+use Rattle.squares.specs.declared.shogi.piece.SPiece.{SPiece}
 use Rattle.squares.specs.declared.shogi.hand.Hand.{Hand}
 use Rattle.squares.specs.ShogiBoard.{ShogiBoard}
-use Rattle.squares.specs.ShogiGeometry.{shogi_number}
-use Rattle.squares.specs.ShogiHands.{count_of}
 use Rattle.squares.specs.ShogiPieces.{on_board}
 use Rattle.squares.specs.ShogiSets.{ShogiPosition}
+use Rattle.diagrams.specs.ShogiLines as lines
+use Rattle.diagrams.specs.ShogiLines.{hand_kinds}
 use Rattle.diagrams.specs.ShogiLetters.{capital, cell_mark, cell_letter}
 
--- the squares of a rank from that file down to file 1, each right in three columns
+-- a square, right in three columns
+abbrev pub cell_text : Option SPiece → List ℕ
+cell_text cell = 32 ∷ cell_mark cell ∷ cell_letter cell ∷ []
+
+-- the squares of a rank from that file down to file 1
 abbrev pub squares_text : ShogiBoard → ℕ → ℕ → List ℕ
-squares_text board rank zero = []
-squares_text board rank (suc file) =
-    32 ∷ cell_mark (map.get board (shogi_number (suc file) rank))
-    ∷ cell_letter (map.get board (shogi_number (suc file) rank)) ∷ squares_text board rank file
+squares_text = lines.squares_text cell_text
 
 -- a rank, its letter, a for rank 1, and the line's end
 unfoldable pub rank_text : ShogiBoard → ℕ → List ℕ
@@ -25,8 +25,7 @@ rank_text board rank = squares_text board rank 9 ++ (32 ∷ (96 + rank) ∷ 10 �
 
 -- so many ranks from a rank on
 abbrev pub ranks_text : ShogiBoard → ℕ → ℕ → List ℕ
-ranks_text board rank zero = []
-ranks_text board rank (suc more) = rank_text board rank ++ ranks_text board (suc rank) more
+ranks_text board = lines.ranks_text (rank_text board)
 
 -- the numbers of the files
 unfoldable pub heading : List ℕ
@@ -43,18 +42,11 @@ held_text letter (suc (suc n)) = 32 ∷ letter ∷ decimal (suc (suc n))
 
 -- the pieces of these kinds in a hand
 abbrev pub kinds_text : Hand → List HandKind → List ℕ
-kinds_text hand [] = []
-kinds_text hand (kind ∷ kinds) = held_text (capital (on_board kind)) (count_of kind hand) ++ kinds_text hand kinds
-
--- the kinds in the order in which hands are written
-unfoldable pub hand_kinds : List HandKind
-hand_kinds = in_hand.Rook ∷ in_hand.Bishop ∷ in_hand.Gold ∷ in_hand.Silver ∷ in_hand.Knight ∷ in_hand.Lance
-    ∷ in_hand.Pawn ∷ []
+kinds_text = lines.kinds_text (λ kind n. held_text (capital (on_board kind)) n)
 
 -- a hyphen for nothing
 abbrev pub or_hyphen : List ℕ → List ℕ
-or_hyphen [] = 32 ∷ 45 ∷ []
-or_hyphen (c ∷ text) = c ∷ text
+or_hyphen = lines.or_else (32 ∷ 45 ∷ [])
 
 unfoldable pub hand_text : Hand → List ℕ
 hand_text hand = or_hyphen (kinds_text hand hand_kinds)

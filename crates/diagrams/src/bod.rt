@@ -4,7 +4,7 @@ ghost use Rattle.diagrams.specs.BodNames.{side_mark, role_name, digit_name, coun
 ghost use Rattle.diagrams.specs.BodNames.{empty_square, ten, wide_blank, nothing};
 ghost use Rattle.diagrams.specs.BodDiagram.{squares_text, rank_text, heading, border, ranks_text, held_text};
 ghost use Rattle.diagrams.specs.BodDiagram.{kinds_text, hand_text, hand_line, board_text, bod_text, hand_name, turn_line};
-ghost use Rattle.diagrams.specs.ShogiDiagram.{hand_kinds};
+ghost use Rattle.diagrams.specs.ShogiLines.{hand_kinds};
 
 use crate::shogi::piece_at;
 use squares::{Hand, HandKind, Memory, Role, SBoard, SPiece, SPos, Side};

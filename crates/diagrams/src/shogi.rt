@@ -4,7 +4,8 @@ ghost use Rattle.std.specs.FinMap as map;
 ghost use Rattle.squares.specs.ShogiGeometry.{OnShogiBoard, shogi_number};
 ghost use Rattle.diagrams.specs.ShogiLetters.{capital, piece_letter, cell_mark, cell_letter};
 ghost use Rattle.diagrams.specs.ShogiDiagram.{squares_text, rank_text, heading, board_text, held_text, kinds_text};
-ghost use Rattle.diagrams.specs.ShogiDiagram.{hand_kinds, hand_text, hand_line, shogi_text};
+ghost use Rattle.diagrams.specs.ShogiDiagram.{hand_text, hand_line, shogi_text};
+ghost use Rattle.diagrams.specs.ShogiLines.{hand_kinds};
 
 use squares::{Hand, HandKind, Kind, Memory, SBoard, SPiece, SPos, Side, Ssq};
 use std::alloc::Global;

@@ -9,6 +9,8 @@ use Rattle.std.specs.FinMap as map
 use Rattle.std.proofs.lemmas.Grind.{common_steps}
 use Rattle.std.proofs.lemmas.Bool.{cases_eq}
 use Rattle.std.proofs.lemmas.List.Sums.{sum_by_from}
+use denote.Enum.Bare.{sameb, same_true}
+use Rattle.squares.specs.contracts.shogi.piece.HandKind.{the_type}
 use Rattle.squares.specs.declared.sides.Side.{Side}
 use Rattle.squares.specs.declared.sides.Side.TheVariants.{First, Second}
 use Rattle.squares.specs.declared.shogi.piece.Role.{Role}
@@ -108,176 +110,44 @@ module _ (board : ShogiBoard) (k : ℕ) where
         (λ n h. ap test (get-cleared_other n h)) 0 81 (omega arith) (omega arith)
         ∙ ap (λ o. count_by (λ n. test (map.get board n)) (range_with_len 0 81) + one_if (test o)) get-cleared
 
+-- whether two kinds are one
 abbrev pub same_kind : HandKind → HandKind → Bool
-same_kind in_hand.Rook in_hand.Rook = true
-same_kind in_hand.Bishop in_hand.Bishop = true
-same_kind in_hand.Gold in_hand.Gold = true
-same_kind in_hand.Silver in_hand.Silver = true
-same_kind in_hand.Knight in_hand.Knight = true
-same_kind in_hand.Lance in_hand.Lance = true
-same_kind in_hand.Pawn in_hand.Pawn = true
-same_kind _ _ = false
+same_kind a b = sameb the_type a b
 
 abbrev pub is_kind : HandKind → Option HandKind → Bool
 is_kind kind None = false
 is_kind kind (Some other) = same_kind other kind
 
+-- what holds of each kind holds of any
+every-kind : (T : HandKind → Type 0) → T in_hand.Rook → T in_hand.Bishop → T in_hand.Gold → T in_hand.Silver
+    → T in_hand.Knight → T in_hand.Lance → T in_hand.Pawn → (kind : HandKind) → T kind
+every-kind T rook bishop gold silver knight lance pawn in_hand.Rook = rook
+every-kind T rook bishop gold silver knight lance pawn in_hand.Bishop = bishop
+every-kind T rook bishop gold silver knight lance pawn in_hand.Gold = gold
+every-kind T rook bishop gold silver knight lance pawn in_hand.Silver = silver
+every-kind T rook bishop gold silver knight lance pawn in_hand.Knight = knight
+every-kind T rook bishop gold silver knight lance pawn in_hand.Lance = lance
+every-kind T rook bishop gold silver knight lance pawn in_hand.Pawn = pawn
+
 -- a piece is of a kind where the hand would take it as that kind
-pub is_of-kind : (kind : HandKind) (r : Role) → is_of kind r ≡ is_kind kind (hand_kind (kind_of r))
-is_of-kind kind role.King =
-    elim kind as (λ k. is_of k role.King ≡ is_kind k (hand_kind (kind_of role.King))) [
-      | in_hand.Rook ↦ refl
-      | in_hand.Bishop ↦ refl
-      | in_hand.Gold ↦ refl
-      | in_hand.Silver ↦ refl
-      | in_hand.Knight ↦
-          refl
-      | in_hand.Lance ↦ refl
-      | in_hand.Pawn ↦ refl
-    ]
-is_of-kind kind role.Rook =
-    elim kind as (λ k. is_of k role.Rook ≡ is_kind k (hand_kind (kind_of role.Rook))) [
-      | in_hand.Rook ↦ refl
-      | in_hand.Bishop ↦ refl
-      | in_hand.Gold ↦ refl
-      | in_hand.Silver ↦ refl
-      | in_hand.Knight ↦
-          refl
-      | in_hand.Lance ↦ refl
-      | in_hand.Pawn ↦ refl
-    ]
-is_of-kind kind role.Bishop =
-    elim kind as (λ k. is_of k role.Bishop ≡ is_kind k (hand_kind (kind_of role.Bishop))) [
-      | in_hand.Rook ↦ refl
-      | in_hand.Bishop ↦ refl
-      | in_hand.Gold ↦ refl
-      | in_hand.Silver ↦ refl
-      | in_hand.Knight ↦
-          refl
-      | in_hand.Lance ↦ refl
-      | in_hand.Pawn ↦ refl
-    ]
-is_of-kind kind role.Gold =
-    elim kind as (λ k. is_of k role.Gold ≡ is_kind k (hand_kind (kind_of role.Gold))) [
-      | in_hand.Rook ↦ refl
-      | in_hand.Bishop ↦ refl
-      | in_hand.Gold ↦ refl
-      | in_hand.Silver ↦ refl
-      | in_hand.Knight ↦
-          refl
-      | in_hand.Lance ↦ refl
-      | in_hand.Pawn ↦ refl
-    ]
-is_of-kind kind role.Silver =
-    elim kind as (λ k. is_of k role.Silver ≡ is_kind k (hand_kind (kind_of role.Silver))) [
-      | in_hand.Rook ↦ refl
-      | in_hand.Bishop ↦ refl
-      | in_hand.Gold ↦ refl
-      | in_hand.Silver ↦ refl
-      | in_hand.Knight ↦
-          refl
-      | in_hand.Lance ↦ refl
-      | in_hand.Pawn ↦ refl
-    ]
-is_of-kind kind role.Knight =
-    elim kind as (λ k. is_of k role.Knight ≡ is_kind k (hand_kind (kind_of role.Knight))) [
-      | in_hand.Rook ↦ refl
-      | in_hand.Bishop ↦ refl
-      | in_hand.Gold ↦ refl
-      | in_hand.Silver ↦ refl
-      | in_hand.Knight ↦
-          refl
-      | in_hand.Lance ↦ refl
-      | in_hand.Pawn ↦ refl
-    ]
-is_of-kind kind role.Lance =
-    elim kind as (λ k. is_of k role.Lance ≡ is_kind k (hand_kind (kind_of role.Lance))) [
-      | in_hand.Rook ↦ refl
-      | in_hand.Bishop ↦ refl
-      | in_hand.Gold ↦ refl
-      | in_hand.Silver ↦ refl
-      | in_hand.Knight ↦
-          refl
-      | in_hand.Lance ↦ refl
-      | in_hand.Pawn ↦ refl
-    ]
-is_of-kind kind role.Pawn =
-    elim kind as (λ k. is_of k role.Pawn ≡ is_kind k (hand_kind (kind_of role.Pawn))) [
-      | in_hand.Rook ↦ refl
-      | in_hand.Bishop ↦ refl
-      | in_hand.Gold ↦ refl
-      | in_hand.Silver ↦ refl
-      | in_hand.Knight ↦
-          refl
-      | in_hand.Lance ↦ refl
-      | in_hand.Pawn ↦ refl
-    ]
-is_of-kind kind role.PromotedRook =
-    elim kind as (λ k. is_of k role.PromotedRook ≡ is_kind k (hand_kind (kind_of role.PromotedRook))) [
-      | in_hand.Rook ↦ refl
-      | in_hand.Bishop ↦ refl
-      | in_hand.Gold ↦ refl
-      | in_hand.Silver ↦ refl
-      | in_hand.Knight ↦
-          refl
-      | in_hand.Lance ↦ refl
-      | in_hand.Pawn ↦ refl
-    ]
-is_of-kind kind role.PromotedBishop =
-    elim kind as (λ k. is_of k role.PromotedBishop ≡ is_kind k (hand_kind (kind_of role.PromotedBishop))) [
-      | in_hand.Rook ↦ refl
-      | in_hand.Bishop ↦ refl
-      | in_hand.Gold ↦ refl
-      | in_hand.Silver ↦ refl
-      | in_hand.Knight ↦
-          refl
-      | in_hand.Lance ↦ refl
-      | in_hand.Pawn ↦ refl
-    ]
-is_of-kind kind role.PromotedSilver =
-    elim kind as (λ k. is_of k role.PromotedSilver ≡ is_kind k (hand_kind (kind_of role.PromotedSilver))) [
-      | in_hand.Rook ↦ refl
-      | in_hand.Bishop ↦ refl
-      | in_hand.Gold ↦ refl
-      | in_hand.Silver ↦ refl
-      | in_hand.Knight ↦
-          refl
-      | in_hand.Lance ↦ refl
-      | in_hand.Pawn ↦ refl
-    ]
-is_of-kind kind role.PromotedKnight =
-    elim kind as (λ k. is_of k role.PromotedKnight ≡ is_kind k (hand_kind (kind_of role.PromotedKnight))) [
-      | in_hand.Rook ↦ refl
-      | in_hand.Bishop ↦ refl
-      | in_hand.Gold ↦ refl
-      | in_hand.Silver ↦ refl
-      | in_hand.Knight ↦
-          refl
-      | in_hand.Lance ↦ refl
-      | in_hand.Pawn ↦ refl
-    ]
-is_of-kind kind role.PromotedLance =
-    elim kind as (λ k. is_of k role.PromotedLance ≡ is_kind k (hand_kind (kind_of role.PromotedLance))) [
-      | in_hand.Rook ↦ refl
-      | in_hand.Bishop ↦ refl
-      | in_hand.Gold ↦ refl
-      | in_hand.Silver ↦ refl
-      | in_hand.Knight ↦
-          refl
-      | in_hand.Lance ↦ refl
-      | in_hand.Pawn ↦ refl
-    ]
-is_of-kind kind role.PromotedPawn =
-    elim kind as (λ k. is_of k role.PromotedPawn ≡ is_kind k (hand_kind (kind_of role.PromotedPawn))) [
-      | in_hand.Rook ↦ refl
-      | in_hand.Bishop ↦ refl
-      | in_hand.Gold ↦ refl
-      | in_hand.Silver ↦ refl
-      | in_hand.Knight ↦
-          refl
-      | in_hand.Lance ↦ refl
-      | in_hand.Pawn ↦ refl
-    ]
+abbrev IsOfKind : Role → HandKind → Type 0
+IsOfKind r kind = is_of kind r ≡ is_kind kind (hand_kind (kind_of r))
+
+pub is_of-kind : (kind : HandKind) (r : Role) → IsOfKind r kind
+is_of-kind kind role.King = every-kind (IsOfKind role.King) refl refl refl refl refl refl refl kind
+is_of-kind kind role.Rook = every-kind (IsOfKind role.Rook) refl refl refl refl refl refl refl kind
+is_of-kind kind role.Bishop = every-kind (IsOfKind role.Bishop) refl refl refl refl refl refl refl kind
+is_of-kind kind role.Gold = every-kind (IsOfKind role.Gold) refl refl refl refl refl refl refl kind
+is_of-kind kind role.Silver = every-kind (IsOfKind role.Silver) refl refl refl refl refl refl refl kind
+is_of-kind kind role.Knight = every-kind (IsOfKind role.Knight) refl refl refl refl refl refl refl kind
+is_of-kind kind role.Lance = every-kind (IsOfKind role.Lance) refl refl refl refl refl refl refl kind
+is_of-kind kind role.Pawn = every-kind (IsOfKind role.Pawn) refl refl refl refl refl refl refl kind
+is_of-kind kind role.PromotedRook = every-kind (IsOfKind role.PromotedRook) refl refl refl refl refl refl refl kind
+is_of-kind kind role.PromotedBishop = every-kind (IsOfKind role.PromotedBishop) refl refl refl refl refl refl refl kind
+is_of-kind kind role.PromotedSilver = every-kind (IsOfKind role.PromotedSilver) refl refl refl refl refl refl refl kind
+is_of-kind kind role.PromotedKnight = every-kind (IsOfKind role.PromotedKnight) refl refl refl refl refl refl refl kind
+is_of-kind kind role.PromotedLance = every-kind (IsOfKind role.PromotedLance) refl refl refl refl refl refl refl kind
+is_of-kind kind role.PromotedPawn = every-kind (IsOfKind role.PromotedPawn) refl refl refl refl refl refl refl kind
 
 -- promoting changes neither kind nor king
 pub arrived-kind : (r : Role) (side : Side) (promote : Bool)
@@ -334,189 +204,42 @@ dropped-no_king in_hand.Knight = refl
 dropped-no_king in_hand.Lance = refl
 dropped-no_king in_hand.Pawn = refl
 
+-- a hand with so many of another kind
+abbrev IsCounted : HandKind → ℕ → Hand → HandKind → Type 0
+IsCounted other n hand kind = count_of kind (with_count other n hand) ≡ cond (same_kind other kind) n (count_of kind hand)
+
+counted : (kind other : HandKind) (n : ℕ) (hand : Hand) → IsCounted other n hand kind
+counted kind in_hand.Rook n hand = every-kind (IsCounted in_hand.Rook n hand) refl refl refl refl refl refl refl kind
+counted kind in_hand.Bishop n hand = every-kind (IsCounted in_hand.Bishop n hand) refl refl refl refl refl refl refl kind
+counted kind in_hand.Gold n hand = every-kind (IsCounted in_hand.Gold n hand) refl refl refl refl refl refl refl kind
+counted kind in_hand.Silver n hand = every-kind (IsCounted in_hand.Silver n hand) refl refl refl refl refl refl refl kind
+counted kind in_hand.Knight n hand = every-kind (IsCounted in_hand.Knight n hand) refl refl refl refl refl refl refl kind
+counted kind in_hand.Lance n hand = every-kind (IsCounted in_hand.Lance n hand) refl refl refl refl refl refl refl kind
+counted kind in_hand.Pawn n hand = every-kind (IsCounted in_hand.Pawn n hand) refl refl refl refl refl refl refl kind
+
 -- one more or one fewer of a kind in a hand
 more_of : (kind other : HandKind) (hand : Hand)
     → count_of kind (with_count other (count_of other hand + 1) hand)
     ≡ count_of kind hand + one_if (same_kind other kind)
-more_of kind in_hand.Rook hand =
-    elim kind as (λ k. count_of k (with_count in_hand.Rook (count_of in_hand.Rook hand + 1) hand)
-    ≡ count_of k hand + one_if (same_kind in_hand.Rook k)) [
-      | in_hand.Rook ↦ omega arith
-      | in_hand.Bishop ↦ omega arith
-      | in_hand.Gold ↦ omega arith
-      | in_hand.Silver ↦
-          omega arith
-      | in_hand.Knight ↦ omega arith
-      | in_hand.Lance ↦ omega arith
-      | in_hand.Pawn ↦ omega arith
-    ]
-more_of kind in_hand.Bishop hand =
-    elim kind as (λ k. count_of k (with_count in_hand.Bishop (count_of in_hand.Bishop hand + 1) hand)
-    ≡ count_of k hand + one_if (same_kind in_hand.Bishop k)) [
-      | in_hand.Rook ↦ omega arith
-      | in_hand.Bishop ↦ omega arith
-      | in_hand.Gold ↦ omega arith
-      | in_hand.Silver ↦
-          omega arith
-      | in_hand.Knight ↦ omega arith
-      | in_hand.Lance ↦ omega arith
-      | in_hand.Pawn ↦ omega arith
-    ]
-more_of kind in_hand.Gold hand =
-    elim kind as (λ k. count_of k (with_count in_hand.Gold (count_of in_hand.Gold hand + 1) hand)
-    ≡ count_of k hand + one_if (same_kind in_hand.Gold k)) [
-      | in_hand.Rook ↦ omega arith
-      | in_hand.Bishop ↦ omega arith
-      | in_hand.Gold ↦ omega arith
-      | in_hand.Silver ↦
-          omega arith
-      | in_hand.Knight ↦ omega arith
-      | in_hand.Lance ↦ omega arith
-      | in_hand.Pawn ↦ omega arith
-    ]
-more_of kind in_hand.Silver hand =
-    elim kind as (λ k. count_of k (with_count in_hand.Silver (count_of in_hand.Silver hand + 1) hand)
-    ≡ count_of k hand + one_if (same_kind in_hand.Silver k)) [
-      | in_hand.Rook ↦ omega arith
-      | in_hand.Bishop ↦ omega arith
-      | in_hand.Gold ↦ omega arith
-      | in_hand.Silver ↦
-          omega arith
-      | in_hand.Knight ↦ omega arith
-      | in_hand.Lance ↦ omega arith
-      | in_hand.Pawn ↦ omega arith
-    ]
-more_of kind in_hand.Knight hand =
-    elim kind as (λ k. count_of k (with_count in_hand.Knight (count_of in_hand.Knight hand + 1) hand)
-    ≡ count_of k hand + one_if (same_kind in_hand.Knight k)) [
-      | in_hand.Rook ↦ omega arith
-      | in_hand.Bishop ↦ omega arith
-      | in_hand.Gold ↦ omega arith
-      | in_hand.Silver ↦
-          omega arith
-      | in_hand.Knight ↦ omega arith
-      | in_hand.Lance ↦ omega arith
-      | in_hand.Pawn ↦ omega arith
-    ]
-more_of kind in_hand.Lance hand =
-    elim kind as (λ k. count_of k (with_count in_hand.Lance (count_of in_hand.Lance hand + 1) hand)
-    ≡ count_of k hand + one_if (same_kind in_hand.Lance k)) [
-      | in_hand.Rook ↦ omega arith
-      | in_hand.Bishop ↦ omega arith
-      | in_hand.Gold ↦ omega arith
-      | in_hand.Silver ↦
-          omega arith
-      | in_hand.Knight ↦ omega arith
-      | in_hand.Lance ↦ omega arith
-      | in_hand.Pawn ↦ omega arith
-    ]
-more_of kind in_hand.Pawn hand =
-    elim kind as (λ k. count_of k (with_count in_hand.Pawn (count_of in_hand.Pawn hand + 1) hand)
-    ≡ count_of k hand + one_if (same_kind in_hand.Pawn k)) [
-      | in_hand.Rook ↦ omega arith
-      | in_hand.Bishop ↦ omega arith
-      | in_hand.Gold ↦ omega arith
-      | in_hand.Silver ↦
-          omega arith
-      | in_hand.Knight ↦ omega arith
-      | in_hand.Lance ↦ omega arith
-      | in_hand.Pawn ↦ omega arith
-    ]
+more_of kind other hand =
+    counted kind other (count_of other hand + 1) hand
+    ∙ elim (same_kind other kind) as (λ b. same_kind other kind ≡ b →
+    cond b (count_of other hand + 1) (count_of kind hand) ≡ count_of kind hand + one_if b) [
+      | true ↦ λ e. ap (λ k. count_of k hand + 1) (same_true the_type tt other kind e)
+      | false ↦ λ e. omega arith
+    ] refl
 
 fewer_of : (kind other : HandKind) (hand : Hand) → 0 < count_of other hand
     → count_of kind (with_count other (count_of other hand - 1) hand) + one_if (same_kind other kind)
     ≡ count_of kind hand
-fewer_of kind in_hand.Rook hand some =
-    elim kind as (λ k. count_of k (with_count in_hand.Rook (count_of in_hand.Rook hand - 1) hand) + one_if
-    (same_kind in_hand.Rook k) ≡ count_of k hand) [
-      | in_hand.Rook ↦ omega (arith, some)
-      | in_hand.Bishop ↦ omega (arith, some)
-      | in_hand.Gold ↦
-          omega (arith, some)
-      | in_hand.Silver ↦ omega (arith, some)
-      | in_hand.Knight ↦
-          omega (arith, some)
-      | in_hand.Lance ↦ omega (arith, some)
-      | in_hand.Pawn ↦ omega (arith, some)
-    ]
-fewer_of kind in_hand.Bishop hand some =
-    elim kind as (λ k. count_of k (with_count in_hand.Bishop (count_of in_hand.Bishop hand - 1) hand) + one_if
-    (same_kind in_hand.Bishop k) ≡ count_of k hand) [
-      | in_hand.Rook ↦ omega (arith, some)
-      | in_hand.Bishop ↦ omega (arith, some)
-      | in_hand.Gold ↦
-          omega (arith, some)
-      | in_hand.Silver ↦ omega (arith, some)
-      | in_hand.Knight ↦
-          omega (arith, some)
-      | in_hand.Lance ↦ omega (arith, some)
-      | in_hand.Pawn ↦ omega (arith, some)
-    ]
-fewer_of kind in_hand.Gold hand some =
-    elim kind as (λ k. count_of k (with_count in_hand.Gold (count_of in_hand.Gold hand - 1) hand) + one_if
-    (same_kind in_hand.Gold k) ≡ count_of k hand) [
-      | in_hand.Rook ↦ omega (arith, some)
-      | in_hand.Bishop ↦ omega (arith, some)
-      | in_hand.Gold ↦
-          omega (arith, some)
-      | in_hand.Silver ↦ omega (arith, some)
-      | in_hand.Knight ↦
-          omega (arith, some)
-      | in_hand.Lance ↦ omega (arith, some)
-      | in_hand.Pawn ↦ omega (arith, some)
-    ]
-fewer_of kind in_hand.Silver hand some =
-    elim kind as (λ k. count_of k (with_count in_hand.Silver (count_of in_hand.Silver hand - 1) hand) + one_if
-    (same_kind in_hand.Silver k) ≡ count_of k hand) [
-      | in_hand.Rook ↦ omega (arith, some)
-      | in_hand.Bishop ↦ omega (arith, some)
-      | in_hand.Gold ↦
-          omega (arith, some)
-      | in_hand.Silver ↦ omega (arith, some)
-      | in_hand.Knight ↦
-          omega (arith, some)
-      | in_hand.Lance ↦ omega (arith, some)
-      | in_hand.Pawn ↦ omega (arith, some)
-    ]
-fewer_of kind in_hand.Knight hand some =
-    elim kind as (λ k. count_of k (with_count in_hand.Knight (count_of in_hand.Knight hand - 1) hand) + one_if
-    (same_kind in_hand.Knight k) ≡ count_of k hand) [
-      | in_hand.Rook ↦ omega (arith, some)
-      | in_hand.Bishop ↦ omega (arith, some)
-      | in_hand.Gold ↦
-          omega (arith, some)
-      | in_hand.Silver ↦ omega (arith, some)
-      | in_hand.Knight ↦
-          omega (arith, some)
-      | in_hand.Lance ↦ omega (arith, some)
-      | in_hand.Pawn ↦ omega (arith, some)
-    ]
-fewer_of kind in_hand.Lance hand some =
-    elim kind as (λ k. count_of k (with_count in_hand.Lance (count_of in_hand.Lance hand - 1) hand) + one_if
-    (same_kind in_hand.Lance k) ≡ count_of k hand) [
-      | in_hand.Rook ↦ omega (arith, some)
-      | in_hand.Bishop ↦ omega (arith, some)
-      | in_hand.Gold ↦
-          omega (arith, some)
-      | in_hand.Silver ↦ omega (arith, some)
-      | in_hand.Knight ↦
-          omega (arith, some)
-      | in_hand.Lance ↦ omega (arith, some)
-      | in_hand.Pawn ↦ omega (arith, some)
-    ]
-fewer_of kind in_hand.Pawn hand some =
-    elim kind as (λ k. count_of k (with_count in_hand.Pawn (count_of in_hand.Pawn hand - 1) hand) + one_if
-    (same_kind in_hand.Pawn k) ≡ count_of k hand) [
-      | in_hand.Rook ↦ omega (arith, some)
-      | in_hand.Bishop ↦ omega (arith, some)
-      | in_hand.Gold ↦
-          omega (arith, some)
-      | in_hand.Silver ↦ omega (arith, some)
-      | in_hand.Knight ↦
-          omega (arith, some)
-      | in_hand.Lance ↦ omega (arith, some)
-      | in_hand.Pawn ↦ omega (arith, some)
-    ]
+fewer_of kind other hand some =
+    ap (λ n. n + one_if (same_kind other kind)) (counted kind other (count_of other hand - 1) hand)
+    ∙ elim (same_kind other kind) as (λ b. same_kind other kind ≡ b →
+    cond b (count_of other hand - 1) (count_of kind hand) + one_if b ≡ count_of kind hand) [
+      | true ↦ λ e. let same : count_of other hand ≡ count_of kind hand = ap (λ k. count_of k hand)
+          (same_true the_type tt other kind e) in omega (arith, some, same)
+      | false ↦ λ e. omega arith
+    ] refl
 
 abbrev pub in_hands : HandKind → Hands → ℕ
 in_hands kind hands = count_of kind hands.first + count_of kind hands.second

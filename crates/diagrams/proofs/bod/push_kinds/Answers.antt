@@ -3,8 +3,8 @@ use Rattle.std.proofs.lemmas.List.{drop_all}
 use Rattle.squares.specs.declared.shogi.piece.HandKind.{HandKind}
 use Rattle.squares.specs.declared.shogi.piece.HandKind.TheVariants.{Rook}
 use Rattle.diagrams.specs.BodDiagram.{held_text, kinds_text}
-use Rattle.diagrams.specs.ShogiDiagram.{hand_kinds}
-use Rattle.diagrams.proofs.BodWriting.{kinds-more}
+use Rattle.diagrams.specs.ShogiLines.{hand_kinds}
+use Rattle.diagrams.proofs.ShogiWriting.{kinds-more}
 use Rattle.diagrams.proofs.bod.push_kinds.Goals as goal
 
 pub loop-kind-preserved : goal.loop-kind-preserved
@@ -12,7 +12,7 @@ unfolding hand_kinds
 loop-kind-preserved c =
     let text : List ℕ = string_bytes c.loop-kind.text in
     let kind : HandKind = get_or hand_kinds c.loop-kind.kind-index Rook in
-    kinds-more c.args.hand hand_kinds c.loop-kind.kind-index Rook
+    kinds-more held_text c.args.hand hand_kinds c.loop-kind.kind-index Rook
     (string_bytes c.args.text.now ++ kinds_text c.args.hand hand_kinds) text (string_bytes c.push_held.new.text)
     c.loop-kind-test.true c.loop-kind.invariant
     (c.in_ok-push_held.ensures ∙ ap (λ (n : ℕ). text ++ held_text kind n) c.count.ensures)

@@ -1,6 +1,6 @@
 use Rattle.std.proofs.Common.{◌≡◌, ◌++◌, drop, string_bytes}
 use Rattle.diagrams.specs.BodDiagram.{kinds_text}
-use Rattle.diagrams.specs.ShogiDiagram.{hand_kinds}
+use Rattle.diagrams.specs.ShogiLines.{hand_kinds}
 use Rattle.diagrams.proofs.bod.push_kinds.Given as goal
 
 abbrev pub invariant-loop-kind : goal.invariant-loop-kind

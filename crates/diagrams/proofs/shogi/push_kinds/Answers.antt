@@ -5,7 +5,8 @@ use Rattle.squares.specs.declared.shogi.piece.HandKind.TheVariants.{Rook}
 use Rattle.squares.specs.declared.shogi.piece.Kind.{Kind}
 use Rattle.squares.specs.ShogiPieces.{on_board}
 use Rattle.diagrams.specs.ShogiLetters.{capital}
-use Rattle.diagrams.specs.ShogiDiagram.{held_text, kinds_text, hand_kinds}
+use Rattle.diagrams.specs.ShogiDiagram.{held_text, kinds_text}
+use Rattle.diagrams.specs.ShogiLines.{hand_kinds}
 use Rattle.diagrams.proofs.ShogiWriting.{kinds-more}
 use Rattle.diagrams.proofs.shogi.push_kinds.Goals as goal
 
@@ -14,7 +15,7 @@ unfolding hand_kinds
 loop-kind-preserved c =
     let text : List ℕ = string_bytes c.loop-kind.text in
     let kind : HandKind = get_or hand_kinds c.loop-kind.kind-index Rook in
-    kinds-more c.args.hand hand_kinds c.loop-kind.kind-index Rook
+    kinds-more (λ kind n. held_text (capital (on_board kind)) n) c.args.hand hand_kinds c.loop-kind.kind-index Rook
     (string_bytes c.args.text.now ++ kinds_text c.args.hand hand_kinds) text (string_bytes c.push_held.new.text)
     c.loop-kind-test.true c.loop-kind.invariant
     (c.in_ok-push_held.ensures

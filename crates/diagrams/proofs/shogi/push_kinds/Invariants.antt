@@ -1,5 +1,6 @@
 use Rattle.std.proofs.Common.{◌≡◌, ◌++◌, drop, string_bytes}
-use Rattle.diagrams.specs.ShogiDiagram.{kinds_text, hand_kinds}
+use Rattle.diagrams.specs.ShogiDiagram.{kinds_text}
+use Rattle.diagrams.specs.ShogiLines.{hand_kinds}
 use Rattle.diagrams.proofs.shogi.push_kinds.Given as goal
 
 abbrev pub invariant-loop-kind : goal.invariant-loop-kind

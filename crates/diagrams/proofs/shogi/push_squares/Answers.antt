@@ -1,8 +1,7 @@
-use Rattle.std.proofs.Common.{ℕ, List, [], ◌∷◌, ◌++◌, ap, ◌∙◌, string_bytes, Option}
+use Rattle.std.proofs.Common.{ℕ, List, ◌++◌, ap, ◌∙◌, string_bytes, Option}
 use Rattle.squares.specs.declared.shogi.piece.SPiece.{SPiece}
 use Rattle.squares.specs.ShogiBoard.{ShogiBoard}
-use Rattle.diagrams.specs.ShogiLetters.{cell_mark, cell_letter}
-use Rattle.diagrams.specs.ShogiDiagram.{squares_text}
+use Rattle.diagrams.specs.ShogiDiagram.{cell_text, squares_text}
 use Rattle.diagrams.proofs.ShogiWriting.{squares-more}
 use Rattle.diagrams.proofs.shogi.push_squares.Goals as goal
 
@@ -11,7 +10,7 @@ loop-past-preserved c =
     let board : ShogiBoard = c.args.board.now in
     let rank : ℕ = c.args.rank in
     let text : List ℕ = string_bytes c.loop-past.text in
-    squares-more board rank c.loop-past.past (string_bytes c.args.text.now ++ squares_text board rank 9) text
+    squares-more cell_text board rank c.loop-past.past (string_bytes c.args.text.now ++ squares_text board rank 9) text
     c.loop-past.invariant (string_bytes c.push_cell.new.text) c.loop-past-test.true
     (c.in_ok-push_cell.ensures
-    ∙ ap (λ (cell : Option SPiece). text ++ (32 ∷ cell_mark cell ∷ cell_letter cell ∷ [])) c.piece_at.ensures)
+    ∙ ap (λ (cell : Option SPiece). text ++ cell_text cell) c.piece_at.ensures)
