@@ -13,7 +13,6 @@ use Rattle.club_requests.specs.declared.outside_end.OutsideEnd.TheVariants.{Resi
 use Rattle.club_core.specs.declared.rows.GameEnd.{GameEnd}
 use Rattle.club_core.specs.declared.rows.GameEnd.TheVariants.{Rule, Outside}
 use Rattle.club_games.specs.Shogi.{shogi}
-use Rattle.club_games.specs.ShogiLaws.{last-is}
 use Rattle.csa.specs.declared.head.CsaEnd.TheVariants as csa_end
 use Rattle.csa.specs.declared.head.CsaHead.{CsaHead}
 use Rattle.csa.specs.declared.game_writer.GameWriter.{GameWriter}
@@ -111,7 +110,7 @@ pub csa-may_end : (title : Title SEnd) (plies : List (SMove × ℕ)) (before hel
     → HasWrittenCsa title plies before held game → FitsMoves shogi title (made_in plies) → MayEnd game
 csa-may_end title plies before held game h fits declared =
     let told = declared-told title.end (sym h.is_head.end ∙ (sym h.written.end ∙ declared)) in
-    let at = last-is opening (made_in plies) ∙ sym h.written.position in
+    let at = sym h.written.position in
     (can_declare-is game.position).0 (sym (ap can_declare at) ∙ fits told)
 
 pub csa-ending : (game : GameWriter) (held now : Option (List ℕ)) → BeginsEnd game held now

@@ -1,8 +1,6 @@
 -- A move that is legal after those that are written may follow them.
-use Rattle.std.proofs.Common.{◌≡◌, length, sym, subst, ◌∙◌, arith}
+use Rattle.std.proofs.Common.{◌≡◌, length, sym, subst, arith}
 use Rattle.std.proofs.lemmas.List.{length-map}
-use Rattle.squares.specs.DraughtsOpening as draughts_opening
-use Rattle.squares.specs.ShogiOpening as shogi_opening
 use Rattle.draughts_moves.specs.Legal as draughts_legal
 use Rattle.shogi_moves.specs.Rules as shogi_legal
 use Rattle.pdn_games.specs.Writer as pdn
@@ -19,14 +17,12 @@ pub pdn-may_follow : MayFollowLegal draughts HasWrittenPdn pdn.MayFollow
 pdn-may_follow title plies before now game made written few legal =
     let count : length (made_in plies) ≡ length plies = length-map plies (λ p. p.0) in
     let stands = written.written.position in
-    let plies_are = written.written.plies in
-    let at = draughts_laws.last-is draughts_opening.opening (made_in plies) in (
-      subst (λ p. draughts_legal.Legal p made) (at ∙ sym stands) (draughts_laws.check-legal _ made legal),
+    let plies_are = written.written.plies in (
+      subst (λ p. draughts_legal.Legal p made) (sym stands) (draughts_laws.check-legal _ made legal),
       omega (arith, count, plies_are, few),
     )
 
 pub csa-may_follow : MayFollowLegal shogi HasWrittenCsa csa.MayFollow
 csa-may_follow title plies before now game made written few legal =
     let stands = written.written.position in
-    let at = shogi_laws.last-is shogi_opening.opening (made_in plies) in
-    subst (λ p. shogi_legal.Legal p made) (at ∙ sym stands) (shogi_laws.check-legal _ made legal)
+    subst (λ p. shogi_legal.Legal p made) (sym stands) (shogi_laws.check-legal _ made legal)

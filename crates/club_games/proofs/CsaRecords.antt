@@ -6,9 +6,9 @@ use Rattle.std.specs.Prelude.{slice_get, if◌then◌else◌}
 use Rattle.std.proofs.lemmas.List.{length-append}
 use Rattle.std.proofs.lemmas.Option.{slice_get-get_or}
 use Rattle.std.proofs.Math.Seq.{take-append_seam, get_or-append_seam}
+use Rattle.game_lines.proofs.Proved.{last_position-append}
 use Rattle.squares.specs.declared.shogi.moves.SMove.{SMove}
 use Rattle.squares.specs.ShogiOpening.{opening}
-use Rattle.squares.specs.ShogiSets.{ShogiPosition}
 use Rattle.shogi_moves.specs.declared.checking.Illegal.{Illegal}
 use Rattle.shogi_moves.specs.Computed.{check_of}
 use Rattle.shogi_moves.specs.Rules.{Legal, play}
@@ -45,11 +45,6 @@ go-ok : (ply : ℕ) (rest : Replayed) (answer : Result (Unit {0}) Illegal) → I
 go-ok ply rest (Ok u) ok = refl
 go-ok ply rest (Err cause) ok = cc
 
-position-more : (p : ShogiPosition) (ms : List SMove) (m : SMove)
-    → last_position p (ms ++ m ∷ []) ≡ play (last_position p ms) m
-position-more p [] m = refl
-position-more p (n ∷ ms) m = position-more (play p n) ms m
-
 there : (front : List SMove) (m : SMove) (rest : List SMove) → slice_get (front ++ m ∷ rest) (length front) ≡ Some m
 there front m rest =
     let long = length-append front (m ∷ rest) in
@@ -78,7 +73,7 @@ replays-on front (w ∷ ws) more (m ∷ rest) mean played =
     ∙ go-ok (length front + 1) (next m) (check_of (last_position opening front) m)
     ((check_of-legal (last_position opening front) m).1 legal)
     ∙ replays-on (front ++ m ∷ []) ws more rest
-    (subst (λ p. MeanAll p ws rest) (sym (position-more opening front m)) mean.1)
+    (subst (λ p. MeanAll p ws rest) (sym (last_position-append play opening front m)) mean.1)
     (subst (λ l. IsPlayed opening l (length l)) (sym grown) played)
     ∙ ap (λ l. replayed l more) grown
 

@@ -1,10 +1,9 @@
 -- Lines that are played by the rules have no fault, and readings are those of the functions.
-use Rattle.std.proofs.Common.{◌≡◌, ◌≢◌, ℕ, List, take, Err, sym, ap, ◌∙◌}
+use Rattle.std.proofs.Common.{◌≡◌, ◌≢◌, ℕ, List, Err, sym, ap, ◌∙◌}
 use Rattle.squares.specs.declared.draughts.moves.DMove.{DMove}
 use Rattle.squares.specs.DraughtsBoard.{Position}
 use Rattle.draughts_moves.specs.declared.checking.Illegal.{Illegal}
-use Rattle.draughts_moves.specs.Check.{check_of}
-use Rattle.draughts_draws.specs.declared.faults.DLineFault.TheVariants as line_fault
+use Rattle.game_lines.specs.declared.faults.LineFault.TheVariants as line_fault
 use Rattle.draughts_draws.specs.Faults.{HasFault}
 use Rattle.pdn.specs.declared.faults.FenFault.TheVariants as fen_fault
 use Rattle.pdn.specs.declared.faults.MoveFault.{MoveFault}
@@ -17,7 +16,6 @@ use Rattle.club_rules.specs.Line.{IsPlayedLine}
 use Rattle.club_rules.proofs.Proved.{check-at, refused-passes}
 use Rattle.club_rules.specs.MoveRefusal.{refused_by}
 use Rattle.club_games.specs.Draughts.{draughts, refusal_of, text_refusal, move_read}
-use Rattle.club_games.specs.DraughtsLaws.{last-is}
 
 -- no move of a legal line is refused
 pub no-illegal : (start : Position) (ms : List DMove) (ply : ℕ) (cause : Illegal) → IsPlayedLine draughts start ms
@@ -26,8 +24,7 @@ no-illegal start ms ply cause played h =
     let k = h.0 in
     let m = h.1 in
     let legal = check-at draughts start ms k m played.legal h.3 in
-    let at = ap (λ p. check_of p m) (last-is start (take k ms)) ∙ h.6 in
-    refused-passes refusal_of cause (sym (ap (refused_by refusal_of) at) ∙ legal)
+    refused-passes refusal_of cause (sym (ap (refused_by refusal_of) h.6) ∙ legal)
 
 -- a text that is refused is refused so by the function that reads
 pub refused-reading : (p : Position) (text : List ℕ) (f : MoveFault) → HasReadFault p text f → f ≢ fault.Memory

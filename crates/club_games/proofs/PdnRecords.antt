@@ -4,8 +4,8 @@ use Rattle.std.proofs.Common.{None, IsSome, Ok, Err, refl, sym, ap, subst, ◌�
 use Rattle.std.specs.Prelude.{codes, if◌then◌else◌}
 use Rattle.std.proofs.lemmas.List.{length-append}
 use Rattle.std.proofs.Math.Seq.{take-append_seam}
+use Rattle.game_lines.proofs.Proved.{last_position-append}
 use Rattle.squares.specs.declared.draughts.moves.DMove.{DMove}
-use Rattle.squares.specs.DraughtsBoard.{Position}
 use Rattle.squares.specs.DraughtsOpening.{opening}
 use Rattle.draughts_moves.specs.Legal.{play}
 use Rattle.draughts_draws.specs.declared.ends.DEnd.{DEnd}
@@ -35,11 +35,6 @@ use Rattle.club_games.specs.PdnReading.{whole, pdn_part}
 use Rattle.club_games.proofs.FenOpening.{tells-opening}
 use Rattle.club_games.proofs.PdnLexing.{lexes-lexed}
 
-position-more : (p : Position) (ms : List DMove) (m : DMove)
-    → last_position p (ms ++ m ∷ []) ≡ play (last_position p ms) m
-position-more p [] m = refl
-position-more p (n ∷ ms) m = position-more (play p n) ms m
-
 -- texts that mean moves of a game are replayed as these
 replays-on : (front : List DMove) (texts more : List (List ℕ)) (rest : List DMove)
     → MeanAll (last_position opening front) texts rest → IsPlayed opening (front ++ rest) (length (front ++ rest))
@@ -56,7 +51,7 @@ replays-on front (t ∷ texts) more (m ∷ rest) mean played =
     let grown : (front ++ m ∷ []) ++ rest ≡ front ++ m ∷ rest = append_assoc front (m ∷ []) rest in
     (λ i. replay_next front next (running i) ((reading-ok (last_position opening front) t m).1 mean.0 i))
     ∙ replays-on (front ++ m ∷ []) texts more rest
-    (subst (λ p. MeanAll p texts rest) (sym (position-more opening front m)) mean.1)
+    (subst (λ p. MeanAll p texts rest) (sym (last_position-append play opening front m)) mean.1)
     (subst (λ l. IsPlayed opening l (length l)) (sym grown) played)
     ∙ ap (λ l. replayed l more) grown
 

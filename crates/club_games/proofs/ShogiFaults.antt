@@ -1,12 +1,11 @@
 -- Lines that are played by the rules have no fault, and readings are those of the functions.
-use Rattle.std.proofs.Common.{◌≡◌, ℕ, List, take, Option, Some, None, Err, sym, ap, ◌∙◌, subst}
+use Rattle.std.proofs.Common.{◌≡◌, ℕ, List, take, Option, Some, None, Err, sym, ap, ◌∙◌}
 use Rattle.squares.specs.declared.shogi.moves.SMove.{SMove}
 use Rattle.squares.specs.ShogiSets.{ShogiPosition}
 use Rattle.shogi_moves.specs.declared.checking.Illegal.{Illegal}
-use Rattle.shogi_moves.specs.Rules.{FirstBroken}
 use Rattle.shogi_moves.proofs.Proved.{check_of-refused}
 use Rattle.shogi_repetition.specs.declared.ends.SEnd.{SEnd}
-use Rattle.shogi_repetition.specs.declared.faults.SLineFault.TheVariants as line_fault
+use Rattle.game_lines.specs.declared.faults.LineFault.TheVariants as line_fault
 use Rattle.shogi_repetition.specs.Computed.{end_of}
 use Rattle.shogi_repetition.specs.Ends.{EndsSo}
 use Rattle.shogi_repetition.specs.Faults.{HasFault}
@@ -20,7 +19,6 @@ use Rattle.club_rules.specs.Line.{position_after, IsPlayedLine}
 use Rattle.club_rules.proofs.Proved.{check-at, refused-passes}
 use Rattle.club_rules.specs.MoveRefusal.{refused_by}
 use Rattle.club_games.specs.Shogi.{shogi, refusal_of, move_read}
-use Rattle.club_games.specs.ShogiLaws.{last-is}
 
 -- no move of a legal line is refused
 pub no-illegal : (start : ShogiPosition) (ms : List SMove) (ply : ℕ) (cause : Illegal) → IsPlayedLine shogi start ms
@@ -29,9 +27,8 @@ no-illegal start ms ply cause played h =
     let k = h.0 in
     let m = h.1 in
     let legal = check-at shogi start ms k m played.legal h.3 in
-    let broken = subst (λ p. FirstBroken p m cause) (sym (last-is start (take k ms))) h.6 in
     refused-passes refusal_of cause
-    (sym (ap (refused_by refusal_of) ((check_of-refused (position_after shogi start (take k ms)) m cause).1 broken))
+    (sym (ap (refused_by refusal_of) ((check_of-refused (position_after shogi start (take k ms)) m cause).1 h.6))
     ∙ legal)
 
 none_some : (o : Option SEnd) (end : SEnd) → o ≡ None → Some end ≡ o → ⊥

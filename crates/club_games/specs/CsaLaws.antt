@@ -34,7 +34,6 @@ use Rattle.club_rules.specs.MoveRefusal.{refused_by}
 use Rattle.club_rules.specs.Records.{Recorded, IsGameByRules, ReadsGames, game}
 use Rattle.club_rules.proofs.Proved.{IsPlayedLine-none, IsPlayedLine-append}
 use Rattle.club_games.specs.Shogi.{shogi, refusal_of}
-use Rattle.club_games.specs.ShogiLaws.{last-is}
 use Rattle.club_games.specs.CsaReading.{meant, Replayed, go_on, replay_next, replayed, RecordRead, with_score}
 use Rattle.club_games.specs.CsaReading.{with_moves, record_reading, RecordsRead, and_more, records_reading, is_version}
 use Rattle.club_games.specs.CsaReading.{ordered_reading, statements_reading, csa_reading, found_game, part_of}
@@ -51,7 +50,7 @@ module _ (ms : List SMove) (line : IsPlayedLine shogi opening ms) (rest : SMove 
     checked-line m (Ok u) running is read =
         goes_on m
         (IsPlayedLine-append shogi opening ms m line running
-        (ap (λ p. refused_by refusal_of (check_of p m)) (last-is opening ms) ∙ ap (refused_by refusal_of) is)) read
+        (ap (refused_by refusal_of) is)) read
 
     next-line : (end : Option SEnd) (found : Option SMove) → end_of opening ms ≡ end
         → replay_next ms rest end found ≡ Ok ns → IsPlayedLine shogi opening ns
@@ -132,11 +131,8 @@ scored-game placed ms (Ok s) r line told is =
       line = line;
       score = λ end ends.
           ending-score (end_in placed) (last_position opening ms) end s
-          (ap (λ e. score_in placed ms e) (sym ends) ∙ told)
-          ∙ ap (λ p. outcome_of end p.turn) (sym (last-is opening ms));
-      declared = λ says.
-          ap can_declare (last-is opening ms)
-          ∙ declared-fits (end_in placed) (last_position opening ms) (end_of opening ms) s told says;
+          (ap (λ e. score_in placed ms e) (sym ends) ∙ told);
+      declared = λ says. declared-fits (end_in placed) (last_position opening ms) (end_of opening ms) s told says;
     })
 
 moved-game : (placed : List Placed) (read : Replayed) (r : Recorded SMove)

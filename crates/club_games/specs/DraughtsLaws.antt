@@ -3,7 +3,7 @@ use Rattle.std.proofs.Common.{Contains, ◌↔◌, ◌≡◌, ◌⊎◌, inl, in
 use Rattle.std.proofs.Common.{cond, not, nat_eq, nat_le, List, [], ◌∷◌, length, Option, Some, None, is_some, Ok, IsSome}
 use Rattle.std.proofs.Common.{refl, sym, ap, ◌∙◌, subst, arith, eqb-true, eq-eqb}
 use Rattle.std.specs.List.Sorted.{IsStrictlySortedBy}
-use Rattle.std.specs.Prelude.{if◌then◌else◌, count_by, map as list_map}
+use Rattle.std.specs.Prelude.{if◌then◌else◌, map as list_map}
 use Rattle.std.specs.List.{range_with_len}
 use Rattle.std.specs.Ordering.{nat_cmp, eq_by_cmp}
 use Rattle.std.specs.Cmp.{nat_cmp_total, unsigned_tied}
@@ -29,8 +29,8 @@ use Rattle.draughts_draws.specs.declared.ends.DEnd.{DEnd}
 use Rattle.draughts_draws.specs.declared.ends.DEnd.TheVariants as draughts_end
 use Rattle.draughts_draws.specs.declared.tails.Class.{Class}
 use Rattle.draughts_draws.specs.Ends.{end_of, first_end, is_king_move, are_king_moves, ends_with, stands_thrice}
-use Rattle.draughts_draws.specs.Line as line
-use Rattle.draughts_draws.specs.Tails.{tail_of, next_tail, end_by, class_of, in_class, first_count, count_on}
+use Rattle.draughts_draws.specs.Line.{last_position}
+use Rattle.draughts_draws.specs.Tails.{tail_of, end_by, class_of, in_class, first_count, count_on}
 use Rattle.draughts_draws.specs.Tails.{times_stood}
 use Rattle.draughts_draws.proofs.Proved.{tail-begins, tail-goes-on, ends-by-tail}
 use Rattle.pdn.specs.Laws.{IsOnBoard}
@@ -40,8 +40,7 @@ use Rattle.pdn.proofs.Proved.{quiet-on, same_move-same, same_move-itself, text-i
 use Rattle.pdn.proofs.Proved.{fen-one, Route-on}
 use Rattle.draughts_moves.specs.Listing.{move_cmp}
 use Rattle.club_rules.specs.Listed.{IsLegalList}
-use Rattle.club_rules.specs.Line.{position_after, positions, line_track}
-use Rattle.club_rules.specs.Line as game_line
+use Rattle.club_rules.specs.Line.{position_after, line_track}
 use Rattle.club_rules.specs.Laws.{FirstStarts, StartsRunning, TurnPasses, ReadsBack, SameIs, SamePositionIs}
 use Rattle.club_rules.specs.Laws.{EndsAtLimit, StandsForOne}
 use Rattle.club_rules.specs.Laws.{WritesPositions, TextsTellPositions, TracksTellEnds, NumbersGiveTracks}
@@ -220,25 +219,13 @@ draughts-texts_tell_positions = texts-tell draughts IsFen draughts-stands_for_on
 
 -- ---- tracks
 
-pub last-is : (p : Position) (ms : List DMove) → position_after draughts p ms ≡ line.last_position p ms
-last-is p [] = refl
-last-is p (m ∷ ms) = last-is (play p m) ms
-
-positions-is : (p : Position) (ms : List DMove) → positions draughts p ms ≡ line.positions p ms
-positions-is p [] = refl
-positions-is p (m ∷ ms) = ap (λ ps. p ∷ ps) (positions-is (play p m) ms)
-
 line_track-is : (start : Position) (ms : List DMove) → line_track draughts start ms ≡ tail_of start ms
 line_track-is start =
-    track-is draughts start (tail_of start) (tail-begins start)
-    (λ ms m. tail-goes-on start ms m ∙ ap (λ q. next_tail (tail_of start ms) q m (play q m)) (sym (last-is start ms)))
-
-times-is : (start : Position) (ms : List DMove) → game_line.times_stood draughts start ms ≡ times_stood start ms
-times-is start ms = λ i. count_by (λ q. same_position q (last-is start ms i)) (positions-is start ms i)
+    track-is draughts start (tail_of start) (tail-begins start) (λ ms m. tail-goes-on start ms m)
 
 pub draughts-tracks_tell_ends : TracksTellEnds draughts
 draughts-tracks_tell_ends ms first played stands =
-    (λ i. end_by (line_track-is opening ms i) (last-is opening ms i) (length ms) (times-is opening ms i))
+    ap (λ track. end_by track (last_position opening ms) (length ms) (times_stood opening ms)) (line_track-is opening ms)
     ∙ ends-by-tail opening ms
 
 pub draughts-numbers_give_tracks : NumbersGiveTracks draughts

@@ -21,11 +21,11 @@ use Rattle.pdn_games.specs.Contents.{first_tag, result_in, move_texts, is_other_
 use Rattle.pdn_games.specs.Order.{bad_at}
 use Rattle.pdn_games.specs.Reading.{said, told, same_score, agrees, ruled, settled, score_in}
 use Rattle.pdn_games.specs.Tokens.{Placed}
-use Rattle.club_rules.specs.Line.{position_after, IsPlayedLine}
+use Rattle.club_rules.specs.Line.{IsPlayedLine}
 use Rattle.club_rules.specs.Records.{Recorded, IsGameByRules, ReadsGames, Reading, game, no_part}
 use Rattle.club_rules.proofs.Proved.{IsPlayedLine-none, IsPlayedLine-append}
 use Rattle.club_games.specs.Draughts.{draughts}
-use Rattle.club_games.specs.DraughtsLaws.{last-is, legal-check}
+use Rattle.club_games.specs.DraughtsLaws.{legal-check}
 use Rattle.club_games.specs.PdnReading.{lexed, lexed_reading, Lexed, Replayed, replay_next, replayed, GameRead}
 use Rattle.club_games.specs.PdnReading.{with_score, with_moves, begins_even, formed_reading, pdn_reading, whole}
 use Rattle.club_games.specs.PdnReading.{draughts_records}
@@ -49,8 +49,7 @@ module _ (ms : List DMove) (line : IsPlayedLine draughts opening ms) (text : Lis
       let legal : Legal (last_position opening ms) m = read-legal (last_position opening ms) stands.0 m stands.2 in
       goes_on m
       (IsPlayedLine-append draughts opening ms m line running
-      (legal-check (position_after draughts opening ms) m
-      (subst (λ p. Legal p m) (sym (last-is opening ms)) legal))) is
+      (legal-check (last_position opening ms) m legal)) is
 
 replay-line : (ms : List DMove) (texts : List (List ℕ)) (ns : List DMove) → IsPlayedLine draughts opening ms
     → replayed ms texts ≡ Ok ns → IsPlayedLine draughts opening ns
@@ -99,8 +98,7 @@ scored-game tokens ms (Ok s) r line told_is is =
           (told (first_tag (codes "Result") tokens)) s
           (ap
           (λ e. settled (said (result_in tokens)) (ruled e (last_position opening ms).turn)
-          (told (first_tag (codes "Result") tokens))) (sym ends) ∙ told_is)
-          ∙ ap (λ p. outcome_of end p.turn) (sym (last-is opening ms));
+          (told (first_tag (codes "Result") tokens))) (sym ends) ∙ told_is);
       declared = λ is. cc;
     })
 

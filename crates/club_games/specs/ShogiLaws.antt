@@ -1,9 +1,9 @@
 -- What holds of shogi as a game of the club.
 use Rattle.std.proofs.Common.{Contains, ◌↔◌, ◌≡◌, ℕ, ◌+◌, ◌≤◌, ◌<◌, Bool, true, false, cond, not, ◌&&◌, nat_eq, List}
-use Rattle.std.proofs.Common.{[], ◌∷◌, length, take, Option, Some, None, Ok, IsSome, refl, sym, ap, ◌∙◌, arith}
+use Rattle.std.proofs.Common.{[], ◌∷◌, length, Option, Some, None, Ok, IsSome, refl, ap, ◌∙◌, arith}
 use Rattle.std.proofs.Common.{eqb-true, eq-eqb}
 use Rattle.std.specs.List.Sorted.{IsStrictlySortedBy}
-use Rattle.std.specs.Prelude.{if◌then◌else◌, count_by, nat_le, map as list_map}
+use Rattle.std.specs.Prelude.{if◌then◌else◌, nat_le, map as list_map}
 use Rattle.std.specs.List.{range_with_len}
 use Rattle.std.specs.Option.{option_map_or}
 use Rattle.std.specs.Ordering.{nat_cmp, eq_by_cmp}
@@ -34,9 +34,8 @@ use Rattle.shogi_repetition.specs.declared.ends.SEnd.{SEnd}
 use Rattle.shogi_repetition.specs.declared.ends.SEnd.TheVariants as shogi_end
 use Rattle.shogi_repetition.specs.declared.tails.Tail.{Tail}
 use Rattle.shogi_repetition.specs.Computed.{end_of, first_end, is_in_check, repetition, stands_four_times}
-use Rattle.shogi_repetition.specs.Ends as ends
 use Rattle.shogi_repetition.specs.Line as line
-use Rattle.shogi_repetition.specs.Tails.{tail_of, tail_after, next_tail, end_by, times_stood}
+use Rattle.shogi_repetition.specs.Tails.{tail_of, tail_after, end_by, times_stood}
 use Rattle.shogi_repetition.proofs.Proved.{tail-begins, tail-goes-on, ends-by-tail}
 use Rattle.sfen.specs.SfenGrammar.{IsOnSquares}
 use Rattle.sfen.specs.UsiReading.{usi_reach}
@@ -44,8 +43,7 @@ use Rattle.sfen.specs.UsiText.{IsOnBoard, usi_text}
 use Rattle.sfen.proofs.Proved.{usi_reading-text, position-alone, stands-for-one}
 use Rattle.shogi_moves.specs.Listing.{move_cmp}
 use Rattle.club_rules.specs.Listed.{IsLegalList}
-use Rattle.club_rules.specs.Line.{position_after, positions, line_track, FirstStands}
-use Rattle.club_rules.specs.Line as game_line
+use Rattle.club_rules.specs.Line.{position_after, line_track}
 use Rattle.club_rules.specs.Laws.{FirstStarts, StartsRunning, TurnPasses, ReadsBack, SameIs, SamePositionIs}
 use Rattle.club_rules.specs.Laws.{EndsAtLimit, StandsForOne}
 use Rattle.club_rules.specs.Laws.{WritesPositions, TextsTellPositions, TracksTellEnds, NumbersGiveTracks}
@@ -221,36 +219,15 @@ shogi-texts_tell_positions = texts-tell shogi IsPositionText shogi-stands_for_on
 
 -- ---- tracks
 
-pub last-is : (p : ShogiPosition) (ms : List SMove) → position_after shogi p ms ≡ line.last_position p ms
-last-is p [] = refl
-last-is p (m ∷ ms) = last-is (play p m) ms
-
-positions-is : (p : ShogiPosition) (ms : List SMove) → positions shogi p ms ≡ line.positions p ms
-positions-is p [] = refl
-positions-is p (m ∷ ms) = ap (λ ps. p ∷ ps) (positions-is (play p m) ms)
-
 line_track-is : (start : ShogiPosition) (ms : List SMove) → line_track shogi start ms ≡ tail_of start ms
 line_track-is start =
-    track-is shogi start (tail_of start) (tail-begins start)
-    (λ ms m. tail-goes-on start ms m ∙ ap (λ q. next_tail (tail_of start ms) (play q m)) (sym (last-is start ms)))
-
-times-is : (start : ShogiPosition) (ms : List SMove) → game_line.times_stood shogi start ms ≡ times_stood start ms
-times-is start ms = λ i. count_by (λ q. same_shogi_position q (last-is start ms i)) (positions-is start ms i)
-
--- a position that stands first by the club's words does so by those of shogi
-stands-first : (start : ShogiPosition) (ms : List SMove) (f : ℕ) → FirstStands shogi start ms f
-    → ends.FirstStands start ms f
-stands-first start ms f s =
-    record {
-      within = s.within;
-      stands = sym (last-is start (take f ms)) ∙ s.stands ∙ last-is start ms;
-      earliest = λ k less e. s.earliest k less (last-is start (take k ms) ∙ e ∙ sym (last-is start ms));
-    }
+    track-is shogi start (tail_of start) (tail-begins start) (λ ms m. tail-goes-on start ms m)
 
 pub shogi-tracks_tell_ends : TracksTellEnds shogi
 shogi-tracks_tell_ends ms first played stands =
-    (λ i. end_by (line_track-is opening ms i) (last-is opening ms i) (length ms) (times-is opening ms i) first)
-    ∙ ends-by-tail opening ms first (stands-first opening ms first stands)
+    ap (λ track. end_by track (line.last_position opening ms) (length ms) (times_stood opening ms) first)
+    (line_track-is opening ms)
+    ∙ ends-by-tail opening ms first stands
 
 pub shogi-numbers_give_tracks : NumbersGiveTracks shogi
 shogi-numbers_give_tracks track = refl

@@ -1,7 +1,8 @@
 -- What holds of a line that grows at its end, and of the moves inside it.
-use Rattle.std.proofs.Common.{◌≡◌, ℕ, zero, suc, List, [], ◌∷◌, ◌++◌, take, Some, Ok, refl, ap, ◌∙◌, rules, drop}
+use Rattle.std.proofs.Common.{◌≡◌, ℕ, zero, suc, List, [], ◌∷◌, ◌++◌, take, Some, Ok, ap, ◌∙◌, rules, drop}
 use Rattle.std.proofs.Common.{get_or, sym, drop-cons, add-one, ◌+◌, ◌<◌, length}
 use Rattle.std.specs.Prelude.{slice_get}
+use Rattle.game_lines.proofs.Proved.{last_position-append}
 use Rattle.squares.specs.Sides.{other}
 use Rattle.club_rules.specs.GameRules.{GameRules}
 use Rattle.club_rules.specs.Line.{position_after, IsLegalLine}
@@ -10,8 +11,7 @@ module _ {P M E T : Type 0} (game_rules : GameRules P M E T) where
   -- the position after one more move
   pub position_after-append : (p : P) (ms : List M) (m : M)
       → position_after game_rules p (ms ++ m ∷ []) ≡ game_rules.play (position_after game_rules p ms) m
-  position_after-append p [] m = refl
-  position_after-append p (n ∷ ms) m = position_after-append (game_rules.play p n) ms m
+  position_after-append = last_position-append game_rules.play
 
   -- a legal line grows by a legal move
   pub IsLegalLine-append : (p : P) (ms : List M) (m : M) → IsLegalLine game_rules p ms

@@ -4,6 +4,7 @@ use Rattle.std.proofs.Common.{ap, ◌∙◌, add-one, arith}
 use Rattle.std.proofs.lemmas.List.{append_assoc, take_more, length-map, get_or-map}
 use Rattle.std.proofs.lemmas.Option.{slice_get-get_or}
 use Rattle.std.proofs.Math.Seq.{drop-cons}
+use Rattle.game_lines.proofs.Proved.{last_position-append}
 use Rattle.squares.specs.declared.shogi.moves.SMove.{SMove}
 use Rattle.squares.specs.ShogiSets.{ShogiPosition}
 use Rattle.squares.specs.ShogiOpening.{opening}
@@ -11,7 +12,6 @@ use Rattle.shogi_moves.specs.Rules.{Legal, play}
 use Rattle.shogi_repetition.specs.Line.{last_position}
 use Rattle.shogi_repetition.specs.Faults.{IsPlayed}
 use Rattle.csa.specs.Writing.{entry_text, entries_text}
-use Rattle.csa.proofs.ReplayLemmas.{last_position-more}
 
 abbrev moves_of : List (SMove × ℕ) → List SMove
 moves_of es = map (λ e. e.0) es
@@ -36,7 +36,7 @@ next-position es i e h is =
     let longer : take (i + 1) (moves_of es) ≡ take i (moves_of es) ++ e.0 ∷ [] =
     take_more (moves_of es) i e.0 (omega (arith, same))
     ∙ ap (λ m. take i (moves_of es) ++ m ∷ []) (move-at es i e h is) in
-    ap (last_position opening) longer ∙ last_position-more opening (take i (moves_of es)) e.0
+    ap (last_position opening) longer ∙ last_position-append play opening (take i (moves_of es)) e.0
 
 -- one entry more
 pub entries-grow : (p : ShogiPosition) (es : List (SMove × ℕ)) (i : ℕ) (e : SMove × ℕ) (old new whole : List ℕ)

@@ -6,6 +6,7 @@ use Rattle.std.proofs.KnownBytes.{Appends-trans}
 use Rattle.std.proofs.lemmas.List.{map-append, take_more}
 use Rattle.record_writer.specs.Pieces.{AppendsSome}
 use Rattle.record_writer.specs.PieceLaws.{begun-next, begun-longer}
+use Rattle.game_lines.proofs.Proved.{last_position-append}
 use Rattle.squares.specs.declared.sides.Side.{Side}
 use Rattle.squares.specs.declared.shogi.moves.SMove.{SMove}
 use Rattle.squares.specs.ShogiSets.{ShogiPosition}
@@ -17,7 +18,6 @@ use Rattle.csa.specs.declared.game_writer.GameWriter.{GameWriter}
 use Rattle.csa.specs.Writing.{entry_text, entries_text, end_text}
 use Rattle.csa.specs.Writer.{lines_text, text_up_to, HasBegun, HasWritten, AddsEntry, BeginsEntry, Finishes, BeginsEnd}
 use Rattle.csa.specs.Writer.{BeginsGame, LinesBeginGames, MovesBeginGames}
-use Rattle.csa.proofs.ReplayLemmas.{last_position-more}
 
 abbrev moves_of : List (SMove × ℕ) → List SMove
 moves_of es = map (λ e. e.0) es
@@ -38,7 +38,7 @@ entries-then p es e = entries-append p es (e ∷ [])
 -- the position after one entry more
 pub position-then : (p : ShogiPosition) (es : List (SMove × ℕ)) (e : SMove × ℕ)
     → last_position p (moves_of (es ++ e ∷ [])) ≡ play (last_position p (moves_of es)) e.0
-position-then p es e = ap (last_position p) (map-append (λ x. x.0) es (e ∷ [])) ∙ last_position-more p (moves_of es) e.0
+position-then p es e = ap (last_position p) (map-append (λ x. x.0) es (e ∷ [])) ∙ last_position-append play p (moves_of es) e.0
 
 -- ---- what a writer has
 

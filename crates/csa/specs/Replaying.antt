@@ -6,8 +6,9 @@ use Rattle.shogi_repetition.specs.Line.{last_position}
 use Rattle.shogi_repetition.specs.Counting.{Follows}
 use Rattle.shogi_repetition.specs.Ends.{EndsSo}
 use Rattle.shogi_repetition.specs.declared.ends.SEnd.{SEnd}
-use Rattle.shogi_repetition.specs.declared.faults.SLineFault.{SLineFault}
-use Rattle.shogi_repetition.specs.declared.faults.SLineFault.TheVariants as line_fault
+use Rattle.game_lines.specs.declared.faults.LineFault.{LineFault}
+use Rattle.game_lines.specs.declared.faults.LineFault.TheVariants as line_fault
+use Rattle.shogi_moves.specs.declared.checking.Illegal.{Illegal}
 use Rattle.shogi_moves.specs.Rules.{FirstBroken}
 use Rattle.csa.specs.declared.faults.CsaFault.{CsaFault}
 use Rattle.csa.specs.declared.faults.CsaFault.TheVariants as fault
@@ -48,7 +49,7 @@ RefusesMade ms m (fault.Illegal ply cause) = (ply ≡ length ms + 1) × EndsSo o
     × FirstBroken (last_position opening ms) m cause
 RefusesMade ms m _ = ⊥
 
-abbrev pub fault_of : SLineFault → CsaFault
+abbrev pub fault_of : LineFault Illegal → CsaFault
 fault_of line_fault.Memory = fault.Memory
 fault_of (line_fault.Illegal ply cause) = fault.Illegal ply cause
 fault_of (line_fault.AfterEnd ply) = fault.AfterEnd ply

@@ -1,4 +1,3 @@
 pub mod CountLemmas
-pub mod LineLemmas
 pub mod Proved
 pub mod TailLemmas

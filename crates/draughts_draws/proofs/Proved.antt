@@ -1,3 +1,2 @@
 -- What is proved of the ends of draughts, for the proofs of crates above.
-pub use Rattle.draughts_draws.proofs.LineLemmas.{last_position-append}
 pub use Rattle.draughts_draws.proofs.TailLemmas.{ends-by-tail, tail-begins, tail-goes-on}

@@ -1,10 +1,12 @@
 -- The tail of a line is made ply by ply, and tells its end.
 use Rattle.std.proofs.Common.{◌≡◌, ◌⊎◌, inl, inr, ℕ, zero, suc, ◌+◌, ◌-◌, ◌≤◌, Bool, true, false, ◌&&◌, ◌||◌, not}
 use Rattle.std.proofs.Common.{cond, nat_eq, nat_le, List, [], ◌∷◌, ◌++◌, length, drop, Option, Some, None, refl, sym}
-use Rattle.std.proofs.Common.{ap, ◌∙◌, arith}
+use Rattle.std.proofs.Common.{ap, ◌∙◌, arith, eqb-true}
 use Rattle.std.specs.Prelude.{if◌then◌else◌}
 use Rattle.std.specs.List.{list_all, suffix_len, zip}
+use Rattle.std.proofs.lemmas.Bool.{and_parts}
 use Rattle.std.proofs.lemmas.Grind.{common_steps}
+use Rattle.game_lines.proofs.Proved.{last_position-append, positions-append}
 use Rattle.squares.specs.declared.sides.Side.TheVariants.{First, Second}
 use Rattle.squares.specs.declared.draughts.moves.DMove.{DMove}
 use Rattle.squares.specs.DraughtsBoard.{Position}
@@ -21,33 +23,24 @@ use Rattle.draughts_draws.specs.Ends.{is_three_to_one, is_two_to_one, stands_thr
 use Rattle.draughts_draws.specs.Ends.{first_end, end_of}
 use Rattle.draughts_draws.specs.Tails.{in_class, class_of, run_in, tail_of, first_count, first_tail, count_on}
 use Rattle.draughts_draws.specs.Tails.{class_count, next_tail, end_or, end_by, times_stood}
-use Rattle.draughts_draws.proofs.LineLemmas.{last_position-append, positions-append}
 
 -- ---- the classes are apart
-
-and-left : (a b : Bool) → (a && b) ≡ true → a ≡ true
-and-left true b e = refl
-and-left false b e = e
-
-and-right : (a b : Bool) → (a && b) ≡ true → b ≡ true
-and-right true b e = e
-and-right false b e = cc
 
 or-true : (a b : Bool) → (a || b) ≡ true → (a ≡ true) ⊎ (b ≡ true)
 or-true true b e = inl refl
 or-true false b e = inr e
 
 number : (n m : ℕ) (b : Bool) → (nat_eq n m && b) ≡ true → n ≡ m
-number n m b e = let is = and-left (nat_eq n m) b e in grind (arith, common_steps)
+number n m b e = eqb-true n m (and_parts (nat_eq n m) b e).0
 
 -- in a position of three to one four pieces stand, and in one of two to one at most three
 four : (a b : ℕ) (w x y z : Bool)
     → (((nat_eq a 3 && w) && (nat_eq b 1 && x)) || ((nat_eq b 3 && y) && (nat_eq a 1 && z))) ≡ true → a + b ≡ 4
 four a b w x y z e =
     elim (or-true ((nat_eq a 3 && w) && (nat_eq b 1 && x)) ((nat_eq b 3 && y) && (nat_eq a 1 && z)) e) [
-      | inl h ↦ let one : a ≡ 3 = number a 3 w (and-left _ _ h) in let two : b ≡ 1 = number b 1 x (and-right _ _ h) in
+      | inl h ↦ let one : a ≡ 3 = number a 3 w (and_parts _ _ h).0 in let two : b ≡ 1 = number b 1 x (and_parts _ _ h).1 in
           omega (arith, one, two)
-      | inr h ↦ let one : b ≡ 3 = number b 3 y (and-left _ _ h) in let two : a ≡ 1 = number a 1 z (and-right _ _ h) in
+      | inr h ↦ let one : b ≡ 3 = number b 3 y (and_parts _ _ h).0 in let two : a ≡ 1 = number a 1 z (and_parts _ _ h).1 in
           omega (arith, one, two)
     ]
 
@@ -65,9 +58,9 @@ at_most_three : (a b : ℕ) (v w x y z u : Bool)
 at_most_three a b v w x y z u e =
     elim (or-true (((nat_eq a 1 && v) || (nat_eq a 2 && w)) && (nat_eq b 1 && x))
     (((nat_eq b 1 && y) || (nat_eq b 2 && z)) && (nat_eq a 1 && u)) e) [
-      | inl h ↦ let few = at_most_two a v w (and-left _ _ h) in let one : b ≡ 1 = number b 1 x (and-right _ _ h) in
+      | inl h ↦ let few = at_most_two a v w (and_parts _ _ h).0 in let one : b ≡ 1 = number b 1 x (and_parts _ _ h).1 in
           omega (arith, few, one)
-      | inr h ↦ let few = at_most_two b y z (and-left _ _ h) in let one : a ≡ 1 = number a 1 u (and-right _ _ h) in
+      | inr h ↦ let few = at_most_two b y z (and_parts _ _ h).0 in let one : a ≡ 1 = number a 1 u (and_parts _ _ h).1 in
           omega (arith, few, one)
     ]
 
@@ -177,8 +170,8 @@ module _ (start : Position) (ms : List DMove) (m : DMove) where
   pub tail-goes-on : tail_of start (ms ++ m ∷ []) ≡ next_tail (tail_of start ms) last m (play last m)
   unfolding tail_of
   tail-goes-on =
-      let after : last_position start (ms ++ m ∷ []) ≡ play last m = last_position-append start ms m in
-      let all : positions start (ms ++ m ∷ []) ≡ ps ++ play last m ∷ [] = positions-append start ms m in
+      let after : last_position start (ms ++ m ∷ []) ≡ play last m = last_position-append play start ms m in
+      let all : positions start (ms ++ m ∷ []) ≡ ps ++ play last m ∷ [] = positions-append play start ms m in
       let kings : suffix_len (λ e. is_king_move e.0 e.1) (zip (positions start (ms ++ m ∷ [])) (ms ++ m ∷ []))
       ≡ (if is_king_move last m then suffix_len (λ e. is_king_move e.0 e.1) (zip ps ms) + 1 else 0) =
       ap (suffix_len (λ e. is_king_move e.0 e.1)) (zip-more start ms m)

@@ -1,16 +1,17 @@
 -- When counts are those of a line.
-use Rattle.std.specs.Prelude.{◌≡◌, List, [], ◌∷◌, ◌++◌, Option, length, count_by, unwrap_or}
+use Rattle.std.specs.Prelude.{◌≡◌, List, Option, length, unwrap_or}
 use Rattle.std.specs.HashMap.{get}
+use Rattle.game_lines.specs.Line as line
 use Rattle.squares.specs.declared.draughts.moves.DMove.{DMove}
 use Rattle.squares.specs.DraughtsBoard.{Position}
 use Rattle.squares.specs.DraughtsSamePosition.{same_position}
+use Rattle.draughts_moves.specs.Legal.{play}
 use Rattle.draughts_draws.specs.declared.counts.DrawCounts.{DrawCounts}
-use Rattle.draughts_draws.specs.Line.{last_position, positions}
+use Rattle.draughts_draws.specs.Line.{last_position}
 use Rattle.draughts_draws.specs.Tails.{tail_of, times_stood}
 use Rattle.draughts_draws.specs.declared.ends.DEnd.{DEnd}
-use Rattle.draughts_draws.specs.declared.faults.DLineFault.{DLineFault}
 use Rattle.draughts_draws.specs.Ends.{end_of}
-use Rattle.draughts_draws.specs.Faults.{IsPlayed, HasFault}
+use Rattle.draughts_draws.specs.Faults.{IsPlayed}
 
 -- The line is played by the rules, and the counts have its last position, its plies, its tail, and how often each
 -- position stood in it.
@@ -21,20 +22,7 @@ pub record Follows (start : Position) (ms : List DMove) (counts : DrawCounts) : 
   pub times : counts.times ≡ times_stood start ms
   pub tail : counts.tail ≡ tail_of start ms
   pub stood : (p : Position) → unwrap_or (get same_position counts.seen p) 0
-      ≡ count_by (λ q. same_position q p) (positions start ms)
-
--- Where the counts are those of a line, they are then those of the line with this move more.
-abbrev pub GrowsBy : DMove → DrawCounts → DrawCounts → Type 0
-GrowsBy m old new = (start : Position) (ms : List DMove) → Follows start ms old → Follows start (ms ++ m ∷ []) new
-
--- Where the counts are those of a line, the line with this move more has the fault.
-abbrev pub IsRefused : DMove → DrawCounts → DLineFault → Type 0
-IsRefused m old fault = (start : Position) (ms : List DMove) → Follows start ms old
-    → HasFault start (ms ++ m ∷ []) fault
-
--- The counts are still those of the same line.
-abbrev pub StaysSo : DrawCounts → DrawCounts → Type 0
-StaysSo old new = (start : Position) (ms : List DMove) → Follows start ms old → Follows start ms new
+      ≡ line.times_at play same_position start ms p
 
 -- Where the counts are those of a line, this is its end.
 abbrev pub TellsEnd : DrawCounts → Option DEnd → Type 0

@@ -1,6 +1,5 @@
 pub mod Counting
 pub mod Ends
-pub mod FaultText
 pub mod Faults
 pub mod Line
 pub mod Tails

@@ -1,7 +1,8 @@
 -- Two numbers of a line, by which its last ply is judged without the plies before it.
 use Rattle.std.specs.Prelude.{◌≡◌, ℕ, ◌+◌, ◌==◌, ◌&&◌, ◌++◌, nat_le, not, if◌then◌else◌, Bool, Option, Some, None, List}
-use Rattle.std.specs.Prelude.{[], ◌∷◌, length, count_by}
+use Rattle.std.specs.Prelude.{[], ◌∷◌, length}
 use Rattle.std.specs.List.{suffix_len, zip}
+use Rattle.game_lines.specs.Line as line
 use Rattle.squares.specs.declared.draughts.moves.DMove.{DMove}
 use Rattle.squares.specs.DraughtsBoard.{Position}
 use Rattle.squares.specs.DraughtsSamePosition.{same_position}
@@ -96,7 +97,7 @@ TailsGoOn =
 
 -- how often the last position of a line stood in it
 abbrev pub times_stood : Position → List DMove → ℕ
-times_stood start ms = count_by (λ p. same_position p (last_position start ms)) (positions start ms)
+times_stood = line.times_stood play same_position
 
 -- by its tail a line ends as by all its positions and moves
 abbrev pub TailsTellEnds : Type 0

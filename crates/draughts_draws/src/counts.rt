@@ -27,13 +27,16 @@ pub struct DrawCounts {
 }
 
 impl DrawCounts {
-    ghost use Rattle.draughts_draws.specs.Counting.{Follows, GrowsBy, IsRefused, StaysSo, TellsEnd};
+    ghost use Rattle.game_lines.specs.declared.faults.LineFault.TheVariants.{Memory};
+    ghost use Rattle.game_lines.specs.Following.{GrowsBy, RefusesNext, StaysSo};
+    ghost use Rattle.draughts_draws.specs.Counting.{Follows, TellsEnd};
+    ghost use Rattle.draughts_draws.specs.Faults.{draughts_lines};
     ghost use Rattle.draughts_draws.specs.Tails.{end_by};
 
     /// The line without a move from a position.
     pub fn start(alloc: Global, position: &DPos) -> Result<DrawCounts, DLineFault>
         ensures follows { IfOk result (Follows position.now []) }
-        ensures fault { IfErr result (λ fault. fault ≡ DLineFault.Memory) }
+        ensures fault { IfErr result (λ fault. fault ≡ Memory) }
     {
         let mut seen = HashMap::new(alloc);
         seen.insert(*position, 1)?;
@@ -49,9 +52,9 @@ impl DrawCounts {
     /// The line with one move more. It fails where the game has ended, or where the move is not legal, with the fault
     /// that `judge` has of that ply, or where memory is refused; then the line stays as it was.
     pub fn push(&mut self, played: &DMove) -> Result<(), DLineFault>
-        ensures follows { OnOk result (GrowsBy played.now self.old self.new) }
-        ensures fault { IfErr result (IsRefused played.now self.old) }
-        ensures kept { OnErr result (StaysSo self.old self.new) }
+        ensures follows { OnOk result (GrowsBy Follows played.now self.old self.new) }
+        ensures fault { IfErr result (RefusesNext Follows draughts_lines played.now self.old) }
+        ensures kept { OnErr result (StaysSo Follows self.old self.new) }
     {
         match self.end_by_tail() {
             Some(_) => return Err(DLineFault::AfterEnd {

@@ -23,7 +23,7 @@ use Rattle.draughts_draws.specs.Line.{last_position, positions}
 use Rattle.draughts_draws.specs.Ends.{stands_thrice, are_king_moves, ends_with, is_three_to_one, is_two_to_one}
 use Rattle.draughts_draws.specs.Ends.{first_end, end_of}
 use Rattle.draughts_draws.specs.Faults.{GoesOn, IsPlayed}
-use Rattle.draughts_draws.proofs.Proved.{last_position-append}
+use Rattle.game_lines.proofs.Proved.{last_position-append}
 use Rattle.pdn.specs.MoveValue.{move_text}
 use Rattle.pdn.proofs.Proved.{le_or_more}
 use Rattle.pdn_games.specs.declared.faults.PdnFault.{PdnFault}
@@ -183,7 +183,7 @@ legal-from before (m ∷ ms) played =
     let again : IsPlayed opening ((before ++ m ∷ []) ++ ms) (length ((before ++ m ∷ []) ++ ms)) =
     subst (λ l. IsPlayed opening l (length l)) (sym (append_assoc before (m ∷ []) ms)) played in (
       subst (λ l. Legal (last_position opening l) m) seam (here.legal m there),
-      subst (λ p. AllLegal p ms) (last_position-append opening before m) (legal-from (before ++ m ∷ []) ms again),
+      subst (λ p. AllLegal p ms) (last_position-append play opening before m) (legal-from (before ++ m ∷ []) ms again),
     )
 
 mean-all : (p : Position) (ms : List DMove) → AllLegal p ms → MeanAll p (texts_of p ms) ms

@@ -15,7 +15,7 @@ use Rattle.squares.specs.DraughtsOpening.{opening}
 use Rattle.draughts_moves.specs.Legal.{Legal, play}
 use Rattle.draughts_draws.specs.Line.{last_position}
 use Rattle.draughts_draws.specs.Faults.{IsPlayed}
-use Rattle.draughts_draws.proofs.Proved.{last_position-append}
+use Rattle.game_lines.proofs.Proved.{last_position-append}
 use Rattle.pdn.specs.MoveValue.{move_text}
 use Rattle.pdn_games.specs.declared.head.PdnHead.{PdnHead}
 use Rattle.pdn_games.specs.declared.game_writer.GameWriter.{GameWriter}
@@ -71,7 +71,7 @@ adds-line m old new held now position plies score added = λ head before ms h.
     record {
       written = subst (Appends before now) (text-then head ms m before held old h)
           (Appends-trans before held now (text_up_to head ms) (line_of old m) h.written added);
-      position = position ∙ ap (λ p. play p m) h.position ∙ sym (last_position-append opening ms m);
+      position = position ∙ ap (λ p. play p m) h.position ∙ sym (last_position-append play opening ms m);
       plies = plies ∙ ap (λ n. n + 1) h.plies ∙ sym one;
       score = score ∙ h.score;
     }
@@ -167,7 +167,7 @@ next-legal ms i m h is played = (played i h).legal m (slice_get-get_or ms i m h 
 pub next-position : (ms : List DMove) (i : ℕ) (m : DMove) → i < length ms → m ≡ get_or ms i m
     → last_position opening (take (i + 1) ms) ≡ play (last_position opening (take i ms)) m
 next-position ms i m h is =
-    ap (last_position opening) (taken-next ms i m h is) ∙ last_position-append opening (take i ms) m
+    ap (last_position opening) (taken-next ms i m h is) ∙ last_position-append play opening (take i ms) m
 
 -- one move more
 pub plies-grow : (p : Position) (ms : List DMove) (i : ℕ) (m : DMove) (old new whole : List ℕ) → i < length ms

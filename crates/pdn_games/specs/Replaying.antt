@@ -4,8 +4,9 @@ use Rattle.squares.specs.declared.draughts.moves.DMove.{DMove}
 use Rattle.squares.specs.DraughtsOpening.{opening}
 use Rattle.draughts_draws.specs.Line.{last_position}
 use Rattle.draughts_draws.specs.Counting.{Follows}
-use Rattle.draughts_draws.specs.declared.faults.DLineFault.{DLineFault}
-use Rattle.draughts_draws.specs.declared.faults.DLineFault.TheVariants as line_fault
+use Rattle.game_lines.specs.declared.faults.LineFault.{LineFault}
+use Rattle.game_lines.specs.declared.faults.LineFault.TheVariants as line_fault
+use Rattle.draughts_moves.specs.declared.checking.Illegal.{Illegal}
 use Rattle.pdn.specs.Forms.{Form}
 use Rattle.pdn.specs.Grammar.{HasForm}
 use Rattle.pdn.specs.ReadMove.{IsRead}
@@ -63,7 +64,7 @@ at_ply ply (move_fault.BadText offset) = fault.BadText offset
 at_ply ply move_fault.Ambiguous = fault.Ambiguous ply
 at_ply ply (move_fault.Illegal cause) = fault.Illegal ply cause
 
-abbrev pub fault_of : DLineFault → PdnFault
+abbrev pub fault_of : LineFault Illegal → PdnFault
 fault_of line_fault.Memory = fault.Memory
 fault_of (line_fault.Illegal ply cause) = fault.Illegal ply cause
 fault_of (line_fault.AfterEnd ply) = fault.AfterEnd ply

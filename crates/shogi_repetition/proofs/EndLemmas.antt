@@ -1,18 +1,21 @@
 -- The computed end of a line is its only end.
-use Rattle.std.proofs.Common.{◌≡◌, ℕ, suc, ◌+◌, ◌-◌, ◌<◌, ◌≤◌, nat_eq, nat_lt, nat_le, Bool, true, false, not, ◌||◌}
-use Rattle.std.proofs.Common.{cond, List, length, drop, get_or, Option, Some, None, refl, sym, ap, ◌∙◌, subst, arith}
+use Rattle.std.proofs.Common.{◌≡◌, ℕ, suc, ◌+◌, ◌-◌, ◌<◌, ◌≤◌, nat_eq, nat_lt, Bool, true, false, not, ◌||◌}
+use Rattle.std.proofs.Common.{cond, List, length, drop, get_or, Option, Some, None, refl, sym, ap, ◌∙◌, subst, arith, leb-true, le-leb, lt-ltb}
+use Rattle.std.proofs.Common.{eqb-true, eq-eqb, inl, inr}
 use Rattle.std.specs.Prelude.{IsTrue, ◌↔◌, if◌then◌else◌}
 use Rattle.std.specs.List.{count_by}
 use Rattle.std.specs.Option.{option_map_or}
 use Rattle.std.proofs.lemmas.List.{get_or-drop, length-drop, take_all}
-use Rattle.std.proofs.lemmas.Grind.{common_steps}
+use Rattle.std.proofs.lemmas.Bool.{cases_lt}
+use Rattle.std.proofs.Math.Nat.{eq-or-lt_of_le}
+use Rattle.game_lines.proofs.Proved.{length-positions, get-positions}
 use Rattle.squares.specs.declared.sides.Side.{Side}
 use Rattle.squares.specs.declared.sides.Side.TheVariants.{First, Second}
 use Rattle.squares.specs.declared.shogi.moves.SMove.{SMove}
 use Rattle.squares.specs.Sides.{other, same_side}
 use Rattle.squares.specs.ShogiSets.{ShogiPosition}
 use Rattle.squares.specs.ShogiSamePosition.{same_shogi_position, same_shogi_position-same, same_shogi_position-itself}
-use Rattle.shogi_moves.specs.Rules.{HasMove}
+use Rattle.shogi_moves.specs.Rules.{HasMove, play}
 use Rattle.shogi_moves.specs.Computed.{has_move}
 use Rattle.shogi_moves.proofs.Proved.{has_move-is, king_attacked-is}
 use Rattle.shogi_repetition.specs.declared.ends.SEnd.{SEnd}
@@ -22,27 +25,7 @@ use Rattle.shogi_repetition.specs.Ends.{StandsAfter, StandsFourTimes, FirstStand
 use Rattle.shogi_repetition.specs.Ends.{ChecksAlone, EndsSo}
 use Rattle.shogi_repetition.specs.Computed.{is_in_check, keeps_checking, checks_throughout, stands_four_times}
 use Rattle.shogi_repetition.specs.Computed.{since_first, end_by_checks, repetition, first_end, end_of}
-use Rattle.shogi_repetition.proofs.LineLemmas.{length-positions, get-positions}
 use Rattle.shogi_repetition.proofs.PlaceLemmas.{next, counted, FirstPlace, first, steps, stepped}
-
-four : (n : ℕ) → nat_le 4 n ≡ true → 4 ≤ n
-four n e = grind (arith, common_steps)
-
-at_least_four : (n : ℕ) → 4 ≤ n → nat_le 4 n ≡ true
-at_least_four n h = grind (arith, common_steps)
-
-less : (m n : ℕ) → m < n → nat_lt m n ≡ true
-less m n h = grind (arith, common_steps)
-
-apart : (f g : ℕ) → (f < g → ⊥) → (g < f → ⊥) → f ≡ g
-apart f g less more =
-    elim (nat_lt f g) as (λ b. nat_lt f g ≡ b → f ≡ g) [
-      | true ↦ λ e. absurd (less (grind (arith, common_steps)))
-      | false ↦ λ e. elim (nat_lt g f) as (λ b. nat_lt g f ≡ b → f ≡ g) [
-        | true ↦ λ k. absurd (more (grind (arith, common_steps)))
-        | false ↦ λ k. grind (arith, common_steps)
-      ] refl
-    ] refl
 
 -- a move of the side, with or without check
 step-is : {P : Type 0} (side turn : Side) (b : Bool) → (IsTrue b ↔ P)
@@ -66,20 +49,20 @@ module _ (start : ShogiPosition) (ms : List SMove) where
   Passes k = is_last (get_or all k last) ≡ true
 
   stands : (k : ℕ) → k ≤ length ms → Passes k → StandsAfter start ms k
-  stands k h e = sym (get-positions start ms k last h) ∙ same_shogi_position-same (get_or all k last) last e
+  stands k h e = sym (get-positions play start ms k last h) ∙ same_shogi_position-same (get_or all k last) last e
 
   passes : (k : ℕ) → k ≤ length ms → StandsAfter start ms k → Passes k
-  passes k h e = ap (λ p. same_shogi_position p last) (get-positions start ms k last h ∙ e)
+  passes k h e = ap (λ p. same_shogi_position p last) (get-positions play start ms k last h ∙ e)
       ∙ same_shogi_position-itself last
 
   stands-last : StandsAfter start ms (length ms)
   stands-last = ap (last_position start) (take_all (length ms) ms (omega arith))
 
   below : (k : ℕ) → k < length all → k ≤ length ms
-  below k h = let many = length-positions start ms in omega (arith, many, h)
+  below k h = let many = length-positions play start ms in omega (arith, many, h)
 
   within : (k : ℕ) → k ≤ length ms → k < length all
-  within k h = let many = length-positions start ms in omega (arith, many, h)
+  within k h = let many = length-positions play start ms in omega (arith, many, h)
 
   found-four : 4 ≤ count_by is_last all → StandsFourTimes start ms
   found-four h =
@@ -129,7 +112,7 @@ module _ (start : ShogiPosition) (ms : List SMove) where
 
   four-is : IsTrue (stands_four_times last all) ↔ StandsFourTimes start ms
   unfolding stands_four_times
-  four-is = (λ e. found-four (four (count_by is_last all) e), λ s. at_least_four (count_by is_last all) (four-found s))
+  four-is = (λ e. found-four (leb-true 4 (count_by is_last all) e), λ s. le-leb 4 (count_by is_last all) (four-found s))
 
   pub place : FirstPlace is_last last all (length ms)
   place = let at_n : length ms ≤ length ms = omega arith in
@@ -148,7 +131,7 @@ module _ (start : ShogiPosition) (ms : List SMove) where
   unfolding since_first
   since_first-is =
       let below_all : nat_lt place.place (length all) ≡ true =
-      less place.place (length all) (within place.place place.no_later) in
+      lt-ltb place.place (length all) (within place.place place.no_later) in
       ap (λ n. option_map_or (λ f. drop f all) (cond (nat_lt n (length all)) (Some n) None) all) place.is
       ∙ ap (λ b. option_map_or (λ f. drop f all) (cond b (Some place.place) None) all) below_all
 
@@ -166,9 +149,9 @@ module _ (start : ShogiPosition) (ms : List SMove) where
         ↔ ((position_after start ms (f + k)).turn ≡ side → InCheck (position_after start ms (f + suc k)))
     one k h =
         let before : get_or rest k last ≡ position_after start ms (f + k) = get_or-drop f all k last
-        ∙ get-positions start ms (f + k) last (omega (arith, h)) in
+        ∙ get-positions play start ms (f + k) last (omega (arith, h)) in
         let after : get_or rest (suc k) last ≡ position_after start ms (f + suc k) = get_or-drop f all (suc k) last
-        ∙ get-positions start ms (f + suc k) last h in
+        ∙ get-positions play start ms (f + suc k) last h in
         let p = position_after start ms (f + k) in
         let q = position_after start ms (f + suc k) in
         let same : keeps_checking side (get_or rest k last) (get_or rest (suc k) last) ≡ keeps_checking side p q = λ i.
@@ -177,7 +160,7 @@ module _ (start : ShogiPosition) (ms : List SMove) where
         (λ e. step.0 (sym same ∙ e), λ g. same ∙ step.1 g)
 
     length-rest : length rest ≡ length ms + 1 - f
-    length-rest = length-drop f all ∙ ap (λ n. n - f) (length-positions start ms)
+    length-rest = length-drop f all ∙ ap (λ n. n - f) (length-positions play start ms)
 
     throughout-is : IsTrue (checks_throughout side (drop f all)) ↔ GaveCheckThroughout start ms side f
     unfolding checks_throughout
@@ -202,9 +185,13 @@ module _ (start : ShogiPosition) (ms : List SMove) where
   -- the last position stood first at one place
   pub one-first : (f g : ℕ) → FirstStands start ms f → FirstStands start ms g → f ≡ g
   one-first f g a b =
-      let no_less : f < g → ⊥ = λ h. b.earliest f h a.stands in
-      let no_more : g < f → ⊥ = λ h. a.earliest g h b.stands in
-      apart f g no_less no_more
+      elim (cases_lt f g) [
+        | inl less ↦ absurd (b.earliest f less a.stands)
+        | inr least ↦ elim (eq-or-lt_of_le least) [
+          | inl same ↦ sym same
+          | inr more ↦ absurd (a.earliest g more b.stands)
+        ]
+      ]
 
   opposite : (side : Side) → other (other side) ≡ side
   opposite First = refl
@@ -293,13 +280,10 @@ module _ (start : ShogiPosition) (ms : List SMove) where
   by_tests true false false r moves fourth limit ends =
       (moves.0 refl, λ s. let e = fourth.1 s in cc, λ n. let e = limit.1 n in cc)
 
-  same_number : (n m : ℕ) → IsTrue (nat_eq n m) ↔ (n ≡ m)
-  same_number n m = (λ e. grind (arith, common_steps), λ e. grind (arith, common_steps))
-
   pub end_of-is : EndsSo start ms (end_of start ms)
   unfolding end_of first_end
   end_of-is = by_tests (has_move last) (stands_four_times last all) (nat_eq (length ms) 600) (repetition last all)
-      (has_move-is last) four-is (same_number (length ms) 600) by_repetition
+      (has_move-is last) four-is (eqb-true (length ms) 600, eq-eqb (length ms) 600) by_repetition
 
   pub one-end : (one two : Option SEnd) → EndsSo start ms one → EndsSo start ms two → one ≡ two
   one-end None None x y = refl

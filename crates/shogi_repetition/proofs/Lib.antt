@@ -1,5 +1,4 @@
 pub mod EndLemmas
-pub mod LineLemmas
 pub mod MarkLemmas
 pub mod PlaceLemmas
 pub mod Proved

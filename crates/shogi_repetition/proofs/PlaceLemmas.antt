@@ -3,6 +3,7 @@
 use Rattle.std.proofs.Common.{◌≡◌, ℕ, zero, suc, ◌+◌, ◌<◌, ◌≤◌, Bool, true, false, ◌&&◌, not, cond, List, [], ◌∷◌}
 use Rattle.std.proofs.Common.{length, drop, get_or, refl, ap, ◌∙◌, arith}
 use Rattle.std.specs.List.{count_by, list_all, position_or_len, zip}
+use Rattle.std.proofs.lemmas.Bool.{and_parts}
 use Rattle.std.proofs.lemmas.List.Sums.{sum_by-cons}
 
 module _ {X : Type 0} (test : X → Bool) (d : X) where
@@ -101,10 +102,6 @@ module _ {X : Type 0} (test : X → Bool) (d : X) where
             }
       ] refl
 
-and_true : (a b : Bool) → (a && b) ≡ true → (a ≡ true) × (b ≡ true)
-and_true true b e = (refl, e)
-and_true false b e = cc
-
 -- what holds from each place to the next
 module _ {X : Type 0} (rel : X → X → Bool) (d : X) where
   abbrev pub Steps : List X → Type 0
@@ -113,9 +110,9 @@ module _ {X : Type 0} (rel : X → X → Bool) (d : X) where
   pub steps : (xs : List X) → list_all (λ e. rel e.0 e.1) (zip xs (drop 1 xs)) ≡ true → Steps xs
   steps [] e k h = absurd (omega (arith, h))
   steps (x ∷ []) e k h = absurd (omega (arith, h))
-  steps (x ∷ y ∷ ys) e zero h = (and_true (rel x y) (list_all (λ e. rel e.0 e.1) (zip (y ∷ ys) ys)) e).0
+  steps (x ∷ y ∷ ys) e zero h = (and_parts (rel x y) (list_all (λ e. rel e.0 e.1) (zip (y ∷ ys) ys)) e).0
   steps (x ∷ y ∷ ys) e (suc k) h = steps (y ∷ ys)
-      (and_true (rel x y) (list_all (λ e. rel e.0 e.1) (zip (y ∷ ys) ys)) e).1 k (omega (arith, h))
+      (and_parts (rel x y) (list_all (λ e. rel e.0 e.1) (zip (y ∷ ys) ys)) e).1 k (omega (arith, h))
 
   pub stepped : (xs : List X) → Steps xs → list_all (λ e. rel e.0 e.1) (zip xs (drop 1 xs)) ≡ true
   stepped [] s = refl

@@ -1,13 +1,14 @@
 -- The tail of a line is made ply by ply, and tells its end.
 use Rattle.std.proofs.Common.{◌≡◌, ℕ, zero, suc, ◌+◌, ◌-◌, ◌*◌, ◌≤◌, Bool, true, false, ◌&&◌, ◌||◌, not, cond}
 use Rattle.std.proofs.Common.{nat_eq, nat_le, List, [], ◌∷◌, ◌++◌, length, drop, take, Some, None, refl, sym}
-use Rattle.std.proofs.Common.{ap, ◌∙◌, arith, length-append}
+use Rattle.std.proofs.Common.{ap, ◌∙◌, arith, length-append, append-nil, le-leb}
 use Rattle.std.specs.Prelude.{filter, if◌then◌else◌}
 use Rattle.std.specs.List.{list_all, suffix_len, zip}
 use Rattle.std.proofs.lemmas.Grind.{common_steps}
 use Rattle.std.proofs.lemmas.List.{take-append-drop, length-drop}
 use Rattle.std.proofs.lemmas.List.Elements.{filter-append}
-use Rattle.std.proofs.Math.Seq.{drop-append_seam}
+use Rattle.std.proofs.Math.Seq.{drop-append_seam, drop-drop}
+use Rattle.game_lines.proofs.Proved.{positions-append}
 use Rattle.squares.specs.declared.sides.Side.{Side}
 use Rattle.squares.specs.declared.sides.Side.TheVariants.{First, Second}
 use Rattle.squares.specs.declared.shogi.moves.SMove.{SMove}
@@ -24,7 +25,6 @@ use Rattle.shogi_repetition.specs.Computed.{is_in_check, keeps_checking, checks_
 use Rattle.shogi_repetition.specs.Computed.{since_first, end_by_checks, repetition, first_end, end_of}
 use Rattle.shogi_repetition.specs.Tails.{led_to, checks_in_a_row, tail_of, no_checks, count_on, tail_after, next_tail}
 use Rattle.shogi_repetition.specs.Tails.{repetition_by, end_by, times_stood}
-use Rattle.shogi_repetition.proofs.LineLemmas.{positions-append}
 use Rattle.shogi_repetition.proofs.EndLemmas.{place, first-stands, since_first-is, one-first}
 
 -- ---- ply by ply
@@ -48,10 +48,6 @@ led_to-more : (side : Side) (p : ShogiPosition) (ms : List SMove) (x : ShogiPosi
 led_to-more side p ms x = ap (filter (λ q. same_side q.turn (other side))) (drop-more p ms x)
     ∙ filter-append (λ q. same_side q.turn (other side)) (drop 1 (positions p ms)) (x ∷ [])
 
-append-none : {A : Type 0} (xs : List A) → xs ++ [] ≡ xs
-append-none [] = refl
-append-none (x ∷ xs) = ap (λ l. x ∷ l) (append-none xs)
-
 one-more : (b : Bool) (n : ℕ) → cond b (1 + n) 0 ≡ count_on n b
 one-more true n = omega arith
 one-more false n = refl
@@ -74,7 +70,7 @@ run-more side turn p ms x at =
     (positions p ms))) [
       | true ↦ suffix_len-more is_in_check (led_to side (positions p ms)) x
           ∙ one-more (is_in_check x) (checks_in_a_row side (positions p ms))
-      | false ↦ ap (suffix_len is_in_check) (append-none (led_to side (positions p ms)))
+      | false ↦ ap (suffix_len is_in_check) (append-nil (led_to side (positions p ms)))
     ]
 
 tail-more : (turn : Side) (p : ShogiPosition) (ms : List SMove) (x : ShogiPosition) → x.turn ≡ turn
@@ -100,7 +96,7 @@ pub tail-goes-on : (start : ShogiPosition) (ms : List SMove) (m : SMove)
     → tail_of start (ms ++ m ∷ []) ≡ next_tail (tail_of start ms) (play (last_position start ms) m)
 unfolding tail_of
 tail-goes-on start ms m =
-    let all = positions-append start ms m in
+    let all = positions-append play start ms m in
     (λ i. record { first_checks = checks_in_a_row First (all i); second_checks = checks_in_a_row Second (all i) })
     ∙ tail-more (play (last_position start ms) m).turn start ms (play (last_position start ms) m) refl
 
@@ -193,39 +189,28 @@ module _ (side : Side) where
       twice First = refl
       twice Second = refl
 
+  led-parts : (f : ℕ) (xs : List ShogiPosition) → filter made xs ≡ filter made (take f xs) ++ filter made (drop f xs)
+  led-parts f xs = ap (filter made) (sym (take-append-drop f xs)) ∙ filter-append made (take f xs) (drop f xs)
+
+  led-many : (f : ℕ) (xs : List ShogiPosition)
+      → length (filter made xs) ≡ length (filter made (take f xs)) + length (filter made (drop f xs))
+  led-many f xs = ap length (led-parts f xs) ∙ length-append (filter made (take f xs)) (filter made (drop f xs))
+
   -- what led to the later positions is the end of what led to all
   led-drop : (f : ℕ) (xs : List ShogiPosition)
       → filter made (drop f xs) ≡ drop (length (filter made xs) - length (filter made (drop f xs))) (filter made xs)
   led-drop f xs =
-      let parts : filter made xs ≡ filter made (take f xs) ++ filter made (drop f xs) =
-      ap (filter made) (sym (take-append-drop f xs)) ∙ filter-append made (take f xs) (drop f xs) in
-      let long = length-append (filter made (take f xs)) (filter made (drop f xs)) in
-      let all : length (filter made xs) ≡ length (filter made (take f xs)) + length (filter made (drop f xs)) =
-      ap length parts ∙ long in
-      let cut : length (filter made (take f xs)) ≡ length (filter made xs) - length (filter made (drop f xs)) =
+      let all = led-many f xs in
+      let cut : length (filter made xs) - length (filter made (drop f xs)) ≡ length (filter made (take f xs)) =
       omega (arith, all) in
-      sym ((λ i. drop (sym cut i) (parts i)) ∙ drop-append_seam (filter made (take f xs)) (filter made (drop f xs)))
+      sym ((λ i. drop (cut i) (led-parts f xs i)) ∙ drop-append_seam (filter made (take f xs)) (filter made (drop f xs)))
 
   no-more : (f : ℕ) (xs : List ShogiPosition) → length (filter made (drop f xs)) ≤ length (filter made xs)
-  no-more f xs =
-      let parts : filter made xs ≡ filter made (take f xs) ++ filter made (drop f xs) =
-      ap (filter made) (sym (take-append-drop f xs)) ∙ filter-append made (take f xs) (drop f xs) in
-      let all : length (filter made xs) ≡ length (filter made (take f xs)) + length (filter made (drop f xs)) =
-      ap length parts ∙ length-append (filter made (take f xs)) (filter made (drop f xs)) in
-      omega (arith, all)
+  no-more f xs = let all = led-many f xs in omega (arith, all)
 
   drop-one : (f : ℕ) (xs : List ShogiPosition) → drop 1 (drop f xs) ≡ drop f (drop 1 xs)
-  drop-one zero xs = refl
-  drop-one (suc f) [] = refl
-  drop-one (suc f) (x ∷ xs) = after f xs
-    where
-      after : (f : ℕ) (xs : List ShogiPosition) → drop 1 (drop f xs) ≡ drop (suc f) xs
-      after zero xs = refl
-      after (suc f) [] = refl
-      after (suc f) (x ∷ xs) = after f xs
-
-  within-all : (n k : ℕ) → n ≤ k → nat_le n k ≡ true
-  within-all n k h = grind (arith, common_steps)
+  drop-one f xs = let same : f + 1 ≡ 1 + f = omega arith in
+      drop-drop 1 f xs ∙ ap (λ n. drop n xs) same ∙ sym (drop-drop f 1 xs)
 
   doubled : (n k : ℕ) → nat_le n k ≡ nat_le (2 * n) (2 * k)
   doubled n k = grind (arith, common_steps)
@@ -261,7 +246,7 @@ module _ (side : Side) where
       ap (checks_throughout side) (positions-drop start ms f h) ∙ throughout-led p (drop f ms)
       ∙ ap (λ l. list_all is_in_check (led_to side l)) (sym (positions-drop start ms f h)) in
       let enough : nat_le count (length all) ≡ true =
-      within-all count (length all) (no-more f (drop 1 (positions start ms))) in
+      le-leb count (length all) (no-more f (drop 1 (positions start ms))) in
       let run : list_all is_in_check (drop (length all - count) all) ≡ nat_le count (suffix_len is_in_check all) =
       ap (λ b. b && list_all is_in_check (drop (length all - count) all)) (sym enough)
       ∙ end_so-run is_in_check count all in

@@ -1,5 +1,6 @@
 -- The ends of a game of shogi. Two positions are the same where they are one: board, hands and turn.
 use Rattle.std.specs.Prelude.{◌≡◌, ◌<◌, ◌≤◌, ◌≢◌, ℕ, ◌+◌, Option, Some, None, List, length}
+use Rattle.game_lines.specs.Line as line
 use Rattle.squares.specs.declared.sides.Side.{Side}
 use Rattle.squares.specs.declared.sides.Score.{Score}
 use Rattle.squares.specs.declared.sides.Score.TheVariants.{Draw}
@@ -7,7 +8,7 @@ use Rattle.squares.specs.declared.shogi.moves.SMove.{SMove}
 use Rattle.squares.specs.Sides.{other, loses}
 use Rattle.squares.specs.ShogiSets.{ShogiPosition}
 use Rattle.shogi_moves.specs.Reach.{KingAttacked}
-use Rattle.shogi_moves.specs.Rules.{HasMove}
+use Rattle.shogi_moves.specs.Rules.{HasMove, play}
 use Rattle.shogi_repetition.specs.declared.ends.SEnd.{SEnd}
 use Rattle.shogi_repetition.specs.declared.ends.SEnd.TheVariants.{NoMove, PerpetualCheck, Fourfold, PlyLimit}
 use Rattle.shogi_repetition.specs.Line.{last_position, position_after}
@@ -29,10 +30,8 @@ pub record StandsFourTimes (start : ShogiPosition) (ms : List SMove) : Type 0 wh
   pub at_third : StandsAfter start ms third
 
 -- After f plies the last position of the line stood for the first time.
-pub record FirstStands (start : ShogiPosition) (ms : List SMove) (f : ℕ) : Type 0 where
-  pub within : f ≤ length ms
-  pub stands : StandsAfter start ms f
-  pub earliest : (k : ℕ) → k < f → StandsAfter start ms k → ⊥
+abbrev pub FirstStands : ShogiPosition → List SMove → ℕ → Type 0
+FirstStands = line.FirstStands play
 
 -- the side to move is in check
 abbrev pub InCheck : ShogiPosition → Type 0

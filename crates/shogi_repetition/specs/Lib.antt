@@ -1,7 +1,6 @@
 pub mod Computed
 pub mod Counting
 pub mod Ends
-pub mod FaultText
 pub mod Faults
 pub mod Laws
 pub mod Line

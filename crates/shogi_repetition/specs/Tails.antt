@@ -1,7 +1,8 @@
 -- Two numbers of a line, by which its last ply is judged without the plies before it.
 use Rattle.std.specs.Prelude.{◌≡◌, ℕ, ◌+◌, ◌-◌, ◌*◌, ◌==◌, ◌++◌, nat_le, not, if◌then◌else◌, Bool, Option, Some, None}
-use Rattle.std.specs.Prelude.{List, [], ◌∷◌, length, count_by, drop, filter}
+use Rattle.std.specs.Prelude.{List, [], ◌∷◌, length, drop, filter}
 use Rattle.std.specs.List.{suffix_len}
+use Rattle.game_lines.specs.Line as line
 use Rattle.squares.specs.declared.sides.Side.{Side}
 use Rattle.squares.specs.declared.sides.Side.TheVariants.{First, Second}
 use Rattle.squares.specs.declared.shogi.moves.SMove.{SMove}
@@ -76,7 +77,7 @@ TailsGoOn = (start : ShogiPosition) (ms : List SMove) (m : SMove)
 
 -- how often the last position of a line stood in it
 abbrev pub times_stood : ShogiPosition → List SMove → ℕ
-times_stood start ms = count_by (λ p. same_shogi_position p (last_position start ms)) (positions start ms)
+times_stood = line.times_stood play same_shogi_position
 
 -- by its tail a line ends as by all its positions
 abbrev pub TailsTellEnds : Type 0

@@ -34,13 +34,16 @@ pub struct Marks {
 }
 
 impl Marks {
-    ghost use Rattle.shogi_repetition.specs.Counting.{Follows, GrowsBy, IsRefused, StaysSo, TellsEnd, stood_again};
+    ghost use Rattle.game_lines.specs.declared.faults.LineFault.TheVariants.{Memory};
+    ghost use Rattle.game_lines.specs.Following.{GrowsBy, RefusesNext, StaysSo};
+    ghost use Rattle.shogi_repetition.specs.Counting.{Follows, TellsEnd, stood_again};
+    ghost use Rattle.shogi_repetition.specs.Faults.{shogi_lines};
     ghost use Rattle.shogi_repetition.specs.Tails.{end_by};
 
     /// The line without a move from a position.
     pub fn start(alloc: Global, position: &SPos) -> Result<Marks, SLineFault>
         ensures follows { IfOk result (Follows position.now []) }
-        ensures fault { IfErr result (λ fault. fault ≡ SLineFault.Memory) }
+        ensures fault { IfErr result (λ fault. fault ≡ Memory) }
     {
         let stood = Stood { times: 1, first: 0 };
         let mut seen = BTreeMap::new(alloc);
@@ -57,9 +60,9 @@ impl Marks {
     /// The line with one move more. It fails where the game has ended, or where the move is not legal, with the fault
     /// that `judge` has of that ply, or where memory is refused; then the line stays as it was.
     pub fn push(&mut self, played: &SMove) -> Result<(), SLineFault>
-        ensures follows { OnOk result (GrowsBy played.now self.old self.new) }
-        ensures fault { IfErr result (IsRefused played.now self.old) }
-        ensures kept { OnErr result (StaysSo self.old self.new) }
+        ensures follows { OnOk result (GrowsBy Follows played.now self.old self.new) }
+        ensures fault { IfErr result (RefusesNext Follows shogi_lines played.now self.old) }
+        ensures kept { OnErr result (StaysSo Follows self.old self.new) }
     {
         match self.end_by_tail() {
             Some(_) => return Err(SLineFault::AfterEnd {

@@ -1,12 +1,14 @@
 use Rattle.std.proofs.Common.{◌≡◌, List, [], ◌∷◌, ◌++◌, sym, ap, subst, ◌∙◌}
+use Rattle.game_lines.proofs.Proved.{last-legal, last_position-append}
 use Rattle.squares.specs.declared.shogi.moves.SMove.{SMove}
 use Rattle.squares.specs.ShogiOpening.{opening}
 use Rattle.squares.specs.ShogiSets.{ShogiPosition}
 use Rattle.shogi_moves.specs.Rules.{Legal, play}
 use Rattle.shogi_repetition.specs.Line.{last_position}
 use Rattle.shogi_repetition.specs.Counting.{Follows}
+use Rattle.shogi_repetition.specs.Faults.{shogi_lines}
 use Rattle.csa.specs.Replaying.{RefusesMade}
-use Rattle.csa.proofs.ReplayLemmas.{last-legal, made-fault, last_position-more}
+use Rattle.csa.proofs.ReplayLemmas.{made-fault}
 use Rattle.csa.proofs.replay.push_move.Goals as goal
 
 pub returns-in-Err-clause-fault : goal.returns-in-Err-clause-fault
@@ -22,7 +24,7 @@ play-next-requires c =
     let m : SMove = c.args.played in
     let grown : Follows opening (ms ++ m ∷ []) c.push.new.self =
     c.in-Ok.ensures.follows opening ms c.requires.follows in
-    subst (λ p. Legal p m) (sym c.requires.position) (last-legal opening ms m grown.played)
+    subst (λ p. Legal p m) (sym c.requires.position) (last-legal shogi_lines opening ms m grown.played)
 
 pub returns-clause-stands : goal.returns-clause-stands
 returns-clause-stands c =
@@ -34,5 +36,5 @@ returns-clause-stands c =
     record {
       follows = subst (λ l. Follows opening l c.push.new.self) (sym items) grown;
       position = c.play-next.ensures ∙ ap (λ (p : ShogiPosition). play p m) c.requires.position
-          ∙ sym (last_position-more opening ms m) ∙ ap (λ l. last_position opening l) (sym items);
+          ∙ sym (last_position-append play opening ms m) ∙ ap (λ l. last_position opening l) (sym items);
     }

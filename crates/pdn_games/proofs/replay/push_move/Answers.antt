@@ -5,7 +5,7 @@ use Rattle.squares.specs.DraughtsBoard.{Position}
 use Rattle.draughts_moves.specs.Legal.{Legal, play}
 use Rattle.draughts_draws.specs.Line.{last_position}
 use Rattle.draughts_draws.specs.Counting.{Follows}
-use Rattle.draughts_draws.proofs.Proved.{last_position-append}
+use Rattle.game_lines.proofs.Proved.{last_position-append}
 use Rattle.pdn_games.specs.Replaying.{fault_of}
 use Rattle.pdn_games.proofs.MoveLemmas.{only-memory}
 use Rattle.pdn_games.proofs.replay.push_move.Goals as goal
@@ -30,5 +30,5 @@ returns-clause-stands c =
     record {
       follows = subst (λ l. Follows opening l c.push.new.self) (sym items) grown;
       position = c.play-next.ensures ∙ ap (λ (p : Position). play p m) c.requires.stands.position
-          ∙ sym (last_position-append opening ms m) ∙ ap (λ l. last_position opening l) (sym items);
+          ∙ sym (last_position-append play opening ms m) ∙ ap (λ l. last_position opening l) (sym items);
     }

@@ -1,34 +1,23 @@
-use Rattle.std.proofs.Common.{◌≡◌, ◌+◌, List, [], ◌∷◌, ◌++◌, length, take, sym, ap, subst, ◌∙◌}
-use Rattle.std.proofs.Common.{rules}
-use Rattle.std.proofs.lemmas.List.{take_all, take_more}
-use Rattle.squares.specs.declared.shogi.moves.SMove.{SMove}
-use Rattle.shogi_repetition.specs.Faults.{IsPlayed, HasFault}
+use Rattle.std.proofs.Common.{subst, length, rules}
+use Rattle.std.proofs.lemmas.List.{take_all}
+use Rattle.game_lines.proofs.Proved.{fault-of-beginning, grown}
+use Rattle.shogi_repetition.specs.Faults.{shogi_lines, IsPlayed, HasFault}
 use Rattle.shogi_repetition.specs.Counting.{Follows}
-use Rattle.shogi_repetition.proofs.MarkLemmas.{fault-of-beginning}
 use Rattle.shogi_repetition.proofs.judging.judge.Goals as goal
 
 pub returns-in_err-push-clause-fault : goal.returns-in_err-push-clause-fault
 returns-in_err-push-clause-fault c =
-    let ms : List SMove = c.args.moves.now in
-    let k = c.loop-played.played-index in
-    let m : SMove = c.played-item.result in
-    let grown : take k ms ++ m ∷ [] ≡ take (k + 1) ms = ap (λ n. take k ms ++ n ∷ []) c.played-item.is
-    ∙ sym (take_more ms k m c.loop-played-test.true) in
-    let held : HasFault c.args.start.now ms c.in_err-push.field-0.0 =
-    fault-of-beginning c.args.start.now ms (k + 1) c.in_err-push.field-0.0
-    (subst (λ l. HasFault c.args.start.now l c.in_err-push.field-0.0) grown
-    (c.in_err-push.ensures.fault c.args.start.now (take k ms) c.loop-played.invariant)) in
+    let held : HasFault c.args.start.now c.args.moves.now c.in_err-push.field-0.0 =
+    fault-of-beginning shogi_lines c.args.start.now c.args.moves.now c.loop-played.played-index
+    c.played-item.result c.in_err-push.field-0.0 c.loop-played-test.true c.played-item.is
+    (c.in_err-push.ensures.fault c.args.start.now _ c.loop-played.invariant) in
     search rules
 
 pub loop-played-preserved : goal.loop-played-preserved
 loop-played-preserved c =
-    let ms : List SMove = c.args.moves.now in
-    let k = c.loop-played.played-index in
-    let m : SMove = c.played-item.result in
-    let grown : take k ms ++ m ∷ [] ≡ take (k + 1) ms = ap (λ n. take k ms ++ n ∷ []) c.played-item.is
-    ∙ sym (take_more ms k m c.loop-played-test.true) in
-    subst (λ l. Follows c.args.start.now l c.push.new.self) grown
-    (c.in_ok-push.ensures.follows c.args.start.now (take k ms) c.loop-played.invariant)
+    subst (λ l. Follows c.args.start.now l c.push.new.self)
+    (grown c.args.moves.now c.loop-played.played-index c.played-item.result c.loop-played-test.true c.played-item.is)
+    (c.in_ok-push.ensures.follows c.args.start.now _ c.loop-played.invariant)
 
 pub returns-clause-played : goal.returns-clause-played
 returns-clause-played c =

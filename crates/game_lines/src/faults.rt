@@ -1,0 +1,43 @@
+//! What is wrong with a line of moves.
+
+use std::alloc::AllocFailed;
+use std::error::Error;
+use std::fmt;
+
+/// Why a line of moves is not judged, in a game that refuses a move for a cause. Plies count from 1.
+#[derive(Clone, Copy, Debug, PartialEq, Eq)]
+pub enum LineFault<C> {
+    /// Memory was refused.
+    Memory,
+    /// The move of this ply is not legal, and why.
+    Illegal { ply: usize, cause: C },
+    /// The game had ended before this ply.
+    AfterEnd { ply: usize },
+}
+
+impl<C: fmt::Display> fmt::Display for LineFault<C> {
+    ghost use Rattle.game_lines.specs.FaultText.{fault_text};
+
+    ghost output = { fault_text C.output };
+
+    fn fmt<W: fmt::Write>(&self, f: &mut fmt::Formatter<W>) -> fmt::Result {
+        match self {
+            LineFault::Memory => f.write_str("out of memory"),
+            LineFault::Illegal { ply, cause } => write!(f, "ply {ply}: {cause}"),
+            LineFault::AfterEnd { ply } => write!(f, "ply {ply}: the game has ended"),
+        }
+    }
+}
+
+impl<C: Error> Error for LineFault<C> {}
+
+impl<C, T: Drop> From<AllocFailed<T>> for LineFault<C> {
+    ghost use Rattle.std.specs.Prelude.{◌≡◌};
+    ghost use Rattle.game_lines.specs.declared.faults.LineFault.TheVariants.{Memory};
+
+    ghost from_gives = { λ _ e. e ≡ Memory };
+
+    fn from(_e: AllocFailed<T>) -> LineFault<C> {
+        LineFault::Memory
+    }
+}
